@@ -1,0 +1,94 @@
+//! A hasher of any of the three hashes. None of this takes memory.
+
+ghost use Rattle.std.specs.Prelude.{◌≡◌, ◌++◌, ℕ, List, [], length};
+ghost use Rattle.fe2o3_sasl.specs.declared.hmac.ScramVersion.{ScramVersion};
+ghost use Rattle.fe2o3_sasl.specs.Hmac.{digest, exclusive_or};
+ghost use Rattle.fe2o3_sasl.specs.Hashers.{HasTaken, digest_bytes, version_of};
+
+use crate::hmac::ScramVersion;
+use sha2::Digest;
+
+/// A digest of one of the three hashes.
+#[derive(Drop)]
+pub(crate) enum DigestBytes {
+    Sha1([u8; 20]),
+    Sha256([u8; 32]),
+    Sha512([u8; 64]),
+}
+
+impl DigestBytes {
+    /// The bytes of the digest.
+    pub fn as_slice(&self) -> &[u8]
+        ensures { result.now ≡ digest_bytes self.now }
+    {
+        match self {
+            DigestBytes::Sha1(bytes) => bytes,
+            DigestBytes::Sha256(bytes) => bytes,
+            DigestBytes::Sha512(bytes) => bytes,
+        }
+    }
+}
+
+/// A hasher of one of the three hashes.
+#[derive(Drop)]
+pub(crate) enum Hasher {
+    Sha1(sha1::Sha1),
+    Sha256(sha2::Sha256),
+    Sha512(sha2::Sha512),
+}
+
+impl Hasher {
+    /// A hasher that has taken in nothing.
+    pub fn new(version: ScramVersion) -> Hasher
+        ensures { HasTaken result version [] }
+    {
+        match version {
+            ScramVersion::Sha1 => Hasher::Sha1(sha1::Sha1::new()),
+            ScramVersion::Sha256 => Hasher::Sha256(sha2::Sha256::new()),
+            ScramVersion::Sha512 => Hasher::Sha512(sha2::Sha512::new()),
+        }
+    }
+
+    /// Another hasher that has taken in the same.
+    pub fn copy(&self) -> Hasher
+        ensures { result ≡ self.now }
+    {
+        match self {
+            Hasher::Sha1(state) => Hasher::Sha1(state.clone().unwrap()),
+            Hasher::Sha256(state) => Hasher::Sha256(state.clone().unwrap()),
+            Hasher::Sha512(state) => Hasher::Sha512(state.clone().unwrap()),
+        }
+    }
+
+    /// Takes in the input.
+    pub fn update(&mut self, input: &[u8])
+        ensures { (version : ScramVersion) (message : List ℕ) → HasTaken self.old version message → HasTaken self.new version (message ++ input.now) }
+    {
+        match self {
+            Hasher::Sha1(state) => state.update(input),
+            Hasher::Sha256(state) => state.update(input),
+            Hasher::Sha512(state) => state.update(input),
+        }
+    }
+
+    /// The digest of all that was taken in.
+    #[tactic(auto, unfolding(crate::specs::Hmac::digest))]
+    pub fn finalize(self) -> DigestBytes
+        ensures { (version : ScramVersion) (message : List ℕ) → HasTaken self version message → digest_bytes result ≡ digest version message }
+    {
+        match self {
+            Hasher::Sha1(state) => DigestBytes::Sha1(state.finalize()),
+            Hasher::Sha256(state) => DigestBytes::Sha256(state.finalize()),
+            Hasher::Sha512(state) => DigestBytes::Sha512(state.finalize()),
+        }
+    }
+}
+
+/// The digest of the message.
+pub(crate) fn digest_of(version: ScramVersion, message: &[u8]) -> DigestBytes
+    ensures { digest_bytes result ≡ digest version message.now }
+{
+    let mut hasher = Hasher::new(version);
+    hasher.update(message);
+    hasher.finalize()
+}
