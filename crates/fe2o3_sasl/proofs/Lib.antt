@@ -1,1 +1,3 @@
+pub mod HiLemmas
 pub mod PadLemmas
+pub mod XorLemmas

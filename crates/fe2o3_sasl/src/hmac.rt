@@ -10,9 +10,8 @@ pub(crate) mod meter;
 use crate::OutOfMemory;
 use crate::hmac::hasher::digest_of;
 use crate::hmac::keyed::HmacKey;
-use std::alloc::Global;
-
 pub use crate::hmac::meter::Meter;
+use std::alloc::Global;
 
 /// The mechanism name of SCRAM with SHA-1.
 pub const SCRAM_SHA_1: &str = "SCRAM-SHA-1";

@@ -2,5 +2,7 @@
 #![tactic(auto)]
 
 pub mod hmac;
+pub mod pbkdf2_hi;
+pub mod saslprep_ascii;
 
 pub use std::alloc::AllocError as OutOfMemory;

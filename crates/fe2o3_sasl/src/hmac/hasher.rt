@@ -9,7 +9,7 @@ use crate::hmac::ScramVersion;
 use sha2::Digest;
 
 /// A digest of one of the three hashes.
-#[derive(Drop)]
+#[derive(Clone, Copy)]
 pub(crate) enum DigestBytes {
     Sha1([u8; 20]),
     Sha256([u8; 32]),
@@ -26,6 +26,30 @@ impl DigestBytes {
             DigestBytes::Sha256(bytes) => bytes,
             DigestBytes::Sha512(bytes) => bytes,
         }
+    }
+
+    /// Turns the bits that another digest of the same hash has set.
+    pub fn xor(&mut self, other: &DigestBytes)
+        requires { version_of self.old ≡ version_of other.now }
+        ensures bytes { digest_bytes self.new ≡ exclusive_or (digest_bytes self.old) (digest_bytes other.now) }
+        ensures version { version_of self.new ≡ version_of self.old }
+    {
+        match (self, other) {
+            (DigestBytes::Sha1(left), DigestBytes::Sha1(right)) => xor(left, right),
+            (DigestBytes::Sha256(left), DigestBytes::Sha256(right)) => xor(left, right),
+            (DigestBytes::Sha512(left), DigestBytes::Sha512(right)) => xor(left, right),
+            _ => unreachable!(),
+        }
+    }
+}
+
+/// Turns the bits of `lhs` that `rhs` has set.
+fn xor(lhs: &mut [u8], rhs: &[u8])
+    requires { length lhs.old ≡ length rhs.now }
+    ensures { lhs.new ≡ exclusive_or lhs.old rhs.now }
+{
+    for at in 0..lhs.len() {
+        lhs[at] ^= rhs[at];
     }
 }
 
@@ -74,7 +98,8 @@ impl Hasher {
     /// The digest of all that was taken in.
     #[tactic(auto, unfolding(crate::specs::Hmac::digest))]
     pub fn finalize(self) -> DigestBytes
-        ensures { (version : ScramVersion) (message : List ℕ) → HasTaken self version message → digest_bytes result ≡ digest version message }
+        ensures bytes { (version : ScramVersion) (message : List ℕ) → HasTaken self version message → digest_bytes result ≡ digest version message }
+        ensures version { (version : ScramVersion) (message : List ℕ) → HasTaken self version message → version_of result ≡ version }
     {
         match self {
             Hasher::Sha1(state) => DigestBytes::Sha1(state.finalize()),

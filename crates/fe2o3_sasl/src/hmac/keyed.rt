@@ -3,7 +3,7 @@
 ghost use Rattle.std.specs.Prelude.{◌≡◌, ◌≤◌, ◌<◌, ◌+◌, ◌^◌, ℕ, List, length};
 ghost use Rattle.fe2o3_sasl.specs.declared.hmac.ScramVersion.{ScramVersion};
 ghost use Rattle.fe2o3_sasl.specs.Hmac.{hmac_of, block_len, masked, zero_filled};
-ghost use Rattle.fe2o3_sasl.specs.Hashers.{HasTaken, IsKeyOf, digest_bytes};
+ghost use Rattle.fe2o3_sasl.specs.Hashers.{HasTaken, IsKeyOf, digest_bytes, version_of};
 
 use crate::hmac::ScramVersion;
 use crate::hmac::hasher::{DigestBytes, Hasher, digest_of};
@@ -64,6 +64,7 @@ impl HmacKey {
     pub fn mac(&self, message: &[u8], meter: &mut Meter) -> DigestBytes
         requires { meter.old + 1 < 2 ^ 64 }
         ensures value { (version : ScramVersion) (key : List ℕ) → IsKeyOf self.now version key → digest_bytes result ≡ hmac_of version key message.now }
+        ensures version { (version : ScramVersion) (key : List ℕ) → IsKeyOf self.now version key → version_of result ≡ version }
         ensures counted { meter.new ≡ meter.old + 1 }
     {
         meter.add_one();
