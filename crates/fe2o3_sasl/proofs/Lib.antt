@@ -1,3 +1,12 @@
+pub mod Base64Lemmas
+pub mod CostLemmas
+pub mod CountLemmas
+pub mod DigestLemmas
+pub mod EscapingLemmas
 pub mod HiLemmas
 pub mod PadLemmas
+pub mod PartsLemmas
+pub mod ReadingLemmas
+pub mod ServerFinalLemmas
+pub mod ServerFirstLemmas
 pub mod XorLemmas

@@ -1,0 +1,9 @@
+use Rattle.fe2o3_sasl.proofs.ServerFinalLemmas.{one_server_final}
+use Rattle.fe2o3_sasl.proofs.ServerFirstLemmas.{one_server_first}
+use Rattle.fe2o3_sasl.proofs.laws.one_answer_each.Goals as goal
+
+pub returns-clause-server_first : goal.returns-clause-server_first
+returns-clause-server_first c = one_server_first
+
+pub returns-clause-server_final : goal.returns-clause-server_final
+returns-clause-server_final c = one_server_final

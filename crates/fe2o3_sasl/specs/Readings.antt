@@ -1,0 +1,22 @@
+-- What a message says to its reader: the first refusal that holds, or the values that it names.
+use Rattle.std.specs.Prelude.{List, [], ◌∷◌, ◌≡◌, ◌≢◌, ◌⊎◌, Result, Ok, Err}
+
+-- of the tests, each with its fault, the first that holds has this fault
+abbrev pub IsFirst : {F : Type 0} → List (F × Type 0) → F → Type 0
+IsFirst [] fault = ⊥
+IsFirst (test ∷ tests) fault = (test.1 × (fault ≡ test.0)) ⊎ (¬ test.1 × IsFirst tests fault)
+
+-- none of the tests holds
+abbrev pub NoneHolds : {F : Type 0} → List (F × Type 0) → Type 0
+NoneHolds [] = Unit {0}
+NoneHolds (test ∷ tests) = ¬ test.1 × NoneHolds tests
+
+-- the answer is the fault of the first test that holds or, where none holds, the values that are named
+abbrev pub Reads : {F V : Type 0} → List (F × Type 0) → (V → Type 0) → Result V F → Type 0
+Reads tests Names (Ok values) = NoneHolds tests × Names values
+Reads tests Names (Err fault) = IsFirst tests fault
+
+-- what a call returned, seen by `view`, is an answer, unless it returned the fault for refused memory
+abbrev pub Gives : {X Y F : Type 0} → F → (X → Y) → Result X F → (Result Y F → Type 0) → Type 0
+Gives memory view (Ok value) Answer = Answer (Ok (view value))
+Gives memory view (Err fault) Answer = fault ≢ memory → Answer (Err fault)
