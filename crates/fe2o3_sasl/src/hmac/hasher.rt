@@ -73,17 +73,6 @@ impl Hasher {
         }
     }
 
-    /// Another hasher that has taken in the same.
-    pub fn copy(&self) -> Hasher
-        ensures { result ≡ self.now }
-    {
-        match self {
-            Hasher::Sha1(state) => Hasher::Sha1(state.clone().unwrap()),
-            Hasher::Sha256(state) => Hasher::Sha256(state.clone().unwrap()),
-            Hasher::Sha512(state) => Hasher::Sha512(state.clone().unwrap()),
-        }
-    }
-
     /// Takes in the input.
     pub fn update(&mut self, input: &[u8])
         ensures { (version : ScramVersion) (message : List ℕ) → HasTaken self.old version message → HasTaken self.new version (message ++ input.now) }
@@ -95,16 +84,28 @@ impl Hasher {
         }
     }
 
-    /// The digest of all that was taken in.
+    /// The digest of what was taken in and the input after it.
     #[tactic(auto, unfolding(crate::specs::Hmac::digest))]
-    pub fn finalize(self) -> DigestBytes
-        ensures bytes { (version : ScramVersion) (message : List ℕ) → HasTaken self version message → digest_bytes result ≡ digest version message }
-        ensures version { (version : ScramVersion) (message : List ℕ) → HasTaken self version message → version_of result ≡ version }
+    pub fn digest_with(&self, input: &[u8]) -> DigestBytes
+        ensures bytes { (version : ScramVersion) (message : List ℕ) → HasTaken self.now version message → digest_bytes result ≡ digest version (message ++ input.now) }
+        ensures version { (version : ScramVersion) (message : List ℕ) → HasTaken self.now version message → version_of result ≡ version }
     {
         match self {
-            Hasher::Sha1(state) => DigestBytes::Sha1(state.finalize()),
-            Hasher::Sha256(state) => DigestBytes::Sha256(state.finalize()),
-            Hasher::Sha512(state) => DigestBytes::Sha512(state.finalize()),
+            Hasher::Sha1(state) => {
+                let mut state = state.clone().unwrap();
+                state.update(input);
+                DigestBytes::Sha1(state.finalize())
+            }
+            Hasher::Sha256(state) => {
+                let mut state = state.clone().unwrap();
+                state.update(input);
+                DigestBytes::Sha256(state.finalize())
+            }
+            Hasher::Sha512(state) => {
+                let mut state = state.clone().unwrap();
+                state.update(input);
+                DigestBytes::Sha512(state.finalize())
+            }
         }
     }
 }
@@ -113,7 +114,5 @@ impl Hasher {
 pub(crate) fn digest_of(version: ScramVersion, message: &[u8]) -> DigestBytes
     ensures { digest_bytes result ≡ digest version message.now }
 {
-    let mut hasher = Hasher::new(version);
-    hasher.update(message);
-    hasher.finalize()
+    Hasher::new(version).digest_with(message)
 }

@@ -68,10 +68,7 @@ impl HmacKey {
         ensures counted { meter.new ≡ meter.old + 1 }
     {
         meter.add_one();
-        let mut inner = self.inner.copy();
-        inner.update(message);
-        let mut outer = self.outer.copy();
-        outer.update(inner.finalize().as_slice());
-        outer.finalize()
+        let inner = self.inner.digest_with(message);
+        self.outer.digest_with(inner.as_slice())
     }
 }
