@@ -1,0 +1,43 @@
+//! The words of the program.
+
+use crate::client_final::ClientFinal;
+use crate::stop::Stop;
+use fe2o3_sasl::hmac::ScramVersion;
+use std::alloc::Global;
+use std::io::Write;
+
+/// What the words ask for.
+#[derive(Debug, Drop)]
+pub enum Command<'a> {
+    /// The client's answer to a server-first message.
+    ClientFinal(ClientFinal<'a>),
+}
+
+impl<'a> Command<'a> {
+    /// Reads the words, or answers `None` where they ask for nothing that the program does.
+    pub fn from_words(words: &'a [String]) -> Option<Command<'a>> {
+        let (first, rest) = words.split_first()?;
+        match first.as_str() {
+            "client-final" => Some(Command::ClientFinal(ClientFinal::from_words(rest)?)),
+            _ => None,
+        }
+    }
+
+    /// Does it, and prints what comes of it.
+    pub fn run<W: Write>(&self, alloc: Global, output: &mut W) -> Result<(), Stop> {
+        match self {
+            Command::ClientFinal(client_final) => client_final.run(alloc, output),
+        }
+    }
+}
+
+/// The version whose mechanism has this name.
+pub fn version_of(name: &str) -> Option<ScramVersion> {
+    [
+        ScramVersion::Sha1,
+        ScramVersion::Sha256,
+        ScramVersion::Sha512,
+    ]
+    .into_iter()
+    .find(|version| version.mechanism() == name)
+}

@@ -1,0 +1,85 @@
+//! What stops the program before its end.
+
+use fe2o3_sasl::scram_messages::ScramErrorKind;
+use std::alloc::{AllocError, AllocFailed};
+use std::io;
+use std::io::Write;
+
+/// Why the program stops.
+#[derive(Debug, Clone, Copy)]
+pub enum Stop {
+    /// The words ask for nothing that the program does.
+    WrongWords,
+
+    /// The words could not be read.
+    Input,
+
+    /// A SCRAM message was refused.
+    Scram(ScramErrorKind),
+
+    /// A request for memory was refused.
+    OutOfMemory,
+
+    /// A write failed.
+    Output,
+}
+
+impl Stop {
+    /// Why the program's words could not be read.
+    pub fn of_words(error: io::Error) -> Stop {
+        match error.kind() {
+            io::ErrorKind::OutOfMemory => Stop::OutOfMemory,
+            _ => Stop::Input,
+        }
+    }
+
+    /// Prints the last line, and answers the status to end with.
+    pub fn end<W: Write>(&self, output: &mut W) -> u8 {
+        match self.print(output) {
+            Ok(()) => self.status(),
+            Err(_) => Stop::Output.status(),
+        }
+    }
+
+    /// Prints the last line, of which there is none after a failed write.
+    fn print<W: Write>(&self, output: &mut W) -> io::Result<()> {
+        match self {
+            Stop::WrongWords => writeln!(output, "wrong words"),
+            Stop::Input => writeln!(output, "refused Input"),
+            Stop::Scram(kind) => writeln!(output, "refused {kind:?}"),
+            Stop::OutOfMemory => writeln!(output, "refused OutOfMemory"),
+            Stop::Output => Ok(()),
+        }
+    }
+
+    fn status(&self) -> u8 {
+        match self {
+            Stop::WrongWords => 2,
+            Stop::Input | Stop::Scram(_) | Stop::OutOfMemory | Stop::Output => 1,
+        }
+    }
+}
+
+impl From<ScramErrorKind> for Stop {
+    fn from(kind: ScramErrorKind) -> Stop {
+        Stop::Scram(kind)
+    }
+}
+
+impl From<AllocError> for Stop {
+    fn from(_error: AllocError) -> Stop {
+        Stop::OutOfMemory
+    }
+}
+
+impl<T: Drop> From<AllocFailed<T>> for Stop {
+    fn from(_error: AllocFailed<T>) -> Stop {
+        Stop::OutOfMemory
+    }
+}
+
+impl From<io::Error> for Stop {
+    fn from(_error: io::Error) -> Stop {
+        Stop::Output
+    }
+}
