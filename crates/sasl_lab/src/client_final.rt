@@ -4,7 +4,7 @@
 use crate::command::version_of;
 use crate::stop::Stop;
 use base64::engine::general_purpose::STANDARD;
-use fe2o3_sasl::hmac::{Meter, ScramVersion};
+use fe2o3_sasl::{Meter, ScramVersion};
 use std::alloc::Global;
 use std::io::Write;
 

@@ -2,7 +2,7 @@
 
 use crate::client_final::ClientFinal;
 use crate::stop::Stop;
-use fe2o3_sasl::hmac::ScramVersion;
+use fe2o3_sasl::ScramVersion;
 use std::alloc::Global;
 use std::io::Write;
 

@@ -1,6 +1,6 @@
 //! What stops the program before its end.
 
-use fe2o3_sasl::scram_messages::ScramErrorKind;
+use fe2o3_sasl::ScramErrorKind;
 use std::alloc::{AllocError, AllocFailed};
 use std::io;
 use std::io::Write;

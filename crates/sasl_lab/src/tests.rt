@@ -4,7 +4,7 @@
 
 use crate::lab;
 use crate::stop::Stop;
-use fe2o3_sasl::scram_messages::ScramErrorKind;
+use fe2o3_sasl::ScramErrorKind;
 use std::alloc::{AllocError, Global};
 use std::io;
 use std::io::{Cursor, Write};

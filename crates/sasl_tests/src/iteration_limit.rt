@@ -3,102 +3,105 @@
 use crate::messages::SHA_256;
 use fe2o3_sasl::hmac::{Meter, ScramVersion};
 use fe2o3_sasl::scram_messages::ScramErrorKind;
+use std::alloc::{AllocError, Global};
 use std::test::Fail;
 
-/// The count in the server-first message of RFC 7677, section 3, the password, the limit, and the cost
-/// in HMAC values or why the message is refused.
-const LIMITS: [(&str, &str, u32, Result<u64, ScramErrorKind>); 12] = [
-    ("4096", "pencil", 4096, Ok(4100)),
-    ("4096", "pencil", 4097, Ok(4100)),
-    ("4096", "pencil", 4294967295, Ok(4100)),
-    ("1", "pencil", 1, Ok(5)),
+/// The count in a server-first message, the password, the limit, and the refusal with the HMAC values
+/// that were made.
+const LIMITS: [(&str, &str, u32, (Option<ScramErrorKind>, u64)); 12] = [
+    ("4096", "pencil", 4096, (None, 4100)),
+    ("4096", "pencil", 4097, (None, 4100)),
+    ("4096", "pencil", 4294967295, (None, 4100)),
+    ("1", "pencil", 1, (None, 5)),
     (
         "4096",
         "pencil",
         4095,
-        Err(ScramErrorKind::IterationCountTooLarge),
+        (Some(ScramErrorKind::IterationCountTooLarge), 0),
     ),
     (
         "1",
         "pencil",
         0,
-        Err(ScramErrorKind::IterationCountTooLarge),
+        (Some(ScramErrorKind::IterationCountTooLarge), 0),
     ),
     (
         "4294967295",
         "pencil",
         4294967294,
-        Err(ScramErrorKind::IterationCountTooLarge),
+        (Some(ScramErrorKind::IterationCountTooLarge), 0),
     ),
     (
         "+00004294967295",
         "pencil",
         4294967294,
-        Err(ScramErrorKind::IterationCountTooLarge),
+        (Some(ScramErrorKind::IterationCountTooLarge), 0),
     ),
     // What is no count is told before the limit, and the limit before the password.
     (
         "0",
         "pencil",
         0,
-        Err(ScramErrorKind::IterationCountParseError),
+        (Some(ScramErrorKind::IterationCountParseError), 0),
     ),
     (
         "4294967296",
         "pencil",
         1,
-        Err(ScramErrorKind::IterationCountParseError),
+        (Some(ScramErrorKind::IterationCountParseError), 0),
     ),
     (
         "4096",
         "\u{e9}",
         1,
-        Err(ScramErrorKind::IterationCountTooLarge),
+        (Some(ScramErrorKind::IterationCountTooLarge), 0),
     ),
-    ("4096", "\u{e9}", 4096, Err(ScramErrorKind::NormalizeError)),
+    (
+        "4096",
+        "\u{e9}",
+        4096,
+        (Some(ScramErrorKind::NormalizeError), 0),
+    ),
 ];
+
+/// Why a client with the nonce `nonce` refuses a count, and the HMAC values that it made.
+fn refusal(
+    alloc: Global,
+    count: &str,
+    password: &str,
+    limit: u32,
+) -> Result<(Option<ScramErrorKind>, u64), AllocError> {
+    let message = format!(in alloc; "r=nonce,s=AA==,i={count}")?;
+    let mut meter = Meter::new();
+    let answer = ScramVersion::Sha256.compute_client_final_message_limited(
+        alloc,
+        "nonce",
+        password,
+        &message,
+        b"n=user,r=nonce",
+        limit,
+        &mut meter,
+    );
+    Ok((answer.err(), meter.count()))
+}
 
 #[test]
 fn a_count_above_the_limit_is_refused(rt: HostRuntime) -> Result<(), Fail> {
-    let alloc = rt.alloc();
-    let (_, bare) = ScramVersion::Sha256.client_first_message(
-        alloc,
-        b"user",
-        SHA_256.client_nonce.as_bytes(),
-    )?;
-    let before_count = SHA_256.server_first.strip_suffix("4096").ok_or("no count")?;
     for (count, password, limit, wanted) in LIMITS {
-        let server_first = format!(in alloc; "{before_count}{count}")?;
-        let mut meter = Meter::new();
-        let answer = ScramVersion::Sha256.compute_client_final_message_limited(
-            alloc,
-            SHA_256.client_nonce,
-            password,
-            &server_first,
-            &bare,
-            limit,
-            &mut meter,
-        );
-        assert_eq!(rt; answer.map(|_| meter.count()), wanted, "{count} at {limit}");
-        assert_eq!(rt; meter.count(), wanted.unwrap_or(0), "{count} at {limit}");
+        let refusal = refusal(rt.alloc(), count, password, limit)?;
+        assert_eq!(rt; refusal, wanted, "{count} at {limit}");
     }
     Ok(())
 }
 
 #[test]
 fn a_limit_changes_no_answer(rt: HostRuntime) -> Result<(), Fail> {
-    let alloc = rt.alloc();
-    let (_, bare) = ScramVersion::Sha256.client_first_message(
-        alloc,
-        b"user",
-        SHA_256.client_nonce.as_bytes(),
-    )?;
     let (client_final, _) = ScramVersion::Sha256.compute_client_final_message_limited(
-        alloc,
+        rt.alloc(),
         SHA_256.client_nonce,
         "pencil",
         SHA_256.server_first,
-        &bare,
+        SHA_256.client_first_bare.as_bytes(),
         4096,
         &mut Meter::new(),
     )?;

@@ -1,8 +1,26 @@
 //! The HMAC values that calls cost.
 
-use crate::messages::{EXCHANGES, SHA_256};
+ghost use Rattle.std.specs.Prelude.{◌≤◌};
+
+use crate::messages::{EXCHANGES, Exchange};
+use fe2o3_sasl::OutOfMemory;
 use fe2o3_sasl::hmac::{Meter, ScramVersion};
+use fe2o3_sasl::scram_messages::ScramErrorKind;
+use std::alloc::Global;
 use std::test::Fail;
+
+/// The HMAC values that a salted password costs.
+fn cost_of_salting(
+    alloc: Global,
+    version: ScramVersion,
+    iterations: u32,
+) -> Result<u64, OutOfMemory>
+    requires { 1 ≤ iterations }
+{
+    let mut meter = Meter::new();
+    version.h_i_metered(alloc, b"password", b"salt", iterations, &mut meter)?;
+    Ok(meter.count())
+}
 
 #[test]
 fn a_salted_password_costs_its_iterations(rt: HostRuntime) -> Result<(), Fail> {
@@ -12,45 +30,33 @@ fn a_salted_password_costs_its_iterations(rt: HostRuntime) -> Result<(), Fail> {
         ScramVersion::Sha256,
         ScramVersion::Sha512,
     ] {
-        for (iterations, cost) in [(1, 1), (2, 2), (4096, 4096)] {
-            assert!(rt; iterations >= 1);
-            let mut meter = Meter::new();
-            let salted = version.h_i_metered(alloc, b"password", b"salt", iterations, &mut meter)?;
-            assert_eq!(rt; meter.count(), cost, "{version:?}");
-            let same = version.h_i(alloc, b"password", b"salt", iterations)?;
-            assert_eq!(rt; salted, same, "{version:?}");
-        }
+        assert_eq!(rt; cost_of_salting(alloc, version, 1)?, 1, "{version:?}");
+        assert_eq!(rt; cost_of_salting(alloc, version, 2)?, 2, "{version:?}");
+        assert_eq!(rt; cost_of_salting(alloc, version, 4096)?, 4096, "{version:?}");
     }
     Ok(())
 }
 
+/// The HMAC values that the client's answer costs.
+fn cost_of_answer(alloc: Global, exchange: &Exchange) -> Result<u64, ScramErrorKind> {
+    let mut meter = Meter::new();
+    exchange.version.compute_client_final_message_metered(
+        alloc,
+        exchange.client_nonce,
+        "pencil",
+        exchange.server_first,
+        exchange.client_first_bare.as_bytes(),
+        &mut meter,
+    )?;
+    Ok(meter.count())
+}
+
 #[test]
-fn an_answer_costs_four_more_than_its_count(rt: HostRuntime) -> Result<(), Fail> {
-    let alloc = rt.alloc();
-    for exchange in EXCHANGES {
-        let version = exchange.version;
-        let (_, bare) = version.client_first_message(
-            alloc,
-            b"user",
-            exchange.client_nonce.as_bytes(),
-        )?;
-        let mut meter = Meter::new();
-        let (client_final, _) = version.compute_client_final_message_metered(
-            alloc,
-            exchange.client_nonce,
-            "pencil",
-            exchange.server_first,
-            &bare,
-            &mut meter,
-        )?;
-        assert_eq!(rt; meter.count(), 4100, "{version:?}");
-        assert_eq!(rt;
-            str::from_utf8(&client_final)?,
-            exchange.client_final,
-            "{version:?}"
-        );
+fn an_answer_costs_four_more_than_its_count(rt: HostRuntime) {
+    for exchange in &EXCHANGES {
+        let cost = cost_of_answer(rt.alloc(), exchange);
+        assert_eq!(rt; cost, Ok(4100), "{:?}", exchange.version);
     }
-    Ok(())
 }
 
 #[test]
