@@ -1,0 +1,3 @@
+//! The five SASL frames.
+
+pub mod forms;
