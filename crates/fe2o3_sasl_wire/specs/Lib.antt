@@ -3,3 +3,7 @@ pub mod Bytes
 pub mod Encodings
 pub mod SaslFrames
 pub mod AmqpTypes
+pub mod Bodies
+pub mod FrameViews
+pub mod SymbolsViews
+pub mod Reading
