@@ -6,7 +6,7 @@ use Rattle.fe2o3_sasl_wire.specs.declared.sasl_frames.error.Error.{Error}
 use Rattle.fe2o3_sasl_wire.specs.declared.sasl_frames.error.Error.TheVariants as faults
 use Rattle.fe2o3_sasl_wire.specs.Bytes.{IsBytes}
 use Rattle.fe2o3_sasl_wire.specs.SaslFrames.{SaslFrame, SpellsValue, Spells, Begins, NoneBegins}
-use Rattle.fe2o3_sasl_wire.specs.Bodies.{fault_of, ReadsBody}
+use Rattle.fe2o3_sasl_wire.specs.Bodies.{fault_of, ReadsBody, RefusesBody}
 use Rattle.fe2o3_sasl_wire.specs.Reading.{value_at}
 use Rattle.fe2o3_sasl_wire.proofs.ReadingLemmas.{IsBytes-drop, Reads}
 use Rattle.fe2o3_sasl_wire.proofs.TakesLemmas.{value_takes}
@@ -110,3 +110,10 @@ answered_length bytes false fits e = answered_type bytes (eqb (get_or bytes 1 0)
 
 pub some_answer : (bytes : List ℕ) → IsBytes bytes → Answered bytes
 some_answer bytes fits = answered_length bytes (ltb (length bytes) 4) fits refl
+
+-- a fault of a body is why it is not decoded
+pub refused_body : (bytes : List ℕ) (fault : Error) → ReadsBody bytes (Err fault) → (fault ≡ faults.OutOfMemory → ⊥) → RefusesBody bytes fault
+refused_body bytes faults.DecodeError reads ne = reads
+refused_body bytes faults.NotImplemented reads ne = reads
+refused_body bytes faults.TooLarge reads ne = reads
+refused_body bytes faults.OutOfMemory reads ne = absurd (ne refl)

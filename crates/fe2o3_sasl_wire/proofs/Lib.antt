@@ -4,3 +4,7 @@ pub mod ElementLemmas
 pub mod TakesLemmas
 pub mod AgainLemmas
 pub mod BodyLemmas
+pub mod CanonicalLemmas
+pub mod LawLemmas
+pub mod WritingLemmas
+pub mod EncodingLemmas

@@ -6,4 +6,8 @@ pub mod AmqpTypes
 pub mod Bodies
 pub mod FrameViews
 pub mod SymbolsViews
+pub mod OwnedFrames
+pub mod Canonical
+pub mod Laws
 pub mod Reading
+pub mod Fields

@@ -8,6 +8,7 @@
 pub mod amqp_types;
 pub mod laws;
 pub mod protocol_header;
+pub mod sameness;
 pub mod sasl_frames;
 
 pub use amqp_types::{
@@ -15,4 +16,5 @@ pub use amqp_types::{
     Symbol, SymbolError,
 };
 pub use protocol_header::{NegotiationError, ProtocolHeader, ProtocolHeaderCodec, ProtocolId};
+pub use sasl_frames::{Error, Frame, FrameCodec, FrameView, SymbolsView, view_frame};
 pub use std::alloc::AllocError as OutOfMemory;
