@@ -1,9 +1,8 @@
 -- What is spelled so is read, whatever follows.
-use Rattle.std.proofs.Common.{◌≡◌, ℕ, zero, suc, ◌+◌, ◌^◌, ◌<◌, ◌≤◌, Bool, true, false, cond, ltb, eqb, ◌⊎◌, sub-one, add-one, ◌-◌, List, [], ◌∷◌, ◌++◌, length, take, drop, Option, Some, None, refl, sym, ap, subst, ◌∙◌, append_assoc, arith, inl, inr}
-use Rattle.std.specs.Int.{w32, w64, to_be_bytes, from_be_bytes}
-use Rattle.std.specs.List.{AllByRecursion, flat_map}
-use Rattle.std.specs.Str.{is_utf8, IsAscii}
-use Rattle.std.proofs.lemmas.Bool.{le-ltb, cond-true, ne_eqb}
+use Rattle.std.proofs.Common.{◌≡◌, ℕ, suc, ◌^◌, ◌<◌, false, ltb, eqb, ◌-◌, List, [], ◌∷◌, ◌++◌, length, Option, Some, None, refl, sym, ap, ◌∙◌, append_assoc, arith, inl, inr}
+use Rattle.std.specs.Int.{w32, w64, to_be_bytes}
+use Rattle.std.specs.List.{AllByRecursion}
+use Rattle.std.proofs.lemmas.Bool.{le-ltb, ne_eqb}
 use Rattle.std.proofs.lemmas.List.{take_at, drop_at, append-nil, length-append, append_cancel_right}
 use Rattle.std.proofs.lemmas.Nat.{from_be_bytes-to_be_bytes_4, from_be_bytes-to_be_bytes_8}
 use Rattle.std.proofs.lemmas.Str.{is_utf8-from_IsUtf8}
@@ -13,9 +12,9 @@ use Rattle.fe2o3_sasl_wire.specs.declared.sasl_frames.forms.Form.{Form}
 use Rattle.fe2o3_sasl_wire.specs.declared.sasl_frames.forms.Form.TheVariants.{Eight, ThirtyTwo}
 use Rattle.fe2o3_sasl_wire.specs.declared.sasl_frames.forms.Kind.{Kind}
 use Rattle.fe2o3_sasl_wire.specs.declared.sasl_frames.forms.Kind.TheVariants as kinds
-use Rattle.fe2o3_sasl_wire.specs.Encodings.{width, limit, number, choice, content, SpellsVariable, SpellsBinary, SpellsString, SpellsSymbol, IsElement, elements, array_body, SpellsArray, list_body, SpellsSized, SpellsList}
+use Rattle.fe2o3_sasl_wire.specs.Encodings.{limit, number, choice, content, SpellsVariable, SpellsBinary, SpellsString, SpellsSymbol, IsElement, elements, array_body, list_body, SpellsList}
 use Rattle.fe2o3_sasl_wire.specs.SaslFrames.{SaslFrame, Mechanisms, Init, Challenge, Response, Outcome, kind_of, code_of, name_of, outcome_code, Field, Null, Ubyte, Binary, Text, Symbol, Symbols, optional, fields_of, SpellsField, AllNull, SpellsItems, SpellsDescriptor, SpellsValue, Spells}
-use Rattle.fe2o3_sasl_wire.specs.Reading.{◌>>=◌, byte_at, four_at, eight_at, number_at, content_at, form_at, variable_at, is_ascii, element_at, symbol_at, string_at, elements_at, array_at, one_at, symbols_at, sasl_code, code_at, Items, required, null_at, unless_null, optional_at, ended, binary_at, fields_at, list_at, kind_of_code, kind_of_name, descriptor_at, value_at}
+use Rattle.fe2o3_sasl_wire.specs.Reading.{eight_at, number_at, content_at, form_at, variable_at, element_at, symbol_at, string_at, elements_at, array_at, one_at, symbols_at, code_at, Items, required, null_at, optional_at, ended, binary_at, fields_at, list_at, kind_of_code, kind_of_name, descriptor_at, value_at}
 use Rattle.fe2o3_sasl_wire.proofs.TextLemmas.{is_ascii-from_IsAscii}
 
 pub number_again : (form : Form) (n : ℕ) (rest : List ℕ) → n < limit form → number_at form (number form n ++ rest) ≡ Some (n, rest)

@@ -1,15 +1,15 @@
 -- A body: four bytes, and then a described list.
-use Rattle.std.proofs.Common.{◌≡◌, ℕ, zero, suc, ◌+◌, ◌-◌, ◌<◌, ◌≤◌, Bool, true, false, ltb, eqb, List, [], ◌∷◌, ◌++◌, length, take, drop, get_or, Option, Some, None, Result, Ok, Err, refl, sym, ap, subst, ◌∙◌, arith}
-use Rattle.std.proofs.lemmas.List.{take_at, take-append-drop, length-append, append-nil, length-take, length-drop}
+use Rattle.std.proofs.Common.{◌≡◌, ℕ, ◌+◌, ◌-◌, ◌<◌, ◌≤◌, Bool, true, false, ltb, eqb, List, [], ◌∷◌, ◌++◌, length, take, drop, get_or, Option, Some, None, Result, Ok, Err, refl, sym, ap, ◌∙◌, arith}
+use Rattle.std.proofs.lemmas.List.{take_at, take-append-drop, length-append, length-take, length-drop}
 use Rattle.std.proofs.lemmas.Bool.{lt-ltb, le-ltb, ne_eqb, ltb-true, ltb-false, eqb-true, eqb-false}
 use Rattle.fe2o3_sasl_wire.specs.declared.sasl_frames.error.Error.{Error}
 use Rattle.fe2o3_sasl_wire.specs.declared.sasl_frames.error.Error.TheVariants as faults
 use Rattle.fe2o3_sasl_wire.specs.Bytes.{IsBytes}
-use Rattle.fe2o3_sasl_wire.specs.SaslFrames.{SaslFrame, SpellsValue, Spells, Begins, NoneBegins}
+use Rattle.fe2o3_sasl_wire.specs.SaslFrames.{SaslFrame, Begins}
 use Rattle.fe2o3_sasl_wire.specs.Bodies.{fault_of, ReadsBody, RefusesBody}
 use Rattle.fe2o3_sasl_wire.specs.Reading.{value_at}
-use Rattle.fe2o3_sasl_wire.proofs.ReadingLemmas.{IsBytes-drop, Reads}
-use Rattle.fe2o3_sasl_wire.proofs.TakesLemmas.{value_takes}
+use Rattle.fe2o3_sasl_wire.proofs.ReadingLemmas.{IsBytes-drop}
+use Rattle.fe2o3_sasl_wire.proofs.FrameTakesLemmas.{value_takes}
 use Rattle.fe2o3_sasl_wire.proofs.AgainLemmas.{value_again, no_spelling_begins_another}
 
 -- what is read behind a sound header is spelled by the bytes before the rest

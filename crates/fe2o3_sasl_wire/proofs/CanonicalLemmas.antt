@@ -1,12 +1,12 @@
 -- What is written is a spelling.
-use Rattle.std.proofs.Common.{◌≡◌, ℕ, zero, suc, ◌+◌, ◌-◌, ◌^◌, ◌<◌, ◌≤◌, Bool, true, false, cond, ltb, ◌&&◌, ◌⊎◌, List, [], ◌∷◌, ◌++◌, length, Option, Some, None, refl, sym, ap, subst, ◌∙◌, arith, inl, inr}
+use Rattle.std.proofs.Common.{◌≡◌, ℕ, ◌+◌, ◌^◌, ◌<◌, ◌≤◌, Bool, true, false, cond, ltb, List, [], ◌∷◌, ◌++◌, length, Some, refl, sym, ap, ◌∙◌, arith, inl, inr}
 use Rattle.std.specs.Prelude.{IsAscii}
-use Rattle.std.specs.List.{flat_map, AllByRecursion, list_all}
-use Rattle.std.proofs.lemmas.Bool.{ltb-true, ltb-false, cases_lt, lt-ltb, le-ltb, and_parts}
+use Rattle.std.specs.List.{flat_map, AllByRecursion}
+use Rattle.std.proofs.lemmas.Bool.{ltb-true, cases_lt, lt-ltb, le-ltb, and_parts}
 use Rattle.std.proofs.lemmas.List.{length-append}
 use Rattle.fe2o3_sasl_wire.specs.declared.sasl_frames.forms.Form.{Form}
 use Rattle.fe2o3_sasl_wire.specs.declared.sasl_frames.forms.Form.TheVariants.{Eight, ThirtyTwo}
-use Rattle.fe2o3_sasl_wire.specs.Encodings.{width, limit, number, choice, content, SpellsVariable, IsElement, elements, array_body, SpellsArray, list_body, SpellsSized, SpellsList}
+use Rattle.fe2o3_sasl_wire.specs.Encodings.{width, limit, number, choice, content, SpellsVariable, IsElement, elements, array_body, SpellsArray, list_body, SpellsSized}
 use Rattle.fe2o3_sasl_wire.specs.SaslFrames.{SaslFrame, kind_of, code_of, Field, Null, Ubyte, Binary, Text, Symbol, Symbols, fields_of, SpellsField, AllNull, SpellsItems, SpellsValue, Spells}
 use Rattle.fe2o3_sasl_wire.specs.Canonical.{shortest, canonical_variable, all_short, inner_form, array_form, canonical_array, canonical_field, with_field, written, items_of, count_of, list_form, canonical_list, canonical, IsText, HasTexts}
 use Rattle.fe2o3_sasl_wire.proofs.ReadingLemmas.{when_some, some_is}

@@ -1,9 +1,7 @@
 -- The laws of the grammar.
-use Rattle.std.proofs.Common.{◌≡◌, ℕ, ◌+◌, ◌≤◌, List, [], ◌++◌, length, take, Option, Some, Result, Ok, refl, sym, ap, subst, ◌∙◌, arith, inl, inr}
+use Rattle.std.proofs.Common.{◌≡◌, ℕ, List, [], ◌++◌, length, Ok, refl, sym, subst, arith, inl, inr}
 use Rattle.std.proofs.lemmas.List.{take_at, length-append}
-use Rattle.fe2o3_sasl_wire.specs.declared.sasl_frames.error.Error.{Error}
 use Rattle.fe2o3_sasl_wire.specs.SaslFrames.{SaslFrame, Mechanisms, Init, Challenge, Response, Outcome, Symbol, Null, Spells, Begins}
-use Rattle.fe2o3_sasl_wire.specs.Bodies.{ReadsBody}
 use Rattle.fe2o3_sasl_wire.specs.Laws.{SpellingsHaveOneFrame, WrittenBodiesAreRead, BodiesHaveOneAnswer, SpelledMechanismsAreAscii}
 use Rattle.fe2o3_sasl_wire.proofs.AgainLemmas.{no_spelling_begins_another}
 use Rattle.fe2o3_sasl_wire.proofs.BodyLemmas.{one_answer, some_answer}

@@ -2,6 +2,7 @@ pub mod ReadingLemmas
 pub mod TextLemmas
 pub mod ElementLemmas
 pub mod TakesLemmas
+pub mod FrameTakesLemmas
 pub mod AgainLemmas
 pub mod BodyLemmas
 pub mod CanonicalLemmas

@@ -1,15 +1,15 @@
 -- Canonical bodies, part by part.
-use Rattle.std.proofs.Common.{◌≡◌, ℕ, zero, suc, ◌+◌, ◌*◌, ◌-◌, ◌^◌, ◌<◌, ◌≤◌, List, [], ◌∷◌, ◌++◌, length, take, drop, get_or, Option, Some, None, refl, sym, ap, ◌∙◌, append_assoc, arith, Bool, true, false, ltb, cond, ◌&&◌, add-one, map, inl, inr}
+use Rattle.std.proofs.Common.{◌≡◌, ℕ, zero, suc, ◌+◌, ◌^◌, ◌<◌, ◌≤◌, List, [], ◌∷◌, length, take, get_or, refl, arith, Bool, true, false, ltb, cond, ◌&&◌, add-one, map, inl, inr}
 use Rattle.std.specs.List.{flat_map, AllByRecursion}
 use Rattle.std.proofs.lemmas.Bool.{lt-ltb, le-ltb, ltb-true, cases_lt, and_parts, and_from}
-use Rattle.std.proofs.lemmas.List.{append-nil, length-append}
+use Rattle.std.proofs.lemmas.List.{length-append}
 use Rattle.fe2o3_sasl_wire.specs.declared.sasl_frames.forms.Form.{Form}
 use Rattle.fe2o3_sasl_wire.specs.declared.sasl_frames.forms.Form.TheVariants.{Eight, ThirtyTwo}
 use Rattle.fe2o3_sasl_wire.specs.declared.sasl_frames.fields.Field.{Field as HeldField}
-use Rattle.fe2o3_sasl_wire.specs.Encodings.{width, limit, number, choice, content, elements, list_body}
+use Rattle.fe2o3_sasl_wire.specs.Encodings.{width, limit, content, elements}
 use Rattle.fe2o3_sasl_wire.specs.Canonical.{shortest, all_short, inner_form, array_form, canonical_array, canonical_field}
 use Rattle.fe2o3_sasl_wire.specs.Fields.{shown_field}
-use Rattle.fe2o3_sasl_wire.proofs.CanonicalLemmas.{length-content, length-number, length-list_body, few_names, small_array}
+use Rattle.fe2o3_sasl_wire.proofs.CanonicalLemmas.{length-content, few_names, small_array}
 
 -- room for one more element
 pub room_for : (form : Form) (names : List (List ℕ)) (i : ℕ) (d : List ℕ) → i < length names → length (elements form (take i names)) + (width form + length (get_or names i d)) ≤ length (elements form names)
@@ -83,5 +83,9 @@ pub item_room : (fields : List HeldField) (i : ℕ) (d : HeldField) → i < leng
 item_room [] i d lt = absurd (omega arith)
 item_room (field ∷ fields) zero d lt = omega (arith, length-append (canonical_field (shown_field field)) (flat_map canonical_field (map shown_field fields)))
 item_room (field ∷ fields) (suc i) d lt =
-    omega (arith, item_room fields i d (omega arith), length-append (canonical_field (shown_field field)) (flat_map canonical_field (map shown_field fields)),
-      length-append (canonical_field (shown_field field)) (flat_map canonical_field (map shown_field (take i fields))))
+    omega (
+      arith,
+      item_room fields i d (omega arith),
+      length-append (canonical_field (shown_field field)) (flat_map canonical_field (map shown_field fields)),
+      length-append (canonical_field (shown_field field)) (flat_map canonical_field (map shown_field (take i fields))),
+    )

@@ -1,5 +1,5 @@
 -- What the types of the SASL frames hold, as plain data (AMQP 1.0, part 5, section 5.3.3).
-use Rattle.std.specs.Prelude.{ℕ, List, Option, option_map, string_bytes, IsAscii}
+use Rattle.std.specs.Prelude.{ℕ, List, option_map, string_bytes, IsAscii}
 use Rattle.fe2o3_sasl_wire.specs.declared.amqp_types.symbols.SymbolError.{SymbolError}
 use Rattle.fe2o3_sasl_wire.specs.declared.amqp_types.symbols.SymbolError.TheVariants.{NotAscii, OutOfMemory}
 use Rattle.fe2o3_sasl_wire.specs.declared.amqp_types.Binary.{Binary}

@@ -2,7 +2,6 @@
 use Rattle.std.specs.Prelude.{◌≡◌, ℕ, List, length, Result, Ok, Err, nat_lt, not, ◌==◌, slice_index, if◌then◌else◌}
 use Rattle.fe2o3_sasl_wire.specs.declared.sasl_frames.error.Error.{Error}
 use Rattle.fe2o3_sasl_wire.specs.declared.sasl_frames.error.Error.TheVariants as faults
-use Rattle.fe2o3_sasl_wire.specs.Bytes.{IsBytes}
 use Rattle.fe2o3_sasl_wire.specs.SaslFrames.{SaslFrame, Begins, NoneBegins, SomeBegins}
 
 -- the fault of a body of which no beginning spells a frame: fewer than four bytes; a type that is not 1; a data offset that is not 2; anything else

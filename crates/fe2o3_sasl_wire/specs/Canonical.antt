@@ -1,5 +1,5 @@
 -- The one body that is written for a frame: the shortest forms, and no nulls at the end (AMQP 1.0, part 1, sections 1.4 and 1.6).
-use Rattle.std.specs.Prelude.{◌≡◌, ℕ, ◌<◌, ◌^◌, Bool, List, [], ◌∷◌, ◌++◌, length, Option, Some, None, IsSome, nat_lt, if◌then◌else◌, IsAscii, IsUtf8}
+use Rattle.std.specs.Prelude.{◌≡◌, ℕ, ◌^◌, Bool, List, [], ◌∷◌, ◌++◌, length, Option, Some, None, IsSome, nat_lt, if◌then◌else◌, IsAscii, IsUtf8}
 use Rattle.std.specs.List.{flat_map, list_all, AllByRecursion}
 use Rattle.fe2o3_sasl_wire.specs.declared.sasl_frames.error.Error.{Error}
 use Rattle.fe2o3_sasl_wire.specs.declared.sasl_frames.error.Error.TheVariants as faults

@@ -1,5 +1,5 @@
 -- The fields of a frame as the encoder holds them. No public clause cites this file.
-use Rattle.std.specs.Prelude.{ℕ, ◌-◌, List, ◌++◌, length, replicate}
+use Rattle.std.specs.Prelude.{◌-◌, List, ◌++◌, length, replicate}
 use Rattle.fe2o3_sasl_wire.specs.declared.sasl_frames.fields.Field.{Field as HeldField}
 use Rattle.fe2o3_sasl_wire.specs.declared.sasl_frames.fields.Field.TheVariants as held
 use Rattle.fe2o3_sasl_wire.specs.SaslFrames.{Field, Null, Ubyte, Binary, Text, Symbol, Symbols}

@@ -1,5 +1,5 @@
 -- What frames that own their texts hold, and which views have such a frame.
-use Rattle.std.specs.Prelude.{ℕ, List, IsAscii}
+use Rattle.std.specs.Prelude.{IsAscii}
 use Rattle.fe2o3_sasl_wire.specs.declared.sasl_frames.Frame.{Frame}
 use Rattle.fe2o3_sasl_wire.specs.declared.sasl_frames.Frame.TheVariants as frames
 use Rattle.fe2o3_sasl_wire.specs.declared.sasl_frames.error.Error.{Error}

@@ -14,7 +14,9 @@ const PROTOCOL_HEADER_PREFIX: [u8; 4] = *b"AMQP";
 
 /// The version that the constructors write, 1.0.0 (AMQP 1.0, part 2, section 2.8).
 const MAJOR: u8 = 1;
+
 const MINOR: u8 = 0;
+
 const REVISION: u8 = 0;
 
 /// A protocol header. Every version is read; the constructors write 1.0.0.

@@ -12,10 +12,12 @@ pub(crate) const LIST_0: u8 = 0x45;
 
 /// A list with size and count of one byte, or of four.
 pub(crate) const LIST_8: u8 = 0xc0;
+
 pub(crate) const LIST_32: u8 = 0xd0;
 
 /// An array with size and count of one byte, or of four.
 pub(crate) const ARRAY_8: u8 = 0xe0;
+
 pub(crate) const ARRAY_32: u8 = 0xf0;
 
 /// A number of one byte.
@@ -23,18 +25,22 @@ pub(crate) const UBYTE: u8 = 0x50;
 
 /// A number of eight bytes, written as one byte, or as eight.
 pub(crate) const SMALL_ULONG: u8 = 0x53;
+
 pub(crate) const ULONG: u8 = 0x80;
 
 /// A binary with a length of one byte, or of four.
 pub(crate) const BINARY_8: u8 = 0xa0;
+
 pub(crate) const BINARY_32: u8 = 0xb0;
 
 /// A string with a length of one byte, or of four.
 pub(crate) const STRING_8: u8 = 0xa1;
+
 pub(crate) const STRING_32: u8 = 0xb1;
 
 /// A symbol with a length of one byte, or of four.
 pub(crate) const SYMBOL_8: u8 = 0xa3;
+
 pub(crate) const SYMBOL_32: u8 = 0xb3;
 
 /// How wide a size, a length or a count is.

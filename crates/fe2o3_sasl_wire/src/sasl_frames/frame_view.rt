@@ -7,12 +7,12 @@ ghost use Rattle.fe2o3_sasl_wire.specs.Reading.{kind_of_code, kind_of_name, desc
 ghost use Rattle.fe2o3_sasl_wire.specs.FrameViews.{viewed_frame, viewed_answer};
 
 use crate::amqp_types::SaslCode;
-use crate::sasl_frames::{DATA_OFFSET, FRAME_TYPE_SASL};
 use crate::sasl_frames::error::Error;
 use crate::sasl_frames::forms::{DESCRIBED, Kind, SMALL_ULONG, ULONG};
 use crate::sasl_frames::items::{Items, list_at};
 use crate::sasl_frames::reading::{byte_at, symbol_at, u64_at};
 use crate::sasl_frames::symbols_view::SymbolsView;
+use crate::sasl_frames::{DATA_OFFSET, FRAME_TYPE_SASL};
 
 /// A SASL frame whose texts and bytes are slices of its body.
 #[derive(Drop)]

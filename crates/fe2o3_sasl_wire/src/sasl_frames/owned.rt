@@ -94,12 +94,7 @@ impl FrameView<'_> {
                 if !mechanism.is_ascii() {
                     return Err(Error::DecodeError);
                 }
-                Ok(owned_init(
-                    alloc,
-                    mechanism,
-                    *initial_response,
-                    *hostname,
-                )?)
+                Ok(owned_init(alloc, mechanism, *initial_response, *hostname)?)
             }
             FrameView::Challenge(challenge) => Ok(Frame::Challenge(SaslChallenge {
                 challenge: owned_binary(alloc, challenge)?,

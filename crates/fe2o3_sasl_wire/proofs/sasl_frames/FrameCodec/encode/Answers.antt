@@ -1,8 +1,7 @@
-use Rattle.std.proofs.Common.{◌≡◌, ◌+◌, ◌^◌, ◌≤◌, ◌<◌, ◌++◌, List, ℕ, length, map, ap, sym, refl, ◌∙◌, arith}
+use Rattle.std.proofs.Common.{◌≡◌, ◌+◌, ◌++◌, length, ap, refl, ◌∙◌, arith}
 use Rattle.std.specs.List.{flat_map}
 use Rattle.std.proofs.lemmas.Result.{err_from_is_err_and}
 use Rattle.fe2o3_sasl_wire.specs.Encodings.{width, number}
-use Rattle.fe2o3_sasl_wire.specs.SaslFrames.{code_of, kind_of}
 use Rattle.fe2o3_sasl_wire.specs.Canonical.{canonical_field, items_of, count_of}
 use Rattle.fe2o3_sasl_wire.specs.OwnedFrames.{owned_frame}
 use Rattle.fe2o3_sasl_wire.proofs.EncodingLemmas.{kept_fields, kept_count, kept_len, no_body, body_in_parts, has_body, appends}

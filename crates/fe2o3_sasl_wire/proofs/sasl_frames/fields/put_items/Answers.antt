@@ -1,4 +1,4 @@
-use Rattle.std.proofs.Common.{◌≡◌, ◌+◌, length, arith, ap}
+use Rattle.std.proofs.Common.{length, arith, ap}
 use Rattle.fe2o3_sasl_wire.specs.Canonical.{canonical_field}
 use Rattle.fe2o3_sasl_wire.specs.Fields.{shown_field}
 use Rattle.fe2o3_sasl_wire.proofs.WritingLemmas.{item_room}

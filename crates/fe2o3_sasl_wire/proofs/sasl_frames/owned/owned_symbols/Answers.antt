@@ -1,4 +1,4 @@
-use Rattle.std.proofs.Common.{◌≡◌, ◌∷◌, [], ◌++◌, ◌+◌, take, sym, ap, ◌∙◌, Some}
+use Rattle.std.proofs.Common.{sym, ap, ◌∙◌, Some}
 use Rattle.fe2o3_sasl_wire.proofs.ElementLemmas.{take_one_more}
 use Rattle.fe2o3_sasl_wire.proofs.sasl_frames.owned.owned_symbols.Goals as goal
 

@@ -1,5 +1,4 @@
 use Rattle.fe2o3_sasl_wire.proofs.TextLemmas.{shows_utf8}
-use Rattle.std.proofs.Common.{◌∙◌, ap}
 use Rattle.fe2o3_sasl_wire.proofs.sasl_frames.reading.utf8_text.Goals as goal
 
 pub returns : goal.returns

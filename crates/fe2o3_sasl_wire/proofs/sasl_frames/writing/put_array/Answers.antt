@@ -1,4 +1,4 @@
-use Rattle.std.proofs.Common.{◌≡◌, ◌<◌, ◌^◌, ◌∙◌, length, arith, ap}
+use Rattle.std.proofs.Common.{◌≡◌, length, arith, ap}
 use Rattle.fe2o3_sasl_wire.specs.Encodings.{elements}
 use Rattle.fe2o3_sasl_wire.specs.Canonical.{inner_form}
 use Rattle.fe2o3_sasl_wire.proofs.CanonicalLemmas.{few_names}

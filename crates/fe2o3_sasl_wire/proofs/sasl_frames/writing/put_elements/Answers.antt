@@ -1,4 +1,4 @@
-use Rattle.std.proofs.Common.{arith, ◌≡◌, ap, length, sym, ◌∙◌, get_or}
+use Rattle.std.proofs.Common.{arith, ap, length, ◌∙◌}
 use Rattle.fe2o3_sasl_wire.proofs.WritingLemmas.{room_for}
 use Rattle.fe2o3_sasl_wire.proofs.sasl_frames.writing.put_elements.Goals as goal
 
