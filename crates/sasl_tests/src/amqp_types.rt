@@ -1,8 +1,14 @@
 //! The types of the SASL frames (AMQP 1.0, part 5, section 5.3.3).
 
+use fe2o3_sasl_wire::sameness::{
+    copy_of_binary, copy_of_challenge, copy_of_code, copy_of_codec, copy_of_header, copy_of_id,
+    copy_of_init, copy_of_mechanisms, copy_of_outcome, copy_of_response, copy_of_symbol,
+    same_binary, same_challenge, same_code, same_header, same_id, same_init, same_mechanisms,
+    same_outcome, same_response, same_symbol, same_symbols,
+};
 use fe2o3_sasl_wire::{
-    Array, Binary, SaslChallenge, SaslCode, SaslInit, SaslMechanisms, SaslOutcome, SaslResponse,
-    Symbol, SymbolError,
+    Array, Binary, ProtocolHeader, ProtocolHeaderCodec, SaslChallenge, SaslCode, SaslInit,
+    SaslMechanisms, SaslOutcome, SaslResponse, Symbol, SymbolError,
 };
 use std::alloc::{AllocError, Global};
 use std::test::Fail;
@@ -68,39 +74,81 @@ fn arrays_are_equal_by_their_items(rt: HostRuntime) -> Result<(), Fail> {
     Ok(())
 }
 
+/// An init of PLAIN.
+fn init(alloc: Global, hostname: Option<&str>) -> Result<SaslInit, Fail> {
+    Ok(SaslInit {
+        mechanism: symbol(alloc, "PLAIN")?,
+        initial_response: Some(binary(alloc, b"\0user\0example")?),
+        hostname: match hostname {
+            Some(name) => Some(String::from_str(alloc, name)?),
+            None => None,
+        },
+    })
+}
+
+/// An outcome without data.
+fn outcome(code: SaslCode) -> SaslOutcome {
+    SaslOutcome {
+        code,
+        additional_data: None,
+    }
+}
+
 #[test]
-fn frames_are_equal_by_their_fields(rt: HostRuntime) -> Result<(), Fail> {
+fn values_are_equal_by_their_fields(rt: HostRuntime) -> Result<(), Fail> {
     let alloc = rt.alloc();
-    let init = SaslInit {
-        mechanism: symbol(alloc, "PLAIN")?,
-        initial_response: Some(binary(alloc, b"\0user\0example")?),
-        hostname: None,
+    let (one, two) = (binary(alloc, b"1")?, binary(alloc, b"2")?);
+    assert!(rt; same_binary(&one, &copy_of_binary(&one)?) && !same_binary(&one, &two));
+    let (plain, external) = (symbol(alloc, "PLAIN")?, symbol(alloc, "EXTERNAL")?);
+    assert!(rt; same_symbol(&plain, &copy_of_symbol(&plain)?) && !same_symbol(&plain, &external));
+    let (both, turned) = (
+        two_symbols(alloc, "PLAIN", "EXTERNAL")?,
+        two_symbols(alloc, "EXTERNAL", "PLAIN")?,
+    );
+    assert!(rt; same_symbols(&both, &both.clone()?) && !same_symbols(&both, &turned));
+    let mechanisms = SaslMechanisms {
+        sasl_server_mechanisms: both,
     };
-    let other = SaslInit {
-        mechanism: symbol(alloc, "PLAIN")?,
-        initial_response: Some(binary(alloc, b"\0user\0example")?),
-        hostname: Some(String::from_str(alloc, "h")?),
-    };
-    assert!(rt; init.clone()? == init);
-    assert!(rt; init != other);
-    let challenge = SaslChallenge {
-        challenge: binary(alloc, b"1")?,
-    };
-    assert!(rt; challenge.clone()? == challenge);
-    let response = SaslResponse {
-        response: binary(alloc, b"2")?,
-    };
-    assert!(rt; response.clone()? == response);
-    let outcome = SaslOutcome {
-        code: SaslCode::Ok,
-        additional_data: None,
-    };
-    let refused = SaslOutcome {
-        code: SaslCode::Auth,
-        additional_data: None,
-    };
-    assert!(rt; outcome.clone()? == outcome);
-    assert!(rt; outcome != refused);
-    assert!(rt; outcome.code.clone()? == SaslCode::Ok);
+    let anonymous = SaslMechanisms::anonymous(alloc)?;
+    assert!(rt; same_mechanisms(&mechanisms, &copy_of_mechanisms(&mechanisms)?));
+    assert!(rt; !same_mechanisms(&mechanisms, &anonymous));
+    let (here, there) = (init(alloc, None)?, init(alloc, Some("h"))?);
+    assert!(rt; same_init(&here, &copy_of_init(&here)?) && !same_init(&here, &there));
+    let (done, refused) = (outcome(SaslCode::Ok), outcome(SaslCode::Auth));
+    assert!(rt; same_outcome(&done, &copy_of_outcome(&done)?) && !same_outcome(&done, &refused));
+    let (first, second) = (
+        SaslChallenge { challenge: one },
+        SaslChallenge { challenge: two },
+    );
+    assert!(rt; same_challenge(&first, &copy_of_challenge(&first)?));
+    assert!(rt; !same_challenge(&first, &second));
+    let (first, second) = (
+        SaslResponse {
+            response: first.challenge,
+        },
+        SaslResponse {
+            response: second.challenge,
+        },
+    );
+    assert!(rt; same_response(&first, &copy_of_response(&first)?));
+    assert!(rt; !same_response(&first, &second));
     Ok(())
+}
+
+#[test]
+fn plain_values_are_copied_without_memory(rt: HostRuntime) {
+    for code in [
+        SaslCode::Ok,
+        SaslCode::Auth,
+        SaslCode::Sys,
+        SaslCode::SysPerm,
+        SaslCode::SysTemp,
+    ] {
+        assert!(rt; same_code(&code, &copy_of_code(&code)));
+    }
+    assert!(rt; !same_code(&SaslCode::Sys, &SaslCode::SysTemp));
+    let (tls, sasl) = (ProtocolHeader::tls(), ProtocolHeader::sasl());
+    assert!(rt; same_header(&tls, &copy_of_header(&tls)) && !same_header(&tls, &sasl));
+    assert!(rt; same_id(&tls.id, &copy_of_id(&tls.id)) && !same_id(&tls.id, &sasl.id));
+    let _codec = copy_of_codec(&ProtocolHeaderCodec::new());
 }

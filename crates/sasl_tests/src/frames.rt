@@ -189,6 +189,25 @@ fn views_an_init_in_place(rt: HostRuntime) -> Result<(), Fail> {
 }
 
 #[test]
+fn copies_what_a_view_shows(rt: HostRuntime) -> Result<(), Fail> {
+    let alloc = rt.alloc();
+    let body = bytes_of(alloc, LOGIN[4])?;
+    let (view, len) = view_frame(&body).ok().ok_or("it is a frame")?;
+    assert_eq!(rt; len, body.len());
+    let frame = view.to_frame(alloc).ok().ok_or("it has a frame")?;
+    let Frame::Outcome(outcome) = frame else {
+        return Err("it is an outcome".into());
+    };
+    assert!(rt; outcome.code == SaslCode::Ok);
+    let data = outcome.additional_data.ok_or("it has data")?;
+    assert_eq!(rt;
+        data.0.as_slice(),
+        b"v=X3wMIzagbJ5+sxd0FRk7lZ5X07UBZA8KFKL41BMrTwo=".as_slice()
+    );
+    Ok(())
+}
+
+#[test]
 fn views_the_symbols_of_each_form(rt: HostRuntime) -> Result<(), Fail> {
     for (digits, len, symbols) in [
         (MECHANISMS_ANONYMOUS, 24, ["ANONYMOUS", ""].as_slice()),
