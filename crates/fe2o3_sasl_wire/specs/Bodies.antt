@@ -1,5 +1,5 @@
 -- What a body is read as (AMQP 1.0, part 5, section 5.3.1).
-use Rattle.std.specs.Prelude.{◌≡◌, ℕ, List, length, Result, Ok, Err, nat_lt, not, ◌==◌, slice_index, if◌then◌else◌}
+use Rattle.std.specs.Prelude.{◌≡◌, ℕ, List, length, drop, Result, Ok, Err, nat_lt, not, ◌==◌, slice_index, if◌then◌else◌}
 use Rattle.fe2o3_sasl_wire.specs.declared.sasl_frames.error.Error.{Error}
 use Rattle.fe2o3_sasl_wire.specs.declared.sasl_frames.error.Error.TheVariants as faults
 use Rattle.fe2o3_sasl_wire.specs.SaslFrames.{SaslFrame, Begins, NoneBegins, SomeBegins}
@@ -16,6 +16,10 @@ fault_of body =
 abbrev pub ReadsBody : List ℕ → Result (SaslFrame × ℕ) Error → Type 0
 ReadsBody body (Ok answer) = Begins body answer.0 answer.1
 ReadsBody body (Err fault) = (fault ≡ fault_of body) × NoneBegins body
+
+-- a beginning of the old bytes spells the frame, and the new bytes are what stood behind it
+abbrev pub TakesFrame : List ℕ → List ℕ → SaslFrame → Type 0
+TakesFrame old new frame = (n : ℕ) × ReadsBody old (Ok (frame, n)) × (new ≡ drop n old)
 
 -- why a body is not decoded: its fault; or there is no memory, and then a beginning spells a frame
 abbrev pub RefusesBody : List ℕ → Error → Type 0

@@ -38,7 +38,8 @@ pub struct SaslMechanisms {
 impl SaslMechanisms {
     /// ANONYMOUS alone.
     pub fn anonymous(alloc: Global) -> Result<SaslMechanisms, OutOfMemory>
-        ensures { IfOk result (λ mechanisms. mechanisms_frame mechanisms ≡ Mechanisms (codes "ANONYMOUS" ∷ [])) }
+        ensures { IfOk result (λ mechanisms.
+            mechanisms_frame mechanisms ≡ Mechanisms (codes "ANONYMOUS" ∷ [])) }
     {
         let mut mechanisms = Vec::with_capacity(alloc, 1)?;
         mechanisms.push(Symbol::of_ascii(alloc, "ANONYMOUS")?)?;

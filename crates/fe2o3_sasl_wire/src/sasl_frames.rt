@@ -1,7 +1,7 @@
 //! The five SASL frames (AMQP 1.0, part 5, section 5.3), without their four-byte size.
 
-ghost use Rattle.std.specs.Prelude.{◌≡◌, ℕ, drop, IfOk, IfErr, OnOk, OnErr, Ok};
-ghost use Rattle.fe2o3_sasl_wire.specs.Bodies.{ReadsBody, RefusesBody};
+ghost use Rattle.std.specs.Prelude.{◌≡◌, IfOk, IfErr, OnOk, OnErr};
+ghost use Rattle.fe2o3_sasl_wire.specs.Bodies.{TakesFrame, RefusesBody};
 ghost use Rattle.fe2o3_sasl_wire.specs.Canonical.{AppendsCanonical, RefusesFrame};
 ghost use Rattle.fe2o3_sasl_wire.specs.OwnedFrames.{owned_frame};
 
@@ -86,7 +86,7 @@ impl FrameCodec {
     /// NotImplemented, and anything else that begins with no frame a DecodeError. After a refusal the
     /// buffer is as before.
     pub fn decode(&mut self, alloc: Global, src: &mut BytesMut) -> Result<Frame, Error>
-        ensures ok { IfOk result (λ frame. (n : ℕ) × ReadsBody src.old.items (Ok (owned_frame frame, n)) × (src.new.items ≡ drop n src.old.items)) }
+        ensures ok { IfOk result (λ frame. TakesFrame src.old.items src.new.items (owned_frame frame)) }
         ensures err { IfErr result (λ fault. RefusesBody src.old.items fault) }
         ensures unchanged { OnErr result (src.new.items ≡ src.old.items) }
     {

@@ -255,31 +255,34 @@ fn views_a_response_and_a_challenge(rt: HostRuntime) -> Result<(), Fail> {
 }
 
 #[test]
-fn reads_back_what_it_wrote(rt: HostRuntime) -> Result<(), Fail> {
+fn writes_the_canonical_body_of_what_it_read(rt: HostRuntime) -> Result<(), Fail> {
     let alloc = rt.alloc();
-    for digits in [
-        OUTCOME_OK,
-        INIT_PLAIN,
-        INIT_ANONYMOUS,
-        MECHANISMS_ANONYMOUS,
-        NO_MECHANISMS,
-        MECHANISMS_TWO,
-        RESPONSE_7,
-        LOGIN[0],
-        LOGIN[1],
-        LOGIN[2],
-        LOGIN[3],
-        LOGIN[4],
+    for (read, written) in [
+        (OUTCOME_OK, OUTCOME_OK),
+        (OUTCOME_AUTH, OUTCOME_AUTH),
+        (INIT_PLAIN, INIT_PLAIN),
+        (INIT_ANONYMOUS, INIT_ANONYMOUS),
+        (MECHANISMS_ANONYMOUS, MECHANISMS_ANONYMOUS),
+        (MECHANISM_ANONYMOUS, MECHANISMS_ANONYMOUS),
+        (NO_MECHANISMS, NO_MECHANISMS),
+        (MECHANISMS_TWO, MECHANISMS_TWO),
+        (RESPONSE_7, RESPONSE_7),
+        (RESPONSE_7_WIDE, RESPONSE_7),
+        (LOGIN[0], LOGIN[0]),
+        (LOGIN[1], LOGIN[1]),
+        (LOGIN[2], LOGIN[2]),
+        (LOGIN[3], LOGIN[3]),
+        (LOGIN[4], LOGIN[4]),
     ] {
-        let body = bytes_of(alloc, digits)?;
+        let body = bytes_of(alloc, read)?;
         let mut buffer = BytesMut::copy_from_slice(alloc, &body)?;
         buffer.extend_from_slice(b"\xfe\xff")?;
         let frame = FrameCodec {}
             .decode(alloc, &mut buffer)
             .ok()
             .ok_or("it is a frame")?;
-        assert_eq!(rt; buffer.as_slice(), b"\xfe\xff".as_slice());
-        assert_eq!(rt; encoded(alloc, frame)?.as_str(), digits);
+        assert_eq!(rt; buffer.as_slice(), b"\xfe\xff".as_slice(), "{read}");
+        assert_eq!(rt; encoded(alloc, frame)?.as_str(), written);
     }
     Ok(())
 }

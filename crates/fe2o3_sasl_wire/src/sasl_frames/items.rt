@@ -117,7 +117,8 @@ impl<'a> Items<'a> {
     /// The next item, which may be a binary, null or absent.
     #[tactic(auto, unfolding(crate::specs::Reading::optional_at))]
     pub(crate) fn optional_binary(&mut self) -> Option<Option<&'a [u8]>>
-        ensures { option_map (λ x. (option_map (λ y. y.now) x, self.new)) result ≡ optional_at binary_at self.old }
+        ensures { option_map (λ x. (option_map (λ y. y.now) x, self.new)) result
+            ≡ optional_at binary_at self.old }
     {
         if self.count == 0 {
             return Some(None);
@@ -136,7 +137,8 @@ impl<'a> Items<'a> {
     /// The next item, which may be a string, null or absent.
     #[tactic(auto, unfolding(crate::specs::Reading::optional_at))]
     pub(crate) fn optional_string(&mut self) -> Option<Option<&'a str>>
-        ensures { option_map (λ x. (option_map (λ y. y.now) x, self.new)) result ≡ optional_at string_at self.old }
+        ensures { option_map (λ x. (option_map (λ y. y.now) x, self.new)) result
+            ≡ optional_at string_at self.old }
     {
         if self.count == 0 {
             return Some(None);

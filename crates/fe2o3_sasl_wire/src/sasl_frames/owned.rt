@@ -65,7 +65,8 @@ fn owned_init(
     hostname: Option<&str>,
 ) -> Result<Frame, OutOfMemory>
     requires { IsAscii mechanism.now }
-    ensures { IfOk result (λ frame. owned_frame frame ≡ Init mechanism.now (shown initial_response.entry) (shown hostname.entry)) }
+    ensures { IfOk result (λ frame. owned_frame frame
+        ≡ Init mechanism.now (shown initial_response.entry) (shown hostname.entry)) }
 {
     Ok(Frame::Init(SaslInit {
         mechanism: Symbol::of_ascii(alloc, mechanism)?,

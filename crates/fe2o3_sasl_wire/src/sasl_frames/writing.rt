@@ -47,7 +47,8 @@ pub(crate) fn choice(short: u8, long: u8, form: Form) -> u8
 /// descriptor with this code.
 pub(crate) fn put_start(out: &mut BytesMut, code: u8, form: Form)
     requires { 8 ≤ out.old.spare }
-    ensures items { out.new.items ≡ out.old.items ++ 2 ∷ 1 ∷ 0 ∷ 0 ∷ 0 ∷ 0x53 ∷ code ∷ choice 0xc0 0xd0 form ∷ [] }
+    ensures items { out.new.items
+        ≡ out.old.items ++ 2 ∷ 1 ∷ 0 ∷ 0 ∷ 0 ∷ 0x53 ∷ code ∷ choice 0xc0 0xd0 form ∷ [] }
     ensures spare { out.new.spare + 8 ≡ out.old.spare }
 {
     let constructor = choice(LIST_8, LIST_32, form);
