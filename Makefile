@@ -8,6 +8,8 @@ demo:
 	@cd crates/sasl_lab && rt run -- client-final SCRAM-SHA-256 user pencil rOprNGfwEbeRWgbNEkqO \
 	    'r=rOprNGfwEbeRWgbNEkqO%hvYDpWUa2RaTCAfuxFIlj)hNlF$$k0,s=W22ZaJ0SNY7soEsUEjb6gQ==,i=4096'
 
-# The merge gate: every proof from nothing, the must-fail edits, the tests and the programs.
+# The merge gate: the programs that the borrow checker has to refuse; then every proof from nothing,
+# the must-fail edits, the tests and the programs.
 test:
+	sh tools/refused.sh
 	rt ci

@@ -1,14 +1,25 @@
-//! Tests of the public calls of `fe2o3_sasl`.
+//! Tests of the public calls of both libraries. Expected values come from the standards, from
+//! worked examples, and from other programs.
 #![tactic(auto)]
 
 #[cfg(test)]
+mod amqp_types;
+#[cfg(test)]
+mod bodies;
+#[cfg(test)]
 mod client_answer;
 #[cfg(test)]
+mod drought;
+#[cfg(test)]
 mod fault_texts;
+#[cfg(test)]
+mod frames;
 #[cfg(test)]
 mod hmac_vectors;
 #[cfg(test)]
 mod iteration_limit;
+#[cfg(test)]
+mod malicious_bytes;
 #[cfg(test)]
 mod messages;
 #[cfg(test)]
@@ -17,6 +28,8 @@ mod meter;
 mod passwords;
 #[cfg(test)]
 mod pbkdf2_vectors;
+#[cfg(test)]
+mod protocol_headers;
 #[cfg(test)]
 mod server_final;
 #[cfg(test)]

@@ -1,0 +1,11 @@
+pub mod ReadingLemmas
+pub mod TextLemmas
+pub mod ElementLemmas
+pub mod TakesLemmas
+pub mod FrameTakesLemmas
+pub mod AgainLemmas
+pub mod BodyLemmas
+pub mod CanonicalLemmas
+pub mod LawLemmas
+pub mod WritingLemmas
+pub mod EncodingLemmas

@@ -1,0 +1,10 @@
+use Rattle.std.proofs.Common.{◌≡◌, ◌+◌, ◌++◌, length, take, map}
+use Rattle.std.specs.List.{flat_map}
+use Rattle.fe2o3_sasl_wire.specs.Canonical.{canonical_field}
+use Rattle.fe2o3_sasl_wire.specs.Fields.{shown_field}
+use Rattle.fe2o3_sasl_wire.proofs.sasl_frames.fields.put_items.Given as goal
+
+abbrev pub invariant-loop-field : goal.invariant-loop-field
+invariant-loop-field l =
+    (l.out.items ≡ l.fn.out.items ++ flat_map canonical_field (map shown_field (take l.field-index l.fields)))
+    × (l.out.spare + length (flat_map canonical_field (map shown_field (take l.field-index l.fields))) ≡ l.fn.out.spare)

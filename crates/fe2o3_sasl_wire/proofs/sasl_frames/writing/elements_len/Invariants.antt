@@ -1,0 +1,6 @@
+use Rattle.std.proofs.Common.{◌≡◌, ◌-◌, ◌^◌, length, take, min}
+use Rattle.fe2o3_sasl_wire.specs.Encodings.{elements}
+use Rattle.fe2o3_sasl_wire.proofs.sasl_frames.writing.elements_len.Given as goal
+
+abbrev pub invariant-loop-symbol : goal.invariant-loop-symbol
+invariant-loop-symbol l = l.len ≡ min (length (elements l.form (take l.symbol-index l.symbols))) (2 ^ 64 - 1)

@@ -1,0 +1,40 @@
+-- What the types of the SASL frames hold, as plain data (AMQP 1.0, part 5, section 5.3.3).
+use Rattle.std.specs.Prelude.{ℕ, List, option_map, string_bytes, IsAscii}
+use Rattle.fe2o3_sasl_wire.specs.declared.amqp_types.symbols.SymbolError.{SymbolError}
+use Rattle.fe2o3_sasl_wire.specs.declared.amqp_types.symbols.SymbolError.TheVariants.{NotAscii, OutOfMemory}
+use Rattle.fe2o3_sasl_wire.specs.declared.amqp_types.Binary.{Binary}
+use Rattle.fe2o3_sasl_wire.specs.declared.amqp_types.SaslMechanisms.{SaslMechanisms}
+use Rattle.fe2o3_sasl_wire.specs.declared.amqp_types.SaslInit.{SaslInit}
+use Rattle.fe2o3_sasl_wire.specs.declared.amqp_types.SaslChallenge.{SaslChallenge}
+use Rattle.fe2o3_sasl_wire.specs.declared.amqp_types.SaslResponse.{SaslResponse}
+use Rattle.fe2o3_sasl_wire.specs.declared.amqp_types.SaslOutcome.{SaslOutcome}
+use Rattle.fe2o3_sasl_wire.specs.SaslFrames.{SaslFrame, Mechanisms, Init, Challenge, Response, Outcome}
+
+-- why no symbol is made of a text: a byte is not ASCII; there is no memory, and then all are (part 1, section 1.6.21)
+abbrev pub RefusesText : List ℕ → SymbolError → Type 0
+RefusesText text NotAscii = ¬ (IsAscii text)
+RefusesText text OutOfMemory = IsAscii text
+
+-- the bytes of a binary
+abbrev pub binary_bytes : Binary → List ℕ
+binary_bytes binary = binary.0.items
+
+-- the frame of a list of mechanisms
+abbrev pub mechanisms_frame : SaslMechanisms → SaslFrame
+mechanisms_frame mechanisms = Mechanisms mechanisms.sasl_server_mechanisms.0.items
+
+-- the frame of an init
+abbrev pub init_frame : SaslInit → SaslFrame
+init_frame init = Init init.mechanism (option_map binary_bytes init.initial_response) (option_map string_bytes init.hostname)
+
+-- the frame of a challenge
+abbrev pub challenge_frame : SaslChallenge → SaslFrame
+challenge_frame challenge = Challenge (binary_bytes challenge.challenge)
+
+-- the frame of a response
+abbrev pub response_frame : SaslResponse → SaslFrame
+response_frame response = Response (binary_bytes response.response)
+
+-- the frame of an outcome
+abbrev pub outcome_frame : SaslOutcome → SaslFrame
+outcome_frame outcome = Outcome outcome.code (option_map binary_bytes outcome.additional_data)

@@ -1,0 +1,13 @@
+pub mod ProtocolHeader
+pub mod Bytes
+pub mod Encodings
+pub mod SaslFrames
+pub mod AmqpTypes
+pub mod Bodies
+pub mod FrameViews
+pub mod SymbolsViews
+pub mod OwnedFrames
+pub mod Canonical
+pub mod Laws
+pub mod Reading
+pub mod Fields

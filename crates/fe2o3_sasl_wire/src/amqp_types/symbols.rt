@@ -1,0 +1,103 @@
+//! Symbols (AMQP 1.0, part 1, section 1.6.21).
+
+ghost use Rattle.std.specs.Prelude.{◌≡◌, IfOk, IfErr, IsAscii};
+
+use crate::OutOfMemory;
+use std::alloc::{AllocError, Global};
+use std::marker::Model;
+use thiserror::Error;
+
+/// An ASCII text.
+#[derive(Debug, Drop)]
+pub struct Symbol {
+    text: String,
+}
+
+impl Model for Symbol {
+    ghost use Rattle.std.specs.Prelude.{List, ℕ, IsAscii, string_bytes};
+
+    ghost Value = { List ℕ };
+
+    ghost view = { λ symbol. string_bytes symbol.text };
+
+    ghost invariant = { λ symbol. IsAscii (string_bytes symbol.text) };
+}
+
+/// Why no symbol is made of a text.
+#[derive(Clone, Copy, Debug, PartialEq, Eq, Error)]
+pub enum SymbolError {
+    /// A byte of the text is not ASCII.
+    #[error("NotAscii")]
+    NotAscii,
+
+    /// There was no memory for the symbol. The call can be made again.
+    #[error("OutOfMemory")]
+    OutOfMemory,
+}
+
+impl Symbol {
+    ghost use Rattle.fe2o3_sasl_wire.specs.AmqpTypes.{RefusesText};
+
+    /// The symbol of a text.
+    pub fn new(alloc: Global, text: &str) -> Result<Symbol, SymbolError>
+        ensures ok { IfOk result (λ symbol. symbol ≡ text.now) }
+        ensures ascii { IfOk result (λ _. IsAscii text.now) }
+        ensures err { IfErr result (λ fault. RefusesText text.now fault) }
+    {
+        if !text.is_ascii() {
+            return Err(SymbolError::NotAscii);
+        }
+        match Symbol::of_ascii(alloc, text) {
+            Ok(symbol) => Ok(symbol),
+            Err(_) => Err(SymbolError::OutOfMemory),
+        }
+    }
+
+    /// The symbol of a text that is ASCII.
+    pub(crate) fn of_ascii(alloc: Global, text: &str) -> Result<Symbol, OutOfMemory>
+        requires { IsAscii text.now }
+        ensures { IfOk result (λ symbol. symbol ≡ text.now) }
+    {
+        Ok(Symbol {
+            text: String::from_str(alloc, text)?,
+        })
+    }
+
+    /// The text of the symbol.
+    pub fn as_str(&self) -> &str
+        ensures text { result.now ≡ self.now }
+        ensures ascii { IsAscii self.now }
+    {
+        self.text.as_str()
+    }
+}
+
+impl Clone for Symbol {
+    ghost is_clone = { λ symbol copy. copy ≡ symbol };
+
+    fn clone(&self) -> Result<Symbol, AllocError> {
+        Ok(Symbol {
+            text: self.text.clone()?,
+        })
+    }
+}
+
+impl PartialEq for Symbol {
+    ghost use Rattle.std.specs.Prelude.{nat_eq};
+    ghost use Rattle.std.specs.Cmp;
+    ghost use Rattle.std.specs.Cmp.Lexicographic.{pointwise, nat_list_eq_equiv};
+
+    ghost eq = { pointwise nat_eq };
+
+    ghost laws = { Cmp.partial_equiv_from_equiv nat_list_eq_equiv };
+
+    fn eq(&self, other: &Symbol) -> bool {
+        self.text == other.text
+    }
+}
+
+impl Eq for Symbol {
+    ghost use Rattle.std.specs.Cmp.Lexicographic.{nat_list_eq_equiv};
+
+    ghost laws = { nat_list_eq_equiv };
+}

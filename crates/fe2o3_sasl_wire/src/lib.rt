@@ -1,0 +1,20 @@
+//! The bytes that open an AMQP 1.0 connection: protocol headers and the five SASL frames, after
+//! `fe2o3-amqp` 0.18.4.
+//!
+//! A frame is read in place by [`view_frame`], which takes no memory, or as a value of its own by
+//! [`FrameCodec`], which also writes frames.
+#![tactic(auto)]
+
+pub mod amqp_types;
+pub mod laws;
+pub mod protocol_header;
+pub mod sameness;
+pub mod sasl_frames;
+
+pub use amqp_types::{
+    Array, Binary, SaslChallenge, SaslCode, SaslInit, SaslMechanisms, SaslOutcome, SaslResponse,
+    Symbol, SymbolError,
+};
+pub use protocol_header::{NegotiationError, ProtocolHeader, ProtocolHeaderCodec, ProtocolId};
+pub use sasl_frames::{Error, Frame, FrameCodec, FrameView, SymbolsView, view_frame};
+pub use std::alloc::AllocError as OutOfMemory;

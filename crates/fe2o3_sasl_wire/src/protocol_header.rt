@@ -1,0 +1,247 @@
+//! The eight bytes that each side of a connection sends first (AMQP 1.0, part 2, section 2.2). But
+//! for `to_bytes` and `encode`, nothing here takes memory.
+
+ghost use Rattle.std.specs.Prelude.{◌≡◌, ◌↔◌, ◌++◌, IsTrue, IfOk, OnOk, OnErr};
+ghost use Rattle.fe2o3_sasl_wire.specs.declared.protocol_header.ProtocolId.TheVariants.{Amqp, Sasl, Tls};
+ghost use Rattle.fe2o3_sasl_wire.specs.ProtocolHeader.{header_bytes, first_version, DecodesId, DecodesHeader, DecodesSlice, DecodesBuffer};
+
+use crate::OutOfMemory;
+use bytes::{Bytes, BytesMut};
+use std::alloc::Global;
+use thiserror::Error;
+
+const PROTOCOL_HEADER_PREFIX: [u8; 4] = *b"AMQP";
+
+/// The version that the constructors write, 1.0.0 (AMQP 1.0, part 2, section 2.8).
+const MAJOR: u8 = 1;
+
+const MINOR: u8 = 0;
+
+const REVISION: u8 = 0;
+
+/// A protocol header. Every version is read; the constructors write 1.0.0.
+#[derive(Clone, Copy, Debug, PartialEq, Eq)]
+pub struct ProtocolHeader {
+    /// Which protocol follows.
+    pub id: ProtocolId,
+
+    /// The major version.
+    pub major: u8,
+
+    /// The minor version.
+    pub minor: u8,
+
+    /// The revision.
+    pub revision: u8,
+}
+
+/// The header of AMQP.
+impl Default for ProtocolHeader {
+    ghost is_default = { λ header. header ≡ first_version Amqp };
+
+    fn default() -> Self {
+        ProtocolHeader::new(ProtocolId::Amqp, MAJOR, MINOR, REVISION)
+    }
+}
+
+impl ProtocolHeader {
+    /// A header of these four values.
+    pub fn new(id: ProtocolId, major: u8, minor: u8, revision: u8) -> Self
+        ensures { result ≡ record { id = id; major = major; minor = minor; revision = revision } }
+    {
+        ProtocolHeader {
+            id,
+            major,
+            minor,
+            revision,
+        }
+    }
+
+    /// The header of AMQP 1.0.0.
+    pub fn amqp() -> Self
+        ensures { result ≡ first_version Amqp }
+    {
+        ProtocolHeader::new(ProtocolId::Amqp, MAJOR, MINOR, REVISION)
+    }
+
+    /// Whether AMQP follows.
+    pub fn is_amqp(&self) -> bool
+        ensures { IsTrue result ↔ (self.now.id ≡ Amqp) }
+    {
+        self.id == ProtocolId::Amqp
+    }
+
+    /// The header of TLS 1.0.0.
+    pub fn tls() -> Self
+        ensures { result ≡ first_version Tls }
+    {
+        ProtocolHeader::new(ProtocolId::Tls, MAJOR, MINOR, REVISION)
+    }
+
+    /// Whether TLS follows.
+    pub fn is_tls(&self) -> bool
+        ensures { IsTrue result ↔ (self.now.id ≡ Tls) }
+    {
+        self.id == ProtocolId::Tls
+    }
+
+    /// The header of SASL 1.0.0.
+    pub fn sasl() -> Self
+        ensures { result ≡ first_version Sasl }
+    {
+        ProtocolHeader::new(ProtocolId::Sasl, MAJOR, MINOR, REVISION)
+    }
+
+    /// Whether SASL follows.
+    pub fn is_sasl(&self) -> bool
+        ensures { IsTrue result ↔ (self.now.id ≡ Sasl) }
+    {
+        self.id == ProtocolId::Sasl
+    }
+
+    /// The eight bytes of the header.
+    pub fn to_bytes(self, alloc: Global) -> Result<Bytes, OutOfMemory>
+        ensures { IfOk result (λ bytes. bytes ≡ header_bytes self) }
+    {
+        Bytes::copy_from_slice(alloc, &<[u8; 8]>::from(self))
+    }
+}
+
+impl From<ProtocolHeader> for [u8; 8] {
+    ghost from_gives = { λ header bytes. bytes ≡ header_bytes header };
+
+    fn from(value: ProtocolHeader) -> Self {
+        let [a, m, q, p] = PROTOCOL_HEADER_PREFIX;
+        let id = value.id as u8;
+        [a, m, q, p, id, value.major, value.minor, value.revision]
+    }
+}
+
+impl TryFrom<[u8; 8]> for ProtocolHeader {
+    type Error = [u8; 8];
+
+    ghost try_from_gives = { DecodesHeader };
+
+    /// Hands the bytes back where they are no header.
+    fn try_from(value: [u8; 8]) -> Result<Self, [u8; 8]> {
+        let [b'A', b'M', b'Q', b'P', id, major, minor, revision] = value else {
+            return Err(value);
+        };
+        match ProtocolId::try_from(id) {
+            Ok(id) => Ok(ProtocolHeader::new(id, major, minor, revision)),
+            Err(_) => Err(value),
+        }
+    }
+}
+
+impl<'a> TryFrom<&'a [u8]> for ProtocolHeader {
+    type Error = &'a [u8];
+
+    ghost try_from_gives = { DecodesSlice };
+
+    /// Hands the slice back where it is no header, as where it has not eight bytes.
+    fn try_from(value: &'a [u8]) -> Result<Self, &'a [u8]> {
+        if value.len() != 8 {
+            return Err(value);
+        }
+        let mut bytes = [0; 8];
+        bytes.copy_from_slice(value);
+        match ProtocolHeader::try_from(bytes) {
+            Ok(header) => Ok(header),
+            Err(_) => Err(value),
+        }
+    }
+}
+
+impl TryFrom<Bytes> for ProtocolHeader {
+    type Error = Bytes;
+
+    ghost try_from_gives = { DecodesHeader };
+
+    /// Hands the bytes back where they are no header, as where there are not eight.
+    fn try_from(value: Bytes) -> Result<Self, Bytes> {
+        match ProtocolHeader::try_from(value.as_slice()) {
+            Ok(header) => Ok(header),
+            Err(_) => Err(value),
+        }
+    }
+}
+
+/// Which protocol a header asks for.
+#[derive(Clone, Copy, Debug, PartialEq, Eq)]
+pub enum ProtocolId {
+    /// AMQP.
+    Amqp = 0x0,
+
+    /// TLS.
+    Tls = 0x2,
+
+    /// SASL.
+    Sasl = 0x3,
+}
+
+impl TryFrom<u8> for ProtocolId {
+    type Error = u8;
+
+    ghost try_from_gives = { DecodesId };
+
+    /// Hands the byte back where it stands for no protocol.
+    fn try_from(value: u8) -> Result<Self, u8> {
+        match value {
+            0x0 => Ok(ProtocolId::Amqp),
+            0x2 => Ok(ProtocolId::Tls),
+            0x3 => Ok(ProtocolId::Sasl),
+            _ => Err(value),
+        }
+    }
+}
+
+/// Why a negotiation ends.
+#[derive(Clone, Copy, Debug, PartialEq, Eq, Error)]
+pub enum NegotiationError {
+    /// These eight bytes came where a header was due. They were taken from the buffer.
+    #[error("Protocol header mismatch")]
+    ProtocolHeaderMismatch([u8; 8]),
+}
+
+/// Reads and writes protocol headers.
+#[derive(Clone, Debug, Drop)]
+pub struct ProtocolHeaderCodec {}
+
+impl ProtocolHeaderCodec {
+    /// A codec.
+    pub fn new() -> Self {
+        ProtocolHeaderCodec {}
+    }
+
+    /// Appends the eight bytes of the header. Without memory for them the buffer stays as it was.
+    pub fn encode(&mut self, item: ProtocolHeader, dst: &mut BytesMut) -> Result<(), OutOfMemory>
+        ensures ok { OnOk result (dst.new.items ≡ dst.old.items ++ header_bytes item) }
+        ensures err { OnErr result (dst.new.items ≡ dst.old.items) }
+    {
+        dst.extend_from_slice(&<[u8; 8]>::from(item))
+    }
+
+    /// Takes eight bytes from the front and answers their header, or their mismatch. Below eight
+    /// bytes it answers None and takes nothing.
+    pub fn decode(&mut self, src: &mut BytesMut) -> Result<Option<ProtocolHeader>, NegotiationError>
+        ensures { DecodesBuffer src.old.items src.new.items result }
+    {
+        if src.len() < 8 {
+            return Ok(None);
+        }
+        let mut bytes = [0; 8];
+        bytes.copy_from_slice(&src.as_slice()[..8]);
+        src.advance(8);
+        match ProtocolHeader::try_from(bytes) {
+            Ok(header) => Ok(Some(header)),
+            Err(bytes) => Err(NegotiationError::ProtocolHeaderMismatch(bytes)),
+        }
+    }
+}
+
+impl Default for ProtocolHeaderCodec {
+    fn default() -> Self {
+        ProtocolHeaderCodec::new()
+    }
+}

@@ -1,0 +1,181 @@
+//! Reading one encoding from the front of a slice: its value and the bytes after it. Nothing here
+//! takes memory.
+
+ghost use Rattle.std.specs.Prelude.{◌≡◌, Some, None, option_map, if◌then◌else◌, IfSome, IsAscii};
+ghost use Rattle.std.specs.Str.{is_utf8};
+ghost use Rattle.fe2o3_sasl_wire.specs.Reading.{byte_at, four_at, eight_at, number_at, content_at, form_at, variable_at, element_at, symbol_at, string_at, binary_at, code_at, sasl_code, is_ascii};
+
+use crate::amqp_types::SaslCode;
+use crate::sasl_frames::forms::{
+    BINARY_8, BINARY_32, Form, STRING_8, STRING_32, SYMBOL_8, SYMBOL_32, UBYTE,
+};
+
+/// One byte.
+pub(crate) fn byte_at(bytes: &[u8]) -> Option<(u8, &[u8])>
+    ensures { option_map (λ x. (x.0, x.1.now)) result ≡ byte_at bytes.now }
+{
+    match bytes {
+        [] => None,
+        [byte, rest @ ..] => Some((*byte, rest)),
+    }
+}
+
+/// A number of four bytes.
+pub(crate) fn u32_at(bytes: &[u8]) -> Option<(u32, &[u8])>
+    ensures { option_map (λ x. (x.0, x.1.now)) result ≡ four_at bytes.now }
+{
+    if bytes.len() < 4 {
+        return None;
+    }
+    let (front, rest) = bytes.split_at(4);
+    let number = u32::from_be_bytes([front[0], front[1], front[2], front[3]]);
+    Some((number, rest))
+}
+
+/// A number of eight bytes.
+pub(crate) fn u64_at(bytes: &[u8]) -> Option<(u64, &[u8])>
+    ensures { option_map (λ x. (x.0, x.1.now)) result ≡ eight_at bytes.now }
+{
+    if bytes.len() < 8 {
+        return None;
+    }
+    let (front, rest) = bytes.split_at(8);
+    let number = u64::from_be_bytes([
+        front[0], front[1], front[2], front[3], front[4], front[5], front[6], front[7],
+    ]);
+    Some((number, rest))
+}
+
+/// A size, a length or a count.
+pub(crate) fn number_at(form: Form, bytes: &[u8]) -> Option<(u32, &[u8])>
+    ensures { option_map (λ x. (x.0, x.1.now)) result ≡ number_at form bytes.now }
+{
+    match form {
+        Form::Eight => {
+            let (number, rest) = byte_at(bytes)?;
+            Some((u32::from(number), rest))
+        }
+        Form::ThirtyTwo => u32_at(bytes),
+    }
+}
+
+/// A length, and that many bytes.
+#[tactic(auto, unfolding(crate::specs::Reading::content_at))]
+pub(crate) fn content_at(form: Form, bytes: &[u8]) -> Option<(&[u8], &[u8])>
+    ensures { option_map (λ x. (x.0.now, x.1.now)) result ≡ content_at form bytes.now }
+{
+    let (len, rest) = number_at(form, bytes)?;
+    let len = len as usize;
+    if rest.len() < len {
+        return None;
+    }
+    Some(rest.split_at(len))
+}
+
+/// The form that a constructor names.
+pub(crate) fn form_at(short: u8, long: u8, constructor: u8) -> Option<Form>
+    ensures { result ≡ form_at short long constructor }
+{
+    if constructor == short {
+        Some(Form::Eight)
+    } else if constructor == long {
+        Some(Form::ThirtyTwo)
+    } else {
+        None
+    }
+}
+
+/// A constructor of either form, a length, and that many bytes.
+#[tactic(auto, unfolding(crate::specs::Reading::variable_at))]
+pub(crate) fn variable_at(short: u8, long: u8, bytes: &[u8]) -> Option<(&[u8], &[u8])>
+    ensures { option_map (λ x. (x.0.now, x.1.now)) result ≡ variable_at short long bytes.now }
+{
+    let (constructor, rest) = byte_at(bytes)?;
+    let form = form_at(short, long, constructor)?;
+    content_at(form, rest)
+}
+
+/// A binary.
+#[tactic(auto, unfolding(crate::specs::Reading::binary_at))]
+pub(crate) fn binary_at(bytes: &[u8]) -> Option<(&[u8], &[u8])>
+    ensures { option_map (λ x. (x.0.now, x.1.now)) result ≡ binary_at bytes.now }
+{
+    variable_at(BINARY_8, BINARY_32, bytes)
+}
+
+/// The code with this number.
+pub(crate) fn sasl_code(number: u8) -> Option<SaslCode>
+    ensures { result ≡ sasl_code number }
+{
+    match number {
+        0 => Some(SaslCode::Ok),
+        1 => Some(SaslCode::Auth),
+        2 => Some(SaslCode::Sys),
+        3 => Some(SaslCode::SysPerm),
+        4 => Some(SaslCode::SysTemp),
+        _ => None,
+    }
+}
+
+/// An outcome's code, as a ubyte.
+#[tactic(auto, unfolding(crate::specs::Reading::code_at))]
+pub(crate) fn code_at(bytes: &[u8]) -> Option<(SaslCode, &[u8])>
+    ensures { option_map (λ x. (x.0, x.1.now)) result ≡ code_at bytes.now }
+{
+    let (constructor, rest) = byte_at(bytes)?;
+    let (number, rest) = byte_at(rest)?;
+    let code = sasl_code(number)?;
+    if constructor != UBYTE {
+        return None;
+    }
+    Some((code, rest))
+}
+
+/// The text of bytes that are ASCII.
+pub(crate) fn ascii_text(bytes: &[u8]) -> Option<&str>
+    ensures ascii { IfSome result (λ text. IsAscii text.now) }
+    ensures value { option_map (λ x. x.now) result ≡ (if is_ascii bytes.now then Some bytes.now else None) }
+{
+    if !bytes.is_ascii() {
+        return None;
+    }
+    str::from_utf8(bytes).ok()
+}
+
+/// The text of bytes that are UTF-8.
+pub(crate) fn utf8_text(bytes: &[u8]) -> Option<&str>
+    ensures { option_map (λ x. x.now) result ≡ (if is_utf8 bytes.now then Some bytes.now else None) }
+{
+    str::from_utf8(bytes).ok()
+}
+
+/// A symbol without its constructor, as it stands in an array.
+#[tactic(auto, unfolding(crate::specs::Reading::element_at))]
+pub(crate) fn element_at(form: Form, bytes: &[u8]) -> Option<(&str, &[u8])>
+    ensures ascii { IfSome result (λ x. IsAscii x.0.now) }
+    ensures value { option_map (λ x. (x.0.now, x.1.now)) result ≡ element_at form bytes.now }
+{
+    let (content, rest) = content_at(form, bytes)?;
+    let text = ascii_text(content)?;
+    Some((text, rest))
+}
+
+/// A symbol.
+#[tactic(auto, unfolding(crate::specs::Reading::symbol_at))]
+pub(crate) fn symbol_at(bytes: &[u8]) -> Option<(&str, &[u8])>
+    ensures { option_map (λ x. (x.0.now, x.1.now)) result ≡ symbol_at bytes.now }
+{
+    let (constructor, rest) = byte_at(bytes)?;
+    let form = form_at(SYMBOL_8, SYMBOL_32, constructor)?;
+    element_at(form, rest)
+}
+
+/// A string.
+#[tactic(auto, unfolding(crate::specs::Reading::string_at))]
+pub(crate) fn string_at(bytes: &[u8]) -> Option<(&str, &[u8])>
+    ensures { option_map (λ x. (x.0.now, x.1.now)) result ≡ string_at bytes.now }
+{
+    let (content, rest) = variable_at(STRING_8, STRING_32, bytes)?;
+    let text = utf8_text(content)?;
+    Some((text, rest))
+}

@@ -1,0 +1,141 @@
+//! The symbols of a mechanisms frame, read where they stand. Nothing here takes memory.
+
+ghost use Rattle.std.specs.Prelude.{◌≡◌, ◌↔◌, Some, option_map, length, slice_get, IfSome, IsAscii, IsTrue, Contains};
+ghost use Rattle.fe2o3_sasl_wire.specs.Reading.{elements_at, element_at, array_at, one_at, symbols_at};
+
+use crate::sasl_frames::forms::{ARRAY_8, ARRAY_32, Form, SYMBOL_8, SYMBOL_32};
+use crate::sasl_frames::reading::{byte_at, content_at, element_at, form_at, number_at};
+use std::marker::Model;
+
+/// The symbols of a mechanisms frame, where they stand in its body.
+#[derive(Drop)]
+pub struct SymbolsView<'a> {
+    form: Form,
+    count: u32,
+    elements: &'a [u8],
+}
+
+impl<'a> Model for SymbolsView<'a> {
+    ghost use Rattle.std.specs.Prelude.{List, ℕ, IsSome};
+    ghost use Rattle.fe2o3_sasl_wire.specs.Reading.{elements_at};
+    ghost use Rattle.fe2o3_sasl_wire.specs.SymbolsViews.{names_in};
+
+    ghost Value = { List (List ℕ) };
+
+    ghost view = { λ symbols. names_in (elements_at symbols.form symbols.count symbols.elements.now) };
+
+    ghost invariant = { λ symbols. IsSome (elements_at symbols.form symbols.count symbols.elements.now) };
+}
+
+/// The bytes after this many elements.
+fn elements_rest(form: Form, count: u32, bytes: &[u8]) -> Option<&[u8]>
+    ensures { option_map (λ x. x.now) result ≡ option_map (λ x. x.1) (elements_at form count bytes.now) }
+{
+    let mut rest = bytes;
+    for _ in 0..count {
+        let (_, after) = element_at(form, rest)?;
+        rest = after;
+    }
+    Some(rest)
+}
+
+/// This many elements.
+pub(crate) fn elements_at(
+    form: Form,
+    count: u32,
+    elements: &[u8],
+) -> Option<(SymbolsView<'_>, &[u8])>
+    ensures { option_map (λ x. (x.0, x.1.now)) result ≡ elements_at form count elements.now }
+{
+    let rest = elements_rest(form, count, elements)?;
+    Some((
+        SymbolsView {
+            form,
+            count,
+            elements,
+        },
+        rest,
+    ))
+}
+
+impl<'a> SymbolsView<'a> {
+    /// How many symbols there are.
+    pub fn len(&self) -> usize
+        ensures { result ≡ length self.now }
+    {
+        self.count as usize
+    }
+
+    /// The symbol at an index, from 0.
+    pub fn get(&self, index: usize) -> Option<&'a str>
+        ensures value { option_map (λ x. x.now) result ≡ slice_get self.now index }
+        ensures ascii { IfSome result (λ x. IsAscii x.now) }
+    {
+        let mut rest = self.elements;
+        for at in 0..self.count {
+            let (symbol, after) = element_at(self.form, rest)?;
+            if at as usize == index {
+                return Some(symbol);
+            }
+            rest = after;
+        }
+        None
+    }
+
+    /// Whether a symbol is this text.
+    pub fn contains(&self, name: &str) -> bool
+        ensures { IsTrue result ↔ Contains self.now name.now }
+    {
+        let mut rest = self.elements;
+        for _ in 0..self.count {
+            let Some((symbol, after)) = element_at(self.form, rest) else {
+                unreachable!()
+            };
+            if symbol == name {
+                return true;
+            }
+            rest = after;
+        }
+        false
+    }
+}
+
+/// An array behind its constructor.
+#[tactic(auto, unfolding(crate::specs::Reading::array_at))]
+fn array_at(form: Form, bytes: &[u8]) -> Option<(SymbolsView<'_>, &[u8])>
+    ensures { option_map (λ x. (x.0, x.1.now)) result ≡ array_at form bytes.now }
+{
+    let (inner, after) = content_at(form, bytes)?;
+    let (count, inner) = number_at(form, inner)?;
+    let (constructor, inner) = byte_at(inner)?;
+    let element = form_at(SYMBOL_8, SYMBOL_32, constructor)?;
+    let (symbols, left) = elements_at(element, count, inner)?;
+    if !left.is_empty() {
+        return None;
+    }
+    Some((symbols, after))
+}
+
+/// A symbol behind its constructor, which stands for a list of one.
+#[tactic(auto, unfolding(crate::specs::Reading::one_at))]
+fn one_at(form: Form, bytes: &[u8]) -> Option<(SymbolsView<'_>, &[u8])>
+    ensures { option_map (λ x. (x.0, x.1.now)) result ≡ one_at form bytes.now }
+{
+    elements_at(form, 1, bytes)
+}
+
+/// An array of symbols, or one symbol.
+#[tactic(auto, unfolding(crate::specs::Reading::symbols_at))]
+pub(crate) fn symbols_at(bytes: &[u8]) -> Option<(SymbolsView<'_>, &[u8])>
+    ensures { option_map (λ x. (x.0, x.1.now)) result ≡ symbols_at bytes.now }
+{
+    let (constructor, rest) = byte_at(bytes)?;
+    match constructor {
+        ARRAY_8 => array_at(Form::Eight, rest),
+        ARRAY_32 => array_at(Form::ThirtyTwo, rest),
+        _ => {
+            let form = form_at(SYMBOL_8, SYMBOL_32, constructor)?;
+            one_at(form, rest)
+        }
+    }
+}

@@ -1,0 +1,165 @@
+//! Bodies of SASL frames: what they are read as, how long they are, and what is written for them.
+
+use crate::Unconfirmed;
+use bytes::BytesMut;
+use fe2o3_sasl_wire::{Error, FrameCodec, FrameView, SaslCode, SymbolsView, view_frame};
+use std::alloc::{AllocError, AllocFailed, Global};
+
+impl From<AllocError> for Unconfirmed {
+    fn from(_error: AllocError) -> Self {
+        Unconfirmed::Failed
+    }
+}
+
+impl<T: Drop> From<AllocFailed<T>> for Unconfirmed {
+    fn from(_error: AllocFailed<T>) -> Self {
+        Unconfirmed::Failed
+    }
+}
+
+impl From<Error> for Unconfirmed {
+    fn from(_error: Error) -> Self {
+        Unconfirmed::Failed
+    }
+}
+
+/// Checks one line: the body it begins with, and the answer that follows.
+pub fn check(alloc: Global, line: &str) -> Result<(), Unconfirmed> {
+    let Some((digits, answer)) = line.split_once(' ') else {
+        return Err(Unconfirmed::Malformed);
+    };
+    let Ok(body) = hex::decode(alloc, digits) else {
+        return Err(Unconfirmed::Malformed);
+    };
+    let found = answer_of(alloc, &body)?;
+    if found.as_str() == answer {
+        Ok(())
+    } else {
+        Err(Unconfirmed::Other(found))
+    }
+}
+
+/// The answer for a body, in the words of the file.
+fn answer_of(alloc: Global, body: &[u8]) -> Result<String, Unconfirmed> {
+    let mut buffer = BytesMut::copy_from_slice(alloc, body)?;
+    let decoded = FrameCodec {}.decode(alloc, &mut buffer);
+    match (view_frame(body), decoded) {
+        (Ok((view, len)), Ok(frame)) => {
+            let mut text = format!(in alloc; "read {len} ")?;
+            push_fields(alloc, &mut text, view)?;
+            if buffer.as_slice().len().saturating_add(len) != body.len() {
+                text.push_str(" but decode takes another length")?;
+            }
+            let mut written = BytesMut::new(alloc);
+            FrameCodec {}.encode(frame, &mut written)?;
+            text.push_str(" written ")?;
+            text.push_str(hex::encode(alloc, written.as_slice())?.as_str())?;
+            Ok(text)
+        }
+        (Err(viewed), Err(refused)) => {
+            let mut text = String::from_str(alloc, "refused ")?;
+            text.push_str(name_of(viewed))?;
+            if viewed != refused || buffer.as_slice() != body {
+                text.push_str(" but not by decode")?;
+            }
+            Ok(text)
+        }
+        _ => Ok(String::from_str(alloc, "view_frame and decode differ")?),
+    }
+}
+
+/// The name of a fault.
+fn name_of(fault: Error) -> &'static str {
+    match fault {
+        Error::DecodeError => "DecodeError",
+        Error::NotImplemented => "NotImplemented",
+        Error::TooLarge => "TooLarge",
+        Error::OutOfMemory => "OutOfMemory",
+    }
+}
+
+/// The name of a code.
+fn name_of_code(code: SaslCode) -> &'static str {
+    match code {
+        SaslCode::Ok => "Ok",
+        SaslCode::Auth => "Auth",
+        SaslCode::Sys => "Sys",
+        SaslCode::SysPerm => "SysPerm",
+        SaslCode::SysTemp => "SysTemp",
+    }
+}
+
+/// The kind of a frame and its fields.
+fn push_fields(alloc: Global, text: &mut String, view: FrameView<'_>) -> Result<(), AllocError> {
+    match view {
+        FrameView::Mechanisms(symbols) => {
+            text.push_str("Mechanisms ")?;
+            push_symbols(alloc, text, &symbols)
+        }
+        FrameView::Init {
+            mechanism,
+            initial_response,
+            hostname,
+        } => {
+            text.push_str("Init ")?;
+            push_bytes(alloc, text, mechanism.as_bytes())?;
+            text.push_str(" ")?;
+            push_optional(alloc, text, initial_response)?;
+            text.push_str(" ")?;
+            push_optional(alloc, text, hostname.map(|name| name.as_bytes()))
+        }
+        FrameView::Challenge(challenge) => {
+            text.push_str("Challenge ")?;
+            push_bytes(alloc, text, challenge)
+        }
+        FrameView::Response(response) => {
+            text.push_str("Response ")?;
+            push_bytes(alloc, text, response)
+        }
+        FrameView::Outcome {
+            code,
+            additional_data,
+        } => {
+            text.push_str("Outcome ")?;
+            text.push_str(name_of_code(code))?;
+            text.push_str(" ")?;
+            push_optional(alloc, text, additional_data)
+        }
+    }
+}
+
+/// The symbols of a list, joined by commas.
+fn push_symbols(
+    alloc: Global,
+    text: &mut String,
+    symbols: &SymbolsView<'_>,
+) -> Result<(), AllocError> {
+    if symbols.len() == 0 {
+        return text.push_str("empty");
+    }
+    for index in 0..symbols.len() {
+        if index > 0 {
+            text.push_str(",")?;
+        }
+        if let Some(symbol) = symbols.get(index) {
+            push_bytes(alloc, text, symbol.as_bytes())?;
+        }
+    }
+    Ok(())
+}
+
+/// A field that may be absent.
+fn push_optional(alloc: Global, text: &mut String, bytes: Option<&[u8]>) -> Result<(), AllocError> {
+    match bytes {
+        Some(bytes) => push_bytes(alloc, text, bytes),
+        None => text.push_str("none"),
+    }
+}
+
+/// Bytes in hexadecimal digits.
+fn push_bytes(alloc: Global, text: &mut String, bytes: &[u8]) -> Result<(), AllocError> {
+    if bytes.is_empty() {
+        return text.push_str("-");
+    }
+    text.push_str(hex::encode(alloc, bytes)?.as_str())
+}
