@@ -76,3 +76,5 @@ length-hmac_of version key message = length-digest version _
 pub IsBytes-hmac_of : (version : ScramVersion) (key message : List ℕ) → IsBytes (hmac_of version key message)
 unfolding hmac_of
 IsBytes-hmac_of version key message = IsBytes-digest version _
+
+pub ruleset sizes = (length-digest, length-hmac_of)

@@ -1,9 +1,14 @@
+pub mod AsciiLemmas
 pub mod Base64Lemmas
+pub mod ClientFinalLemmas
+pub mod ClientFirstLemmas
 pub mod CostLemmas
 pub mod CountLemmas
 pub mod DigestLemmas
 pub mod EscapingLemmas
+pub mod ExchangeLemmas
 pub mod HiLemmas
+pub mod LastPartLemmas
 pub mod PadLemmas
 pub mod PartsLemmas
 pub mod ReadingLemmas

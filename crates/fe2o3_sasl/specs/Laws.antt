@@ -5,8 +5,12 @@ use Rattle.base64.specs.GeneralPurpose.{IsBytes, decode_of}
 use Rattle.fe2o3_sasl.specs.declared.hmac.ScramVersion.{ScramVersion}
 use Rattle.fe2o3_sasl.specs.declared.scram_messages.error.ScramErrorKind.{ScramErrorKind}
 use Rattle.fe2o3_sasl.specs.Base64Texts.{base64_text, IsBase64}
+use Rattle.fe2o3_sasl.specs.declared.scram_messages.error.ServerScramErrorKind.{ServerScramErrorKind}
+use Rattle.fe2o3_sasl.specs.ClientFirst.{ClientFirst, ReadsClientFirst}
 use Rattle.fe2o3_sasl.specs.Escaping.{escaped}
+use Rattle.fe2o3_sasl.specs.Exchanges.{Exchange, IsSound, Succeeds}
 use Rattle.fe2o3_sasl.specs.Hmac.{digest, digest_len, hmac_of}
+use Rattle.fe2o3_sasl.specs.Responses.{Server, ClientFinal, ReadsClientFinal}
 use Rattle.fe2o3_sasl.specs.ServerFinal.{ReadsServerFinal}
 use Rattle.fe2o3_sasl.specs.ServerFirst.{Client, ServerFirst, ReadsServerFirst}
 use Rattle.fe2o3_sasl.specs.Texts.{NoComma, Parts}
@@ -51,6 +55,18 @@ NoCommaInEscapedNames = (name : List ℕ) → NoComma (escaped name)
 abbrev pub OneServerFirst : Type 0
 OneServerFirst = (client : Client) (text : List ℕ) (answer other : Result ServerFirst ScramErrorKind) → ReadsServerFirst client text answer → ReadsServerFirst client text other → answer ≡ other
 
+-- a client-first message has at most one answer
+abbrev pub OneClientFirst : Type 0
+OneClientFirst = (text : List ℕ) (answer other : Result ClientFirst ServerScramErrorKind) → ReadsClientFirst text answer → ReadsClientFirst text other → answer ≡ other
+
+-- a client-final message has at most one answer
+abbrev pub OneClientFinal : Type 0
+OneClientFinal = (server : Server) (text : List ℕ) (answer other : Result ClientFinal ServerScramErrorKind) → ReadsClientFinal server text answer → ReadsClientFinal server text other → answer ≡ other
+
 -- a server-final message has at most one answer
 abbrev pub OneServerFinal : Type 0
 OneServerFinal = (signature text : List ℕ) (answer other : Result (Unit {0}) ScramErrorKind) → ReadsServerFinal signature text answer → ReadsServerFinal signature text other → answer ≡ other
+
+-- in an exchange whose messages arrive as they were sent, each side accepts what the other wrote
+abbrev pub UnalteredExchangesSucceed : Type 0
+UnalteredExchangesSucceed = (x : Exchange) → IsSound x → Succeeds x

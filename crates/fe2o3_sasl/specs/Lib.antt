@@ -15,3 +15,12 @@ pub mod Hashers
 pub mod ServerFirstValues
 pub mod Costs
 pub mod Laws
+pub mod Credentials
+pub mod Challenges
+pub mod Responses
+pub mod ServerFaults
+pub mod ServerValues
+pub mod ClientStates
+pub mod ServerStates
+pub mod Authenticators
+pub mod Exchanges

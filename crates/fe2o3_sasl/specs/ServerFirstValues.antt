@@ -1,5 +1,5 @@
 -- What the code holds of a server-first message. No public clause cites this file.
-use Rattle.fe2o3_sasl.specs.declared.scram_messages.server_first.ServerFirstValues.{ServerFirstValues}
+use Rattle.fe2o3_sasl.specs.declared.scram_messages.server_first_reading.ServerFirstValues.{ServerFirstValues}
 use Rattle.fe2o3_sasl.specs.ServerFirst.{ServerFirst}
 
 -- the values

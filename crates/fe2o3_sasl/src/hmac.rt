@@ -73,4 +73,15 @@ impl ScramVersion {
             ScramVersion::Sha512 => 128,
         }
     }
+
+    /// The length of a digest, in bytes.
+    pub(crate) fn digest_len(&self) -> usize
+        ensures { result ≡ digest_len self.now }
+    {
+        match self {
+            ScramVersion::Sha1 => 20,
+            ScramVersion::Sha256 => 32,
+            ScramVersion::Sha512 => 64,
+        }
+    }
 }

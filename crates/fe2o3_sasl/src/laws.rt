@@ -2,7 +2,7 @@
 //! statement about every list of bytes, which the check has proved.
 
 ghost use Rattle.std.specs.Prelude.{◌≡◌};
-ghost use Rattle.fe2o3_sasl.specs.Laws.{DigestsAreSized, MacsAreSized, OneBytesOfBase64, Base64IsReadAgain, NoCommaInBase64, PartsExist, OneListOfParts, OneEscapedName, NoCommaInEscapedNames, OneServerFirst, OneServerFinal};
+ghost use Rattle.fe2o3_sasl.specs.Laws.{DigestsAreSized, MacsAreSized, OneBytesOfBase64, Base64IsReadAgain, NoCommaInBase64, PartsExist, OneListOfParts, OneEscapedName, NoCommaInEscapedNames, OneClientFirst, OneServerFirst, OneClientFinal, OneServerFinal, UnalteredExchangesSucceed};
 
 use crate::hmac::ScramVersion;
 
@@ -38,8 +38,15 @@ pub fn escaped_names()
     ensures no_comma { NoCommaInEscapedNames }
 {}
 
-/// A server-first and a server-final message have at most one answer each.
+/// Each of the four messages has at most one answer.
 pub fn one_answer_each()
+    ensures client_first { OneClientFirst }
     ensures server_first { OneServerFirst }
+    ensures client_final { OneClientFinal }
     ensures server_final { OneServerFinal }
+{}
+
+/// A client and a server that hold the same password log in where nothing is altered on the way.
+pub fn unaltered_exchanges()
+    ensures { UnalteredExchangesSucceed }
 {}

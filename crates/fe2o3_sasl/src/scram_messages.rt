@@ -2,11 +2,16 @@
 
 pub(crate) mod attributes;
 mod client_final;
+mod client_final_reading;
 mod client_first;
+mod client_first_reading;
 pub mod error;
 pub mod escape;
 mod server_final;
-pub(crate) mod server_first;
+mod server_final_reading;
+mod server_first;
+mod server_first_reading;
 
-pub use crate::scram_messages::error::{ScramErrorKind, XorLengthMismatch};
+pub use crate::scram_messages::error::{ScramErrorKind, ServerScramErrorKind, XorLengthMismatch};
 pub use crate::scram_messages::escape::{UnescapeError, escape_username, unescape_username};
+pub use crate::scram_messages::server_first::ServerFirstMessage;

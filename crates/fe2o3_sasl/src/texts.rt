@@ -1,7 +1,7 @@
 //! The pieces of SCRAM messages: parts between commas, attributes, base64 and counts.
 
 ghost use Rattle.std.specs.Prelude.{◌≡◌, ◌++◌, ℕ, List, IfOk, MatchOption, string_bytes};
-ghost use Rattle.fe2o3_sasl.specs.Texts.{Begins, Part};
+ghost use Rattle.fe2o3_sasl.specs.Texts.{Begins, Part, LastPart};
 ghost use Rattle.fe2o3_sasl.specs.Base64Texts.{IsBase64, base64_text};
 ghost use Rattle.fe2o3_sasl.specs.Counts.{IsCount};
 
@@ -22,6 +22,13 @@ pub(crate) fn attribute<'a>(text: &'a str, k: usize, key: &str) -> Option<&'a st
     ensures { MatchOption result ((rest : List ℕ) → ¬ Part text.now k (key.now ++ rest)) (λ rest. Part text.now k (key.now ++ rest.now)) }
 {
     after(part(text, k)?, key)
+}
+
+/// The last of several parts, and what stands before its comma.
+pub(crate) fn last_part(text: &str) -> Option<(&str, &str)>
+    ensures { MatchOption result ((before part : List ℕ) → ¬ LastPart text.now before part) (λ both. LastPart text.now both.0.now both.1.now) }
+{
+    text.rsplit_once(',')
 }
 
 /// What follows the prefix.

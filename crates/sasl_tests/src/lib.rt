@@ -3,11 +3,17 @@
 #![tactic(auto)]
 
 #[cfg(test)]
+mod accounts;
+#[cfg(test)]
 mod amqp_types;
 #[cfg(test)]
 mod bodies;
 #[cfg(test)]
 mod client_answer;
+#[cfg(test)]
+mod client_final_refusals;
+#[cfg(test)]
+mod client_first_refusals;
 #[cfg(test)]
 mod drought;
 #[cfg(test)]
@@ -18,6 +24,8 @@ mod frames;
 mod hmac_vectors;
 #[cfg(test)]
 mod iteration_limit;
+#[cfg(test)]
+mod machines;
 #[cfg(test)]
 mod malicious_bytes;
 #[cfg(test)]
@@ -30,6 +38,12 @@ mod passwords;
 mod pbkdf2_vectors;
 #[cfg(test)]
 mod protocol_headers;
+#[cfg(test)]
+mod providers;
+#[cfg(test)]
+mod server_exchanges;
+#[cfg(test)]
+mod server_fault_texts;
 #[cfg(test)]
 mod server_final;
 #[cfg(test)]

@@ -1,6 +1,6 @@
 //! A hasher of any of the three hashes. None of this takes memory.
 
-ghost use Rattle.std.specs.Prelude.{◌≡◌, ◌++◌, ℕ, List, [], length};
+ghost use Rattle.std.specs.Prelude.{◌≡◌, ◌++◌, ℕ, List, [], length, vec_len};
 ghost use Rattle.fe2o3_sasl.specs.declared.hmac.ScramVersion.{ScramVersion};
 ghost use Rattle.fe2o3_sasl.specs.Hmac.{digest, exclusive_or};
 ghost use Rattle.fe2o3_sasl.specs.Hashers.{HasTaken, digest_bytes, version_of};
@@ -51,6 +51,16 @@ fn xor(lhs: &mut [u8], rhs: &[u8])
     for at in 0..lhs.len() {
         lhs[at] ^= rhs[at];
     }
+}
+
+/// The exclusive or of two strings of one length, byte by byte.
+pub(crate) fn xored(lhs: Vec<u8>, rhs: &[u8]) -> Vec<u8>
+    requires { vec_len lhs ≡ length rhs.now }
+    ensures { result.items ≡ exclusive_or lhs.items rhs.now }
+{
+    let mut sum = lhs;
+    xor(sum.as_mut_slice(), rhs);
+    sum
 }
 
 /// A hasher of one of the three hashes.

@@ -14,7 +14,7 @@ use crate::hmac::keyed::HmacKey;
 use crate::hmac::{Meter, ScramVersion};
 use crate::scram_messages::attributes::{CHANNEL_BINDING_KEY, GS2_HEADER, NONCE_KEY, PROOF_KEY};
 use crate::scram_messages::error::ScramErrorKind;
-use crate::scram_messages::server_first::{ServerFirstValues, read_server_first};
+use crate::scram_messages::server_first_reading::{ServerFirstValues, read_server_first};
 use crate::texts::base64_of;
 use std::alloc::Global;
 
@@ -184,7 +184,7 @@ fn client_final(
 }
 
 /// The three messages that both sides have seen, as they were sent.
-fn auth_message(
+pub(crate) fn auth_message(
     alloc: Global,
     client_first_message_bare: &[u8],
     server_first_message: &[u8],

@@ -1,8 +1,11 @@
 //! Why a SCRAM message is refused. Kinds and texts are those of `fe2o3-amqp` 0.18.4.
 
 ghost use Rattle.std.specs.Prelude.{◌≡◌};
-ghost use Rattle.fe2o3_sasl.specs.declared.scram_messages.error.ScramErrorKind.TheVariants.{OutOfMemory, XorLengthMismatch as XorLengthMismatchKind};
+ghost use Rattle.fe2o3_sasl.specs.declared.scram_messages.error.ScramErrorKind.TheVariants.{OutOfMemory as ClientOutOfMemory, XorLengthMismatch as ClientXorLengthMismatch};
+ghost use Rattle.fe2o3_sasl.specs.declared.scram_messages.error.ServerScramErrorKind.TheVariants.{OutOfMemory as ServerOutOfMemory, XorLengthMismatch as ServerXorLengthMismatch};
+ghost use Rattle.fe2o3_sasl.specs.ServerFaults.{key_fault};
 
+use crate::pbkdf2_hi::KeyError;
 use std::alloc::{AllocError, AllocFailed};
 use thiserror::Error;
 
@@ -80,7 +83,7 @@ pub enum ScramErrorKind {
 }
 
 impl From<AllocError> for ScramErrorKind {
-    ghost from_gives = { λ _ kind. kind ≡ OutOfMemory };
+    ghost from_gives = { λ _ kind. kind ≡ ClientOutOfMemory };
 
     fn from(_error: AllocError) -> Self {
         ScramErrorKind::OutOfMemory
@@ -88,7 +91,7 @@ impl From<AllocError> for ScramErrorKind {
 }
 
 impl<T: Drop> From<AllocFailed<T>> for ScramErrorKind {
-    ghost from_gives = { λ _ kind. kind ≡ OutOfMemory };
+    ghost from_gives = { λ _ kind. kind ≡ ClientOutOfMemory };
 
     fn from(_error: AllocFailed<T>) -> Self {
         ScramErrorKind::OutOfMemory
@@ -96,9 +99,110 @@ impl<T: Drop> From<AllocFailed<T>> for ScramErrorKind {
 }
 
 impl From<XorLengthMismatch> for ScramErrorKind {
-    ghost from_gives = { λ _ kind. kind ≡ XorLengthMismatchKind };
+    ghost from_gives = { λ _ kind. kind ≡ ClientXorLengthMismatch };
 
     fn from(_error: XorLengthMismatch) -> Self {
         ScramErrorKind::XorLengthMismatch
+    }
+}
+
+/// Why the server refuses a message.
+#[derive(Debug, Clone, Copy, PartialEq, Eq, Error)]
+pub enum ServerScramErrorKind {
+    /// The message is not UTF-8.
+    #[error("Invalid UTF-8")]
+    Utf8Error,
+
+    /// The client-first message does not begin with `n,,`.
+    #[error("Cannot parse GS2-header")]
+    CannotParseGs2Header,
+
+    /// The client-first message does not name a user: the first part behind the header does not
+    /// begin with `n=`, or goes on with a text that no user name is escaped to.
+    #[error("Error parsing username field")]
+    CannotParseUsername,
+
+    /// The second part of the client-first message is absent or does not begin with `r=`.
+    #[error("Error parsing client nonce")]
+    CannotParseClientNonce,
+
+    /// Never answered, since HMAC takes keys of every length.
+    #[error("Invalid length")]
+    HmacErrorInvalidLength,
+
+    /// The proof is not as long as a digest.
+    #[error("LHS and RHS of XOR have different length")]
+    XorLengthMismatch,
+
+    /// The password is not printable ASCII.
+    #[error("Error normalizing password")]
+    NormalizeError,
+
+    /// The client-final message does not begin with `c=`, or its second part is absent or does not
+    /// begin with `r=`.
+    #[error("Error parsing client final message")]
+    CannotParseClientFinalMessage,
+
+    /// The channel binding is not `n,,`.
+    #[error("Invalid channel binding")]
+    InvalidChannelBinding,
+
+    /// A channel binding or a proof is not base64.
+    #[error("Invalid base64")]
+    Base64DecodeError,
+
+    /// The nonce is not that of the challenge.
+    #[error("Client final message has an incorrect nonce")]
+    IncorrectClientFinalNonce,
+
+    /// The last part of the client-final message does not begin with `p=`.
+    #[error("Client final message doesnt' have a proof")]
+    ProofNotFoundInClientFinal,
+
+    /// The proof does not meet the stored key.
+    #[error("Authentication failed")]
+    AuthenticationFailed,
+
+    /// No challenge is open.
+    #[error("Illegal SCRAM client state")]
+    IllegalAuthenticatorState,
+
+    /// A request for memory was refused.
+    #[error("Out of memory")]
+    OutOfMemory,
+}
+
+impl From<AllocError> for ServerScramErrorKind {
+    ghost from_gives = { λ _ kind. kind ≡ ServerOutOfMemory };
+
+    fn from(_error: AllocError) -> Self {
+        ServerScramErrorKind::OutOfMemory
+    }
+}
+
+impl<T: Drop> From<AllocFailed<T>> for ServerScramErrorKind {
+    ghost from_gives = { λ _ kind. kind ≡ ServerOutOfMemory };
+
+    fn from(_error: AllocFailed<T>) -> Self {
+        ServerScramErrorKind::OutOfMemory
+    }
+}
+
+impl From<XorLengthMismatch> for ServerScramErrorKind {
+    ghost from_gives = { λ _ kind. kind ≡ ServerXorLengthMismatch };
+
+    fn from(_error: XorLengthMismatch) -> Self {
+        ServerScramErrorKind::XorLengthMismatch
+    }
+}
+
+impl From<KeyError> for ServerScramErrorKind {
+    ghost from_gives = { λ error kind. kind ≡ key_fault error };
+
+    fn from(error: KeyError) -> Self {
+        match error {
+            KeyError::NormalizeError => ServerScramErrorKind::NormalizeError,
+            KeyError::OutOfMemory => ServerScramErrorKind::OutOfMemory,
+        }
     }
 }

@@ -1,103 +1,82 @@
-//! The server-first message, as the client reads it.
+//! The server-first message, which challenges a known user.
 
-ghost use Rattle.std.specs.Prelude.{◌≢◌, ◌≤◌, ◌++◌, IfOk, IfErr, codes};
-ghost use Rattle.fe2o3_sasl.specs.Readings.{Gives, IsFirst, NoneHolds};
-ghost use Rattle.fe2o3_sasl.specs.ServerFirst.{ReadsServerFirst, HasSalt, HasCount, nonce_tests, salt_tests, count_tests};
-ghost use Rattle.fe2o3_sasl.specs.Texts.{Part};
-ghost use Rattle.fe2o3_sasl.specs.ServerFirstValues.{values_of};
+ghost use Rattle.std.specs.Prelude.{◌≡◌, IfOk, option_map};
+ghost use Rattle.fe2o3_sasl.specs.Challenges.{AnswersClientFirst, server_first_of};
+ghost use Rattle.fe2o3_sasl.specs.Credentials.{kept};
+ghost use Rattle.fe2o3_sasl.specs.Readings.{Gives};
+ghost use Rattle.fe2o3_sasl.specs.ServerValues.{challenge_values};
 
-use crate::saslprep_ascii::saslprep;
-use crate::scram_messages::attributes::{ITERATION_COUNT_KEY, NONCE_KEY, RESERVED_MEXT, SALT_KEY};
-use crate::scram_messages::error::ScramErrorKind;
-use crate::texts::{after, attribute, bytes_of, count_of, part};
+use crate::OutOfMemory;
+use crate::credentials::{ScramCredentialProvider, StoredPassword};
+use crate::hmac::ScramVersion;
+use crate::scram_messages::attributes::{ITERATION_COUNT_KEY, NONCE_KEY, SALT_KEY};
+use crate::scram_messages::client_first_reading::read_client_first;
+use crate::scram_messages::error::ServerScramErrorKind;
+use crate::texts::base64_of;
+use bytes::Bytes;
 use std::alloc::Global;
+use std::borrow::CowStr;
 
-/// What a server-first message names.
+/// A server-first message, and what the server keeps of the exchange so far.
 #[derive(Debug, Drop)]
-pub(crate) struct ServerFirstValues<'a> {
-    pub nonce: &'a str,
-    pub salt: Vec<u8>,
-    pub iterations: u32,
+pub struct ServerFirstMessage<'a> {
+    /// The plain name of the user, borrowed where the client escaped nothing.
+    pub username: CowStr<'a>,
+
+    /// The client-first message without its GS2 header.
+    pub client_first_message_bare: &'a str,
+
+    /// The nonce of both sides.
+    pub client_server_nonce: Bytes,
+
+    /// The message to send.
+    pub message: Bytes,
 }
 
-/// Reads a server-first message. Memory is taken for the salt alone.
-pub(crate) fn read_server_first<'a>(
+impl ScramVersion {
+    /// Answers a client-first message with a challenge, or with `None` where the user is unknown.
+    ///
+    /// The server's nonce is a text without commas. It is written behind the client's.
+    pub fn compute_server_first_message<'a, C: ScramCredentialProvider>(
+        &self,
+        alloc: Global,
+        client_first: &'a [u8],
+        base64_server_nonce: &str,
+        credentials: &C,
+    ) -> Result<Option<ServerFirstMessage<'a>>, ServerScramErrorKind>
+        ensures { Gives ServerScramErrorKind.OutOfMemory (option_map challenge_values) result (AnswersClientFirst (C.records credentials.now) base64_server_nonce.now client_first.now) }
+    {
+        let client_first = read_client_first(alloc, client_first)?;
+        let Some(stored_password) = credentials.get_stored_password(&client_first.username) else {
+            return Ok(None);
+        };
+        let mut client_server_nonce = client_first.client_nonce.as_bytes().to_vec(alloc)?;
+        client_server_nonce.extend_from_slice(base64_server_nonce.as_bytes())?;
+        let message = server_first(alloc, &client_server_nonce, &stored_password)?;
+        Ok(Some(ServerFirstMessage {
+            username: client_first.username,
+            client_first_message_bare: client_first.client_first_message_bare,
+            client_server_nonce: Bytes::from_vec(client_server_nonce)?,
+            message: Bytes::from_vec(message)?,
+        }))
+    }
+}
+
+/// The server-first message with this nonce of both sides.
+fn server_first(
     alloc: Global,
-    client_nonce: &str,
-    password: &str,
-    limit: u32,
-    server_first: &'a str,
-) -> Result<ServerFirstValues<'a>, ScramErrorKind>
-    ensures reads { Gives ScramErrorKind.OutOfMemory values_of result (ReadsServerFirst (record { nonce = client_nonce.now; password = password.now; limit = limit }) server_first.now) }
-    ensures count { IfOk result (λ first. (1 ≤ first.iterations) × (first.iterations ≤ limit)) }
+    client_server_nonce: &[u8],
+    stored_password: &StoredPassword<'_>,
+) -> Result<Vec<u8>, OutOfMemory>
+    ensures { IfOk result (λ text. text.items ≡ server_first_of client_server_nonce.now (kept stored_password.now)) }
 {
-    let nonce = read_nonce(client_nonce, server_first)?;
-    let salt = read_salt(alloc, server_first)?;
-    let iterations = read_count(limit, server_first)?;
-    if saslprep(password).is_err() {
-        return Err(ScramErrorKind::NormalizeError);
-    }
-    Ok(ServerFirstValues {
-        nonce,
-        salt,
-        iterations,
-    })
-}
-
-/// The nonce of both sides.
-#[tactic(auto, using(crate::proofs::ServerFirstLemmas::nonces))]
-fn read_nonce<'a>(client_nonce: &str, server_first: &'a str) -> Result<&'a str, ScramErrorKind>
-    ensures tested { IfOk result (λ _. NoneHolds (nonce_tests client_nonce.now server_first.now)) }
-    ensures named { IfOk result (λ nonce. Part server_first.now 0 (codes "r=" ++ nonce.now)) }
-    ensures err { IfErr result (IsFirst (nonce_tests client_nonce.now server_first.now)) }
-{
-    let Some(_) = part(server_first, 2) else {
-        return Err(ScramErrorKind::InsufficientParts);
-    };
-    if let Some(_) = attribute(server_first, 0, RESERVED_MEXT) {
-        return Err(ScramErrorKind::ExtensionNotSupported);
-    }
-    let Some(nonce) = attribute(server_first, 0, NONCE_KEY) else {
-        return Err(ScramErrorKind::NonceNotFound);
-    };
-    let Some(_) = after(nonce, client_nonce) else {
-        return Err(ScramErrorKind::ClientNonceMismatch);
-    };
-    Ok(nonce)
-}
-
-/// The salt.
-#[tactic(auto, using(crate::proofs::ServerFirstLemmas::salts))]
-fn read_salt(alloc: Global, server_first: &str) -> Result<Vec<u8>, ScramErrorKind>
-    ensures tested { IfOk result (λ _. NoneHolds (salt_tests server_first.now)) }
-    ensures named { IfOk result (λ salt. HasSalt server_first.now salt.items) }
-    ensures err { IfErr result (λ kind. kind ≢ ScramErrorKind.OutOfMemory → IsFirst (salt_tests server_first.now) kind) }
-{
-    let Some(base64_salt) = attribute(server_first, 1, SALT_KEY) else {
-        return Err(ScramErrorKind::SaltNotFound);
-    };
-    let Some(salt) = bytes_of(alloc, base64_salt)? else {
-        return Err(ScramErrorKind::Base64DecodeError);
-    };
-    Ok(salt)
-}
-
-/// The iteration count, from 1 to the limit.
-#[tactic(auto, using(crate::proofs::ServerFirstLemmas::counts))]
-fn read_count(limit: u32, server_first: &str) -> Result<u32, ScramErrorKind>
-    ensures tested { IfOk result (λ _. NoneHolds (count_tests limit server_first.now)) }
-    ensures named { IfOk result (HasCount server_first.now) }
-    ensures within { IfOk result (λ count. (1 ≤ count) × (count ≤ limit)) }
-    ensures err { IfErr result (IsFirst (count_tests limit server_first.now)) }
-{
-    let Some(iter_count_str) = attribute(server_first, 2, ITERATION_COUNT_KEY) else {
-        return Err(ScramErrorKind::IterationCountNotFound);
-    };
-    let Some(iterations) = count_of(iter_count_str) else {
-        return Err(ScramErrorKind::IterationCountParseError);
-    };
-    if iterations > limit {
-        return Err(ScramErrorKind::IterationCountTooLarge);
-    }
-    Ok(iterations)
+    let mut buf = NONCE_KEY.as_bytes().to_vec(alloc)?;
+    buf.extend_from_slice(client_server_nonce)?;
+    buf.push(b',')?;
+    buf.extend_from_slice(SALT_KEY.as_bytes())?;
+    buf.extend_from_slice(base64_of(alloc, stored_password.salt)?.as_bytes())?;
+    buf.push(b',')?;
+    buf.extend_from_slice(ITERATION_COUNT_KEY.as_bytes())?;
+    buf.extend_from_slice(stored_password.iterations.to_string(alloc)?.as_bytes())?;
+    Ok(buf)
 }

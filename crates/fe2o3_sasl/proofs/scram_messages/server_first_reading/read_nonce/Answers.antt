@@ -1,6 +1,6 @@
 use Rattle.std.proofs.Common.{refl, inl, inr}
 use Rattle.fe2o3_sasl.proofs.ServerFirstLemmas.{other_nonce, same_nonce}
-use Rattle.fe2o3_sasl.proofs.scram_messages.server_first.read_nonce.Goals as goal
+use Rattle.fe2o3_sasl.proofs.scram_messages.server_first_reading.read_nonce.Goals as goal
 
 pub returns-in-Some-attribute-clause-err : goal.returns-in-Some-attribute-clause-err
 returns-in-Some-attribute-clause-err c = inr (λ few. few c.in-Some.field-0.now c.in-Some.ensures, inl ((c.in-Some-attribute.field-0.now, c.in-Some-attribute.ensures), refl))

@@ -2,7 +2,7 @@ use Rattle.std.proofs.Common.{rules}
 use Rattle.std.proofs.lemmas.Result.{err_from_is_err_and}
 use Rattle.fe2o3_sasl.specs.ServerFirst.{Client}
 use Rattle.fe2o3_sasl.proofs.ServerFirstLemmas.{nonce_refused, salt_refused, count_refused, password_refused, values_read}
-use Rattle.fe2o3_sasl.proofs.scram_messages.server_first.read_server_first.Goals as goal
+use Rattle.fe2o3_sasl.proofs.scram_messages.server_first_reading.read_server_first.Goals as goal
 
 pub returns-in_err-nonce-clause-reads : goal.returns-in_err-nonce-clause-reads
 returns-in_err-nonce-clause-reads c =

@@ -1,7 +1,7 @@
 use Rattle.std.proofs.Common.{refl, inl, inr}
 use Rattle.fe2o3_sasl.specs.ServerFirst.{HasCount}
 use Rattle.fe2o3_sasl.proofs.ServerFirstLemmas.{no_count, not_too_large}
-use Rattle.fe2o3_sasl.proofs.scram_messages.server_first.read_count.Goals as goal
+use Rattle.fe2o3_sasl.proofs.scram_messages.server_first_reading.read_count.Goals as goal
 
 pub returns-in_default-count_of-clause-err : goal.returns-in_default-count_of-clause-err
 returns-in_default-count_of-clause-err c =

@@ -1,6 +1,6 @@
 use Rattle.std.proofs.Common.{refl, inl, inr}
 use Rattle.fe2o3_sasl.proofs.ServerFirstLemmas.{no_salt, has_salt}
-use Rattle.fe2o3_sasl.proofs.scram_messages.server_first.read_salt.Goals as goal
+use Rattle.fe2o3_sasl.proofs.scram_messages.server_first_reading.read_salt.Goals as goal
 
 pub returns-in_default-2-clause-err : goal.returns-in_default-2-clause-err
 returns-in_default-2-clause-err c =
