@@ -1,6 +1,6 @@
 //! What a server keeps of its users (RFC 5802, section 3).
 
-ghost use Rattle.std.specs.Prelude.{◌≡◌, ◌↔◌, [], ◌∷◌, IfOk, option_map};
+ghost use Rattle.std.specs.Prelude.{◌≡◌, ◌↔◌, ◌⊎◌, [], ◌∷◌, IfOk, IfErr, option_map};
 ghost use Rattle.std.specs.String.{string_bytes};
 ghost use Rattle.std.proofs.Common.{ap};
 ghost use Rattle.fe2o3_sasl.specs.declared.hmac.ScramVersion.{ScramVersion};
@@ -101,6 +101,7 @@ impl SingleScramCredential {
     ) -> Result<Self, ServerScramErrorKind>
         ensures ok { IfOk result (λ credential. IsPrintable password.now × (credential ≡ record { version = scram_version; records = (string_bytes username, record_of scram_version password.now salt 4096) ∷ [] })) }
         ensures not_printable { (result ≡ Err ServerScramErrorKind.NormalizeError) ↔ ¬ IsPrintable password.now }
+        ensures err { IfErr result (λ kind. (kind ≡ ServerScramErrorKind.NormalizeError) ⊎ (kind ≡ ServerScramErrorKind.OutOfMemory)) }
     {
         let salted_password = scram_version.compute_salted_password(
             alloc,
