@@ -17,7 +17,7 @@ use Rattle.fe2o3_sasl.proofs.EscapingLemmas.{by_cases, escaped-nil, escaped-cons
 abbrev pub Small : List ℕ → Type 0
 Small text = AllByRecursion (λ byte. byte < 128) text
 
-small-append : (front back : List ℕ) → Small front → Small back → Small (front ++ back)
+pub small-append : (front back : List ℕ) → Small front → Small back → Small (front ++ back)
 small-append [] back small too = too
 small-append (x ∷ front) back small too = (small.0, small-append front back small.1 too)
 
@@ -30,7 +30,7 @@ small-get_or [] i small = lit< tt
 small-get_or (x ∷ text) zero small = small.0
 small-get_or (x ∷ text) (suc i) small = small-get_or text i small.1
 
-small-test : (text : List ℕ) → list_all (λ byte. nat_lt byte 128) text ≡ true → Small text
+pub small-test : (text : List ℕ) → list_all (λ byte. nat_lt byte 128) text ≡ true → Small text
 small-test [] passes = tt
 small-test (x ∷ text) passes = let both = and_parts (nat_lt x 128) (list_all (λ byte. nat_lt byte 128) text) passes in (grind (arith, both), small-test text both.1)
 
@@ -42,7 +42,7 @@ small-encode_symbols symbols (a ∷ b ∷ []) small = (small-get_or symbols _ sm
 small-encode_symbols symbols (a ∷ b ∷ c ∷ bytes) small =
     (small-get_or symbols _ small, (small-get_or symbols _ small, (small-get_or symbols _ small, (small-get_or symbols _ small, small-encode_symbols symbols bytes small))))
 
-small-base64_text : (bytes : List ℕ) → Small (base64_text bytes)
+pub small-base64_text : (bytes : List ℕ) → Small (base64_text bytes)
 unfolding base64_text
 small-base64_text bytes = small-append (encode_symbols alphabet bytes) (replicate (padding_len (length bytes)) 61) (small-encode_symbols alphabet bytes (small-test alphabet refl)) (small-replicate (padding_len (length bytes)))
 
@@ -51,7 +51,11 @@ ascii [] small i = IsAscii-nil i
 ascii (x ∷ text) small zero = small.0
 ascii (x ∷ text) small (suc i) = ascii text small.1 i
 
-IsUtf8-small : (text : List ℕ) → Small text → IsUtf8 text
+-- a literal is ASCII where the test says so
+pub IsAscii-literal : (text : List ℕ) → list_all (λ byte. nat_lt byte 128) text ≡ true → IsAscii text
+IsAscii-literal text passes = ascii text (small-test text passes)
+
+pub IsUtf8-small : (text : List ℕ) → Small text → IsUtf8 text
 IsUtf8-small text small = IsUtf8-from_ascii text (ascii text small)
 
 pub IsUtf8-base64_text : (bytes : List ℕ) → IsUtf8 (base64_text bytes)

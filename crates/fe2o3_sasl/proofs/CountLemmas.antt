@@ -1,6 +1,8 @@
 -- A text spells one count.
-use Rattle.std.proofs.Common.{◌≡◌, ◌⊎◌, ℕ, List, ◌∷◌, sym, ◌∙◌, ap, subst, inl, inr, arith}
+use Rattle.std.proofs.Common.{◌≡◌, ◌⊎◌, ◌<◌, ◌^◌, ℕ, List, ◌∷◌, refl, sym, ◌∙◌, ap, subst, inl, inr, arith}
+use Rattle.std.proofs.lemmas.Fmt.{decimal_is_IsNumeral}
 use Rattle.std.proofs.lemmas.Str.Parse.{digit_from_value}
+use Rattle.std.specs.Fmt.{decimal}
 use Rattle.std.specs.Str.Parse.{IsNumeral, digits_value}
 use Rattle.fe2o3_sasl.specs.Counts.{IsCount}
 
@@ -16,3 +18,7 @@ one_numeral text digits others (inr is) (inr too) are them = let both : 43 ∷ d
 
 pub one_count : (text : List ℕ) (count other : ℕ) → IsCount text count → IsCount text other → count ≡ other
 one_count text count other is too = is.3 ∙ ap (digits_value 10) (one_numeral text is.0 too.0 is.1 too.1 is.2 too.2) ∙ sym too.3
+
+-- a count that is written in decimal is read back
+pub count_of_decimal : (n count : ℕ) → n < 2 ^ 64 → IsCount (decimal n) count → count ≡ n
+count_of_decimal n count small is = let numeral = decimal_is_IsNumeral n small in is.3 ∙ ap (digits_value 10) (one_numeral (decimal n) is.0 (decimal n) is.1 (inl refl) is.2 numeral.0) ∙ numeral.1

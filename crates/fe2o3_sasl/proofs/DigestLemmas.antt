@@ -44,7 +44,7 @@ byte_at-small : (k n : ℕ) → byte_at k n < 256
 byte_at-small zero n = omega arith
 byte_at-small (suc k) n = omega arith
 
-IsBytes-high_first : (k n : ℕ) → IsBytes (bytes_high_first k n)
+pub IsBytes-high_first : (k n : ℕ) → IsBytes (bytes_high_first k n)
 IsBytes-high_first zero n = IsBytes-nil
 IsBytes-high_first (suc k) n = IsBytes-cons (byte_at k n) (bytes_high_first k n) (byte_at-small k n) (IsBytes-high_first k n)
 

@@ -21,10 +21,10 @@ use Rattle.fe2o3_sasl.specs.Exchanges.{Exchange, IsSound, Succeeds, nonce_in, ba
 use Rattle.fe2o3_sasl.specs.Hmac.{digest, digest_len, hmac_of, exclusive_or}
 use Rattle.fe2o3_sasl.specs.Keys.{auth_message, client_key, stored_key, client_proof}
 use Rattle.fe2o3_sasl.specs.Pbkdf2Hi.{salted_of}
-use Rattle.fe2o3_sasl.specs.Responses.{Server, ClientFinal, HasBinding, HasProof, Meets, ReadsClientFinal, binding_tests, nonce_tests, spelling_tests, proof_tests, server_final_of}
+use Rattle.fe2o3_sasl.specs.Responses.{Server, ClientFinal, Meets, NamesClientFinal, ReadsClientFinal, binding_tests, nonce_tests, spelling_tests, proof_tests, server_final_of}
 use Rattle.fe2o3_sasl.specs.ServerFinal.{ReadsServerFinal}
 use Rattle.fe2o3_sasl.specs.ServerFirst.{HasSalt, HasCount, ReadsServerFirst}
-use Rattle.fe2o3_sasl.specs.Texts.{NoComma, Parts, Part, LastPart, joined}
+use Rattle.fe2o3_sasl.specs.Texts.{NoComma, Parts, Part, joined}
 use Rattle.fe2o3_sasl.proofs.AsciiLemmas.{IsUtf8-base64_text, IsUtf8-literal, IsUtf8-escaped}
 use Rattle.fe2o3_sasl.proofs.Base64Lemmas.{no_comma-append, no_comma-test, no_comma-base64_text}
 use Rattle.fe2o3_sasl.proofs.ClientFinalLemmas.{none_of_proof}
@@ -38,24 +38,24 @@ use Rattle.fe2o3_sasl.proofs.ServerFirstLemmas.{values_read, same_nonce, not_too
 
 -- exclusive ors
 
-IsBytes-literal : (bytes : List ℕ) → list_all (λ byte. nat_lt byte 256) bytes ≡ true → IsBytes bytes
+pub IsBytes-literal : (bytes : List ℕ) → list_all (λ byte. nat_lt byte 256) bytes ≡ true → IsBytes bytes
 IsBytes-literal [] passes = IsBytes-nil
 IsBytes-literal (x ∷ bytes) passes = let both = and_parts (nat_lt x 256) (list_all (λ byte. nat_lt byte 256) bytes) passes in IsBytes-cons x bytes (grind (arith, both)) (IsBytes-literal bytes both.1)
 
-IsBytes-exclusive_or : (left right : List ℕ) → IsBytes left → IsBytes right → IsBytes (exclusive_or left right)
+pub IsBytes-exclusive_or : (left right : List ℕ) → IsBytes left → IsBytes right → IsBytes (exclusive_or left right)
 unfolding exclusive_or
 IsBytes-exclusive_or [] right are too = IsBytes-nil
 IsBytes-exclusive_or (x ∷ left) [] are too = IsBytes-nil
 IsBytes-exclusive_or (x ∷ left) (y ∷ right) are too = IsBytes-cons (bit_xor x y) _ (xor_of_8 x y (are 0) (too 0)) (IsBytes-exclusive_or left right (λ i. are (suc i)) (λ i. too (suc i)))
 
-length-exclusive_or : (left right : List ℕ) → length left ≡ length right → length (exclusive_or left right) ≡ length left
+pub length-exclusive_or : (left right : List ℕ) → length left ≡ length right → length (exclusive_or left right) ≡ length left
 unfolding exclusive_or
 length-exclusive_or [] right same = refl
 length-exclusive_or (x ∷ left) [] same = absurd (omega (arith, same))
 length-exclusive_or (x ∷ left) (y ∷ right) same = let less : length left ≡ length right = omega (arith, same) in ap suc (length-exclusive_or left right less)
 
 -- what was turned is turned back
-exclusive_or-back : (left right : List ℕ) → length left ≡ length right → exclusive_or (exclusive_or left right) right ≡ left
+pub exclusive_or-back : (left right : List ℕ) → length left ≡ length right → exclusive_or (exclusive_or left right) right ≡ left
 unfolding exclusive_or
 exclusive_or-back [] right same = refl
 exclusive_or-back (x ∷ left) [] same = absurd (omega (arith, same))
@@ -71,10 +71,10 @@ no_comma-digits : (digits : List ℕ) → AllDigits 10 digits → NoComma digits
 no_comma-digits [] are = tt
 no_comma-digits (d ∷ digits) are = let range = digit_from_value d are.0 in (λ is. absurd (omega (arith, range, is)), no_comma-digits digits are.1)
 
-no_comma-decimal : (n : ℕ) → n < 2 ^ 64 → NoComma (decimal n)
+pub no_comma-decimal : (n : ℕ) → n < 2 ^ 64 → NoComma (decimal n)
 no_comma-decimal n small = no_comma-digits (decimal n) (decimal_is_IsNumeral n small).0.1
 
-IsCount-decimal : (n : ℕ) → 1 ≤ n → n < 2 ^ 32 → IsCount (decimal n) n
+pub IsCount-decimal : (n : ℕ) → 1 ≤ n → n < 2 ^ 32 → IsCount (decimal n) n
 IsCount-decimal n some small =
     let wide : n < 2 ^ 64 = omega (arith, small) in
     let is = decimal_is_IsNumeral n wide in
@@ -82,17 +82,17 @@ IsCount-decimal n some small =
 
 -- parts
 
-two_parts : (p q : List ℕ) → NoComma p → NoComma q → Parts (joined (p ∷ q ∷ [])) (p ∷ q ∷ [])
+pub two_parts : (p q : List ℕ) → NoComma p → NoComma q → Parts (joined (p ∷ q ∷ [])) (p ∷ q ∷ [])
 two_parts p q plain too = record { some = omega arith; apart = (plain, (too, tt)); whole = refl }
 
 three_parts : (p q r : List ℕ) → NoComma p → NoComma q → NoComma r → Parts (joined (p ∷ q ∷ r ∷ [])) (p ∷ q ∷ r ∷ [])
 three_parts p q r plain too also = record { some = omega arith; apart = (plain, (too, (also, tt))); whole = refl }
 
 -- a key and a text behind it, as one part
-part_of : (key text : List ℕ) → list_all (λ byte. not (eqb byte 44)) key ≡ true → NoComma text → NoComma (key ++ text)
+pub part_of : (key text : List ℕ) → list_all (λ byte. not (eqb byte 44)) key ≡ true → NoComma text → NoComma (key ++ text)
 part_of key text passes plain = no_comma-append key text (no_comma-test key passes) plain
 
-only_part : (text : List ℕ) → NoComma text → Parts text (text ∷ [])
+pub only_part : (text : List ℕ) → NoComma text → Parts text (text ∷ [])
 only_part text plain = record { some = omega arith; apart = (plain, tt); whole = refl }
 
 -- client-first
@@ -100,7 +100,7 @@ only_part text plain = record { some = omega arith; apart = (plain, tt); whole =
 nonce_plain : (x : Exchange) → IsSound x → NoComma (nonce_in x)
 nonce_plain x sound = no_comma-append x.client_nonce x.server_nonce sound.client_plain sound.server_plain
 
-nonce_text : (x : Exchange) → IsSound x → IsUtf8 (nonce_in x)
+pub nonce_text : (x : Exchange) → IsSound x → IsUtf8 (nonce_in x)
 nonce_text x sound = IsUtf8-append x.client_nonce x.server_nonce sound.client_text sound.server_text
 
 bare_text : (user nonce : List ℕ) → IsUtf8 user → IsUtf8 nonce → IsUtf8 (client_first_bare user nonce)
@@ -115,7 +115,7 @@ reads_client_first x sound =
 
 -- server-first
 
-not_extended : (text nonce : List ℕ) → Part text 0 (codes "r=" ++ nonce) → ¬ ((rest : List ℕ) × Part text 0 (codes "m=" ++ rest))
+pub not_extended : (text nonce : List ℕ) → Part text 0 (codes "r=" ++ nonce) → ¬ ((rest : List ℕ) × Part text 0 (codes "m=" ++ rest))
 not_extended text nonce is has =
     let same : codes "r=" ++ nonce ≡ codes "m=" ++ has.0 = one_part text 0 (codes "r=" ++ nonce) (codes "m=" ++ has.0) is has.1 in
     let letter : ◌≡◌ {A = ℕ} 114 109 = ap (λ bytes. get_or bytes 0 0) same in
@@ -148,28 +148,30 @@ final_text nonce proof utf8 =
     (IsUtf8-append (codes "c=" ++ base64_text (codes "n,,")) (codes ",r=" ++ nonce) (IsUtf8-append (codes "c=") (base64_text (codes "n,,")) (IsUtf8-literal (codes "c=") refl) (IsUtf8-base64_text (codes "n,,"))) (IsUtf8-append (codes ",r=") nonce (IsUtf8-literal (codes ",r=") refl) utf8))
     (IsUtf8-append (codes ",p=") (base64_text proof) (IsUtf8-literal (codes ",p=") refl) (IsUtf8-base64_text proof))
 
+-- a message that names its values is read
+pub final_read : (server : Server) (text : List ℕ) (final : ClientFinal) → IsUtf8 text → NamesClientFinal server text final → ReadsClientFinal server text (Ok final)
+unfolding ReadsClientFinal
+final_read server text final utf8 names =
+    let rest = spelling_tests text ++ proof_tests server text in (
+      (
+        λ fails. fails utf8,
+        NoneHolds-append (binding_tests text) (nonce_tests server.nonce text ++ rest) (λ none. none (base64_text (codes "n,,")) names.binding.1, (λ none. none (codes "n,,") names.binding, (λ other. other names.binding, tt)))
+            (NoneHolds-append (nonce_tests server.nonce text) rest (λ none. none server.nonce names.nonce, (λ other. other names.nonce, tt))
+            (NoneHolds-append (spelling_tests text) (proof_tests server text) (λ none. none final.without (base64_text final.proof) names.proof.1, (λ none. none final names.proof, tt)) (none_of_proof server text final names.proof names.sized names.meets))),
+      ),
+      names,
+    )
+
 reads_final : (server : Server) (proof : List ℕ) → NoComma server.nonce → IsUtf8 server.nonce → IsBytes proof → length proof ≡ digest_len server.version → Meets server (record { without = without_proof server.nonce; proof = proof })
     → ReadsClientFinal server (client_final_of (without_proof server.nonce) proof) (Ok (record { without = without_proof server.nonce; proof = proof }))
-unfolding ReadsClientFinal
 reads_final server proof plain utf8 bytes sized meets =
     let nonce = server.nonce in
     let text = client_final_of (without_proof nonce) proof in
     let final : ClientFinal = record { without = without_proof nonce; proof = proof } in
     let last = part_of (codes "p=") (base64_text proof) refl (no_comma-base64_text proof) in
     let parts = final_parts (codes "c=" ++ base64_text (codes "n,,")) (codes "r=" ++ nonce) (codes "p=" ++ base64_text proof) (part_of (codes "c=") (base64_text (codes "n,,")) refl (no_comma-base64_text (codes "n,,"))) (part_of (codes "r=") nonce refl plain) last in
-    let binding : HasBinding text (codes "n,,") = (IsBytes-literal (codes "n,,") refl, (_, parts, refl)) in
-    let fresh : Part text 1 (codes "r=" ++ nonce) = (_, parts, refl) in
-    let ends : LastPart text (without_proof nonce) (codes "p=" ++ base64_text proof) = (last, refl) in
-    let has : HasProof text final = (bytes, ends) in
-    let rest = spelling_tests text ++ proof_tests server text in (
-      (
-        λ fails. fails (final_text nonce proof utf8),
-        NoneHolds-append (binding_tests text) (nonce_tests nonce text ++ rest) (λ none. none (base64_text (codes "n,,")) binding.1, (λ none. none (codes "n,,") binding, (λ other. other binding, tt)))
-            (NoneHolds-append (nonce_tests nonce text) rest (λ none. none nonce fresh, (λ other. other fresh, tt))
-            (NoneHolds-append (spelling_tests text) (proof_tests server text) (λ none. none (without_proof nonce) (base64_text proof) ends, (λ none. none final has, tt)) (none_of_proof server text final has sized meets))),
-      ),
-      record { binding = binding; nonce = fresh; proof = has; sized = sized; meets = meets },
-    )
+    final_read server text final (final_text nonce proof utf8)
+    (record { binding = (IsBytes-literal (codes "n,,") refl, (_, parts, refl)); nonce = (_, parts, refl); proof = (bytes, (last, refl)); sized = sized; meets = meets })
 
 reads_client_final : (x : Exchange) → IsSound x → ReadsClientFinal (server_in x) (answer_in x).0 (Ok (final_in x))
 reads_client_final x sound =
@@ -187,7 +189,7 @@ reads_client_final x sound =
 
 -- server-final
 
-reads_signature : (signature : List ℕ) → IsBytes signature → ReadsServerFinal signature (codes "v=" ++ base64_text signature) (Ok tt)
+pub reads_signature : (signature : List ℕ) → IsBytes signature → ReadsServerFinal signature (codes "v=" ++ base64_text signature) (Ok tt)
 reads_signature signature bytes =
     let text = codes "v=" ++ base64_text signature in
     let plain = part_of (codes "v=") (base64_text signature) refl (no_comma-base64_text signature) in

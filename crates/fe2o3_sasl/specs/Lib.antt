@@ -24,3 +24,14 @@ pub mod ClientStates
 pub mod ServerStates
 pub mod Authenticators
 pub mod Exchanges
+pub mod Events
+pub mod Positions
+pub mod ServerHistory
+pub mod ClientHistory
+pub mod Machines
+pub mod TwoSides
+pub mod Verdicts
+pub mod UnalteredRuns
+pub mod HistoryLaws
+pub mod Headline
+pub mod Examples

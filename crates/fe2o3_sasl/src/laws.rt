@@ -3,6 +3,9 @@
 
 ghost use Rattle.std.specs.Prelude.{◌≡◌};
 ghost use Rattle.fe2o3_sasl.specs.Laws.{DigestsAreSized, MacsAreSized, OneBytesOfBase64, Base64IsReadAgain, NoCommaInBase64, PartsExist, OneListOfParts, OneEscapedName, NoCommaInEscapedNames, OneClientFirst, OneServerFirst, OneClientFinal, OneServerFinal, UnalteredExchangesSucceed};
+ghost use Rattle.fe2o3_sasl.specs.Headline.{OkOnlyWhereAccepted, OkWhereverAccepted, ReportedOnlyWhereSigned, ReportedWhereverSigned, IssuedVerifiersAgree};
+ghost use Rattle.fe2o3_sasl.specs.HistoryLaws.{OneServerHistory, OneClientHistory, AcceptorRunsAreHistories, ProfileRunsAreHistories, OksWithinChallenges, RepeatedResponsesAreRefused, OneResponseOneNonce, RefusalsLeaveOpen, PositionsAreUsedOnce, EqualMessagesAgree, NoShortExtensions, TakenVerifiersAreJudged, ShownProofsAreJudged, OneVerdictEach, RepeatedClientPositions, RepeatedServerPositions, UnalteredRunsLogIn};
+ghost use Rattle.fe2o3_sasl.specs.Examples.{GuestsEnter, WrongPasswordsFail, NamesAloneFail, EmptyInitsFail, ResponsesToPlainFail, ShiftedTextsPass, RefusalsHaveOneBody, ServersAnswer, ClientsAnswer, ShiftedHistoriesPass};
 
 use crate::hmac::ScramVersion;
 
@@ -49,4 +52,92 @@ pub fn one_answer_each()
 /// A client and a server that hold the same password log in where nothing is altered on the way.
 pub fn unaltered_exchanges()
     ensures { UnalteredExchangesSucceed }
+{}
+
+/// The headline theorem. Over every list of frame bodies, a SCRAM server answers Ok exactly when a
+/// response fits its open challenge and its proof meets the stored key, which closes the challenge;
+/// a SCRAM client reports Ok exactly on the signature of its open answered challenge; and if that
+/// verifier is one this server issued, both agree on user name and client nonce, or their own
+/// differing AuthMessages share one HMAC value.
+pub fn headline()
+    ensures server_only { OkOnlyWhereAccepted }
+    ensures server_always { OkWhereverAccepted }
+    ensures client_only { ReportedOnlyWhereSigned }
+    ensures client_always { ReportedWhereverSigned }
+    ensures agreement { IssuedVerifiersAgree }
+{}
+
+/// Where memory is not wanting, a history is a function of its events, on either side.
+pub fn one_history_each()
+    ensures server { OneServerHistory }
+    ensures client { OneClientHistory }
+{}
+
+/// A run of the SCRAM acceptor's machine over any list of bodies is a server history, and a run of a
+/// SCRAM profile's machine a client history.
+pub fn runs_are_histories()
+    ensures acceptor { AcceptorRunsAreHistories }
+    ensures profile { ProfileRunsAreHistories }
+{}
+
+/// What users of a server rely on, whatever it is given: it never accepts more often than it
+/// challenges, an accepted response that comes again before a new challenge is refused, one response
+/// text under two challenges means one full nonce, and a refusal leaves open what was open.
+pub fn servers()
+    ensures oks { OksWithinChallenges }
+    ensures repeated { RepeatedResponsesAreRefused }
+    ensures one_nonce { OneResponseOneNonce }
+    ensures refusals { RefusalsLeaveOpen }
+{}
+
+/// Two Oks of a server never have one open challenge, two reported Oks of a client never one answer,
+/// and two answers never one start.
+pub fn positions_are_used_once()
+    ensures { PositionsAreUsedOnce }
+{}
+
+/// Where a client and a server meet and their AuthMessages are equal, they mean one login, and the
+/// init had not three parts and not four.
+pub fn equal_messages()
+    ensures agree { EqualMessagesAgree }
+    ensures no_short_extensions { NoShortExtensions }
+{}
+
+/// Each verifier that a client took and a server issued, and each proof that it showed and a server
+/// accepted, has one verdict: the sides agree, or their own texts or keys collide, or, for a proof, the
+/// client's key was another.
+pub fn verdicts()
+    ensures taken { TakenVerifiersAreJudged }
+    ensures shown { ShownProofsAreJudged }
+    ensures one { OneVerdictEach }
+{}
+
+/// Among agreed findings of one kind, an Ok of a server is matched with two positions of a client only
+/// where the client's nonce was repeated, and a position of a client with two Oks of a server, both
+/// to an init of two parts, only where the server's was.
+pub fn repeated_nonces()
+    ensures client { RepeatedClientPositions }
+    ensures server { RepeatedServerPositions }
+{}
+
+/// A client logs in where no body is altered on the way, the server holds the record of its password,
+/// that password is printable ASCII, the count is from 1 to the client's limit, and memory suffices.
+pub fn unaltered_runs()
+    ensures { UnalteredRunsLogIn }
+{}
+
+/// What the definitions say of worked examples: the acceptor of PLAIN; a server (if its wrong proof
+/// does not happen to meet the stored key) and a client over lists of events; and a text that is shifted between two messages, on which both sides agree
+/// although they mean two nonces, so that no more than user name and client nonce can be had there.
+pub fn worked_examples()
+    ensures guests_enter { GuestsEnter }
+    ensures wrong_passwords_fail { WrongPasswordsFail }
+    ensures names_alone_fail { NamesAloneFail }
+    ensures empty_inits_fail { EmptyInitsFail }
+    ensures responses_to_plain_fail { ResponsesToPlainFail }
+    ensures shifted_texts_pass { ShiftedTextsPass }
+    ensures refusals_have_one_body { RefusalsHaveOneBody }
+    ensures servers_answer { ServersAnswer }
+    ensures clients_answer { ClientsAnswer }
+    ensures shifted_histories_pass { ShiftedHistoriesPass }
 {}

@@ -1,0 +1,5 @@
+use Rattle.fe2o3_sasl.proofs.UnalteredRunLemmas.{unaltered_runs}
+use Rattle.fe2o3_sasl.proofs.laws.unaltered_runs.Goals as goal
+
+pub returns : goal.returns
+returns c = unaltered_runs

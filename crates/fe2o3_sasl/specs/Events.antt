@@ -1,0 +1,64 @@
+-- What the two sides are given and what they answer, as plain data (AMQP 1.0, part 5, section 5.3), and what the code always holds of it.
+use Rattle.std.specs.Prelude.{◌≡◌, ℕ, ◌<◌, ◌^◌, List, length, slice_get, Option, Some}
+use Rattle.std.specs.Str.{IsUtf8}
+use Rattle.fe2o3_sasl_wire.specs.Bytes.{IsBytes}
+use Rattle.fe2o3_sasl_wire.specs.declared.amqp_types.SaslCode.{SaslCode}
+use Rattle.fe2o3_sasl_wire.specs.declared.sasl_frames.error.Error.{Error}
+use Rattle.fe2o3_sasl.specs.declared.hmac.ScramVersion.{ScramVersion}
+use Rattle.fe2o3_sasl.specs.declared.scram_messages.error.ScramErrorKind.{ScramErrorKind}
+use Rattle.fe2o3_sasl.specs.Credentials.{Record}
+
+-- an event: the body of a frame as it came, and the 32 bytes that the answer takes where it takes a nonce
+pub record Given : Type 0 where
+  pub body : List ℕ
+  pub nonce : List ℕ
+
+-- what a client logs in with: version, user name and password, and the highest iteration count that it accepts
+pub record Login : Type 0 where
+  pub version : ScramVersion
+  pub user : List ℕ
+  pub password : List ℕ
+  pub limit : ℕ
+
+-- a reply of a server: the body of a challenge, the code and the body of an outcome, or a fault
+pub data ServerSays : Type 0 where
+  Challenged : (body : List ℕ) → ServerSays
+  Concluded : (code : SaslCode) → (body : List ℕ) → ServerSays
+  Failed : (fault : Error) → ServerSays
+
+-- a fault of a client: a frame that it does not expect, a refusal of SCRAM, a body that is not read or not written, no memory
+pub data ClientFault : Type 0 where
+  Unexpected : ClientFault
+  Scram : (kind : ScramErrorKind) → ClientFault
+  Frame : (fault : Error) → ClientFault
+  NoMemory : ClientFault
+
+-- a reply of a client: the body of an init, the body of a response, an outcome that it reports, or a fault
+pub data ClientSays : Type 0 where
+  Started : (body : List ℕ) → ClientSays
+  Answered : (body : List ℕ) → ClientSays
+  Reported : (code : SaslCode) → (more : Option (List ℕ)) → ClientSays
+  Refused : (fault : ClientFault) → ClientSays
+
+-- what the code holds of an event: bytes, and a nonce of 32
+pub record IsGiven (event : Given) : Type 0 where
+  pub body : IsBytes event.body
+  pub nonce : IsBytes event.nonce
+  pub length : length event.nonce ≡ 32
+
+-- each event is one that the code holds
+abbrev pub AreGiven : List Given → Type 0
+AreGiven events = (k : ℕ) (event : Given) → slice_get events k ≡ Some event → IsGiven event
+
+-- what the code holds of a login: texts in UTF-8, and a limit of 32 bits
+pub record IsLogin (login : Login) : Type 0 where
+  pub user : IsUtf8 login.user
+  pub password : IsUtf8 login.password
+  pub limit : login.limit < 2 ^ 32
+
+-- what the code holds of a record: bytes, and a count of 32 bits
+pub record IsRecord (stored : Record) : Type 0 where
+  pub salt : IsBytes stored.salt
+  pub count : stored.count < 2 ^ 32
+  pub stored_key : IsBytes stored.stored_key
+  pub server_key : IsBytes stored.server_key

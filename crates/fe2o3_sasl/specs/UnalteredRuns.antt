@@ -1,0 +1,71 @@
+-- A login whose frame bodies arrive as they were sent (RFC 5802, section 5; AMQP 1.0, part 5, section 5.3.2).
+use Rattle.std.specs.Prelude.{◌≡◌, ◌≤◌, ℕ, Option, Some, None, List, [], ◌∷◌, ◌++◌, slice_get}
+use Rattle.fe2o3_sasl_wire.specs.declared.amqp_types.SaslCode.TheVariants as outcomes
+use Rattle.fe2o3_sasl_wire.specs.Bytes.{IsBytes}
+use Rattle.fe2o3_sasl_wire.specs.Canonical.{canonical}
+use Rattle.fe2o3_sasl_wire.specs.SaslFrames as frames
+use Rattle.fe2o3_sasl.specs.Base64Texts.{base64_text}
+use Rattle.fe2o3_sasl.specs.ClientHistory.{Answering}
+use Rattle.fe2o3_sasl.specs.Credentials.{record_at, record_of}
+use Rattle.fe2o3_sasl.specs.Events.{Given, ServerSays, Challenged, Concluded, ClientSays, Started, Answered, Reported}
+use Rattle.fe2o3_sasl.specs.Hmac.{mechanism_name}
+use Rattle.fe2o3_sasl.specs.SaslprepAscii.{IsPrintable}
+use Rattle.fe2o3_sasl.specs.ServerHistory.{Accepted}
+use Rattle.fe2o3_sasl.specs.TwoSides.{Sides, Takes, Shows}
+use Rattle.fe2o3_sasl.specs.Verdicts.{Verdict, Agreed, OfVerifier, OfProof, Lists, IsVerifierFinding, IsProofFinding}
+
+-- the body that a reply sends
+abbrev pub client_body : Option ClientSays → Option (List ℕ)
+client_body (Some (Started body)) = Some body
+client_body (Some (Answered body)) = Some body
+client_body says = None
+
+-- likewise of a server
+abbrev pub server_body : Option ServerSays → Option (List ℕ)
+server_body (Some (Challenged body)) = Some body
+server_body (Some (Concluded code body)) = Some body
+server_body says = None
+
+-- three events of the client and two of the server: the list of the one mechanism, and from then on what the other side sent
+pub record UnalteredRun (sides : Sides) : Type 0 where
+  pub offer : Given
+  pub challenge : Given
+  pub outcome : Given
+  pub init : Given
+  pub response : Given
+  pub client_events : sides.client_events ≡ offer ∷ challenge ∷ outcome ∷ []
+  pub server_events : sides.server_events ≡ init ∷ response ∷ []
+  pub offered : canonical (frames.Mechanisms (mechanism_name sides.login.version ∷ [])) ≡ Some offer.body
+  pub started : client_body (slice_get sides.client_replies 0) ≡ Some init.body
+  pub challenged : server_body (slice_get sides.server_replies 0) ≡ Some challenge.body
+  pub answered : client_body (slice_get sides.client_replies 1) ≡ Some response.body
+  pub concluded : server_body (slice_get sides.server_replies 1) ≡ Some outcome.body
+
+-- the provider holds the record of the login's own password, with this salt and this count, and the client can use them
+pub record HoldsLogin (sides : Sides) (salt : List ℕ) (count : ℕ) : Type 0 where
+  pub version : sides.provider.version ≡ sides.login.version
+  pub stored : record_at sides.provider.records sides.login.user ≡ Some (record_of sides.login.version sides.login.password salt count)
+  pub bytes : IsBytes salt
+  pub printable : IsPrintable sides.login.password
+  pub some : 1 ≤ count
+  pub within : count ≤ sides.login.limit
+
+-- the values on which both sides agree
+abbrev pub agreed : {sides : Sides} → UnalteredRun sides → List ℕ → ℕ → Verdict
+agreed {sides} run salt count =
+    let client_nonce = base64_text run.offer.nonce in
+    Agreed sides.login.user client_nonce (Some (record { full_nonce = client_nonce ++ base64_text run.init.nonce; salt = salt; iterations = count }))
+
+-- the client starts, answers and reports Ok, the server challenges and concludes with Ok; the client's Ok and its answer are found with the server's Ok, and nothing else is; in both findings the sides agree
+pub record LogsIn (sides : Sides) (verdict : Verdict) : Type 0 where
+  pub init : List ℕ
+  pub response : List ℕ
+  pub text : List ℕ
+  pub client : sides.client_replies ≡ Started init ∷ Answered response ∷ Reported outcomes.Ok (Some text) ∷ []
+  pub challenge : List ℕ
+  pub outcome : List ℕ
+  pub server : sides.server_replies ≡ Challenged challenge ∷ Concluded outcomes.Ok outcome ∷ []
+  pub takes : Lists (λ m n. (accepted : Accepted) × Takes sides m n accepted) ((2, 1) ∷ [])
+  pub shows : Lists (λ k n. (answer : Answering) × (accepted : Accepted) × Shows sides k n answer accepted) ((1, 1) ∷ [])
+  pub verifier : IsVerifierFinding sides (record { kind = OfVerifier; client = 2; server = 1; verdict = verdict })
+  pub proof : IsProofFinding sides (record { kind = OfProof; client = 1; server = 1; verdict = verdict })
