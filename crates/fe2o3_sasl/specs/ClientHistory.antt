@@ -97,7 +97,7 @@ ends_answer (Started body) = true
 ends_answer (Reported outcomes.Ok more) = true
 ends_answer says = false
 
--- no reply
+-- a test that no reply passes
 abbrev pub is_none : ClientSays → Bool
 is_none says = false
 

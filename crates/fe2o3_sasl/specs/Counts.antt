@@ -1,4 +1,4 @@
--- Iteration counts as the client reads them.
+-- Iteration counts (RFC 5802, section 5.1, attribute `i`) as the client reads them.
 use Rattle.std.specs.Prelude.{ℕ, List, ◌∷◌, ◌≡◌, ◌⊎◌, ◌<◌, ◌≤◌, ◌^◌}
 use Rattle.std.specs.Str.Parse.{IsNumeral, digits_value}
 

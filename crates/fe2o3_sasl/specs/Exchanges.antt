@@ -1,4 +1,4 @@
--- An exchange of the four messages in which each arrives as it was sent.
+-- An exchange of the four messages (RFC 5802, section 5) in which each arrives as it was sent.
 use Rattle.std.specs.Prelude.{ℕ, List, ◌++◌, ◌≤◌, ◌<◌, ◌^◌, Ok}
 use Rattle.std.specs.Str.{IsUtf8}
 use Rattle.base64.specs.GeneralPurpose.{IsBytes}

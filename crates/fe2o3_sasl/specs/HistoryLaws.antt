@@ -132,7 +132,7 @@ RepeatedServerPositions = (sides : Sides) (k n o : ℕ) (accepted other : Accept
     → ((m l : ℕ) → TakesAgreed sides m k n accepted → TakesAgreed sides m l o other → FromTwoChallenges sides n o)
     × (ShowsAgreed sides k n accepted → ShowsAgreed sides k o other → FromTwoChallenges sides n o)
 
--- an unaltered run with the right password logs in, whatever the nonces
+-- an unaltered run against the record of the login's own password, which the client can use, logs in, whatever the nonces, where memory was not wanting
 abbrev pub UnalteredRunsLogIn : Type 0
 UnalteredRunsLogIn = (sides : Sides) (salt : List ℕ) (count : ℕ) (run : UnalteredRun sides) → Histories sides → IsLogin sides.login → HoldsLogin sides salt count
     → ClientComplete sides.client_replies → LogsIn sides (agreed run salt count)

@@ -127,8 +127,9 @@ pub fn unaltered_runs()
 {}
 
 /// What the definitions say of worked examples: the acceptor of PLAIN; a server (if its wrong proof
-/// does not happen to meet the stored key) and a client over lists of events; and a text that is shifted between two messages, on which both sides agree
-/// although they mean two nonces, so that no more than user name and client nonce can be had there.
+/// does not happen to meet the stored key) and a client over lists of events; and a text that is
+/// shifted between two messages, on which both sides agree although they mean two nonces, so that no
+/// more than user name and client nonce can be had there.
 pub fn worked_examples()
     ensures guests_enter { GuestsEnter }
     ensures wrong_passwords_fail { WrongPasswordsFail }
