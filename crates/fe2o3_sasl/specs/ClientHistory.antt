@@ -8,16 +8,16 @@ use Rattle.fe2o3_sasl_wire.specs.declared.sasl_frames.error.Error.TheVariants as
 use Rattle.fe2o3_sasl_wire.specs.Canonical.{canonical}
 use Rattle.fe2o3_sasl_wire.specs.SaslFrames as frames
 use Rattle.fe2o3_sasl_wire.specs.SaslFrames.{SaslFrame}
-use Rattle.fe2o3_sasl.specs.declared.scram_messages.error.ScramErrorKind.{ScramErrorKind}
-use Rattle.fe2o3_sasl.specs.declared.scram_messages.error.ScramErrorKind.TheVariants.{Utf8Error, IllegalClientState, ServerSignatureMismatch}
-use Rattle.fe2o3_sasl.specs.Base64Texts.{base64_text}
-use Rattle.fe2o3_sasl.specs.ClientFinal.{answer_of}
-use Rattle.fe2o3_sasl.specs.ClientFirst.{client_first, client_first_bare}
+use Rattle.fe2o3_scram.specs.declared.scram_messages.error.ScramErrorKind.{ScramErrorKind}
+use Rattle.fe2o3_scram.specs.declared.scram_messages.error.ScramErrorKind.TheVariants.{Utf8Error, IllegalClientState, ServerSignatureMismatch}
+use Rattle.fe2o3_scram.specs.Texts.{base64_text}
+use Rattle.fe2o3_scram.specs.ClientFinal.{answer_of}
+use Rattle.fe2o3_scram.specs.ClientFirst.{client_first, client_first_bare}
 use Rattle.fe2o3_sasl.specs.Events.{Given, Login, ClientSays, Started, Answered, Reported, Refused, Unexpected, Scram, Frame, NoMemory}
-use Rattle.fe2o3_sasl.specs.Hmac.{mechanism_name}
+use Rattle.fe2o3_scram.specs.Hmac.{mechanism_name}
 use Rattle.fe2o3_sasl.specs.Positions.{IsLastOpen, OpenBy}
-use Rattle.fe2o3_sasl.specs.ServerFinal.{ReadsServerFinal}
-use Rattle.fe2o3_sasl.specs.ServerFirst.{Client, ServerFirst, ReadsServerFirst}
+use Rattle.fe2o3_scram.specs.ServerFinal.{ReadsServerFinal}
+use Rattle.fe2o3_scram.specs.ServerFirst.{Client, ServerFirst, ReadsServerFirst}
 use Rattle.fe2o3_sasl.specs.ServerHistory.{carried, SpellsBody}
 
 -- an answer: the client's nonce, the server-first message, and what that names

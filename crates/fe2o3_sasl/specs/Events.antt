@@ -4,9 +4,9 @@ use Rattle.std.specs.Str.{IsUtf8}
 use Rattle.fe2o3_sasl_wire.specs.Bytes.{IsBytes}
 use Rattle.fe2o3_sasl_wire.specs.declared.amqp_types.SaslCode.{SaslCode}
 use Rattle.fe2o3_sasl_wire.specs.declared.sasl_frames.error.Error.{Error}
-use Rattle.fe2o3_sasl.specs.declared.hmac.ScramVersion.{ScramVersion}
-use Rattle.fe2o3_sasl.specs.declared.scram_messages.error.ScramErrorKind.{ScramErrorKind}
-use Rattle.fe2o3_sasl.specs.Credentials.{Record}
+use Rattle.fe2o3_scram.specs.declared.hmac.ScramVersion.{ScramVersion}
+use Rattle.fe2o3_scram.specs.declared.scram_messages.error.ScramErrorKind.{ScramErrorKind}
+use Rattle.fe2o3_scram.specs.Credentials.{Record}
 
 -- an event: the body of a frame as it came, and the 32 bytes that the answer takes where it takes a nonce
 pub record Given : Type 0 where

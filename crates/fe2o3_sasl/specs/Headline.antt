@@ -5,10 +5,10 @@ use Rattle.fe2o3_sasl_wire.specs.declared.sasl_frames.error.Error.TheVariants as
 use Rattle.fe2o3_sasl_wire.specs.Canonical.{canonical}
 use Rattle.fe2o3_sasl_wire.specs.SaslFrames as frames
 use Rattle.fe2o3_sasl.specs.ClientHistory.{Answering, answer_at, OpenAnswer, ClientHistory}
-use Rattle.fe2o3_sasl.specs.Credentials.{Provider}
+use Rattle.fe2o3_scram.specs.Credentials.{Provider}
 use Rattle.fe2o3_sasl.specs.Events.{Given, Login, IsRecord, ServerSays, Concluded, Failed, ClientSays, Reported, Refused, NoMemory}
 use Rattle.fe2o3_sasl.specs.Positions.{IsLastOpen}
-use Rattle.fe2o3_sasl.specs.ServerFinal.{ReadsServerFinal}
+use Rattle.fe2o3_scram.specs.ServerFinal.{ReadsServerFinal}
 use Rattle.fe2o3_sasl.specs.ServerHistory.{Accepted, AcceptsAt, ServerHistory, SpellsBody, is_challenge, is_ok, final_message}
 use Rattle.fe2o3_sasl.specs.TwoSides.{Sides, Histories, Takes, Agree, SameMac, client_message, server_message, server_key_at}
 

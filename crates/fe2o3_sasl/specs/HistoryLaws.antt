@@ -5,12 +5,12 @@ use Rattle.fe2o3_sasl_wire.specs.declared.amqp_types.SaslCode.TheVariants as out
 use Rattle.fe2o3_sasl_wire.specs.declared.sasl_frames.error.Error.TheVariants as faults
 use Rattle.fe2o3_sasl_wire.specs.SaslFrames as frames
 use Rattle.fe2o3_sasl.specs.ClientHistory.{Answering, AnswersAt, OpenAnswer, ClientHistory, ClientComplete, Start, is_start, is_answer, ends_answer}
-use Rattle.fe2o3_sasl.specs.Credentials.{Provider}
+use Rattle.fe2o3_scram.specs.Credentials.{Provider}
 use Rattle.fe2o3_sasl.specs.Events.{Given, AreGiven, Login, IsLogin, IsRecord, ServerSays, Concluded, Failed, ClientSays}
-use Rattle.fe2o3_sasl.specs.Machines.{Runs, AcceptorSteps, acceptor_machine, ScramAcceptor, ProfileSteps, scram_profile, Profile}
+use Rattle.fe2o3_sasl.specs.Machines.{Runs, AcceptorSteps, acceptor_machine, Acceptor, ScramAcceptor, ProfileSteps, scram_profile, Profile}
 use Rattle.fe2o3_sasl.specs.Positions.{test_at, IsLastOpen}
 use Rattle.fe2o3_sasl.specs.ServerHistory.{Challenging, Accepted, AcceptsAt, Open, ServerHistory, ServerComplete, SpellsBody, is_challenge, is_ok, full_nonce, says_auth}
-use Rattle.fe2o3_sasl.specs.ServerStates as server_states
+use Rattle.fe2o3_scram.specs.ScramServer as server_states
 use Rattle.fe2o3_sasl.specs.TwoSides.{Sides, Histories, Takes, Shows, Agree, HasParts, IsPlainInit, client_message, server_message}
 use Rattle.fe2o3_sasl.specs.UnalteredRuns.{UnalteredRun, HoldsLogin, LogsIn, agreed}
 use Rattle.fe2o3_sasl.specs.Verdicts.{Verdict, JudgesVerifier, JudgesProof}
@@ -27,8 +27,8 @@ OneClientHistory = (login : Login) (events : List Given) (replies others : List 
 
 -- each run of the SCRAM acceptor's machine from its first state is a server history
 abbrev pub AcceptorRunsAreHistories : Type 0
-AcceptorRunsAreHistories = (provider : Provider) (events : List Given) (replies : List ServerSays) (last : server_states.ServerState)
-    → Runs (AcceptorSteps (acceptor_machine (ScramAcceptor provider))) server_states.Initial events replies last → ServerHistory provider events replies
+AcceptorRunsAreHistories = (provider : Provider) (events : List Given) (replies : List ServerSays) (last : Acceptor)
+    → Runs (AcceptorSteps acceptor_machine) (ScramAcceptor provider server_states.Initial) events replies last → ServerHistory provider events replies
 
 -- each run of a SCRAM profile's machine from its first state is a client history
 abbrev pub ProfileRunsAreHistories : Type 0

@@ -9,24 +9,30 @@ use Rattle.fe2o3_sasl_wire.specs.declared.sasl_frames.error.Error.TheVariants as
 use Rattle.fe2o3_sasl_wire.specs.Canonical.{canonical}
 use Rattle.fe2o3_sasl_wire.specs.SaslFrames as frames
 use Rattle.fe2o3_sasl_wire.specs.SaslFrames.{SaslFrame}
-use Rattle.fe2o3_sasl.specs.declared.scram_messages.error.ScramErrorKind.{ScramErrorKind}
-use Rattle.fe2o3_sasl.specs.declared.scram_messages.error.ScramErrorKind.TheVariants.{Utf8Error, ServerSignatureMismatch}
-use Rattle.fe2o3_sasl.specs.declared.scram_messages.error.ServerScramErrorKind.{ServerScramErrorKind}
-use Rattle.fe2o3_sasl.specs.Base64Texts.{base64_text}
-use Rattle.fe2o3_sasl.specs.ClientFirst.{client_first}
-use Rattle.fe2o3_sasl.specs.ClientStates as client_states
-use Rattle.fe2o3_sasl.specs.ClientStates.{ClientSide, started, AnswersIn, BelievesIn}
-use Rattle.fe2o3_sasl.specs.Credentials.{Provider}
+use Rattle.fe2o3_scram.specs.declared.scram_messages.error.ScramErrorKind.{ScramErrorKind}
+use Rattle.fe2o3_scram.specs.declared.scram_messages.error.ScramErrorKind.TheVariants.{Utf8Error, ServerSignatureMismatch}
+use Rattle.fe2o3_scram.specs.declared.scram_messages.error.ServerScramErrorKind.{ServerScramErrorKind}
+use Rattle.fe2o3_scram.specs.Texts.{base64_text}
+use Rattle.fe2o3_scram.specs.ClientFirst.{client_first}
+use Rattle.fe2o3_scram.specs.ScramClient as client_states
+use Rattle.fe2o3_scram.specs.ScramClient.{ClientSide, started, AnswersIn, BelievesIn}
+use Rattle.fe2o3_scram.specs.Credentials.{Provider}
 use Rattle.fe2o3_sasl.specs.Events.{Given, Login, ServerSays, Challenged, Concluded, Failed, ClientSays, Started, Answered, Reported, Refused, ClientFault, Unexpected, Scram, Frame, NoMemory}
-use Rattle.fe2o3_sasl.specs.Hmac.{mechanism_name}
+use Rattle.fe2o3_scram.specs.Hmac.{mechanism_name}
 use Rattle.fe2o3_sasl.specs.ServerHistory.{SpellsBody}
-use Rattle.fe2o3_sasl.specs.ServerStates.{ServerState, ChallengesFrom, ConcludesFrom}
+use Rattle.fe2o3_scram.specs.ScramServer.{ServerState, ChallengesFrom, ConcludesFrom}
 
--- the acceptors: SCRAM over a provider, PLAIN for one user, and ANONYMOUS
+-- the acceptors, each with all that its answers depend on: SCRAM over a provider, in a state; PLAIN for one user, and ANONYMOUS, which keep none
 pub data Acceptor : Type 0 where
-  ScramAcceptor : (provider : Provider) → Acceptor
+  ScramAcceptor : (provider : Provider) → (state : ServerState) → Acceptor
   PlainAcceptor : (user password : List ℕ) → Acceptor
   AnonymousAcceptor : Acceptor
+
+-- the names of its mechanisms
+abbrev pub acceptor_names : Acceptor → List (List ℕ)
+acceptor_names (ScramAcceptor provider state) = mechanism_name provider.version ∷ []
+acceptor_names (PlainAcceptor user password) = codes "PLAIN" ∷ []
+acceptor_names AnonymousAcceptor = codes "ANONYMOUS" ∷ []
 
 -- cut at its zero bytes, the text has this part at place k, counted from 0
 abbrev pub ZeroPart : List ℕ → ℕ → List ℕ → Type 0
@@ -45,22 +51,23 @@ abbrev pub server_frame : (List ℕ → SaslFrame) → Result (Option (List ℕ)
 server_frame frame (Ok (Some message)) = frame message
 server_frame frame answer = ends_with outcomes.Auth
 
--- the machine of an acceptor: from its state, a nonce and an init or a response to a reply and the next state
-abbrev pub acceptor_machine : Acceptor → ServerState → List ℕ → SaslFrame → SaslFrame → ServerState → Type 0
-acceptor_machine (ScramAcceptor provider) state nonce (frames.Init mechanism (Some text) hostname) reply next =
-    ((mechanism ≢ mechanism_name provider.version) × (reply ≡ ends_with outcomes.Auth) × (next ≡ state))
+-- the machine of an acceptor: from a nonce and an init or a response to a reply and the acceptor after it
+abbrev pub acceptor_machine : Acceptor → List ℕ → SaslFrame → SaslFrame → Acceptor → Type 0
+acceptor_machine (ScramAcceptor provider state) nonce (frames.Init mechanism (Some text) hostname) reply next =
+    ((mechanism ≢ mechanism_name provider.version) × (reply ≡ ends_with outcomes.Auth) × (next ≡ ScramAcceptor provider state))
     ⊎ ((mechanism ≡ mechanism_name provider.version)
-    × ((answer : Result (Option (List ℕ)) ServerScramErrorKind) × ChallengesFrom state provider nonce text answer next × (reply ≡ server_frame (λ message. frames.Challenge message) answer)))
-acceptor_machine (ScramAcceptor provider) state nonce (frames.Response text) reply next =
-    (answer : Result (Option (List ℕ)) ServerScramErrorKind) × ConcludesFrom state provider text answer next
-    × (reply ≡ server_frame (λ message. frames.Outcome outcomes.Ok (Some message)) answer)
-acceptor_machine (PlainAcceptor user password) state nonce (frames.Init mechanism (Some text) hostname) reply next =
-    ((NamesPlain user password text × (reply ≡ ends_with outcomes.Ok)) ⊎ (¬ NamesPlain user password text × (reply ≡ ends_with outcomes.Auth))) × (next ≡ state)
-acceptor_machine (PlainAcceptor user password) state nonce (frames.Response text) reply next = (reply ≡ ends_with outcomes.Sys) × (next ≡ state)
-acceptor_machine AnonymousAcceptor state nonce (frames.Init mechanism response hostname) reply next = (reply ≡ ends_with outcomes.Ok) × (next ≡ state)
-acceptor_machine AnonymousAcceptor state nonce (frames.Response text) reply next = (reply ≡ ends_with outcomes.Ok) × (next ≡ state)
-acceptor_machine acceptor state nonce (frames.Init mechanism None hostname) reply next = (reply ≡ ends_with outcomes.Auth) × (next ≡ state)
-acceptor_machine acceptor state nonce frame reply next = ⊥
+    × ((answer : Result (Option (List ℕ)) ServerScramErrorKind) × (after : ServerState) × ChallengesFrom state provider nonce text answer after
+    × (reply ≡ server_frame (λ message. frames.Challenge message) answer) × (next ≡ ScramAcceptor provider after)))
+acceptor_machine (ScramAcceptor provider state) nonce (frames.Response text) reply next =
+    (answer : Result (Option (List ℕ)) ServerScramErrorKind) × (after : ServerState) × ConcludesFrom state provider text answer after
+    × (reply ≡ server_frame (λ message. frames.Outcome outcomes.Ok (Some message)) answer) × (next ≡ ScramAcceptor provider after)
+acceptor_machine (PlainAcceptor user password) nonce (frames.Init mechanism (Some text) hostname) reply next =
+    ((NamesPlain user password text × (reply ≡ ends_with outcomes.Ok)) ⊎ (¬ NamesPlain user password text × (reply ≡ ends_with outcomes.Auth))) × (next ≡ PlainAcceptor user password)
+acceptor_machine (PlainAcceptor user password) nonce (frames.Response text) reply next = (reply ≡ ends_with outcomes.Sys) × (next ≡ PlainAcceptor user password)
+acceptor_machine AnonymousAcceptor nonce (frames.Init mechanism response hostname) reply next = (reply ≡ ends_with outcomes.Ok) × (next ≡ AnonymousAcceptor)
+acceptor_machine AnonymousAcceptor nonce (frames.Response text) reply next = (reply ≡ ends_with outcomes.Ok) × (next ≡ AnonymousAcceptor)
+acceptor_machine acceptor nonce (frames.Init mechanism None hostname) reply next = (reply ≡ ends_with outcomes.Auth) × (next ≡ acceptor)
+acceptor_machine acceptor nonce frame reply next = ⊥
 
 -- the profiles: SCRAM of the three versions, PLAIN, ANONYMOUS and EXTERNAL
 pub data Profile : Type 0 where

@@ -7,14 +7,15 @@ use Rattle.fe2o3_sasl_wire.specs.Bodies.{ReadsBody}
 use Rattle.fe2o3_sasl_wire.specs.Canonical.{canonical}
 use Rattle.fe2o3_sasl_wire.specs.SaslFrames as frames
 use Rattle.fe2o3_sasl_wire.specs.SaslFrames.{SaslFrame}
-use Rattle.fe2o3_sasl.specs.Base64Texts.{base64_text}
-use Rattle.fe2o3_sasl.specs.Challenges.{server_first_of}
-use Rattle.fe2o3_sasl.specs.ClientFirst.{ClientFirst, ReadsClientFirst}
-use Rattle.fe2o3_sasl.specs.Credentials.{Record, Provider, record_at}
+use Rattle.fe2o3_scram.specs.Texts.{base64_text}
+use Rattle.fe2o3_scram.specs.ServerFirst.{server_first_of}
+use Rattle.fe2o3_scram.specs.ClientFirst.{ClientFirst, ReadsClientFirst}
+use Rattle.fe2o3_scram.specs.Credentials.{Record, Provider, record_at}
 use Rattle.fe2o3_sasl.specs.Events.{Given, ServerSays, Challenged, Concluded, Failed}
-use Rattle.fe2o3_sasl.specs.Hmac.{mechanism_name}
+use Rattle.fe2o3_scram.specs.Hmac.{mechanism_name}
 use Rattle.fe2o3_sasl.specs.Positions.{OpenBy}
-use Rattle.fe2o3_sasl.specs.Responses.{Server, server_of, ClientFinal, ReadsClientFinal, server_final_of}
+use Rattle.fe2o3_scram.specs.ClientFinal.{Server, server_of, ClientFinal, ReadsClientFinal}
+use Rattle.fe2o3_scram.specs.ServerFinal.{server_final_of}
 
 -- a challenge: the client-first message that it answers, the nonce that the server adds, and the user's record
 pub record Challenging : Type 0 where

@@ -1,18 +1,17 @@
 -- What a client and a server have in common, read off their two lists (RFC 5802, section 3, for keys, proofs and signatures).
 use Rattle.std.specs.Prelude.{◌≡◌, ◌≢◌, ℕ, Some, List, length, slice_get}
 use Rattle.fe2o3_sasl_wire.specs.declared.amqp_types.SaslCode.TheVariants as outcomes
-use Rattle.fe2o3_sasl.specs.declared.hmac.ScramVersion.{ScramVersion}
-use Rattle.fe2o3_sasl.specs.ClientFinal.{without_proof}
-use Rattle.fe2o3_sasl.specs.ClientFirst.{client_first_bare}
+use Rattle.fe2o3_scram.specs.declared.hmac.ScramVersion.{ScramVersion}
+use Rattle.fe2o3_scram.specs.ClientFinal.{without_proof, recovered_key}
+use Rattle.fe2o3_scram.specs.ClientFirst.{client_first_bare}
 use Rattle.fe2o3_sasl.specs.ClientHistory.{Answering, AnswersAt, ClientHistory}
-use Rattle.fe2o3_sasl.specs.Credentials.{Provider}
+use Rattle.fe2o3_scram.specs.Credentials.{Provider}
 use Rattle.fe2o3_sasl.specs.Events.{Given, Login, ServerSays, Concluded, ClientSays, Answered, Reported}
-use Rattle.fe2o3_sasl.specs.Hmac.{digest, hmac_of}
-use Rattle.fe2o3_sasl.specs.Keys.{auth_message, client_key, client_proof, server_key}
-use Rattle.fe2o3_sasl.specs.Pbkdf2Hi.{salted_of}
-use Rattle.fe2o3_sasl.specs.Responses.{recovered_key}
+use Rattle.fe2o3_scram.specs.Hmac.{digest, hmac_of}
+use Rattle.fe2o3_scram.specs.Keys.{auth_message, client_key, client_proof, server_key}
+use Rattle.fe2o3_scram.specs.Pbkdf2Hi.{salted_of}
 use Rattle.fe2o3_sasl.specs.ServerHistory.{Accepted, AcceptsAt, ServerHistory, server_at, first_message, full_nonce, final_message}
-use Rattle.fe2o3_sasl.specs.Texts.{Part, Parts}
+use Rattle.fe2o3_scram.specs.Texts.{Part, Parts}
 
 -- AuthMessage, of the messages as the client has them
 abbrev pub client_message : Login → Answering → List ℕ

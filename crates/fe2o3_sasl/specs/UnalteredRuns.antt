@@ -1,16 +1,17 @@
 -- A login whose frame bodies arrive as they were sent (RFC 5802, section 5; AMQP 1.0, part 5, section 5.3.2).
-use Rattle.std.specs.Prelude.{◌≡◌, ◌≤◌, ℕ, Option, Some, None, List, [], ◌∷◌, ◌++◌, slice_get}
+use Rattle.std.specs.Prelude.{◌≡◌, ◌≢◌, ◌≤◌, ℕ, Option, Some, None, List, [], ◌∷◌, ◌++◌, slice_get}
 use Rattle.fe2o3_sasl_wire.specs.declared.amqp_types.SaslCode.TheVariants as outcomes
+use Rattle.fe2o3_sasl_wire.specs.declared.sasl_frames.error.Error.TheVariants as faults
 use Rattle.fe2o3_sasl_wire.specs.Bytes.{IsBytes}
 use Rattle.fe2o3_sasl_wire.specs.Canonical.{canonical}
 use Rattle.fe2o3_sasl_wire.specs.SaslFrames as frames
-use Rattle.fe2o3_sasl.specs.Base64Texts.{base64_text}
-use Rattle.fe2o3_sasl.specs.ClientHistory.{Answering}
-use Rattle.fe2o3_sasl.specs.Credentials.{record_at, record_of}
-use Rattle.fe2o3_sasl.specs.Events.{Given, ServerSays, Challenged, Concluded, ClientSays, Started, Answered, Reported}
-use Rattle.fe2o3_sasl.specs.Hmac.{mechanism_name}
-use Rattle.fe2o3_sasl.specs.SaslprepAscii.{IsPrintable}
-use Rattle.fe2o3_sasl.specs.ServerHistory.{Accepted}
+use Rattle.fe2o3_scram.specs.Texts.{base64_text}
+use Rattle.fe2o3_sasl.specs.ClientHistory.{Answering, ClientComplete}
+use Rattle.fe2o3_scram.specs.Credentials.{record_at, record_of}
+use Rattle.fe2o3_sasl.specs.Events.{Given, ServerSays, Challenged, Concluded, Failed, ClientSays, Started, Answered, Reported, Refused, Frame}
+use Rattle.fe2o3_scram.specs.Hmac.{mechanism_name}
+use Rattle.fe2o3_scram.specs.SaslprepAscii.{IsPrintable}
+use Rattle.fe2o3_sasl.specs.ServerHistory.{Accepted, ServerComplete}
 use Rattle.fe2o3_sasl.specs.TwoSides.{Sides, Takes, Shows}
 use Rattle.fe2o3_sasl.specs.Verdicts.{Verdict, Agreed, OfVerifier, OfProof, Lists, IsVerifierFinding, IsProofFinding}
 
@@ -40,6 +41,33 @@ pub record UnalteredRun (sides : Sides) : Type 0 where
   pub challenged : server_body (slice_get sides.server_replies 0) ≡ Some challenge.body
   pub answered : client_body (slice_get sides.client_replies 1) ≡ Some response.body
   pub concluded : server_body (slice_get sides.server_replies 1) ≡ Some outcome.body
+
+-- what the other side sent, if it sent a body, arrives as it was sent
+abbrev pub Arrives : Option (List ℕ) → List ℕ → Type 0
+Arrives None body = Unit {0}
+Arrives (Some sent) body = body ≡ sent
+
+-- the same, without saying that any reply has a body
+pub record ForwardedRun (sides : Sides) : Type 0 where
+  pub offer : Given
+  pub challenge : Given
+  pub outcome : Given
+  pub init : Given
+  pub response : Given
+  pub client_events : sides.client_events ≡ offer ∷ challenge ∷ outcome ∷ []
+  pub server_events : sides.server_events ≡ init ∷ response ∷ []
+  pub offered : canonical (frames.Mechanisms (mechanism_name sides.login.version ∷ [])) ≡ Some offer.body
+  pub started : Arrives (client_body (slice_get sides.client_replies 0)) init.body
+  pub challenged : Arrives (server_body (slice_get sides.server_replies 0)) challenge.body
+  pub answered : Arrives (client_body (slice_get sides.client_replies 1)) response.body
+  pub concluded : Arrives (server_body (slice_get sides.server_replies 1)) outcome.body
+
+-- memory is not wanting, and nothing is too large
+pub record Suffices (sides : Sides) : Type 0 where
+  pub client : ClientComplete sides.client_replies
+  pub server : ServerComplete sides.server_replies
+  pub client_small : (k : ℕ) → slice_get sides.client_replies k ≢ Some (Refused (Frame faults.TooLarge))
+  pub server_small : (k : ℕ) → slice_get sides.server_replies k ≢ Some (Failed faults.TooLarge)
 
 -- the provider holds the record of the login's own password, with this salt and this count, and the client can use them
 pub record HoldsLogin (sides : Sides) (salt : List ℕ) (count : ℕ) : Type 0 where

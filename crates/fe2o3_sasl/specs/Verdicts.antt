@@ -2,7 +2,7 @@
 use Rattle.std.specs.Prelude.{◌≡◌, ◌≢◌, ◌⊎◌, ℕ, ◌<◌, Option, Some, None, List, [], ◌∷◌, ◌++◌, map}
 use Rattle.std.specs.List.{AllByRecursion}
 use Rattle.fe2o3_sasl.specs.ClientHistory.{Answering, ClientComplete, OpenAnswer}
-use Rattle.fe2o3_sasl.specs.Hmac.{digest}
+use Rattle.fe2o3_scram.specs.Hmac.{digest}
 use Rattle.fe2o3_sasl.specs.ServerHistory.{Accepted, full_nonce, ServerComplete}
 use Rattle.fe2o3_sasl.specs.TwoSides.{Sides, Histories, Takes, Shows, Agree, IsPlainInit, SameMac, SameHash, client_message, server_message, client_key_at, server_key_at, recovered_at}
 

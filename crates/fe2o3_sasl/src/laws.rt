@@ -1,58 +1,14 @@
 //! Laws of the definitions. A function with an empty body says nothing but its contract: a
 //! statement about every list of bytes, which the check has proved.
 
-ghost use Rattle.std.specs.Prelude.{◌≡◌};
-ghost use Rattle.fe2o3_sasl.specs.Laws.{DigestsAreSized, MacsAreSized, OneBytesOfBase64, Base64IsReadAgain, NoCommaInBase64, PartsExist, OneListOfParts, OneEscapedName, NoCommaInEscapedNames, OneClientFirst, OneServerFirst, OneClientFinal, OneServerFinal, UnalteredExchangesSucceed};
 ghost use Rattle.fe2o3_sasl.specs.Headline.{OkOnlyWhereAccepted, OkWhereverAccepted, ReportedOnlyWhereSigned, ReportedWhereverSigned, IssuedVerifiersAgree};
 ghost use Rattle.fe2o3_sasl.specs.HistoryLaws.{OneServerHistory, OneClientHistory, AcceptorRunsAreHistories, ProfileRunsAreHistories, OksWithinChallenges, RepeatedResponsesAreRefused, OneResponseOneNonce, RefusalsLeaveOpen, PositionsAreUsedOnce, EqualMessagesAgree, NoShortExtensions, TakenVerifiersAreJudged, ShownProofsAreJudged, OneVerdictEach, RepeatedClientPositions, RepeatedServerPositions, UnalteredRunsLogIn};
-ghost use Rattle.fe2o3_sasl.specs.Examples.{GuestsEnter, WrongPasswordsFail, NamesAloneFail, EmptyInitsFail, ResponsesToPlainFail, ShiftedTextsPass, RefusalsHaveOneBody, ServersAnswer, ClientsAnswer, ShiftedHistoriesPass};
+ghost use Rattle.fe2o3_sasl.specs.examples.Examples.{GuestsEnter, WrongPasswordsFail, NamesAloneFail, EmptyInitsFail, ResponsesToPlainFail, ShiftedTextsPass, RefusalsHaveOneBody, ServersAnswer, ClientsAnswer, ShiftedHistoriesPass};
 
-use crate::hmac::ScramVersion;
-
-/// The clone of a version is that version, and takes no memory.
-pub fn clone_of_version(version: &ScramVersion) -> ScramVersion
-    ensures { result ≡ version.now }
-{
-    version.clone().unwrap()
-}
-
-/// Digests and HMAC values have the length of their hash, and hold bytes.
-pub fn digests()
-    ensures digests { DigestsAreSized }
-    ensures macs { MacsAreSized }
-{}
-
-/// A base64 text stands for one list of bytes, is read again, and holds no comma.
-pub fn base64_texts()
-    ensures one { OneBytesOfBase64 }
-    ensures again { Base64IsReadAgain }
-    ensures no_comma { NoCommaInBase64 }
-{}
-
-/// A text has one list of parts.
-pub fn parts()
-    ensures some { PartsExist }
-    ensures one { OneListOfParts }
-{}
-
-/// A user name has one escaped text, which holds no comma.
-pub fn escaped_names()
-    ensures one { OneEscapedName }
-    ensures no_comma { NoCommaInEscapedNames }
-{}
-
-/// Each of the four messages has at most one answer.
-pub fn one_answer_each()
-    ensures client_first { OneClientFirst }
-    ensures server_first { OneServerFirst }
-    ensures client_final { OneClientFinal }
-    ensures server_final { OneServerFinal }
-{}
-
-/// A client and a server that hold the same password log in where nothing is altered on the way.
-pub fn unaltered_exchanges()
-    ensures { UnalteredExchangesSucceed }
-{}
+pub use fe2o3_scram::laws::{
+    base64_texts, clone_of_version, digests, escaped_names, one_answer_each, parts,
+    unaltered_exchanges,
+};
 
 /// The headline theorem. Over every list of frame bodies, a SCRAM server answers Ok exactly when a
 /// response fits its open challenge and its proof meets the stored key, which closes the challenge;

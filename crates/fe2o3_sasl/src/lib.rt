@@ -1,34 +1,25 @@
-//! SCRAM for AMQP 1.0, after the authentication layer of `fe2o3-amqp` 0.18.4.
+//! SASL for AMQP 1.0, after the authentication layer of `fe2o3-amqp` 0.18.4: SCRAM and frames joined.
 //!
-//! A client makes its first message with [`ScramVersion::client_first_message`], answers the
-//! server's with [`ScramVersion::compute_client_final_message`], and believes the server only
-//! where [`ScramVersion::validate_server_final`] accepts its last one. A server makes its two
-//! messages with [`ScramVersion::compute_server_first_message`] and
-//! [`ScramVersion::compute_server_final_message`], from the records of a
-//! [`ScramCredentialProvider`]. [`ScramClient`] and [`ScramAuthenticator`] keep the messages of
-//! one exchange between the calls; [`laws`] says what holds of a whole exchange.
+//! The modules of `fe2o3_scram` stand here under their own names, so that whoever speaks SCRAM over
+//! AMQP names this crate alone. [`laws`] says what holds of every list of frame bodies.
 #![tactic(auto)]
 
-pub mod credentials;
-pub mod hmac;
 pub mod laws;
-pub mod pbkdf2_hi;
-pub mod saslprep_ascii;
-pub mod scram_client;
-pub mod scram_messages;
-pub mod scram_server;
-mod texts;
+pub mod review;
 
-pub use crate::credentials::{
+pub use fe2o3_scram::credentials::{
     DEFAULT_SCRAM_ITERATIONS, ScramCredentialProvider, SingleScramCredential, StoredPassword,
 };
-pub use crate::hmac::{Meter, ScramVersion};
-pub use crate::pbkdf2_hi::KeyError;
-pub use crate::saslprep_ascii::{NormalizeError, saslprep};
-pub use crate::scram_client::ScramClient;
-pub use crate::scram_messages::{
+pub use fe2o3_scram::hmac::{Meter, ScramVersion};
+pub use fe2o3_scram::pbkdf2_hi::KeyError;
+pub use fe2o3_scram::saslprep_ascii::{NormalizeError, saslprep};
+pub use fe2o3_scram::scram_client::ScramClient;
+pub use fe2o3_scram::scram_messages::{
     ScramErrorKind, ServerFirstMessage, ServerScramErrorKind, UnescapeError, XorLengthMismatch,
     escape_username, unescape_username,
 };
-pub use crate::scram_server::ScramAuthenticator;
+pub use fe2o3_scram::scram_server::ScramAuthenticator;
+pub use fe2o3_scram::{
+    credentials, hmac, pbkdf2_hi, saslprep_ascii, scram_client, scram_messages, scram_server,
+};
 pub use std::alloc::AllocError as OutOfMemory;

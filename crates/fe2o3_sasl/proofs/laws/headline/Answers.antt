@@ -1,4 +1,4 @@
-use Rattle.fe2o3_sasl.proofs.HeadlineLemmas.{ok_only_where_accepted, ok_wherever_accepted, reported_only_where_signed, reported_wherever_signed, issued_verifiers_agree}
+use Rattle.fe2o3_sasl.proofs.lemmas.two_sides.HeadlineLemmas.{ok_only_where_accepted, ok_wherever_accepted, reported_only_where_signed, reported_wherever_signed, issued_verifiers_agree}
 use Rattle.fe2o3_sasl.proofs.laws.headline.Goals as goal
 
 pub returns-clause-server_only : goal.returns-clause-server_only

@@ -1,4 +1,4 @@
-use Rattle.fe2o3_sasl.proofs.UnalteredRunLemmas.{unaltered_runs}
+use Rattle.fe2o3_sasl.proofs.lemmas.unaltered.UnalteredRunLemmas.{unaltered_runs}
 use Rattle.fe2o3_sasl.proofs.laws.unaltered_runs.Goals as goal
 
 pub returns : goal.returns

@@ -1,4 +1,4 @@
-use Rattle.fe2o3_sasl.proofs.VerdictLemmas.{taken_verifiers_are_judged, shown_proofs_are_judged, one_verdict_each}
+use Rattle.fe2o3_sasl.proofs.lemmas.two_sides.VerdictLemmas.{taken_verifiers_are_judged, shown_proofs_are_judged, one_verdict_each}
 use Rattle.fe2o3_sasl.proofs.laws.verdicts.Goals as goal
 
 pub returns-clause-taken : goal.returns-clause-taken

@@ -1,9 +1,9 @@
-use Rattle.fe2o3_sasl.proofs.ShiftedHistoryLemmas.{shifted_histories_pass}
-use Rattle.fe2o3_sasl.proofs.ClientExampleLemmas.{clients_answer}
-use Rattle.fe2o3_sasl.proofs.ServerExampleLemmas.{servers_answer}
-use Rattle.fe2o3_sasl.proofs.ExampleBodyLemmas.{refusals_have_one_body}
-use Rattle.fe2o3_sasl.proofs.PlainExampleLemmas.{guests_enter, wrong_passwords_fail, names_alone_fail, empty_inits_fail, responses_to_plain_fail}
-use Rattle.fe2o3_sasl.proofs.ShiftedTextLemmas.{shifted_texts_pass}
+use Rattle.fe2o3_sasl.proofs.lemmas.examples.ShiftedHistoryLemmas.{shifted_histories_pass}
+use Rattle.fe2o3_sasl.proofs.lemmas.examples.ClientExampleLemmas.{clients_answer}
+use Rattle.fe2o3_sasl.proofs.lemmas.examples.ServerExampleLemmas.{servers_answer}
+use Rattle.fe2o3_sasl.proofs.lemmas.examples.ExampleBodyLemmas.{refusals_have_one_body}
+use Rattle.fe2o3_sasl.proofs.lemmas.examples.PlainExampleLemmas.{guests_enter, wrong_passwords_fail, names_alone_fail, empty_inits_fail, responses_to_plain_fail}
+use Rattle.fe2o3_sasl.proofs.lemmas.examples.ShiftedTextLemmas.{shifted_texts_pass}
 use Rattle.fe2o3_sasl.proofs.laws.worked_examples.Goals as goal
 
 pub returns-clause-guests_enter : goal.returns-clause-guests_enter

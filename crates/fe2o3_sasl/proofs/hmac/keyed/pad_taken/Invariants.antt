@@ -1,6 +1,0 @@
-use Rattle.std.proofs.Common.{◌≡◌}
-use Rattle.fe2o3_sasl.proofs.PadLemmas.{pad_after}
-use Rattle.fe2o3_sasl.proofs.hmac.keyed.pad_taken.Given as goal
-
-abbrev pub invariant-loop-at : goal.invariant-loop-at
-invariant-loop-at l = l.pad ≡ pad_after l.mask 128 l.key l.at

@@ -1,0 +1,7 @@
+pub mod examples
+pub mod frames
+pub mod histories
+pub mod machines
+pub mod positions
+pub mod two_sides
+pub mod unaltered

@@ -1,0 +1,10 @@
+pub mod ClientExampleLemmas
+pub mod ExampleBodyLemmas
+pub mod ExampleByteLemmas
+pub mod ExampleReadingLemmas
+pub mod ExampleTextLemmas
+pub mod PlainExampleLemmas
+pub mod ReplyByReplyLemmas
+pub mod ServerExampleLemmas
+pub mod ShiftedHistoryLemmas
+pub mod ShiftedTextLemmas

@@ -1,0 +1,2 @@
+pub mod ClientMachineLemmas
+pub mod ServerMachineLemmas

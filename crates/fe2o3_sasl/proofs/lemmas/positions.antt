@@ -1,0 +1,2 @@
+pub mod OpenStateLemmas
+pub mod PositionLemmas

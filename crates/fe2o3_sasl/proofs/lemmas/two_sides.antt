@@ -1,0 +1,5 @@
+pub mod EqualMessageLemmas
+pub mod HeadlineLemmas
+pub mod MeetingSidesLemmas
+pub mod OneAuditLemmas
+pub mod VerdictLemmas

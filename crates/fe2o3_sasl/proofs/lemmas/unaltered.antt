@@ -1,0 +1,4 @@
+pub mod ForwardedRunLemmas
+pub mod ReviewLemmas
+pub mod UnalteredReplyLemmas
+pub mod UnalteredRunLemmas

@@ -1,0 +1,2 @@
+-- Nobody has to believe these: they are worked examples of the definitions.
+pub mod Examples

@@ -1,0 +1,3 @@
+pub mod hashes
+pub mod messages
+pub mod texts

@@ -1,0 +1,7 @@
+pub mod AsciiLemmas
+pub mod Base64Lemmas
+pub mod CountLemmas
+pub mod EscapingLemmas
+pub mod JoinedTextLemmas
+pub mod LastPartLemmas
+pub mod PartsLemmas

@@ -1,0 +1,126 @@
+-- The client-final message (RFC 5802, section 7), as the client writes it and as the server reads it.
+use Rattle.std.specs.Prelude.{ℕ, List, [], ◌∷◌, ◌++◌, ◌≡◌, codes, Result, Ok, Err, ◌+◌, ◌≤◌, OnOk, ◌≢◌, length}
+use Rattle.fe2o3_scram.specs.declared.hmac.ScramVersion.{ScramVersion}
+use Rattle.fe2o3_scram.specs.declared.scram_messages.error.ScramErrorKind.{ScramErrorKind}
+use Rattle.fe2o3_scram.specs.Texts.{base64_text, joined, Part, LastPart}
+use Rattle.fe2o3_scram.specs.Keys.{auth_message, client_proof, server_signature}
+use Rattle.fe2o3_scram.specs.Pbkdf2Hi.{salted_of}
+use Rattle.fe2o3_scram.specs.ServerFirst.{Client, ServerFirst, ReadsServerFirst}
+use Rattle.std.specs.Str.{IsUtf8}
+use Rattle.base64.specs.GeneralPurpose.{IsBytes}
+use Rattle.fe2o3_scram.specs.declared.scram_messages.error.ServerScramErrorKind.{ServerScramErrorKind}
+use Rattle.fe2o3_scram.specs.declared.scram_messages.error.ServerScramErrorKind.TheVariants.{Utf8Error, CannotParseClientFinalMessage, Base64DecodeError, InvalidChannelBinding, IncorrectClientFinalNonce, ProofNotFoundInClientFinal, XorLengthMismatch, AuthenticationFailed, OutOfMemory}
+use Rattle.fe2o3_scram.specs.Credentials.{Record}
+use Rattle.fe2o3_scram.specs.Hmac.{digest, digest_len, hmac_of, exclusive_or}
+use Rattle.fe2o3_scram.specs.Readings.{Reads}
+
+-- client-final-message-without-proof: the GS2 header in base64 and the nonce of both sides
+abbrev pub without_proof : List ℕ → List ℕ
+without_proof nonce = joined ((codes "c=" ++ base64_text (codes "n,,")) ∷ (codes "r=" ++ nonce) ∷ [])
+
+-- client-final-message: what stands before the proof, and the proof
+abbrev pub client_final_of : List ℕ → List ℕ → List ℕ
+client_final_of without proof = joined (without ∷ (codes "p=" ++ base64_text proof) ∷ [])
+
+-- an answer of the client: the client-final message, and the signature that it waits for
+abbrev pub Answer : Type 0
+Answer = List ℕ × List ℕ
+
+-- the answer to a server-first message that names these values; the messages stand in the proof as they were sent
+abbrev pub answer_of : ScramVersion → List ℕ → List ℕ → List ℕ → ServerFirst → Answer
+answer_of version password bare text first =
+    let salted = salted_of version password first.salt first.count in
+    let auth = auth_message bare text (without_proof first.nonce) in
+    (client_final_of (without_proof first.nonce) (client_proof version salted auth), server_signature version salted auth)
+
+-- what the client answers to a server-first message: the first refusal that holds, or the answer to what it names
+abbrev pub AnswersServerFirst : ScramVersion → Client → List ℕ → List ℕ → Result Answer ScramErrorKind → Type 0
+AnswersServerFirst version client bare text (Ok answer) =
+    (first : ServerFirst) × ReadsServerFirst client text (Ok first) × (answer ≡ answer_of version client.password bare text first)
+AnswersServerFirst version client bare text (Err fault) = ReadsServerFirst client text (Err fault)
+
+-- what a meter showed before and after the call: none for a message that is refused, the count and 4 for one that is answered, and no more than that where memory ran out
+pub record AnswerCosts {A : Type 0} (client : Client) (text : List ℕ) (result : Result A ScramErrorKind) (before after : ℕ) : Type 0 where
+  pub refused : (fault : ScramErrorKind) → ReadsServerFirst client text (Err fault) → after ≡ before
+  pub answered : (first : ServerFirst) → ReadsServerFirst client text (Ok first) → OnOk result (after ≡ before + (first.count + 4))
+  pub at_most : (first : ServerFirst) → ReadsServerFirst client text (Ok first) → after ≤ before + (first.count + 4)
+  pub limited : after ≤ before + (client.limit + 4)
+
+-- what a client-final message names: the proof, and what stands before it
+pub record ClientFinal : Type 0 where
+  pub without : List ℕ
+  pub proof : List ℕ
+
+-- what a server holds against a client-final message: its version, the two messages before, the nonce of both sides, and the keys of the record
+pub record Server : Type 0 where
+  pub version : ScramVersion
+  pub bare : List ℕ
+  pub first : List ℕ
+  pub nonce : List ℕ
+  pub stored_key : List ℕ
+  pub server_key : List ℕ
+
+-- the same of a challenge, and of a stored password of its user
+abbrev pub server_of : ScramVersion → List ℕ → List ℕ → List ℕ → Record → Server
+server_of version bare first nonce stored = record { version = version; bare = bare; first = first; nonce = nonce; stored_key = stored.stored_key; server_key = stored.server_key }
+
+-- the first part is this channel binding
+abbrev pub HasBinding : List ℕ → List ℕ → Type 0
+HasBinding text binding = IsBytes binding × Part text 0 (codes "c=" ++ base64_text binding)
+
+-- the last part is this proof, and this stands before it
+abbrev pub HasProof : List ℕ → ClientFinal → Type 0
+HasProof text final = IsBytes final.proof × LastPart text final.without (codes "p=" ++ base64_text final.proof)
+
+-- the key that the proof gives away, where it meets the stored key: ClientKey = ClientProof XOR HMAC(StoredKey, AuthMessage)
+abbrev pub recovered_key : Server → ClientFinal → List ℕ
+recovered_key server final = exclusive_or final.proof (hmac_of server.version server.stored_key (auth_message server.bare server.first final.without))
+
+-- the proof meets the stored key: H(ClientKey) = StoredKey
+abbrev pub Meets : Server → ClientFinal → Type 0
+Meets server final = digest server.version (recovered_key server final) ≡ server.stored_key
+
+-- the message names these values, and its proof meets the stored key
+pub record NamesClientFinal (server : Server) (text : List ℕ) (final : ClientFinal) : Type 0 where
+  pub binding : HasBinding text (codes "n,,")
+  pub nonce : Part text 1 (codes "r=" ++ server.nonce)
+  pub proof : HasProof text final
+  pub sized : length final.proof ≡ digest_len server.version
+  pub meets : Meets server final
+
+-- the server's tests of the channel binding, in their order
+abbrev pub binding_tests : List ℕ → List (ServerScramErrorKind × Type 0)
+binding_tests text =
+    (CannotParseClientFinalMessage, (rest : List ℕ) → ¬ Part text 0 (codes "c=" ++ rest))
+    ∷ (Base64DecodeError, (binding : List ℕ) → ¬ HasBinding text binding)
+    ∷ (InvalidChannelBinding, ¬ HasBinding text (codes "n,,"))
+    ∷ []
+
+-- its tests of the nonce
+abbrev pub nonce_tests : List ℕ → List ℕ → List (ServerScramErrorKind × Type 0)
+nonce_tests nonce text =
+    (CannotParseClientFinalMessage, (rest : List ℕ) → ¬ Part text 1 (codes "r=" ++ rest))
+    ∷ (IncorrectClientFinalNonce, ¬ Part text 1 (codes "r=" ++ nonce))
+    ∷ []
+
+-- its tests of how the proof is spelled
+abbrev pub spelling_tests : List ℕ → List (ServerScramErrorKind × Type 0)
+spelling_tests text =
+    (ProofNotFoundInClientFinal, (before rest : List ℕ) → ¬ LastPart text before (codes "p=" ++ rest))
+    ∷ (Base64DecodeError, (final : ClientFinal) → ¬ HasProof text final)
+    ∷ []
+
+-- its tests of the proof, which come after all others
+abbrev pub proof_tests : Server → List ℕ → List (ServerScramErrorKind × Type 0)
+proof_tests server text =
+    (XorLengthMismatch, (final : ClientFinal) → HasProof text final → length final.proof ≢ digest_len server.version)
+    ∷ (AuthenticationFailed, (final : ClientFinal) → HasProof text final → ¬ Meets server final)
+    ∷ []
+
+-- all tests of the server, in their order
+abbrev pub client_final_tests : Server → List ℕ → List (ServerScramErrorKind × Type 0)
+client_final_tests server text = (Utf8Error, ¬ IsUtf8 text) ∷ (binding_tests text ++ (nonce_tests server.nonce text ++ (spelling_tests text ++ proof_tests server text)))
+
+-- what the server reads: the first refusal that holds, or the values that are named; parts between the nonce and the proof stay in what stands before the proof
+unfoldable pub ReadsClientFinal : Server → List ℕ → Result ClientFinal ServerScramErrorKind → Type 0
+ReadsClientFinal server text answer = Reads (client_final_tests server text) (NamesClientFinal server text) answer

@@ -1,0 +1,77 @@
+-- An exchange of the four messages (RFC 5802, section 5) in which each arrives as it was sent.
+use Rattle.std.specs.Prelude.{ℕ, List, ◌++◌, ◌≤◌, ◌<◌, ◌^◌, Ok}
+use Rattle.std.specs.Str.{IsUtf8}
+use Rattle.base64.specs.GeneralPurpose.{IsBytes}
+use Rattle.fe2o3_scram.specs.declared.hmac.ScramVersion.{ScramVersion}
+use Rattle.fe2o3_scram.specs.ServerFirst.{server_first_of, ServerFirst, ReadsServerFirst}
+use Rattle.fe2o3_scram.specs.ClientFinal.{Answer, answer_of, without_proof, Server, server_of, ClientFinal, ReadsClientFinal}
+use Rattle.fe2o3_scram.specs.ClientFirst.{client_first, client_first_bare, ReadsClientFirst}
+use Rattle.fe2o3_scram.specs.Credentials.{Record, record_of}
+use Rattle.fe2o3_scram.specs.Keys.{auth_message, client_proof}
+use Rattle.fe2o3_scram.specs.Pbkdf2Hi.{salted_of}
+use Rattle.fe2o3_scram.specs.ServerFinal.{server_final_of, ReadsServerFinal}
+use Rattle.fe2o3_scram.specs.SaslprepAscii.{IsPrintable}
+use Rattle.fe2o3_scram.specs.Texts.{NoComma}
+
+-- what an exchange starts from: the user's name and password, the salt and the count of the record, the client's limit, and the nonces
+pub record Exchange : Type 0 where
+  pub version : ScramVersion
+  pub user : List ℕ
+  pub password : List ℕ
+  pub salt : List ℕ
+  pub count : ℕ
+  pub limit : ℕ
+  pub client_nonce : List ℕ
+  pub server_nonce : List ℕ
+
+-- the password can be used, the client accepts the count, and names, nonces and salts are what the code holds
+pub record IsSound (x : Exchange) : Type 0 where
+  pub printable : IsPrintable x.password
+  pub some : 1 ≤ x.count
+  pub within : x.count ≤ x.limit
+  pub limit : x.limit < 2 ^ 32
+  pub salt : IsBytes x.salt
+  pub user : IsUtf8 x.user
+  pub client_text : IsUtf8 x.client_nonce
+  pub server_text : IsUtf8 x.server_nonce
+  pub client_plain : NoComma x.client_nonce
+  pub server_plain : NoComma x.server_nonce
+
+-- the nonce of both sides
+abbrev pub nonce_in : Exchange → List ℕ
+nonce_in x = x.client_nonce ++ x.server_nonce
+
+-- the client's first message, without its header
+abbrev pub bare_in : Exchange → List ℕ
+bare_in x = client_first_bare x.user x.client_nonce
+
+-- the record that the server keeps, made of the same password
+abbrev pub record_in : Exchange → Record
+record_in x = record_of x.version x.password x.salt x.count
+
+-- the server's first message
+abbrev pub first_in : Exchange → List ℕ
+first_in x = server_first_of (nonce_in x) (record_in x)
+
+-- what it names
+abbrev pub named_in : Exchange → ServerFirst
+named_in x = record { nonce = nonce_in x; salt = x.salt; count = x.count }
+
+-- the client's last message, and the signature that it waits for
+abbrev pub answer_in : Exchange → Answer
+answer_in x = answer_of x.version x.password (bare_in x) (first_in x) (named_in x)
+
+-- what the server holds against the client's last message
+abbrev pub server_in : Exchange → Server
+server_in x = server_of x.version (bare_in x) (first_in x) (nonce_in x) (record_in x)
+
+-- what that message names
+abbrev pub final_in : Exchange → ClientFinal
+final_in x = record { without = without_proof (nonce_in x); proof = client_proof x.version (salted_of x.version x.password x.salt x.count) (auth_message (bare_in x) (first_in x) (without_proof (nonce_in x))) }
+
+-- each side accepts what the other wrote
+pub record Succeeds (x : Exchange) : Type 0 where
+  pub client_first : ReadsClientFirst (client_first x.user x.client_nonce) (Ok (record { user = x.user; nonce = x.client_nonce; bare = bare_in x }))
+  pub server_first : ReadsServerFirst (record { nonce = x.client_nonce; password = x.password; limit = x.limit }) (first_in x) (Ok (named_in x))
+  pub client_final : ReadsClientFinal (server_in x) (answer_in x).0 (Ok (final_in x))
+  pub server_final : ReadsServerFinal (answer_in x).1 (server_final_of (server_in x) (final_in x)) (Ok tt)

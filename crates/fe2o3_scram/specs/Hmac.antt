@@ -1,0 +1,52 @@
+-- The hashes of SCRAM and the keyed hash HMAC, over whole lists of bytes (RFC 2104, section 2; RFC 5802, section 2.2).
+use Rattle.std.specs.Prelude.{ℕ, ◌-◌, nat_lt, if◌then◌else◌, List, ◌++◌, length, map, replicate, bit_xor, codes}
+use Rattle.std.specs.List.{zip}
+use Rattle.sha1.specs.Sha1.{sha1}
+use Rattle.sha2.specs.Sha256.{sha256}
+use Rattle.sha2.specs.Sha512.{sha512}
+use Rattle.fe2o3_scram.specs.declared.hmac.ScramVersion.{ScramVersion}
+use Rattle.fe2o3_scram.specs.declared.hmac.ScramVersion.TheVariants.{Sha1, Sha256, Sha512}
+
+-- the name of the SASL mechanism (RFC 5802, section 4; RFC 7677, section 3)
+abbrev pub mechanism_name : ScramVersion → List ℕ
+mechanism_name Sha1 = codes "SCRAM-SHA-1"
+mechanism_name Sha256 = codes "SCRAM-SHA-256"
+mechanism_name Sha512 = codes "SCRAM-SHA-512"
+
+-- H, the digest of a message (FIPS 180-4)
+unfoldable pub digest : ScramVersion → List ℕ → List ℕ
+digest Sha1 message = sha1 message
+digest Sha256 message = sha256 message
+digest Sha512 message = sha512 message
+
+-- L, the length of a digest in bytes
+abbrev pub digest_len : ScramVersion → ℕ
+digest_len Sha1 = 20
+digest_len Sha256 = 32
+digest_len Sha512 = 64
+
+-- B, the length in bytes of a block that the hash works on
+abbrev pub block_len : ScramVersion → ℕ
+block_len Sha1 = 64
+block_len Sha256 = 64
+block_len Sha512 = 128
+
+-- the bytes with zeros at their end, up to a length
+abbrev pub zero_filled : ℕ → List ℕ → List ℕ
+zero_filled n bytes = bytes ++ replicate (n - length bytes) 0
+
+-- the key as one block: a key longer than a block stands for its digest, and zeros fill the block
+unfoldable pub key_block : ScramVersion → List ℕ → List ℕ
+key_block version key = zero_filled (block_len version) (if nat_lt (block_len version) (length key) then digest version key else key)
+
+-- each byte with the bits of the mask turned
+abbrev pub masked : ℕ → List ℕ → List ℕ
+masked mask bytes = map (λ byte. bit_xor byte mask) bytes
+
+-- HMAC(key, message), with 0x36 as the inner and 0x5c as the outer mask
+unfoldable pub hmac_of : ScramVersion → List ℕ → List ℕ → List ℕ
+hmac_of version key message = digest version (masked 0x5c (key_block version key) ++ digest version (masked 0x36 (key_block version key) ++ message))
+
+-- the exclusive or of two texts of bytes, byte by byte
+unfoldable pub exclusive_or : List ℕ → List ℕ → List ℕ
+exclusive_or left right = map (λ (pair : ℕ × ℕ). bit_xor pair.0 pair.1) (zip left right)

@@ -1,0 +1,71 @@
+-- What holds of the definitions themselves. Each is the contract of a function of `laws`.
+use Rattle.std.specs.Prelude.{ℕ, List, ◌≡◌, length, Result, Ok}
+use Rattle.base64.specs.Engines.{standard}
+use Rattle.base64.specs.GeneralPurpose.{IsBytes, decode_of}
+use Rattle.fe2o3_scram.specs.declared.hmac.ScramVersion.{ScramVersion}
+use Rattle.fe2o3_scram.specs.declared.scram_messages.error.ScramErrorKind.{ScramErrorKind}
+use Rattle.fe2o3_scram.specs.Texts.{base64_text, IsBase64, NoComma, Parts}
+use Rattle.fe2o3_scram.specs.declared.scram_messages.error.ServerScramErrorKind.{ServerScramErrorKind}
+use Rattle.fe2o3_scram.specs.ClientFirst.{ClientFirst, ReadsClientFirst}
+use Rattle.fe2o3_scram.specs.Escape.{escaped}
+use Rattle.fe2o3_scram.specs.Exchanges.{Exchange, IsSound, Succeeds}
+use Rattle.fe2o3_scram.specs.Hmac.{digest, digest_len, hmac_of}
+use Rattle.fe2o3_scram.specs.ClientFinal.{Server, ClientFinal, ReadsClientFinal}
+use Rattle.fe2o3_scram.specs.ServerFinal.{ReadsServerFinal}
+use Rattle.fe2o3_scram.specs.ServerFirst.{Client, ServerFirst, ReadsServerFirst}
+
+-- a digest is as long as its version says, and holds bytes
+abbrev pub DigestsAreSized : Type 0
+DigestsAreSized = (version : ScramVersion) (message : List ℕ) → (length (digest version message) ≡ digest_len version) × IsBytes (digest version message)
+
+-- so is an HMAC value
+abbrev pub MacsAreSized : Type 0
+MacsAreSized = (version : ScramVersion) (key message : List ℕ) → (length (hmac_of version key message) ≡ digest_len version) × IsBytes (hmac_of version key message)
+
+-- a text spells at most one list of bytes
+abbrev pub OneBytesOfBase64 : Type 0
+OneBytesOfBase64 = (text bytes others : List ℕ) → IsBase64 text bytes → IsBase64 text others → bytes ≡ others
+
+-- what is written in base64 is read again
+abbrev pub Base64IsReadAgain : Type 0
+Base64IsReadAgain = (bytes : List ℕ) → IsBytes bytes → decode_of standard (base64_text bytes) ≡ Ok bytes
+
+-- a base64 text holds no comma
+abbrev pub NoCommaInBase64 : Type 0
+NoCommaInBase64 = (bytes : List ℕ) → NoComma (base64_text bytes)
+
+-- a text has parts
+abbrev pub PartsExist : Type 0
+PartsExist = (text : List ℕ) → (parts : List (List ℕ)) × Parts text parts
+
+-- and no two lists of them
+abbrev pub OneListOfParts : Type 0
+OneListOfParts = (text : List ℕ) (parts others : List (List ℕ)) → Parts text parts → Parts text others → parts ≡ others
+
+-- no two user names have one escaped text
+abbrev pub OneEscapedName : Type 0
+OneEscapedName = (name other : List ℕ) → escaped name ≡ escaped other → name ≡ other
+
+-- an escaped user name holds no comma
+abbrev pub NoCommaInEscapedNames : Type 0
+NoCommaInEscapedNames = (name : List ℕ) → NoComma (escaped name)
+
+-- a server-first message has at most one answer
+abbrev pub OneServerFirst : Type 0
+OneServerFirst = (client : Client) (text : List ℕ) (answer other : Result ServerFirst ScramErrorKind) → ReadsServerFirst client text answer → ReadsServerFirst client text other → answer ≡ other
+
+-- a client-first message has at most one answer
+abbrev pub OneClientFirst : Type 0
+OneClientFirst = (text : List ℕ) (answer other : Result ClientFirst ServerScramErrorKind) → ReadsClientFirst text answer → ReadsClientFirst text other → answer ≡ other
+
+-- a client-final message has at most one answer
+abbrev pub OneClientFinal : Type 0
+OneClientFinal = (server : Server) (text : List ℕ) (answer other : Result ClientFinal ServerScramErrorKind) → ReadsClientFinal server text answer → ReadsClientFinal server text other → answer ≡ other
+
+-- a server-final message has at most one answer
+abbrev pub OneServerFinal : Type 0
+OneServerFinal = (signature text : List ℕ) (answer other : Result (Unit {0}) ScramErrorKind) → ReadsServerFinal signature text answer → ReadsServerFinal signature text other → answer ≡ other
+
+-- in an exchange whose messages arrive as they were sent, each side accepts what the other wrote
+abbrev pub UnalteredExchangesSucceed : Type 0
+UnalteredExchangesSucceed = (x : Exchange) → IsSound x → Succeeds x

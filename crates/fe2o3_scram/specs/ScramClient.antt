@@ -1,0 +1,62 @@
+-- A SCRAM client from message to message (RFC 5802, section 5).
+use Rattle.std.specs.Prelude.{ℕ, List, ◌≡◌, Result, Ok, Err}
+use Rattle.std.specs.String.{string_bytes}
+use Rattle.fe2o3_scram.specs.declared.hmac.ScramVersion.{ScramVersion}
+use Rattle.fe2o3_scram.specs.declared.scram_client.ScramClientState.{ScramClientState}
+use Rattle.fe2o3_scram.specs.declared.scram_client.ScramClientState.TheVariants.{Initial as CodeInitial, ClientFirstSent as CodeClientFirstSent, ClientFinalSent as CodeClientFinalSent, Complete as CodeComplete}
+use Rattle.fe2o3_scram.specs.declared.scram_messages.error.ScramErrorKind.{ScramErrorKind}
+use Rattle.fe2o3_scram.specs.declared.scram_messages.error.ScramErrorKind.TheVariants.{IllegalClientState}
+use Rattle.fe2o3_scram.specs.Texts.{base64_text}
+use Rattle.fe2o3_scram.specs.ClientFinal.{AnswersServerFirst}
+use Rattle.fe2o3_scram.specs.ClientFirst.{client_first_bare}
+use Rattle.fe2o3_scram.specs.ServerFirst.{Client, ReadsServerFirst}
+use Rattle.fe2o3_scram.specs.ServerFinal.{ReadsServerFinal}
+
+-- what a client has sent last, and what it waits for
+pub data ClientState : Type 0 where
+  Initial : ClientState
+  ClientFirstSent : (nonce : List ℕ) → (bare : List ℕ) → ClientState
+  ClientFinalSent : (signature : List ℕ) → ClientState
+  Complete : ClientState
+
+-- a client: its user and password, its version, the highest count that it accepts, and its state
+pub record ClientSide : Type 0 where
+  pub user : List ℕ
+  pub password : List ℕ
+  pub version : ScramVersion
+  pub limit : ℕ
+  pub state : ClientState
+
+-- the same client in another state
+abbrev pub with_state : ClientSide → ClientState → ClientSide
+with_state side state = record { user = side.user; password = side.password; version = side.version; limit = side.limit; state = state }
+
+-- the client after its first message, with this nonce
+abbrev pub started : ClientSide → List ℕ → ClientSide
+started side nonce = with_state side (ClientFirstSent (base64_text nonce) (client_first_bare side.user (base64_text nonce)))
+
+-- what a client holds against a server-first message
+abbrev pub holding : ClientSide → List ℕ → Client
+holding side nonce = record { nonce = nonce; password = side.password; limit = side.limit }
+
+-- what a client in this state answers to a server-first message, and the client after it: one that has sent its first message answers it, any other refuses it unread, and a refusal changes nothing
+abbrev pub AnswersIn : ClientState → ClientSide → List ℕ → Result (List ℕ) ScramErrorKind → ClientSide → Type 0
+AnswersIn (ClientFirstSent nonce bare) side text (Ok message) next =
+    (signature : List ℕ) × AnswersServerFirst side.version (holding side nonce) bare text (Ok (message, signature)) × (next ≡ with_state side (ClientFinalSent signature))
+AnswersIn (ClientFirstSent nonce bare) side text (Err fault) next = ReadsServerFirst (holding side nonce) text (Err fault) × (next ≡ side)
+AnswersIn state side text (Ok message) next = ⊥
+AnswersIn state side text (Err fault) next = (fault ≡ IllegalClientState) × (next ≡ side)
+
+-- whether a client in this state believes a server-final message, and the client after it: one that has answered tests it, any other refuses it unread, and a refusal changes nothing
+abbrev pub BelievesIn : ClientState → ClientSide → List ℕ → Result (Unit {0}) ScramErrorKind → ClientSide → Type 0
+BelievesIn (ClientFinalSent signature) side text (Ok believed) next = ReadsServerFinal signature text (Ok believed) × (next ≡ with_state side Complete)
+BelievesIn (ClientFinalSent signature) side text (Err fault) next = ReadsServerFinal signature text (Err fault) × (next ≡ side)
+BelievesIn state side text (Ok believed) next = ⊥
+BelievesIn state side text (Err fault) next = (fault ≡ IllegalClientState) × (next ≡ side)
+
+-- the state that the code's state is
+abbrev pub state_of : ScramClientState → ClientState
+state_of CodeInitial = Initial
+state_of (CodeClientFirstSent nonce bare) = ClientFirstSent (string_bytes nonce) bare
+state_of (CodeClientFinalSent signature) = ClientFinalSent signature.items
+state_of CodeComplete = Complete

@@ -1,0 +1,98 @@
+-- The server-first message (RFC 5802, section 7), as the client reads it and as the server writes it.
+use Rattle.std.specs.Prelude.{ℕ, List, [], ◌∷◌, ◌++◌, ◌<◌, codes, Result, ◌≡◌, Option, Some, None, Ok, Err}
+use Rattle.fe2o3_scram.specs.declared.scram_messages.error.ScramErrorKind.{ScramErrorKind}
+use Rattle.fe2o3_scram.specs.declared.scram_messages.error.ScramErrorKind.TheVariants.{InsufficientParts, ExtensionNotSupported, NonceNotFound, ClientNonceMismatch, SaltNotFound, Base64DecodeError, IterationCountNotFound, IterationCountParseError, IterationCountTooLarge, NormalizeError}
+use Rattle.base64.specs.GeneralPurpose.{IsBytes}
+use Rattle.fe2o3_scram.specs.Texts.{base64_text, IsCount, Part, joined}
+use Rattle.fe2o3_scram.specs.Readings.{Reads}
+use Rattle.fe2o3_scram.specs.SaslprepAscii.{IsPrintable}
+use Rattle.std.specs.Fmt.{decimal}
+use Rattle.fe2o3_scram.specs.declared.scram_messages.error.ServerScramErrorKind.{ServerScramErrorKind}
+use Rattle.fe2o3_scram.specs.ClientFirst.{ClientFirst, ReadsClientFirst}
+use Rattle.fe2o3_scram.specs.Credentials.{Record, Records, record_at}
+
+-- what a server-first message names: the nonce of both sides, the salt and the iteration count
+pub record ServerFirst : Type 0 where
+  pub nonce : List ℕ
+  pub salt : List ℕ
+  pub count : ℕ
+
+-- the second part is this salt
+abbrev pub HasSalt : List ℕ → List ℕ → Type 0
+HasSalt text salt = IsBytes salt × Part text 1 (codes "s=" ++ base64_text salt)
+
+-- the third part is this count
+abbrev pub HasCount : List ℕ → ℕ → Type 0
+HasCount text count = (digits : List ℕ) × Part text 2 (codes "i=" ++ digits) × IsCount digits count
+
+-- the message names these values
+pub record NamesServerFirst (text : List ℕ) (first : ServerFirst) : Type 0 where
+  pub nonce : Part text 0 (codes "r=" ++ first.nonce)
+  pub salt : HasSalt text first.salt
+  pub count : HasCount text first.count
+
+-- what a client holds against a server-first message: its nonce, its password, and the highest count that it accepts
+pub record Client : Type 0 where
+  pub nonce : List ℕ
+  pub password : List ℕ
+  pub limit : ℕ
+
+-- the client's tests of the nonce, in their order
+abbrev pub nonce_tests : List ℕ → List ℕ → List (ScramErrorKind × Type 0)
+nonce_tests client_nonce text =
+    (InsufficientParts, (part : List ℕ) → ¬ Part text 2 part)
+    ∷ (ExtensionNotSupported, (rest : List ℕ) × Part text 0 (codes "m=" ++ rest))
+    ∷ (NonceNotFound, (rest : List ℕ) → ¬ Part text 0 (codes "r=" ++ rest))
+    ∷ (ClientNonceMismatch, (rest : List ℕ) → ¬ Part text 0 (codes "r=" ++ (client_nonce ++ rest)))
+    ∷ []
+
+-- its tests of the salt
+abbrev pub salt_tests : List ℕ → List (ScramErrorKind × Type 0)
+salt_tests text =
+    (SaltNotFound, (rest : List ℕ) → ¬ Part text 1 (codes "s=" ++ rest))
+    ∷ (Base64DecodeError, (salt : List ℕ) → ¬ HasSalt text salt)
+    ∷ []
+
+-- its tests of the iteration count
+abbrev pub count_tests : ℕ → List ℕ → List (ScramErrorKind × Type 0)
+count_tests limit text =
+    (IterationCountNotFound, (rest : List ℕ) → ¬ Part text 2 (codes "i=" ++ rest))
+    ∷ (IterationCountParseError, (count : ℕ) → ¬ HasCount text count)
+    ∷ (IterationCountTooLarge, (count : ℕ) × HasCount text count × (limit < count))
+    ∷ []
+
+-- its test of its own password
+abbrev pub password_tests : List ℕ → List (ScramErrorKind × Type 0)
+password_tests password = (NormalizeError, ¬ IsPrintable password) ∷ []
+
+-- all tests of the client, in their order
+abbrev pub server_first_tests : Client → List ℕ → List (ScramErrorKind × Type 0)
+server_first_tests client text = nonce_tests client.nonce text ++ (salt_tests text ++ (count_tests client.limit text ++ password_tests client.password))
+
+-- what the client reads: the first refusal that holds, or the values that are named; parts after the third say nothing
+unfoldable pub ReadsServerFirst : Client → List ℕ → Result ServerFirst ScramErrorKind → Type 0
+ReadsServerFirst client text answer = Reads (server_first_tests client text) (NamesServerFirst text) answer
+
+-- server-first-message: the nonce of both sides, and the salt and the count of the record, in decimal without leading zeros
+abbrev pub server_first_of : List ℕ → Record → List ℕ
+server_first_of nonce stored = joined ((codes "r=" ++ nonce) ∷ (codes "s=" ++ base64_text stored.salt) ∷ (codes "i=" ++ decimal stored.count) ∷ [])
+
+-- a challenge: its user, the client's bare message, the server's message, and the nonce of both sides
+pub record Challenge : Type 0 where
+  pub user : List ℕ
+  pub bare : List ℕ
+  pub first : List ℕ
+  pub nonce : List ℕ
+
+-- the challenge to a client-first message that was read, with the server's nonce and the user's record
+abbrev pub challenge_of : ClientFirst → List ℕ → Record → Challenge
+challenge_of client server_nonce stored =
+    let nonce = client.nonce ++ server_nonce in
+    record { user = client.user; bare = client.bare; first = server_first_of nonce stored; nonce = nonce }
+
+-- what the server answers to a client-first message: the first refusal, nothing to a user whom it does not know, or the challenge
+abbrev pub AnswersClientFirst : Records → List ℕ → List ℕ → Result (Option Challenge) ServerScramErrorKind → Type 0
+AnswersClientFirst records server_nonce text (Ok None) = (client : ClientFirst) × ReadsClientFirst text (Ok client) × (record_at records client.user ≡ None)
+AnswersClientFirst records server_nonce text (Ok (Some challenge)) =
+    (client : ClientFirst) × (stored : Record) × ReadsClientFirst text (Ok client) × (record_at records client.user ≡ Some stored) × (challenge ≡ challenge_of client server_nonce stored)
+AnswersClientFirst records server_nonce text (Err fault) = ReadsClientFirst text (Err fault)

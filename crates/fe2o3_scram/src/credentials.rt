@@ -1,0 +1,163 @@
+//! What a server keeps of its users (RFC 5802, section 3).
+
+ghost use Rattle.std.specs.Prelude.{◌≡◌, ◌↔◌, ◌⊎◌, [], ◌∷◌, IfOk, IfErr, option_map};
+ghost use Rattle.std.specs.String.{string_bytes};
+ghost use Rattle.std.proofs.Common.{ap};
+ghost use Rattle.fe2o3_scram.specs.declared.hmac.ScramVersion.{ScramVersion};
+ghost use Rattle.fe2o3_scram.specs.Credentials.{Records, Provider, record_at, record_of, kept};
+ghost use Rattle.fe2o3_scram.specs.SaslprepAscii.{IsPrintable};
+
+use crate::hmac::ScramVersion;
+use crate::scram_messages::error::ServerScramErrorKind;
+use std::alloc::{AllocError, Global};
+use std::marker::Model;
+use std::rc::Rc;
+
+/// The iteration count of a credential that names none.
+pub const DEFAULT_SCRAM_ITERATIONS: u32 = 4096;
+
+/// What is kept of a password, borrowed from a provider.
+#[derive(Debug, Drop)]
+pub struct StoredPassword<'a> {
+    /// The salt, of any length.
+    pub salt: &'a [u8],
+
+    /// The iteration count. A client refuses 0.
+    pub iterations: u32,
+
+    /// StoredKey := H(ClientKey)
+    pub stored_key: &'a [u8],
+
+    /// ServerKey := HMAC(SaltedPassword, "Server Key")
+    pub server_key: &'a [u8],
+}
+
+/// A store of credentials: a version, and a finite map from user names to what is kept of their
+/// passwords. User names are plain, and not escaped.
+pub trait ScramCredentialProvider: Clone {
+    ghost version: { Self → ScramVersion };
+
+    ghost records: { Self → Records };
+
+    /// The version of every record.
+    fn scram_version(&self) -> &ScramVersion
+        ensures { result.now ≡ version self.now };
+
+    /// What is kept of the user's password.
+    fn get_stored_password<'a>(&'a self, username: &str) -> Option<StoredPassword<'a>>
+        ensures { option_map kept result ≡ record_at (records self.now) username.now };
+
+    /// A clone has the same version and the same records.
+    ghost clone_keeps: { (provider copy : Self) → Self.is_clone provider copy → (version copy ≡ version provider) × (records copy ≡ records provider) };
+}
+
+impl<T: ScramCredentialProvider> ScramCredentialProvider for Rc<T> {
+    ghost version = { λ shared. T.version shared.value };
+
+    ghost records = { λ shared. T.records shared.value };
+
+    ghost clone_keeps = { λ provider copy same. (ap (λ value. T.version value) same, ap (λ value. T.records value) same) };
+
+    fn scram_version(&self) -> &ScramVersion {
+        let provider: &T = self;
+        provider.scram_version()
+    }
+
+    fn get_stored_password<'a>(&'a self, username: &str) -> Option<StoredPassword<'a>> {
+        let provider: &'a T = self;
+        provider.get_stored_password(username)
+    }
+}
+
+/// The credential of one user.
+#[derive(Debug, Drop)]
+pub struct SingleScramCredential {
+    scram_version: ScramVersion,
+    username: String,
+    salt: [u8; 32],
+    iterations: u32,
+    stored_key: Vec<u8>,
+    server_key: Vec<u8>,
+}
+
+impl Model for SingleScramCredential {
+    ghost use Rattle.std.specs.Prelude.{[], ◌∷◌};
+    ghost use Rattle.std.specs.String.{string_bytes};
+    ghost use Rattle.fe2o3_scram.specs.Credentials.{Provider};
+
+    ghost Value = { Provider };
+
+    ghost view = { λ credential. record { version = credential.scram_version; records = (string_bytes credential.username, record { salt = credential.salt; count = credential.iterations; stored_key = credential.stored_key.items; server_key = credential.server_key.items }) ∷ [] } };
+}
+
+impl SingleScramCredential {
+    /// The credential of a user with this password, with 4096 iterations.
+    pub fn new(
+        alloc: Global,
+        username: String,
+        password: &str,
+        scram_version: ScramVersion,
+        salt: [u8; 32],
+    ) -> Result<Self, ServerScramErrorKind>
+        ensures ok { IfOk result (λ credential. IsPrintable password.now × (credential ≡ record { version = scram_version; records = (string_bytes username, record_of scram_version password.now salt 4096) ∷ [] })) }
+        ensures not_printable { (result ≡ Err ServerScramErrorKind.NormalizeError) ↔ ¬ IsPrintable password.now }
+        ensures err { IfErr result (λ kind. (kind ≡ ServerScramErrorKind.NormalizeError) ⊎ (kind ≡ ServerScramErrorKind.OutOfMemory)) }
+    {
+        let salted_password = scram_version.compute_salted_password(
+            alloc,
+            password,
+            &salt,
+            DEFAULT_SCRAM_ITERATIONS,
+        )?;
+        let client_key = scram_version.hmac(alloc, &salted_password, b"Client Key")?;
+        let stored_key = scram_version.h(alloc, &client_key)?;
+        let server_key = scram_version.hmac(alloc, &salted_password, b"Server Key")?;
+        Ok(Self {
+            scram_version,
+            username,
+            salt,
+            iterations: DEFAULT_SCRAM_ITERATIONS,
+            stored_key,
+            server_key,
+        })
+    }
+}
+
+impl Clone for SingleScramCredential {
+    ghost is_clone = { λ credential copy. copy ≡ credential };
+
+    fn clone(&self) -> Result<Self, AllocError> {
+        Ok(Self {
+            scram_version: self.scram_version,
+            username: self.username.clone()?,
+            salt: self.salt,
+            iterations: self.iterations,
+            stored_key: self.stored_key.clone()?,
+            server_key: self.server_key.clone()?,
+        })
+    }
+}
+
+impl ScramCredentialProvider for SingleScramCredential {
+    ghost version = { λ credential. credential.version };
+
+    ghost records = { λ credential. credential.records };
+
+    ghost clone_keeps = { λ provider copy same. (ap (λ (value : Provider). value.version) same, ap (λ (value : Provider). value.records) same) };
+
+    fn scram_version(&self) -> &ScramVersion {
+        &self.scram_version
+    }
+
+    fn get_stored_password<'a>(&'a self, username: &str) -> Option<StoredPassword<'a>> {
+        if self.username.as_str() != username {
+            return None;
+        }
+        Some(StoredPassword {
+            salt: &self.salt,
+            iterations: self.iterations,
+            stored_key: &self.stored_key,
+            server_key: &self.server_key,
+        })
+    }
+}

@@ -1,0 +1,87 @@
+//! The hashes of SCRAM and HMAC over them (RFC 2104).
+
+ghost use Rattle.std.specs.Prelude.{◌≡◌, IfOk};
+ghost use Rattle.fe2o3_scram.specs.Hmac.{mechanism_name, digest, digest_len, block_len, hmac_of};
+
+pub(crate) mod hasher;
+pub(crate) mod keyed;
+pub(crate) mod meter;
+
+use crate::OutOfMemory;
+use crate::hmac::hasher::digest_of;
+use crate::hmac::keyed::HmacKey;
+pub use crate::hmac::meter::Meter;
+use std::alloc::Global;
+
+/// The mechanism name of SCRAM with SHA-1.
+pub const SCRAM_SHA_1: &str = "SCRAM-SHA-1";
+
+/// The mechanism name of SCRAM with SHA-256.
+pub const SCRAM_SHA_256: &str = "SCRAM-SHA-256";
+
+/// The mechanism name of SCRAM with SHA-512.
+pub const SCRAM_SHA_512: &str = "SCRAM-SHA-512";
+
+/// Which hash a SCRAM mechanism stands on.
+#[derive(Debug, Clone, Copy, PartialEq, Eq)]
+pub enum ScramVersion {
+    /// SHA-1 (RFC 5802). New applications should take SHA-256.
+    Sha1,
+
+    /// SHA-256 (RFC 7677).
+    Sha256,
+
+    /// SHA-512.
+    Sha512,
+}
+
+impl ScramVersion {
+    /// The name of the SASL mechanism.
+    pub fn mechanism(&self) -> &'static str
+        ensures { result.now ≡ mechanism_name self.now }
+    {
+        match self {
+            ScramVersion::Sha1 => SCRAM_SHA_1,
+            ScramVersion::Sha256 => SCRAM_SHA_256,
+            ScramVersion::Sha512 => SCRAM_SHA_512,
+        }
+    }
+
+    /// The digest of the input, of 20, 32 or 64 bytes: `H` of RFC 5802, section 2.2.
+    pub fn h(&self, alloc: Global, input: &[u8]) -> Result<Vec<u8>, OutOfMemory>
+        ensures { IfOk result (λ output. output.items ≡ digest self.now input.now) }
+    {
+        digest_of(*self, input).as_slice().to_vec(alloc)
+    }
+
+    /// The HMAC of the input under a key of any length, as long as a digest.
+    pub fn hmac(&self, alloc: Global, key: &[u8], input: &[u8]) -> Result<Vec<u8>, OutOfMemory>
+        ensures { IfOk result (λ output. output.items ≡ hmac_of self.now key.now input.now) }
+    {
+        HmacKey::new(*self, key)
+            .mac(input, &mut Meter::new())
+            .as_slice()
+            .to_vec(alloc)
+    }
+
+    /// The length of a block that the hash works on, in bytes.
+    pub(crate) fn block_len(&self) -> usize
+        ensures { result ≡ block_len self.now }
+    {
+        match self {
+            ScramVersion::Sha1 | ScramVersion::Sha256 => 64,
+            ScramVersion::Sha512 => 128,
+        }
+    }
+
+    /// The length of a digest, in bytes.
+    pub(crate) fn digest_len(&self) -> usize
+        ensures { result ≡ digest_len self.now }
+    {
+        match self {
+            ScramVersion::Sha1 => 20,
+            ScramVersion::Sha256 => 32,
+            ScramVersion::Sha512 => 64,
+        }
+    }
+}

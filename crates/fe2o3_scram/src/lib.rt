@@ -1,0 +1,34 @@
+//! SCRAM over texts (RFC 5802), after the authentication layer of `fe2o3-amqp` 0.18.4. No AMQP is in it.
+//!
+//! A client makes its first message with [`ScramVersion::client_first_message`], answers the
+//! server's with [`ScramVersion::compute_client_final_message`], and believes the server only
+//! where [`ScramVersion::validate_server_final`] accepts its last one. A server makes its two
+//! messages with [`ScramVersion::compute_server_first_message`] and
+//! [`ScramVersion::compute_server_final_message`], from the records of a
+//! [`ScramCredentialProvider`]. [`ScramClient`] and [`ScramAuthenticator`] keep the messages of
+//! one exchange between the calls; [`laws`] says what holds of a whole exchange.
+#![tactic(auto)]
+
+pub mod credentials;
+pub mod hmac;
+pub mod laws;
+pub mod pbkdf2_hi;
+pub mod saslprep_ascii;
+pub mod scram_client;
+pub mod scram_messages;
+pub mod scram_server;
+mod texts;
+
+pub use crate::credentials::{
+    DEFAULT_SCRAM_ITERATIONS, ScramCredentialProvider, SingleScramCredential, StoredPassword,
+};
+pub use crate::hmac::{Meter, ScramVersion};
+pub use crate::pbkdf2_hi::KeyError;
+pub use crate::saslprep_ascii::{NormalizeError, saslprep};
+pub use crate::scram_client::ScramClient;
+pub use crate::scram_messages::{
+    ScramErrorKind, ServerFirstMessage, ServerScramErrorKind, UnescapeError, XorLengthMismatch,
+    escape_username, unescape_username,
+};
+pub use crate::scram_server::ScramAuthenticator;
+pub use std::alloc::AllocError as OutOfMemory;

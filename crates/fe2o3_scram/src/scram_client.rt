@@ -1,0 +1,190 @@
+//! The SCRAM client as a machine: one message after the other (RFC 5802, section 5).
+
+ghost use Rattle.std.specs.Prelude.{◌≡◌, IfOk, OnOk, OnErr};
+ghost use Rattle.std.specs.String.{string_bytes};
+ghost use Rattle.fe2o3_scram.specs.Texts.{base64_text};
+ghost use Rattle.fe2o3_scram.specs.ClientFirst.{client_first};
+ghost use Rattle.fe2o3_scram.specs.ScramClient.{Initial, AnswersIn, BelievesIn, started, state_of};
+ghost use Rattle.fe2o3_scram.specs.Readings.{Gives};
+
+use crate::OutOfMemory;
+use crate::hmac::{Meter, ScramVersion};
+use crate::scram_messages::error::ScramErrorKind;
+use crate::texts::base64_of;
+use bytes::Bytes;
+use std::alloc::{AllocError, Global};
+use std::marker::Model;
+
+/// What a client has sent last, and what it waits for.
+#[derive(Debug, Drop)]
+enum ScramClientState {
+    Initial,
+    ClientFirstSent {
+        client_nonce: String,
+        client_first_message_bare: Bytes,
+    },
+    ClientFinalSent {
+        server_signature: Vec<u8>,
+    },
+    Complete,
+}
+
+impl ScramClientState {
+    /// The same state.
+    fn copy(&self) -> Result<ScramClientState, OutOfMemory>
+        ensures { IfOk result (λ copy. state_of copy ≡ state_of self.now) }
+    {
+        Ok(match self {
+            ScramClientState::Initial => ScramClientState::Initial,
+            ScramClientState::ClientFirstSent {
+                client_nonce,
+                client_first_message_bare,
+            } => ScramClientState::ClientFirstSent {
+                client_nonce: client_nonce.clone()?,
+                client_first_message_bare: client_first_message_bare.clone()?,
+            },
+            ScramClientState::ClientFinalSent { server_signature } => {
+                ScramClientState::ClientFinalSent {
+                    server_signature: server_signature.clone()?,
+                }
+            }
+            ScramClientState::Complete => ScramClientState::Complete,
+        })
+    }
+}
+
+/// A client of one user. The calls come in the order `compute_client_first_message`,
+/// `compute_client_final_message`, `validate_server_final`, and the first starts afresh at any
+/// time. A call that is refused leaves the client as it was.
+#[derive(Debug, Drop)]
+pub struct ScramClient {
+    username: String,
+    password: String,
+    scram: ScramVersion,
+    iteration_limit: u32,
+    state: ScramClientState,
+}
+
+impl Model for ScramClient {
+    ghost use Rattle.std.specs.String.{string_bytes};
+    ghost use Rattle.fe2o3_scram.specs.ScramClient.{ClientSide, state_of};
+
+    ghost Value = { ClientSide };
+
+    ghost view = { λ client. record { user = string_bytes client.username; password = string_bytes client.password; version = client.scram; limit = client.iteration_limit; state = state_of client.state } };
+}
+
+impl ScramClient {
+    /// A client that has sent nothing, and accepts every iteration count.
+    pub fn new(username: String, password: String, scram_version: ScramVersion) -> Self
+        ensures { result ≡ record { user = string_bytes username; password = string_bytes password; version = scram_version; limit = 4294967295; state = Initial } }
+    {
+        Self {
+            username,
+            password,
+            scram: scram_version,
+            iteration_limit: u32::MAX,
+            state: ScramClientState::Initial,
+        }
+    }
+
+    /// The same client, which refuses an iteration count above the limit.
+    pub fn with_iteration_limit(self, limit: u32) -> Self
+        ensures { result ≡ record { user = self.user; password = self.password; version = self.version; limit = limit; state = self.state } }
+    {
+        Self {
+            username: self.username,
+            password: self.password,
+            scram: self.scram,
+            iteration_limit: limit,
+            state: self.state,
+        }
+    }
+
+    /// The client-first message with a nonce of 32 bytes, which is written in base64.
+    pub fn compute_client_first_message(
+        &mut self,
+        alloc: Global,
+        nonce: &[u8; 32],
+    ) -> Result<Bytes, OutOfMemory>
+        ensures message { IfOk result (λ message. message ≡ client_first self.old.user (base64_text nonce.now)) }
+        ensures started { OnOk result (self.new ≡ started self.old nonce.now) }
+        ensures err { OnErr result (self.new ≡ self.old) }
+    {
+        let client_nonce = base64_of(alloc, nonce)?;
+        let (client_first_message, client_first_message_bare) = self
+            .scram
+            .client_first_message(alloc, self.username.as_bytes(), client_nonce.as_bytes())?;
+        self.state = ScramClientState::ClientFirstSent {
+            client_nonce,
+            client_first_message_bare,
+        };
+        Ok(client_first_message)
+    }
+
+    /// Answers the server-first message with the client-final message.
+    pub fn compute_client_final_message(
+        &mut self,
+        alloc: Global,
+        server_first: &str,
+    ) -> Result<Vec<u8>, ScramErrorKind>
+        ensures answer { Gives ScramErrorKind.OutOfMemory (λ message. message.items) result (λ answer. AnswersIn self.old.state self.old server_first.now answer self.new) }
+        ensures err { OnErr result (self.new ≡ self.old) }
+    {
+        match &self.state {
+            ScramClientState::ClientFirstSent {
+                client_nonce,
+                client_first_message_bare,
+            } => {
+                let (client_final, server_signature) = self
+                    .scram
+                    .compute_client_final_message_limited(
+                        alloc,
+                        client_nonce,
+                        &self.password,
+                        server_first,
+                        client_first_message_bare,
+                        self.iteration_limit,
+                        &mut Meter::new(),
+                    )?;
+                self.state = ScramClientState::ClientFinalSent { server_signature };
+                Ok(client_final)
+            }
+            _ => Err(ScramErrorKind::IllegalClientState),
+        }
+    }
+
+    /// Believes the server-final message, or refuses it.
+    pub fn validate_server_final(
+        &mut self,
+        alloc: Global,
+        server_final: &[u8],
+    ) -> Result<(), ScramErrorKind>
+        ensures answer { Gives ScramErrorKind.OutOfMemory (λ believed. believed) result (λ answer. BelievesIn self.old.state self.old server_final.now answer self.new) }
+        ensures err { OnErr result (self.new ≡ self.old) }
+    {
+        match &self.state {
+            ScramClientState::ClientFinalSent { server_signature } => {
+                self.scram
+                    .validate_server_final(alloc, server_final, server_signature)?;
+                self.state = ScramClientState::Complete;
+                Ok(())
+            }
+            _ => Err(ScramErrorKind::IllegalClientState),
+        }
+    }
+}
+
+impl Clone for ScramClient {
+    ghost is_clone = { λ client copy. copy ≡ client };
+
+    fn clone(&self) -> Result<Self, AllocError> {
+        Ok(Self {
+            username: self.username.clone()?,
+            password: self.password.clone()?,
+            scram: self.scram,
+            iteration_limit: self.iteration_limit,
+            state: self.state.copy()?,
+        })
+    }
+}

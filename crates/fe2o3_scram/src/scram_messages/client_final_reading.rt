@@ -1,0 +1,79 @@
+//! The client-final message, as the server reads it, up to the test of its proof.
+
+ghost use Rattle.std.specs.Prelude.{◌≢◌, ◌++◌, IfOk, IfErr, OnOk, codes};
+ghost use Rattle.fe2o3_scram.specs.Readings.{IsFirst, NoneHolds};
+ghost use Rattle.fe2o3_scram.specs.ClientFinal.{HasBinding, HasProof, binding_tests, nonce_tests, spelling_tests};
+ghost use Rattle.fe2o3_scram.specs.private.Values.{client_final_values};
+ghost use Rattle.fe2o3_scram.specs.Texts.{Part};
+
+use crate::scram_messages::attributes::{CHANNEL_BINDING_KEY, GS2_HEADER, NONCE_KEY, PROOF_KEY};
+use crate::scram_messages::error::ServerScramErrorKind;
+use crate::texts::{after, attribute, bytes_of, last_part};
+use std::alloc::Global;
+
+/// What a client-final message names.
+#[derive(Debug, Drop)]
+pub(crate) struct ClientFinalValues<'a> {
+    pub without_proof: &'a str,
+    pub proof: Vec<u8>,
+}
+
+/// Tests that the client binds no channel.
+pub(crate) fn test_binding(alloc: Global, client_final: &str) -> Result<(), ServerScramErrorKind>
+    ensures tested { OnOk result (NoneHolds (binding_tests client_final.now)) }
+    ensures bound { OnOk result (HasBinding client_final.now (codes "n,,")) }
+    ensures err { IfErr result (λ kind. kind ≢ ServerScramErrorKind.OutOfMemory → IsFirst (binding_tests client_final.now) kind) }
+{
+    let Some(base64_binding) = attribute(client_final, 0, CHANNEL_BINDING_KEY) else {
+        return Err(ServerScramErrorKind::CannotParseClientFinalMessage);
+    };
+    let Some(channel_binding) = bytes_of(alloc, base64_binding)? else {
+        return Err(ServerScramErrorKind::Base64DecodeError);
+    };
+    if channel_binding.as_slice() != GS2_HEADER.as_bytes() {
+        return Err(ServerScramErrorKind::InvalidChannelBinding);
+    }
+    Ok(())
+}
+
+/// Tests that the nonce is that of the challenge.
+pub(crate) fn test_nonce(
+    client_server_nonce: &[u8],
+    client_final: &str,
+) -> Result<(), ServerScramErrorKind>
+    ensures tested { OnOk result (NoneHolds (nonce_tests client_server_nonce.now client_final.now)) }
+    ensures same { OnOk result (Part client_final.now 1 (codes "r=" ++ client_server_nonce.now)) }
+    ensures err { IfErr result (IsFirst (nonce_tests client_server_nonce.now client_final.now)) }
+{
+    let Some(nonce) = attribute(client_final, 1, NONCE_KEY) else {
+        return Err(ServerScramErrorKind::CannotParseClientFinalMessage);
+    };
+    if nonce.as_bytes() != client_server_nonce {
+        return Err(ServerScramErrorKind::IncorrectClientFinalNonce);
+    }
+    Ok(())
+}
+
+/// The proof, and what stands before it.
+pub(crate) fn read_proof(
+    alloc: Global,
+    client_final: &str,
+) -> Result<ClientFinalValues<'_>, ServerScramErrorKind>
+    ensures tested { IfOk result (λ _. NoneHolds (spelling_tests client_final.now)) }
+    ensures named { IfOk result (λ final. HasProof client_final.now (client_final_values final)) }
+    ensures err { IfErr result (λ kind. kind ≢ ServerScramErrorKind.OutOfMemory → IsFirst (spelling_tests client_final.now) kind) }
+{
+    let Some((without_proof, last)) = last_part(client_final) else {
+        return Err(ServerScramErrorKind::ProofNotFoundInClientFinal);
+    };
+    let Some(base64_proof) = after(last, PROOF_KEY) else {
+        return Err(ServerScramErrorKind::ProofNotFoundInClientFinal);
+    };
+    let Some(proof) = bytes_of(alloc, base64_proof)? else {
+        return Err(ServerScramErrorKind::Base64DecodeError);
+    };
+    Ok(ClientFinalValues {
+        without_proof,
+        proof,
+    })
+}

@@ -1,0 +1,101 @@
+//! User names as SCRAM messages send them (RFC 5802, section 5.1).
+
+ghost use Rattle.std.specs.Prelude.{◌≡◌, ◌≢◌, ◌↔◌, ◌⊎◌, ◌++◌, ◌∷◌, IfOk, IfErr, MatchOption, ℕ, List, string_bytes};
+ghost use Rattle.std.specs.Cow.{cow_str_bytes, IsBorrowedStr};
+ghost use Rattle.fe2o3_scram.specs.Texts.{NoComma};
+ghost use Rattle.fe2o3_scram.specs.Escape.{escaped, NoEquals};
+ghost use Rattle.fe2o3_scram.specs.declared.scram_messages.escape.UnescapeError.TheVariants.{OutOfMemory as OutOfMemoryError};
+
+use crate::OutOfMemory;
+use crate::texts::after;
+use std::alloc::{AllocError, Global};
+use std::borrow::CowStr;
+use thiserror::Error;
+
+/// Why a text is not read as a user name.
+#[derive(Debug, Clone, Copy, PartialEq, Eq, Error)]
+pub enum UnescapeError {
+    /// The text holds a comma, or an equals sign that neither `2C` nor `3D` follows.
+    #[error("Invalid")]
+    Invalid,
+
+    /// A request for memory was refused.
+    #[error("OutOfMemory")]
+    OutOfMemory,
+}
+
+impl From<AllocError> for UnescapeError {
+    ghost from_gives = { λ _ error. error ≡ OutOfMemoryError };
+
+    fn from(_error: AllocError) -> Self {
+        UnescapeError::OutOfMemory
+    }
+}
+
+/// The user name with each comma as `=2C` and each equals sign as `=3D`.
+#[tactic(auto, using(crate::proofs::lemmas::texts::EscapingLemmas::escaping))]
+pub fn escape_username(alloc: Global, username: &[u8]) -> Result<Vec<u8>, OutOfMemory>
+    ensures { IfOk result (λ text. text.items ≡ escaped username.now) }
+{
+    let mut text = Vec::new(alloc);
+    for byte in username {
+        match *byte {
+            b',' => text.extend_from_slice(b"=2C")?,
+            b'=' => text.extend_from_slice(b"=3D")?,
+            other => text.push(other)?,
+        }
+    }
+    Ok(text)
+}
+
+/// The user name that the text spells, borrowed where the text holds no equals sign.
+///
+/// The escapes are read in these very letters: `=2c` is invalid.
+#[tactic(auto, using(crate::proofs::lemmas::texts::EscapingLemmas::names))]
+pub fn unescape_username(alloc: Global, text: &str) -> Result<CowStr<'_>, UnescapeError>
+    ensures ok { IfOk result (λ name. escaped (cow_str_bytes name) ≡ text.now) }
+    ensures borrowed { IfOk result (λ name. IsBorrowedStr name ↔ NoEquals text.now) }
+
+    // A text without an equals sign takes no memory.
+    ensures err { IfErr result (λ error. ((error ≡ UnescapeError.Invalid) × ((name : List ℕ) → escaped name ≢ text.now)) ⊎ ((error ≡ UnescapeError.OutOfMemory) × ¬ NoEquals text.now)) }
+{
+    if text.contains(',') {
+        return Err(UnescapeError::Invalid);
+    }
+    if text.contains('=') {
+        return Ok(CowStr::Owned(unescape(alloc, text)?));
+    }
+    Ok(CowStr::Borrowed(text))
+}
+
+/// The name that a text without commas spells.
+#[tactic(auto, using(crate::proofs::lemmas::texts::EscapingLemmas::unescaping))]
+fn unescape(alloc: Global, text: &str) -> Result<String, UnescapeError>
+    requires { NoComma text.now }
+    ensures ok { IfOk result (λ name. escaped (string_bytes name) ≡ text.now) }
+    ensures err { IfErr result (λ error. error ≢ UnescapeError.OutOfMemory → (error ≡ UnescapeError.Invalid) × ((name : List ℕ) → escaped name ≢ text.now)) }
+{
+    let mut name = String::new(alloc);
+    let mut rest = text;
+    while let Some((before, escape)) = at_equals(rest) {
+        name.push_str(before)?;
+        if let Some(more) = after(escape, "2C") {
+            name.push_str(",")?;
+            rest = more;
+        } else if let Some(more) = after(escape, "3D") {
+            name.push_str("=")?;
+            rest = more;
+        } else {
+            return Err(UnescapeError::Invalid);
+        }
+    }
+    name.push_str(rest)?;
+    Ok(name)
+}
+
+/// What stands before the first equals sign, and what follows it.
+fn at_equals(text: &str) -> Option<(&str, &str)>
+    ensures { MatchOption result (NoEquals text.now) (λ both. NoEquals both.0.now × (text.now ≡ both.0.now ++ (61 ∷ both.1.now))) }
+{
+    text.split_once('=')
+}

@@ -1,0 +1,82 @@
+//! The server-first message, which challenges a known user.
+
+ghost use Rattle.std.specs.Prelude.{◌≡◌, IfOk, option_map};
+ghost use Rattle.fe2o3_scram.specs.ServerFirst.{AnswersClientFirst, server_first_of};
+ghost use Rattle.fe2o3_scram.specs.Credentials.{kept};
+ghost use Rattle.fe2o3_scram.specs.Readings.{Gives};
+ghost use Rattle.fe2o3_scram.specs.private.Values.{challenge_values};
+
+use crate::OutOfMemory;
+use crate::credentials::{ScramCredentialProvider, StoredPassword};
+use crate::hmac::ScramVersion;
+use crate::scram_messages::attributes::{ITERATION_COUNT_KEY, NONCE_KEY, SALT_KEY};
+use crate::scram_messages::client_first_reading::read_client_first;
+use crate::scram_messages::error::ServerScramErrorKind;
+use crate::texts::base64_of;
+use bytes::Bytes;
+use std::alloc::Global;
+use std::borrow::CowStr;
+
+/// A server-first message, and what the server keeps of the exchange so far.
+#[derive(Debug, Drop)]
+pub struct ServerFirstMessage<'a> {
+    /// The plain name of the user, borrowed where the client escaped nothing.
+    pub username: CowStr<'a>,
+
+    /// The client-first message without its GS2 header.
+    pub client_first_message_bare: &'a str,
+
+    /// The nonce of both sides.
+    pub client_server_nonce: Bytes,
+
+    /// The message to send.
+    pub message: Bytes,
+}
+
+impl ScramVersion {
+    /// Answers a client-first message with a challenge, or with `None` where the user is unknown.
+    ///
+    /// The server's nonce is a text without commas. It is written behind the client's.
+    pub fn compute_server_first_message<'a, C: ScramCredentialProvider>(
+        &self,
+        alloc: Global,
+        client_first: &'a [u8],
+        base64_server_nonce: &str,
+        credentials: &C,
+    ) -> Result<Option<ServerFirstMessage<'a>>, ServerScramErrorKind>
+        ensures { Gives ServerScramErrorKind.OutOfMemory (option_map challenge_values) result (AnswersClientFirst (C.records credentials.now) base64_server_nonce.now client_first.now) }
+    {
+        let client_first = read_client_first(alloc, client_first)?;
+        let Some(stored_password) = credentials.get_stored_password(&client_first.username) else {
+            return Ok(None);
+        };
+        let mut client_server_nonce = client_first.client_nonce.as_bytes().to_vec(alloc)?;
+        client_server_nonce.extend_from_slice(base64_server_nonce.as_bytes())?;
+        let message = server_first(alloc, &client_server_nonce, &stored_password)?;
+        Ok(Some(ServerFirstMessage {
+            username: client_first.username,
+            client_first_message_bare: client_first.client_first_message_bare,
+            client_server_nonce: Bytes::from_vec(client_server_nonce)?,
+            message: Bytes::from_vec(message)?,
+        }))
+    }
+}
+
+/// The server-first message with this nonce of both sides.
+fn server_first(
+    alloc: Global,
+    client_server_nonce: &[u8],
+    stored_password: &StoredPassword<'_>,
+) -> Result<Vec<u8>, OutOfMemory>
+    ensures { IfOk result (λ text. text.items ≡ server_first_of client_server_nonce.now (kept stored_password.now)) }
+{
+    let mut buf = NONCE_KEY.as_bytes().to_vec(alloc)?;
+    buf.extend_from_slice(client_server_nonce)?;
+    buf.push(b',')?;
+    buf.extend_from_slice(SALT_KEY.as_bytes())?;
+    buf.extend_from_slice(base64_of(alloc, stored_password.salt)?.as_bytes())?;
+    buf.push(b',')?;
+    buf.extend_from_slice(ITERATION_COUNT_KEY.as_bytes())?;
+    buf.extend_from_slice(stored_password.iterations.to_string(alloc)?.as_bytes())?;
+    Ok(buf)
+}

@@ -1,0 +1,103 @@
+//! The server-first message, as the client reads it.
+
+ghost use Rattle.std.specs.Prelude.{◌≢◌, ◌≤◌, ◌++◌, IfOk, IfErr, codes};
+ghost use Rattle.fe2o3_scram.specs.Readings.{Gives, IsFirst, NoneHolds};
+ghost use Rattle.fe2o3_scram.specs.ServerFirst.{ReadsServerFirst, HasSalt, HasCount, nonce_tests, salt_tests, count_tests};
+ghost use Rattle.fe2o3_scram.specs.Texts.{Part};
+ghost use Rattle.fe2o3_scram.specs.private.Values.{values_of};
+
+use crate::saslprep_ascii::saslprep;
+use crate::scram_messages::attributes::{ITERATION_COUNT_KEY, NONCE_KEY, RESERVED_MEXT, SALT_KEY};
+use crate::scram_messages::error::ScramErrorKind;
+use crate::texts::{after, attribute, bytes_of, count_of, part};
+use std::alloc::Global;
+
+/// What a server-first message names.
+#[derive(Debug, Drop)]
+pub(crate) struct ServerFirstValues<'a> {
+    pub nonce: &'a str,
+    pub salt: Vec<u8>,
+    pub iterations: u32,
+}
+
+/// Reads a server-first message. Memory is taken for the salt alone.
+pub(crate) fn read_server_first<'a>(
+    alloc: Global,
+    client_nonce: &str,
+    password: &str,
+    limit: u32,
+    server_first: &'a str,
+) -> Result<ServerFirstValues<'a>, ScramErrorKind>
+    ensures reads { Gives ScramErrorKind.OutOfMemory values_of result (ReadsServerFirst (record { nonce = client_nonce.now; password = password.now; limit = limit }) server_first.now) }
+    ensures count { IfOk result (λ first. (1 ≤ first.iterations) × (first.iterations ≤ limit)) }
+{
+    let nonce = read_nonce(client_nonce, server_first)?;
+    let salt = read_salt(alloc, server_first)?;
+    let iterations = read_count(limit, server_first)?;
+    if saslprep(password).is_err() {
+        return Err(ScramErrorKind::NormalizeError);
+    }
+    Ok(ServerFirstValues {
+        nonce,
+        salt,
+        iterations,
+    })
+}
+
+/// The nonce of both sides.
+#[tactic(auto, using(crate::proofs::lemmas::messages::ServerFirstLemmas::nonces))]
+fn read_nonce<'a>(client_nonce: &str, server_first: &'a str) -> Result<&'a str, ScramErrorKind>
+    ensures tested { IfOk result (λ _. NoneHolds (nonce_tests client_nonce.now server_first.now)) }
+    ensures named { IfOk result (λ nonce. Part server_first.now 0 (codes "r=" ++ nonce.now)) }
+    ensures err { IfErr result (IsFirst (nonce_tests client_nonce.now server_first.now)) }
+{
+    let Some(_) = part(server_first, 2) else {
+        return Err(ScramErrorKind::InsufficientParts);
+    };
+    if let Some(_) = attribute(server_first, 0, RESERVED_MEXT) {
+        return Err(ScramErrorKind::ExtensionNotSupported);
+    }
+    let Some(nonce) = attribute(server_first, 0, NONCE_KEY) else {
+        return Err(ScramErrorKind::NonceNotFound);
+    };
+    let Some(_) = after(nonce, client_nonce) else {
+        return Err(ScramErrorKind::ClientNonceMismatch);
+    };
+    Ok(nonce)
+}
+
+/// The salt.
+#[tactic(auto, using(crate::proofs::lemmas::messages::ServerFirstLemmas::salts))]
+fn read_salt(alloc: Global, server_first: &str) -> Result<Vec<u8>, ScramErrorKind>
+    ensures tested { IfOk result (λ _. NoneHolds (salt_tests server_first.now)) }
+    ensures named { IfOk result (λ salt. HasSalt server_first.now salt.items) }
+    ensures err { IfErr result (λ kind. kind ≢ ScramErrorKind.OutOfMemory → IsFirst (salt_tests server_first.now) kind) }
+{
+    let Some(base64_salt) = attribute(server_first, 1, SALT_KEY) else {
+        return Err(ScramErrorKind::SaltNotFound);
+    };
+    let Some(salt) = bytes_of(alloc, base64_salt)? else {
+        return Err(ScramErrorKind::Base64DecodeError);
+    };
+    Ok(salt)
+}
+
+/// The iteration count, from 1 to the limit.
+#[tactic(auto, using(crate::proofs::lemmas::messages::ServerFirstLemmas::counts))]
+fn read_count(limit: u32, server_first: &str) -> Result<u32, ScramErrorKind>
+    ensures tested { IfOk result (λ _. NoneHolds (count_tests limit server_first.now)) }
+    ensures named { IfOk result (HasCount server_first.now) }
+    ensures within { IfOk result (λ count. (1 ≤ count) × (count ≤ limit)) }
+    ensures err { IfErr result (IsFirst (count_tests limit server_first.now)) }
+{
+    let Some(iter_count_str) = attribute(server_first, 2, ITERATION_COUNT_KEY) else {
+        return Err(ScramErrorKind::IterationCountNotFound);
+    };
+    let Some(iterations) = count_of(iter_count_str) else {
+        return Err(ScramErrorKind::IterationCountParseError);
+    };
+    if iterations > limit {
+        return Err(ScramErrorKind::IterationCountTooLarge);
+    }
+    Ok(iterations)
+}

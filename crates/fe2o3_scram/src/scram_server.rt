@@ -1,0 +1,186 @@
+//! The SCRAM server as a machine: one message after the other (RFC 5802, section 5).
+
+ghost use Rattle.std.specs.Prelude.{◌≡◌, IfOk, OnErr, option_map};
+ghost use Rattle.fe2o3_scram.specs.ScramServer.{provider_in, state_in, Initial, ChallengesFrom, ConcludesFrom, state_of};
+ghost use Rattle.fe2o3_scram.specs.Texts.{base64_text};
+ghost use Rattle.fe2o3_scram.specs.ServerFirst.{AnswersClientFirst};
+ghost use Rattle.fe2o3_scram.specs.Readings.{Gives};
+ghost use Rattle.fe2o3_scram.specs.private.Values.{challenge_values};
+
+use crate::OutOfMemory;
+use crate::credentials::ScramCredentialProvider;
+use crate::scram_messages::ServerFirstMessage;
+use crate::scram_messages::error::ServerScramErrorKind;
+use crate::texts::base64_of;
+use bytes::Bytes;
+use std::alloc::{AllocError, Global};
+
+/// What a server has sent last.
+#[derive(Debug, Drop)]
+enum ScramAuthenticatorState {
+    Initial,
+    ServerFirstSent {
+        username: String,
+        client_first_message_bare: Bytes,
+        client_server_nonce: Bytes,
+        server_first_message: Bytes,
+    },
+    ServerFinalSent,
+}
+
+impl ScramAuthenticatorState {
+    /// The same state.
+    fn copy(&self) -> Result<ScramAuthenticatorState, OutOfMemory>
+        ensures { IfOk result (λ copy. state_of copy ≡ state_of self.now) }
+    {
+        Ok(match self {
+            ScramAuthenticatorState::Initial => ScramAuthenticatorState::Initial,
+            ScramAuthenticatorState::ServerFirstSent {
+                username,
+                client_first_message_bare,
+                client_server_nonce,
+                server_first_message,
+            } => ScramAuthenticatorState::ServerFirstSent {
+                username: username.clone()?,
+                client_first_message_bare: client_first_message_bare.clone()?,
+                client_server_nonce: client_server_nonce.clone()?,
+                server_first_message: server_first_message.clone()?,
+            },
+            ScramAuthenticatorState::ServerFinalSent => ScramAuthenticatorState::ServerFinalSent,
+        })
+    }
+}
+
+/// A server over a store of credentials. A client-first message opens a challenge, in place of an
+/// earlier one, and an accepted client-final message closes it. A call that is refused leaves the
+/// authenticator as it was.
+#[derive(Debug, Drop)]
+pub struct ScramAuthenticator<C: ScramCredentialProvider> {
+    credentials: C,
+    state: ScramAuthenticatorState,
+}
+
+impl<C: ScramCredentialProvider> ScramAuthenticator<C> {
+    /// A server without an open challenge.
+    pub fn new(credentials: C) -> Self
+        ensures provider { provider_in result ≡ credentials }
+        ensures state { state_in result ≡ Initial }
+    {
+        Self {
+            credentials,
+            state: ScramAuthenticatorState::Initial,
+        }
+    }
+
+    /// The store of credentials.
+    pub fn credentials(&self) -> &C
+        ensures { result.now ≡ provider_in self.now }
+    {
+        &self.credentials
+    }
+
+    /// Answers a client-first message with the server-first message, or with `None` where the user
+    /// is unknown. The nonce of 32 bytes is written in base64 behind the client's.
+    pub fn compute_server_first_message(
+        &mut self,
+        alloc: Global,
+        client_first_message: &[u8],
+        nonce: &[u8; 32],
+    ) -> Result<Option<Vec<u8>>, ServerScramErrorKind>
+        ensures answer { Gives ServerScramErrorKind.OutOfMemory (option_map (λ message. message.items)) result (λ answer. ChallengesFrom (state_in self.old) (record { version = C.version (provider_in self.old); records = C.records (provider_in self.old) }) nonce.now client_first_message.now answer (state_in self.new)) }
+        ensures provider { provider_in self.new ≡ provider_in self.old }
+        ensures err { OnErr result (state_in self.new ≡ state_in self.old) }
+    {
+        let Some(server_first) = challenge(alloc, &self.credentials, client_first_message, nonce)?
+        else {
+            return Ok(None);
+        };
+        let ServerFirstMessage {
+            username,
+            client_first_message_bare,
+            client_server_nonce,
+            message,
+        } = server_first;
+        let username = username.into_owned(alloc)?;
+        let client_first_message_bare = Bytes::copy_from_slice(
+            alloc,
+            client_first_message_bare.as_bytes(),
+        )?;
+        let answer = message.to_vec(alloc)?;
+        self.state = ScramAuthenticatorState::ServerFirstSent {
+            username,
+            client_first_message_bare,
+            client_server_nonce,
+            server_first_message: message,
+        };
+        Ok(Some(answer))
+    }
+
+    /// Answers a client-final message with the server-final message, and never with `None`.
+    pub fn compute_server_final_message(
+        &mut self,
+        alloc: Global,
+        client_final_message: &[u8],
+    ) -> Result<Option<Vec<u8>>, ServerScramErrorKind>
+        ensures answer { Gives ServerScramErrorKind.OutOfMemory (option_map (λ message. message.items)) result (λ answer. ConcludesFrom (state_in self.old) (record { version = C.version (provider_in self.old); records = C.records (provider_in self.old) }) client_final_message.now answer (state_in self.new)) }
+        ensures provider { provider_in self.new ≡ provider_in self.old }
+        ensures err { OnErr result (state_in self.new ≡ state_in self.old) }
+    {
+        match &self.state {
+            ScramAuthenticatorState::ServerFirstSent {
+                username,
+                client_first_message_bare,
+                client_server_nonce,
+                server_first_message,
+            } => {
+                let Some(stored_password) = self.credentials.get_stored_password(username) else {
+                    return Err(ServerScramErrorKind::AuthenticationFailed);
+                };
+                let server_final_message = self
+                    .credentials
+                    .scram_version()
+                    .compute_server_final_message(
+                        alloc,
+                        client_final_message,
+                        client_server_nonce,
+                        client_first_message_bare,
+                        server_first_message,
+                        &stored_password,
+                    )?;
+                self.state = ScramAuthenticatorState::ServerFinalSent;
+                Ok(Some(server_final_message))
+            }
+            _ => Err(ServerScramErrorKind::IllegalAuthenticatorState),
+        }
+    }
+}
+
+/// The challenge to a client-first message with this nonce of the server.
+fn challenge<'a, C: ScramCredentialProvider>(
+    alloc: Global,
+    credentials: &C,
+    client_first_message: &'a [u8],
+    nonce: &[u8; 32],
+) -> Result<Option<ServerFirstMessage<'a>>, ServerScramErrorKind>
+    ensures { Gives ServerScramErrorKind.OutOfMemory (option_map challenge_values) result (AnswersClientFirst (C.records credentials.now) (base64_text nonce.now) client_first_message.now) }
+{
+    let base64_server_nonce = base64_of(alloc, nonce)?;
+    let version = *credentials.scram_version();
+    version.compute_server_first_message(
+        alloc,
+        client_first_message,
+        &base64_server_nonce,
+        credentials,
+    )
+}
+
+impl<C: ScramCredentialProvider> Clone for ScramAuthenticator<C> {
+    ghost is_clone = { λ authenticator copy. C.is_clone (provider_in authenticator) (provider_in copy) × (state_in copy ≡ state_in authenticator) };
+
+    fn clone(&self) -> Result<Self, AllocError> {
+        Ok(Self {
+            credentials: self.credentials.clone()?,
+            state: self.state.copy()?,
+        })
+    }
+}

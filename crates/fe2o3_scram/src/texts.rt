@@ -1,0 +1,66 @@
+//! The pieces of SCRAM messages: parts between commas, attributes, base64 and counts.
+
+ghost use Rattle.std.specs.Prelude.{◌≡◌, ◌++◌, ℕ, List, IfOk, MatchOption, string_bytes};
+ghost use Rattle.fe2o3_scram.specs.Texts.{Begins, Part, LastPart, IsBase64, base64_text, IsCount};
+
+use crate::OutOfMemory;
+use base64::DecodeAllocError;
+use base64::engine::general_purpose::STANDARD;
+use std::alloc::Global;
+
+/// The part at place `k`, counted from 0.
+pub(crate) fn part(text: &str, k: usize) -> Option<&str>
+    ensures { MatchOption result ((part : List ℕ) → ¬ Part text.now k part) (λ part. Part text.now k part.now) }
+{
+    text.split(',').nth(k)
+}
+
+/// What follows the key in the part at place `k`, where that part begins with the key.
+pub(crate) fn attribute<'a>(text: &'a str, k: usize, key: &str) -> Option<&'a str>
+    ensures { MatchOption result ((rest : List ℕ) → ¬ Part text.now k (key.now ++ rest)) (λ rest. Part text.now k (key.now ++ rest.now)) }
+{
+    after(part(text, k)?, key)
+}
+
+/// The last of several parts, and what stands before its comma.
+pub(crate) fn last_part(text: &str) -> Option<(&str, &str)>
+    ensures { MatchOption result ((before part : List ℕ) → ¬ LastPart text.now before part) (λ both. LastPart text.now both.0.now both.1.now) }
+{
+    text.rsplit_once(',')
+}
+
+/// What follows the prefix.
+pub(crate) fn after<'a>(text: &'a str, prefix: &str) -> Option<&'a str>
+    ensures { MatchOption result (¬ Begins text.now prefix.now) (λ rest. text.now ≡ prefix.now ++ rest.now) }
+{
+    text.strip_prefix(prefix)
+}
+
+/// The base64 text of the bytes.
+pub(crate) fn base64_of(alloc: Global, bytes: &[u8]) -> Result<String, OutOfMemory>
+    ensures { IfOk result (λ text. string_bytes text ≡ base64_text bytes.now) }
+{
+    STANDARD.encode(alloc, bytes)
+}
+
+/// The bytes that the text spells in base64, or `None` where it is no base64 text.
+pub(crate) fn bytes_of(alloc: Global, text: &str) -> Result<Option<Vec<u8>>, OutOfMemory>
+    ensures { IfOk result (λ read. MatchOption read ((bytes : List ℕ) → ¬ IsBase64 text.now bytes) (λ bytes. IsBase64 text.now bytes.items)) }
+{
+    match STANDARD.decode(alloc, text.as_bytes()) {
+        Ok(bytes) => Ok(Some(bytes)),
+        Err(DecodeAllocError::DecodeError(_)) => Ok(None),
+        Err(DecodeAllocError::OutOfMemory) => Err(OutOfMemory),
+    }
+}
+
+/// The iteration count that the text spells, or `None` where it spells none, or 0.
+pub(crate) fn count_of(text: &str) -> Option<u32>
+    ensures { MatchOption result ((count : ℕ) → ¬ IsCount text.now count) (λ count. IsCount text.now count) }
+{
+    match text.parse::<u32>() {
+        Ok(0) => None,
+        Ok(count) => Some(count),
+        Err(_) => None,
+    }
+}
