@@ -193,7 +193,7 @@ response_step P c event text says moved next reply (Err fault) known from r h =
     auth_response P (Some c) event text says (ServerFirstSent (challenge_of c.client c.nonce c.stored)) moved next reply refl (λ p fits. unfit p fits from.0) r from.1 h
   where
     unfit : (p : Accepted) → FitsAsResponse P (λ d. Some c ≡ Some d) (frames.Response text) p
-        → ((stored : Record) × (record_at P.records c.client.user ≡ Some stored) × ReadsClientFinal (server_of P.version c.client.bare (first_message c) (full_nonce c) stored) text (Err fault)) ⊎ ((record_at P.records c.client.user ≡ None) × (fault ≡ Rattle.fe2o3_sasl.specs.declared.scram_messages.error.ServerScramErrorKind.TheVariants.AuthenticationFailed)) → ⊥
+        → ((stored : Record) × (record_at P.records c.client.user ≡ Some stored) × ReadsClientFinal (server_of P.version c.client.bare (first_message c) (full_nonce c) stored) text (Err fault)) ⊎ ((record_at P.records c.client.user ≡ None) × (fault ≡ Rattle.fe2o3_scram.specs.declared.scram_messages.error.ServerScramErrorKind.TheVariants.AuthenticationFailed)) → ⊥
     unfit p fits (inl x) =
         let stored = same_server P c x.0 known x.1 in
         let same : c ≡ p.challenge = same_Some c p.challenge fits.0 in
