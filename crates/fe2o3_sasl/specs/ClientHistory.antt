@@ -1,4 +1,5 @@
--- What a SCRAM client answers to a list of frame bodies (RFC 5802, section 5; AMQP 1.0, part 5, section 5.3.2). Nothing here is a state: what is due and what is open are positions in the list.
+-- What a SCRAM client answers to a list of frame bodies (RFC 5802, section 5; AMQP 1.0, part 5, section 5.3.2).
+-- Nothing here is a state: what is due and what is open are positions in the list.
 use Rattle.std.specs.Prelude.{◌≡◌, ◌≢◌, ◌⊎◌, ℕ, Bool, true, false, Option, Some, None, List, length, slice_get, Result, Ok, Err}
 use Rattle.std.specs.List.{Contains}
 use Rattle.std.specs.Str.{IsUtf8}
@@ -13,7 +14,7 @@ use Rattle.fe2o3_scram.specs.declared.scram_messages.error.ScramErrorKind.TheVar
 use Rattle.fe2o3_scram.specs.Texts.{base64_text}
 use Rattle.fe2o3_scram.specs.ClientFinal.{answer_of}
 use Rattle.fe2o3_scram.specs.ClientFirst.{client_first, client_first_bare}
-use Rattle.fe2o3_sasl.specs.Events.{Given, Login, ClientSays, Started, Answered, Reported, Refused, Unexpected, Scram, Frame, NoMemory}
+use Rattle.fe2o3_sasl.specs.Events.{Given, Login, ClientSays, Started, Answered, Reported, Refused, NotImplemented, Scram, Frame, OutOfMemory}
 use Rattle.fe2o3_scram.specs.Hmac.{mechanism_name}
 use Rattle.fe2o3_sasl.specs.Positions.{IsLastOpen, OpenBy}
 use Rattle.fe2o3_scram.specs.ServerFinal.{ReadsServerFinal}
@@ -32,40 +33,50 @@ client_at login nonce = record { nonce = nonce; password = login.password; limit
 
 -- its client-final message, and the signature that it waits for
 abbrev pub answer_at : Login → Answering → List ℕ × List ℕ
-answer_at login answer = answer_of login.version login.password (client_first_bare login.user answer.nonce) answer.text answer.first
+answer_at login answer = answer_of login.version login.password
+    (client_first_bare login.user answer.nonce) answer.text answer.first
 
 -- the reply of a start: an init with the client-first message (AMQP 1.0, part 5, section 5.3.3.2)
 abbrev pub says_start : Login → Given → ClientSays
 says_start login event =
-    carried (Refused (Frame faults.TooLarge)) (λ body. Started body) (canonical (frames.Init (mechanism_name login.version) (Some (client_first login.user (base64_text event.nonce))) None))
+    carried (Refused (Frame faults.TooLarge)) (λ body. Started body)
+    (canonical (frames.Init (mechanism_name login.version)
+    (Some (client_first login.user (base64_text event.nonce))) None))
 
 -- the reply of an answer: a response with the client-final message
 abbrev pub says_answer : Login → Answering → ClientSays
-says_answer login answer = carried (Refused (Frame faults.TooLarge)) (λ body. Answered body) (canonical (frames.Response (answer_at login answer).0))
+says_answer login answer = carried (Refused (Frame faults.TooLarge)) (λ body. Answered body)
+    (canonical (frames.Response (answer_at login answer).0))
 
 -- a challenge is read in this order: it is UTF-8, a challenge is due, and then every test of a server-first message
 abbrev pub ReadsChallenge : Login → (List ℕ → Type 0) → List ℕ → Result Answering ScramErrorKind → Type 0
-ReadsChallenge login Due text (Ok answer) = IsUtf8 text × (answer.text ≡ text) × Due answer.nonce × ReadsServerFirst (client_at login answer.nonce) text (Ok answer.first)
+ReadsChallenge login Due text (Ok answer) = IsUtf8 text × (answer.text ≡ text) × Due answer.nonce
+    × ReadsServerFirst (client_at login answer.nonce) text (Ok answer.first)
 ReadsChallenge login Due text (Err kind) =
     (¬ IsUtf8 text × (kind ≡ Utf8Error))
     ⊎ ((IsUtf8 text × ((nonce : List ℕ) → ¬ Due nonce) × (kind ≡ IllegalClientState))
     ⊎ (IsUtf8 text × ((nonce : List ℕ) × Due nonce × ReadsServerFirst (client_at login nonce) text (Err kind))))
 
--- the data of an outcome Ok is read in this order: there is data, an answer is open, and then every test of a server-final message
+-- the data of an outcome Ok is read in this order: there is data, an answer is open, and then every test of a
+-- server-final message
 abbrev pub ReadsOutcome : Login → (Answering → Type 0) → Option (List ℕ) → Result (Unit {0}) ScramErrorKind → Type 0
 ReadsOutcome login IsOpen None (Ok believed) = ⊥
 ReadsOutcome login IsOpen None (Err kind) = kind ≡ ServerSignatureMismatch
-ReadsOutcome login IsOpen (Some text) (Ok believed) = (answer : Answering) × IsOpen answer × ReadsServerFinal (answer_at login answer).1 text (Ok believed)
+ReadsOutcome login IsOpen (Some text) (Ok believed) = (answer : Answering) × IsOpen answer
+    × ReadsServerFinal (answer_at login answer).1 text (Ok believed)
 ReadsOutcome login IsOpen (Some text) (Err kind) =
-    (((answer : Answering) → ¬ IsOpen answer) × (kind ≡ IllegalClientState)) ⊎ ((answer : Answering) × IsOpen answer × ReadsServerFinal (answer_at login answer).1 text (Err kind))
+    (((answer : Answering) → ¬ IsOpen answer) × (kind ≡ IllegalClientState))
+    ⊎ ((answer : Answering) × IsOpen answer × ReadsServerFinal (answer_at login answer).1 text (Err kind))
 
 -- the reply to a body that spells this, where a challenge is due for these nonces and these answers are open
-abbrev pub ClientAnswers : Login → (List ℕ → Type 0) → (Answering → Type 0) → Given → Result SaslFrame Error → ClientSays → Type 0
+abbrev pub ClientAnswers : Login → (List ℕ → Type 0) → (Answering → Type 0) → Given → Result SaslFrame Error
+    → ClientSays → Type 0
 ClientAnswers login Due IsOpen event (Err fault) says = says ≡ Refused (Frame fault)
-ClientAnswers login Due IsOpen event (Ok (frames.Init mechanism response hostname)) says = says ≡ Refused Unexpected
-ClientAnswers login Due IsOpen event (Ok (frames.Response text)) says = says ≡ Refused Unexpected
+ClientAnswers login Due IsOpen event (Ok (frames.Init mechanism response hostname)) says = says ≡ Refused NotImplemented
+ClientAnswers login Due IsOpen event (Ok (frames.Response text)) says = says ≡ Refused NotImplemented
 ClientAnswers login Due IsOpen event (Ok (frames.Mechanisms names)) says =
-    (Contains names (mechanism_name login.version) × (says ≡ says_start login event)) ⊎ (¬ Contains names (mechanism_name login.version) × (says ≡ Refused Unexpected))
+    (Contains names (mechanism_name login.version) × (says ≡ says_start login event))
+    ⊎ (¬ Contains names (mechanism_name login.version) × (says ≡ Refused NotImplemented))
 ClientAnswers login Due IsOpen event (Ok (frames.Challenge text)) says =
     ((answer : Answering) × ReadsChallenge login Due text (Ok answer) × (says ≡ says_answer login answer))
     ⊎ ((kind : ScramErrorKind) × ReadsChallenge login Due text (Err kind) × (says ≡ Refused (Scram kind)))
@@ -74,7 +85,8 @@ ClientAnswers login Due IsOpen event (Ok (frames.Outcome outcomes.Ok more)) says
     ⊎ ((kind : ScramErrorKind) × ReadsOutcome login IsOpen more (Err kind) × (says ≡ Refused (Scram kind)))
 ClientAnswers login Due IsOpen event (Ok (frames.Outcome code more)) says = says ≡ Reported code more
 
--- the replies that memory may be wanting for: those to a mechanisms list with the name, to a challenge, and to an outcome with data
+-- the replies that memory may be wanting for: those to a mechanisms list with the name, to a challenge, and to
+-- an outcome with data
 abbrev pub ClientAllocates : Login → Result SaslFrame Error → Type 0
 ClientAllocates login (Ok (frames.Mechanisms names)) = Contains names (mechanism_name login.version)
 ClientAllocates login (Ok (frames.Challenge text)) = Unit {0}
@@ -98,12 +110,12 @@ ends_answer (Reported outcomes.Ok more) = true
 ends_answer says = false
 
 -- a test that no reply passes
-abbrev pub is_none : ClientSays → Bool
-is_none says = false
+abbrev pub closes_nothing : ClientSays → Bool
+closes_nothing says = false
 
 -- s is the last start before k
 abbrev pub Start : List ClientSays → ℕ → ℕ → Type 0
-Start replies k s = IsLastOpen is_start is_none replies k s
+Start replies k s = IsLastOpen is_start closes_nothing replies k s
 
 -- this is the nonce text of the event at k
 abbrev pub NonceAt : List Given → ℕ → List ℕ → Type 0
@@ -116,19 +128,24 @@ IsDue events replies k nonce = OpenBy is_start is_answer (NonceAt events) replie
 -- the answer to the challenge at k
 abbrev pub AnswersAt : Login → List Given → List ClientSays → ℕ → Answering → Type 0
 AnswersAt login events replies k answer =
-    (event : Given) × (text : List ℕ) × (slice_get events k ≡ Some event) × SpellsBody event.body (Ok (frames.Challenge text)) × ReadsChallenge login (IsDue events replies k) text (Ok answer)
+    (event : Given) × (text : List ℕ) × (slice_get events k ≡ Some event)
+    × SpellsBody event.body (Ok (frames.Challenge text))
+    × ReadsChallenge login (IsDue events replies k) text (Ok answer)
 
 -- the answer that is open at k: the last one before k, where neither a start nor a reported Ok stands between
 abbrev pub OpenAnswer : Login → List Given → List ClientSays → ℕ → Answering → Type 0
-OpenAnswer login events replies k answer = OpenBy is_answer ends_answer (AnswersAt login events replies) replies k answer
+OpenAnswer login events replies k answer = OpenBy is_answer ends_answer
+    (AnswersAt login events replies) replies k answer
 
 -- a reply for each event: the one that the table gives, or want of memory where memory may be wanting
 pub record ClientHistory (login : Login) (events : List Given) (replies : List ClientSays) : Type 0 where
   pub count : length replies ≡ length events
-  pub each : (k : ℕ) (event : Given) (says : ClientSays) → slice_get events k ≡ Some event → slice_get replies k ≡ Some says
+  pub each : (k : ℕ) (event : Given) (says : ClientSays) → slice_get events k ≡ Some event
+      → slice_get replies k ≡ Some says
       → (spelled : Result SaslFrame Error) × SpellsBody event.body spelled
-      × ((ClientAllocates login spelled × (says ≡ Refused NoMemory)) ⊎ ClientAnswers login (IsDue events replies k) (OpenAnswer login events replies k) event spelled says)
+      × ((ClientAllocates login spelled × (says ≡ Refused OutOfMemory))
+      ⊎ ClientAnswers login (IsDue events replies k) (OpenAnswer login events replies k) event spelled says)
 
 -- no reply is want of memory
 abbrev pub ClientComplete : List ClientSays → Type 0
-ClientComplete replies = (k : ℕ) → slice_get replies k ≢ Some (Refused NoMemory)
+ClientComplete replies = (k : ℕ) → slice_get replies k ≢ Some (Refused OutOfMemory)

@@ -1,4 +1,5 @@
--- What the two sides are given and what they answer, as plain data (AMQP 1.0, part 5, section 5.3), and what the code always holds of it.
+-- What the two sides are given and what they answer, as plain data (AMQP 1.0, part 5, section 5.3), and what
+-- the code always holds of it.
 use Rattle.std.specs.Prelude.{◌≡◌, ℕ, ◌<◌, ◌^◌, List, length, slice_get, Option, Some}
 use Rattle.std.specs.Str.{IsUtf8}
 use Rattle.fe2o3_sasl_wire.specs.Bytes.{IsBytes}
@@ -26,12 +27,13 @@ pub data ServerSays : Type 0 where
   Concluded : (code : SaslCode) → (body : List ℕ) → ServerSays
   Failed : (fault : Error) → ServerSays
 
--- a fault of a client: a frame that it does not expect, a refusal of SCRAM, a body that is not read or not written, no memory
+-- a fault of a client: a frame that it does not expect, a refusal of SCRAM, a body that is not read or not
+-- written, no memory
 pub data ClientFault : Type 0 where
-  Unexpected : ClientFault
+  NotImplemented : ClientFault
   Scram : (kind : ScramErrorKind) → ClientFault
   Frame : (fault : Error) → ClientFault
-  NoMemory : ClientFault
+  OutOfMemory : ClientFault
 
 -- a reply of a client: the body of an init, the body of a response, an outcome that it reports, or a fault
 pub data ClientSays : Type 0 where

@@ -2,11 +2,13 @@ pub mod Events
 pub mod Positions
 pub mod ServerHistory
 pub mod ClientHistory
-pub mod Machines
+pub mod SaslAcceptor
+pub mod SaslProfile
+pub mod Runs
 pub mod TwoSides
-pub mod Verdicts
+pub mod Audit
 pub mod UnalteredRuns
-pub mod HistoryLaws
+pub mod Laws
 pub mod Headline
 pub mod Review
 pub mod examples

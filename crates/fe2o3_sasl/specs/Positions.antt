@@ -1,4 +1,5 @@
--- What is open at a position of a list of replies. Positions count from 0. These words are the project's own; they take the place of the states of RFC 5802, section 5.
+-- What is open at a position of a list of replies. Positions count from 0. These words are the project's own;
+-- they take the place of the states of RFC 5802, section 5.
 use Rattle.std.specs.Prelude.{◌≡◌, ℕ, ◌<◌, Bool, true, false, Option, Some, None, List, slice_get}
 
 -- there is a reply, and it passes the test

@@ -1,4 +1,5 @@
--- What a SCRAM server answers to a list of frame bodies (RFC 5802, section 5; AMQP 1.0, part 5, section 5.3.2). Nothing here is a state: what is open is a position in the list.
+-- What a SCRAM server answers to a list of frame bodies (RFC 5802, section 5; AMQP 1.0, part 5, section 5.3.2).
+-- Nothing here is a state: what is open is a position in the list.
 use Rattle.std.specs.Prelude.{◌≡◌, ◌≢◌, ◌⊎◌, ℕ, Bool, true, false, Option, Some, None, List, ◌++◌, length, slice_get, Result, Ok, Err}
 use Rattle.fe2o3_sasl_wire.specs.declared.amqp_types.SaslCode.TheVariants as outcomes
 use Rattle.fe2o3_sasl_wire.specs.declared.sasl_frames.error.Error.{Error}
@@ -33,13 +34,16 @@ first_message challenge = server_first_of (full_nonce challenge) challenge.store
 
 -- what a response to it is read against
 abbrev pub server_at : Provider → Challenging → Server
-server_at provider challenge = server_of provider.version challenge.client.bare (first_message challenge) (full_nonce challenge) challenge.stored
+server_at provider challenge = server_of provider.version challenge.client.bare (first_message challenge)
+    (full_nonce challenge) challenge.stored
 
--- the frame, with the event's nonce, fits as init: it names the mechanism, and its response is a client-first message of a user who has a record
+-- the frame, with the event's nonce, fits as init: it names the mechanism, and its response is a client-first
+-- message of a user who has a record
 abbrev pub FitsAsInit : Provider → Given → SaslFrame → Challenging → Type 0
 FitsAsInit provider event (frames.Init mechanism (Some text) hostname) challenge =
     (mechanism ≡ mechanism_name provider.version) × ReadsClientFirst text (Ok challenge.client)
-    × (record_at provider.records challenge.client.user ≡ Some challenge.stored) × (challenge.nonce ≡ base64_text event.nonce)
+    × (record_at provider.records challenge.client.user ≡ Some challenge.stored)
+    × (challenge.nonce ≡ base64_text event.nonce)
 FitsAsInit provider event frame challenge = ⊥
 
 -- an accepted response: the challenge that was open, and what the client-final message names
@@ -49,7 +53,8 @@ pub record Accepted : Type 0 where
 
 -- the frame fits as response to a challenge that is open: every test of a client-final message passes
 abbrev pub FitsAsResponse : Provider → (Challenging → Type 0) → SaslFrame → Accepted → Type 0
-FitsAsResponse provider IsOpen (frames.Response text) accepted = IsOpen accepted.challenge × ReadsClientFinal (server_at provider accepted.challenge) text (Ok accepted.final)
+FitsAsResponse provider IsOpen (frames.Response text) accepted =
+    IsOpen accepted.challenge × ReadsClientFinal (server_at provider accepted.challenge) text (Ok accepted.final)
 FitsAsResponse provider IsOpen frame accepted = ⊥
 
 -- the server-final message
@@ -63,15 +68,18 @@ carried too_large says (Some body) = says body
 
 -- the reply of a challenge
 abbrev pub says_challenge : Challenging → ServerSays
-says_challenge challenge = carried (Failed faults.TooLarge) (λ body. Challenged body) (canonical (frames.Challenge (first_message challenge)))
+says_challenge challenge = carried (Failed faults.TooLarge) (λ body. Challenged body)
+    (canonical (frames.Challenge (first_message challenge)))
 
 -- the reply of an Ok, with the server-final message
 abbrev pub says_ok : Provider → Accepted → ServerSays
-says_ok provider accepted = carried (Failed faults.TooLarge) (λ body. Concluded outcomes.Ok body) (canonical (frames.Outcome outcomes.Ok (Some (final_message provider accepted))))
+says_ok provider accepted = carried (Failed faults.TooLarge) (λ body. Concluded outcomes.Ok body)
+    (canonical (frames.Outcome outcomes.Ok (Some (final_message provider accepted))))
 
 -- the reply of a refusal
 abbrev pub says_auth : ServerSays
-says_auth = carried (Failed faults.TooLarge) (λ body. Concluded outcomes.Auth body) (canonical (frames.Outcome outcomes.Auth None))
+says_auth = carried (Failed faults.TooLarge) (λ body. Concluded outcomes.Auth body)
+    (canonical (frames.Outcome outcomes.Auth None))
 
 -- the reply to a body that spells this, where these challenges are open
 abbrev pub ServerAnswers : Provider → (Challenging → Type 0) → Given → Result SaslFrame Error → ServerSays → Type 0
@@ -81,10 +89,12 @@ ServerAnswers provider IsOpen event (Ok (frames.Challenge text)) says = says ≡
 ServerAnswers provider IsOpen event (Ok (frames.Outcome code more)) says = says ≡ Failed faults.NotImplemented
 ServerAnswers provider IsOpen event (Ok (frames.Init mechanism response hostname)) says =
     let Fits = FitsAsInit provider event (frames.Init mechanism response hostname) in
-    ((challenge : Challenging) × Fits challenge × (says ≡ says_challenge challenge)) ⊎ (((challenge : Challenging) → ¬ Fits challenge) × (says ≡ says_auth))
+    ((challenge : Challenging) × Fits challenge × (says ≡ says_challenge challenge))
+    ⊎ (((challenge : Challenging) → ¬ Fits challenge) × (says ≡ says_auth))
 ServerAnswers provider IsOpen event (Ok (frames.Response text)) says =
     let Fits = FitsAsResponse provider IsOpen (frames.Response text) in
-    ((accepted : Accepted) × Fits accepted × (says ≡ says_ok provider accepted)) ⊎ (((accepted : Accepted) → ¬ Fits accepted) × (says ≡ says_auth))
+    ((accepted : Accepted) × Fits accepted × (says ≡ says_ok provider accepted))
+    ⊎ (((accepted : Accepted) → ¬ Fits accepted) × (says ≡ says_auth))
 
 -- the replies that memory may be wanting for: those to an init and to a response
 abbrev pub ServerAllocates : Result SaslFrame Error → Type 0
@@ -109,7 +119,8 @@ is_ok says = false
 
 -- the event at k fits as init
 abbrev pub FitsAt : Provider → List Given → ℕ → Challenging → Type 0
-FitsAt provider events k challenge = (event : Given) × (frame : SaslFrame) × (slice_get events k ≡ Some event) × SpellsBody event.body (Ok frame) × FitsAsInit provider event frame challenge
+FitsAt provider events k challenge = (event : Given) × (frame : SaslFrame) × (slice_get events k ≡ Some event)
+    × SpellsBody event.body (Ok frame) × FitsAsInit provider event frame challenge
 
 -- the challenge that is open at k: that of the last challenge before k, where no outcome Ok stands between
 abbrev pub Open : Provider → List Given → List ServerSays → ℕ → Challenging → Type 0
@@ -118,14 +129,17 @@ Open provider events replies k challenge = OpenBy is_challenge is_ok (FitsAt pro
 -- the response at n fits the challenge that is open there
 abbrev pub AcceptsAt : Provider → List Given → List ServerSays → ℕ → Accepted → Type 0
 AcceptsAt provider events replies n accepted =
-    (event : Given) × (frame : SaslFrame) × (slice_get events n ≡ Some event) × SpellsBody event.body (Ok frame) × FitsAsResponse provider (Open provider events replies n) frame accepted
+    (event : Given) × (frame : SaslFrame) × (slice_get events n ≡ Some event) × SpellsBody event.body (Ok frame)
+    × FitsAsResponse provider (Open provider events replies n) frame accepted
 
 -- a reply for each event: the one that the table gives, or want of memory where memory may be wanting
 pub record ServerHistory (provider : Provider) (events : List Given) (replies : List ServerSays) : Type 0 where
   pub count : length replies ≡ length events
-  pub each : (k : ℕ) (event : Given) (says : ServerSays) → slice_get events k ≡ Some event → slice_get replies k ≡ Some says
+  pub each : (k : ℕ) (event : Given) (says : ServerSays) → slice_get events k ≡ Some event
+      → slice_get replies k ≡ Some says
       → (spelled : Result SaslFrame Error) × SpellsBody event.body spelled
-      × ((ServerAllocates spelled × (says ≡ Failed faults.OutOfMemory)) ⊎ ServerAnswers provider (Open provider events replies k) event spelled says)
+      × ((ServerAllocates spelled × (says ≡ Failed faults.OutOfMemory))
+      ⊎ ServerAnswers provider (Open provider events replies k) event spelled says)
 
 -- no reply is want of memory
 abbrev pub ServerComplete : List ServerSays → Type 0

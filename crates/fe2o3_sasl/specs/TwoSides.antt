@@ -1,4 +1,5 @@
--- What a client and a server have in common, read off their two lists (RFC 5802, section 3, for keys, proofs and signatures).
+-- What a client and a server have in common, read off their two lists (RFC 5802, section 3, for keys, proofs
+-- and signatures).
 use Rattle.std.specs.Prelude.{◌≡◌, ◌≢◌, ℕ, Some, List, length, slice_get}
 use Rattle.fe2o3_sasl_wire.specs.declared.amqp_types.SaslCode.TheVariants as outcomes
 use Rattle.fe2o3_scram.specs.declared.hmac.ScramVersion.{ScramVersion}
@@ -15,11 +16,13 @@ use Rattle.fe2o3_scram.specs.Texts.{Part, Parts}
 
 -- AuthMessage, of the messages as the client has them
 abbrev pub client_message : Login → Answering → List ℕ
-client_message login answer = auth_message (client_first_bare login.user answer.nonce) answer.text (without_proof answer.first.nonce)
+client_message login answer = auth_message (client_first_bare login.user answer.nonce) answer.text
+    (without_proof answer.first.nonce)
 
 -- AuthMessage, of the messages as the server has them
 abbrev pub server_message : Accepted → List ℕ
-server_message accepted = auth_message accepted.challenge.client.bare (first_message accepted.challenge) accepted.final.without
+server_message accepted = auth_message accepted.challenge.client.bare
+    (first_message accepted.challenge) accepted.final.without
 
 -- the client's SaltedPassword, from the salt and the count that the server-first message names
 abbrev pub salted_at : Login → Answering → List ℕ
@@ -84,7 +87,8 @@ HasParts text n = (parts : List (List ℕ)) × Parts text parts × (length parts
 abbrev pub IsPlainInit : Accepted → Type 0
 IsPlainInit accepted = HasParts accepted.challenge.client.bare 2
 
--- both sides mean one login: one version, user name and client nonce and, where the init was plain, one full nonce, salt and count
+-- both sides mean one login: one version, user name and client nonce and, where the init was plain, one full
+-- nonce, salt and count
 pub record Agree (login : Login) (provider : Provider) (answer : Answering) (accepted : Accepted) : Type 0 where
   pub version : login.version ≡ provider.version
   pub user : login.user ≡ accepted.challenge.client.user
@@ -94,11 +98,11 @@ pub record Agree (login : Login) (provider : Provider) (answer : Answering) (acc
   pub count : IsPlainInit accepted → answer.first.count ≡ accepted.challenge.stored.count
 
 -- two texts that differ have one HMAC value, each under its key: a collision
-pub record SameMac (version : ScramVersion) (key text other_key other_text : List ℕ) : Type 0 where
+pub record MacCollision (version : ScramVersion) (key text other_key other_text : List ℕ) : Type 0 where
   pub differ : text ≢ other_text
   pub one : hmac_of version key text ≡ hmac_of version other_key other_text
 
 -- two keys that differ have one digest: a collision
-pub record SameHash (version : ScramVersion) (key other_key : List ℕ) : Type 0 where
+pub record HashCollision (version : ScramVersion) (key other_key : List ℕ) : Type 0 where
   pub differ : key ≢ other_key
   pub one : digest version key ≡ digest version other_key

@@ -13,7 +13,7 @@ use Rattle.fe2o3_scram.specs.Hmac.{mechanism_name}
 use Rattle.fe2o3_scram.specs.SaslprepAscii.{IsPrintable}
 use Rattle.fe2o3_sasl.specs.ServerHistory.{Accepted, ServerComplete}
 use Rattle.fe2o3_sasl.specs.TwoSides.{Sides, Takes, Shows}
-use Rattle.fe2o3_sasl.specs.Verdicts.{Verdict, Agreed, OfVerifier, OfProof, Lists, IsVerifierFinding, IsProofFinding}
+use Rattle.fe2o3_sasl.specs.Audit.{Verdict, Agreed, OfVerifier, OfProof, Lists, IsVerifierFinding, IsProofFinding}
 
 -- the body that a reply sends
 abbrev pub client_body : Option ClientSays → Option (List ℕ)
@@ -27,7 +27,8 @@ server_body (Some (Challenged body)) = Some body
 server_body (Some (Concluded code body)) = Some body
 server_body says = None
 
--- three events of the client and two of the server: the list of the one mechanism, and from then on what the other side sent
+-- three events of the client and two of the server: the list of the one mechanism, and from then on what the
+-- other side sent
 pub record UnalteredRun (sides : Sides) : Type 0 where
   pub offer : Given
   pub challenge : Given
@@ -72,7 +73,8 @@ pub record Suffices (sides : Sides) : Type 0 where
 -- the provider holds the record of the login's own password, with this salt and this count, and the client can use them
 pub record HoldsLogin (sides : Sides) (salt : List ℕ) (count : ℕ) : Type 0 where
   pub version : sides.provider.version ≡ sides.login.version
-  pub stored : record_at sides.provider.records sides.login.user ≡ Some (record_of sides.login.version sides.login.password salt count)
+  pub stored : record_at sides.provider.records sides.login.user
+      ≡ Some (record_of sides.login.version sides.login.password salt count)
   pub bytes : IsBytes salt
   pub printable : IsPrintable sides.login.password
   pub some : 1 ≤ count
@@ -82,9 +84,11 @@ pub record HoldsLogin (sides : Sides) (salt : List ℕ) (count : ℕ) : Type 0 w
 abbrev pub agreed : {sides : Sides} → UnalteredRun sides → List ℕ → ℕ → Verdict
 agreed {sides} run salt count =
     let client_nonce = base64_text run.offer.nonce in
-    Agreed sides.login.user client_nonce (Some (record { full_nonce = client_nonce ++ base64_text run.init.nonce; salt = salt; iterations = count }))
+    Agreed sides.login.user client_nonce
+    (Some (record { full_nonce = client_nonce ++ base64_text run.init.nonce; salt = salt; iterations = count }))
 
--- the client starts, answers and reports Ok, the server challenges and concludes with Ok; the client's Ok and its answer are found with the server's Ok, and nothing else is; in both findings the sides agree
+-- the client starts, answers and reports Ok, the server challenges and concludes with Ok; the client's Ok and
+-- its answer are found with the server's Ok, and nothing else is; in both findings the sides agree
 pub record LogsIn (sides : Sides) (verdict : Verdict) : Type 0 where
   pub init : List ℕ
   pub response : List ℕ
@@ -94,6 +98,7 @@ pub record LogsIn (sides : Sides) (verdict : Verdict) : Type 0 where
   pub outcome : List ℕ
   pub server : sides.server_replies ≡ Challenged challenge ∷ Concluded outcomes.Ok outcome ∷ []
   pub takes : Lists (λ m n. (accepted : Accepted) × Takes sides m n accepted) ((2, 1) ∷ [])
-  pub shows : Lists (λ k n. (answer : Answering) × (accepted : Accepted) × Shows sides k n answer accepted) ((1, 1) ∷ [])
+  pub shows : Lists (λ k n. (answer : Answering) × (accepted : Accepted) × Shows sides k n answer accepted)
+      ((1, 1) ∷ [])
   pub verifier : IsVerifierFinding sides (record { kind = OfVerifier; client = 2; server = 1; verdict = verdict })
   pub proof : IsProofFinding sides (record { kind = OfProof; client = 1; server = 1; verdict = verdict })

@@ -2,7 +2,7 @@
 //! statement about every list of bytes, which the check has proved.
 
 ghost use Rattle.fe2o3_sasl.specs.Headline.{OkOnlyWhereAccepted, OkWhereverAccepted, ReportedOnlyWhereSigned, ReportedWhereverSigned, IssuedVerifiersAgree};
-ghost use Rattle.fe2o3_sasl.specs.HistoryLaws.{OneServerHistory, OneClientHistory, AcceptorRunsAreHistories, ProfileRunsAreHistories, OksWithinChallenges, RepeatedResponsesAreRefused, OneResponseOneNonce, RefusalsLeaveOpen, PositionsAreUsedOnce, EqualMessagesAgree, NoShortExtensions, TakenVerifiersAreJudged, ShownProofsAreJudged, OneVerdictEach, RepeatedClientPositions, RepeatedServerPositions, UnalteredRunsLogIn};
+ghost use Rattle.fe2o3_sasl.specs.Laws.{OneServerHistory, OneClientHistory, AcceptorRunsAreHistories, ProfileRunsAreHistories, OksWithinChallenges, RepeatedResponsesAreRefused, OneResponseOneNonce, RefusalsLeaveOpen, PositionsAreUsedOnce, EqualMessagesAgree, NoShortExtensions, TakenVerifiersAreJudged, ShownProofsAreJudged, OneVerdictEach, RepeatedClientPositions, RepeatedServerPositions, UnalteredRunsLogIn};
 ghost use Rattle.fe2o3_sasl.specs.examples.Examples.{GuestsEnter, WrongPasswordsFail, NamesAloneFail, EmptyInitsFail, ResponsesToPlainFail, ShiftedTextsPass, RefusalsHaveOneBody, ServersAnswer, ClientsAnswer, ShiftedHistoriesPass};
 
 pub use fe2o3_scram::laws::{

@@ -30,19 +30,25 @@ Answer = List ℕ × List ℕ
 abbrev pub answer_of : ScramVersion → List ℕ → List ℕ → List ℕ → ServerFirst → Answer
 answer_of version password bare text first =
     let salted = salted_of version password first.salt first.count in
-    let auth = auth_message bare text (without_proof first.nonce) in
-    (client_final_of (without_proof first.nonce) (client_proof version salted auth), server_signature version salted auth)
+    let auth = auth_message bare text (without_proof first.nonce) in (
+      client_final_of (without_proof first.nonce) (client_proof version salted auth),
+      server_signature version salted auth,
+    )
 
 -- what the client answers to a server-first message: the first refusal that holds, or the answer to what it names
 abbrev pub AnswersServerFirst : ScramVersion → Client → List ℕ → List ℕ → Result Answer ScramErrorKind → Type 0
 AnswersServerFirst version client bare text (Ok answer) =
-    (first : ServerFirst) × ReadsServerFirst client text (Ok first) × (answer ≡ answer_of version client.password bare text first)
+    (first : ServerFirst) × ReadsServerFirst client text (Ok first)
+    × (answer ≡ answer_of version client.password bare text first)
 AnswersServerFirst version client bare text (Err fault) = ReadsServerFirst client text (Err fault)
 
--- what a meter showed before and after the call: none for a message that is refused, the count and 4 for one that is answered, and no more than that where memory ran out
-pub record AnswerCosts {A : Type 0} (client : Client) (text : List ℕ) (result : Result A ScramErrorKind) (before after : ℕ) : Type 0 where
+-- what a meter showed before and after the call: none for a message that is refused, the count and 4 for one
+-- that is answered, and no more than that where memory ran out
+pub record AnswerCosts {A : Type 0} (client : Client) (text : List ℕ) (result : Result A ScramErrorKind)
+    (before after : ℕ) : Type 0 where
   pub refused : (fault : ScramErrorKind) → ReadsServerFirst client text (Err fault) → after ≡ before
-  pub answered : (first : ServerFirst) → ReadsServerFirst client text (Ok first) → OnOk result (after ≡ before + (first.count + 4))
+  pub answered : (first : ServerFirst) → ReadsServerFirst client text (Ok first)
+      → OnOk result (after ≡ before + (first.count + 4))
   pub at_most : (first : ServerFirst) → ReadsServerFirst client text (Ok first) → after ≤ before + (first.count + 4)
   pub limited : after ≤ before + (client.limit + 4)
 
@@ -51,7 +57,8 @@ pub record ClientFinal : Type 0 where
   pub without : List ℕ
   pub proof : List ℕ
 
--- what a server holds against a client-final message: its version, the two messages before, the nonce of both sides, and the keys of the record
+-- what a server holds against a client-final message: its version, the two messages before, the nonce of both
+-- sides, and the keys of the record
 pub record Server : Type 0 where
   pub version : ScramVersion
   pub bare : List ℕ
@@ -62,7 +69,15 @@ pub record Server : Type 0 where
 
 -- the same of a challenge, and of a stored password of its user
 abbrev pub server_of : ScramVersion → List ℕ → List ℕ → List ℕ → Record → Server
-server_of version bare first nonce stored = record { version = version; bare = bare; first = first; nonce = nonce; stored_key = stored.stored_key; server_key = stored.server_key }
+server_of version bare first nonce stored = record {
+  version = version;
+  bare = bare;
+  first = first;
+  nonce =
+      nonce;
+  stored_key = stored.stored_key;
+  server_key = stored.server_key;
+}
 
 -- the first part is this channel binding
 abbrev pub HasBinding : List ℕ → List ℕ → Type 0
@@ -72,9 +87,11 @@ HasBinding text binding = IsBytes binding × Part text 0 (codes "c=" ++ base64_t
 abbrev pub HasProof : List ℕ → ClientFinal → Type 0
 HasProof text final = IsBytes final.proof × LastPart text final.without (codes "p=" ++ base64_text final.proof)
 
--- the key that the proof gives away, where it meets the stored key: ClientKey = ClientProof XOR HMAC(StoredKey, AuthMessage)
+-- the key that the proof gives away, where it meets the stored key: ClientKey = ClientProof XOR HMAC(StoredKey,
+-- AuthMessage)
 abbrev pub recovered_key : Server → ClientFinal → List ℕ
-recovered_key server final = exclusive_or final.proof (hmac_of server.version server.stored_key (auth_message server.bare server.first final.without))
+recovered_key server final = exclusive_or final.proof (hmac_of server.version server.stored_key
+    (auth_message server.bare server.first final.without))
 
 -- the proof meets the stored key: H(ClientKey) = StoredKey
 abbrev pub Meets : Server → ClientFinal → Type 0
@@ -119,8 +136,10 @@ proof_tests server text =
 
 -- all tests of the server, in their order
 abbrev pub client_final_tests : Server → List ℕ → List (ServerScramErrorKind × Type 0)
-client_final_tests server text = (Utf8Error, ¬ IsUtf8 text) ∷ (binding_tests text ++ (nonce_tests server.nonce text ++ (spelling_tests text ++ proof_tests server text)))
+client_final_tests server text = (Utf8Error, ¬ IsUtf8 text)
+    ∷ (binding_tests text ++ (nonce_tests server.nonce text ++ (spelling_tests text ++ proof_tests server text)))
 
--- what the server reads: the first refusal that holds, or the values that are named; parts between the nonce and the proof stay in what stands before the proof
+-- what the server reads: the first refusal that holds, or the values that are named; parts between the nonce
+-- and the proof stay in what stands before the proof
 unfoldable pub ReadsClientFinal : Server → List ℕ → Result ClientFinal ServerScramErrorKind → Type 0
 ReadsClientFinal server text answer = Reads (client_final_tests server text) (NamesClientFinal server text) answer

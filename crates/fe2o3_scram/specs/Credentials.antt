@@ -17,7 +17,13 @@ pub record Record : Type 0 where
 abbrev pub record_of : ScramVersion → List ℕ → List ℕ → ℕ → Record
 record_of version password salt count =
     let salted = salted_of version password salt count in
-    record { salt = salt; count = count; stored_key = stored_key version salted; server_key = server_key version salted }
+    record {
+      salt = salt;
+      count = count;
+      stored_key = stored_key version salted;
+      server_key =
+          server_key version salted;
+    }
 
 -- a finite map from user names to records: of the pairs of one name the first counts
 abbrev pub Records : Type 0
@@ -35,4 +41,10 @@ pub record Provider : Type 0 where
 
 -- the record that a stored password is
 abbrev pub kept : StoredPassword → Record
-kept stored = record { salt = stored.salt.now; count = stored.iterations; stored_key = stored.stored_key.now; server_key = stored.server_key.now }
+kept stored = record {
+  salt = stored.salt.now;
+  count = stored.iterations;
+  stored_key =
+      stored.stored_key.now;
+  server_key = stored.server_key.now;
+}

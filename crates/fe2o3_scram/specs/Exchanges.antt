@@ -13,7 +13,8 @@ use Rattle.fe2o3_scram.specs.ServerFinal.{server_final_of, ReadsServerFinal}
 use Rattle.fe2o3_scram.specs.SaslprepAscii.{IsPrintable}
 use Rattle.fe2o3_scram.specs.Texts.{NoComma}
 
--- what an exchange starts from: the user's name and password, the salt and the count of the record, the client's limit, and the nonces
+-- what an exchange starts from: the user's name and password, the salt and the count of the record, the
+-- client's limit, and the nonces
 pub record Exchange : Type 0 where
   pub version : ScramVersion
   pub user : List ℕ
@@ -67,11 +68,18 @@ server_in x = server_of x.version (bare_in x) (first_in x) (nonce_in x) (record_
 
 -- what that message names
 abbrev pub final_in : Exchange → ClientFinal
-final_in x = record { without = without_proof (nonce_in x); proof = client_proof x.version (salted_of x.version x.password x.salt x.count) (auth_message (bare_in x) (first_in x) (without_proof (nonce_in x))) }
+final_in x = record {
+  without = without_proof (nonce_in x);
+  proof =
+      client_proof x.version (salted_of x.version x.password x.salt x.count)
+      (auth_message (bare_in x) (first_in x) (without_proof (nonce_in x)));
+}
 
 -- each side accepts what the other wrote
 pub record Succeeds (x : Exchange) : Type 0 where
-  pub client_first : ReadsClientFirst (client_first x.user x.client_nonce) (Ok (record { user = x.user; nonce = x.client_nonce; bare = bare_in x }))
-  pub server_first : ReadsServerFirst (record { nonce = x.client_nonce; password = x.password; limit = x.limit }) (first_in x) (Ok (named_in x))
+  pub client_first : ReadsClientFirst (client_first x.user x.client_nonce)
+      (Ok (record { user = x.user; nonce = x.client_nonce; bare = bare_in x }))
+  pub server_first : ReadsServerFirst (record { nonce = x.client_nonce; password = x.password; limit = x.limit })
+      (first_in x) (Ok (named_in x))
   pub client_final : ReadsClientFinal (server_in x) (answer_in x).0 (Ok (final_in x))
   pub server_final : ReadsServerFinal (answer_in x).1 (server_final_of (server_in x) (final_in x)) (Ok tt)

@@ -37,7 +37,8 @@ zero_filled n bytes = bytes ++ replicate (n - length bytes) 0
 
 -- the key as one block: a key longer than a block stands for its digest, and zeros fill the block
 unfoldable pub key_block : ScramVersion → List ℕ → List ℕ
-key_block version key = zero_filled (block_len version) (if nat_lt (block_len version) (length key) then digest version key else key)
+key_block version key = zero_filled (block_len version)
+    (if nat_lt (block_len version) (length key) then digest version key else key)
 
 -- each byte with the bits of the mask turned
 abbrev pub masked : ℕ → List ℕ → List ℕ
@@ -45,7 +46,8 @@ masked mask bytes = map (λ byte. bit_xor byte mask) bytes
 
 -- HMAC(key, message), with 0x36 as the inner and 0x5c as the outer mask
 unfoldable pub hmac_of : ScramVersion → List ℕ → List ℕ → List ℕ
-hmac_of version key message = digest version (masked 0x5c (key_block version key) ++ digest version (masked 0x36 (key_block version key) ++ message))
+hmac_of version key message = digest version (masked 0x5c (key_block version key)
+    ++ digest version (masked 0x36 (key_block version key) ++ message))
 
 -- the exclusive or of two texts of bytes, byte by byte
 unfoldable pub exclusive_or : List ℕ → List ℕ → List ℕ

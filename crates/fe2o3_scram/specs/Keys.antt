@@ -16,13 +16,15 @@ stored_key version salted = digest version (client_key version salted)
 abbrev pub server_key : ScramVersion → List ℕ → List ℕ
 server_key version salted = hmac_of version salted (codes "Server Key")
 
--- AuthMessage := client-first-message-bare + "," + server-first-message + "," + client-final-message-without-proof, as they were sent
+-- AuthMessage := client-first-message-bare + "," + server-first-message + "," +
+-- client-final-message-without-proof, as they were sent
 abbrev pub auth_message : List ℕ → List ℕ → List ℕ → List ℕ
 auth_message bare first without_proof = joined (bare ∷ first ∷ without_proof ∷ [])
 
 -- ClientProof := ClientKey XOR HMAC(StoredKey, AuthMessage)
 abbrev pub client_proof : ScramVersion → List ℕ → List ℕ → List ℕ
-client_proof version salted auth = exclusive_or (client_key version salted) (hmac_of version (stored_key version salted) auth)
+client_proof version salted auth = exclusive_or (client_key version salted)
+    (hmac_of version (stored_key version salted) auth)
 
 -- ServerSignature := HMAC(ServerKey, AuthMessage)
 abbrev pub server_signature : ScramVersion → List ℕ → List ℕ → List ℕ

@@ -16,11 +16,13 @@ use Rattle.fe2o3_scram.specs.ServerFirst.{Client, ServerFirst, ReadsServerFirst}
 
 -- a digest is as long as its version says, and holds bytes
 abbrev pub DigestsAreSized : Type 0
-DigestsAreSized = (version : ScramVersion) (message : List ℕ) → (length (digest version message) ≡ digest_len version) × IsBytes (digest version message)
+DigestsAreSized = (version : ScramVersion) (message : List ℕ)
+    → (length (digest version message) ≡ digest_len version) × IsBytes (digest version message)
 
 -- so is an HMAC value
 abbrev pub MacsAreSized : Type 0
-MacsAreSized = (version : ScramVersion) (key message : List ℕ) → (length (hmac_of version key message) ≡ digest_len version) × IsBytes (hmac_of version key message)
+MacsAreSized = (version : ScramVersion) (key message : List ℕ)
+    → (length (hmac_of version key message) ≡ digest_len version) × IsBytes (hmac_of version key message)
 
 -- a text spells at most one list of bytes
 abbrev pub OneBytesOfBase64 : Type 0
@@ -52,19 +54,23 @@ NoCommaInEscapedNames = (name : List ℕ) → NoComma (escaped name)
 
 -- a server-first message has at most one answer
 abbrev pub OneServerFirst : Type 0
-OneServerFirst = (client : Client) (text : List ℕ) (answer other : Result ServerFirst ScramErrorKind) → ReadsServerFirst client text answer → ReadsServerFirst client text other → answer ≡ other
+OneServerFirst = (client : Client) (text : List ℕ) (answer other : Result ServerFirst ScramErrorKind)
+    → ReadsServerFirst client text answer → ReadsServerFirst client text other → answer ≡ other
 
 -- a client-first message has at most one answer
 abbrev pub OneClientFirst : Type 0
-OneClientFirst = (text : List ℕ) (answer other : Result ClientFirst ServerScramErrorKind) → ReadsClientFirst text answer → ReadsClientFirst text other → answer ≡ other
+OneClientFirst = (text : List ℕ) (answer other : Result ClientFirst ServerScramErrorKind) → ReadsClientFirst text answer
+    → ReadsClientFirst text other → answer ≡ other
 
 -- a client-final message has at most one answer
 abbrev pub OneClientFinal : Type 0
-OneClientFinal = (server : Server) (text : List ℕ) (answer other : Result ClientFinal ServerScramErrorKind) → ReadsClientFinal server text answer → ReadsClientFinal server text other → answer ≡ other
+OneClientFinal = (server : Server) (text : List ℕ) (answer other : Result ClientFinal ServerScramErrorKind)
+    → ReadsClientFinal server text answer → ReadsClientFinal server text other → answer ≡ other
 
 -- a server-final message has at most one answer
 abbrev pub OneServerFinal : Type 0
-OneServerFinal = (signature text : List ℕ) (answer other : Result (Unit {0}) ScramErrorKind) → ReadsServerFinal signature text answer → ReadsServerFinal signature text other → answer ≡ other
+OneServerFinal = (signature text : List ℕ) (answer other : Result (Unit {0}) ScramErrorKind)
+    → ReadsServerFinal signature text answer → ReadsServerFinal signature text other → answer ≡ other
 
 -- in an exchange whose messages arrive as they were sent, each side accepts what the other wrote
 abbrev pub UnalteredExchangesSucceed : Type 0

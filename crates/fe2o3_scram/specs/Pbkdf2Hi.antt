@@ -3,7 +3,8 @@ use Rattle.std.specs.Prelude.{ℕ, zero, suc, List, [], ◌∷◌, ◌++◌}
 use Rattle.fe2o3_scram.specs.declared.hmac.ScramVersion.{ScramVersion}
 use Rattle.fe2o3_scram.specs.Hmac.{hmac_of, exclusive_or}
 
--- U(n), for n from 1: the keyed hash of the salt with the number 1 in four bytes behind it, and from then on of the U before
+-- U(n), for n from 1: the keyed hash of the salt with the number 1 in four bytes behind it, and from then on of
+-- the U before
 unfoldable pub round_of : ScramVersion → List ℕ → List ℕ → ℕ → List ℕ
 round_of version password salt zero = []
 round_of version password salt (suc zero) = hmac_of version password (salt ++ 0 ∷ 0 ∷ 0 ∷ 1 ∷ [])
@@ -13,4 +14,5 @@ round_of version password salt (suc (suc n)) = hmac_of version password (round_o
 unfoldable pub salted_of : ScramVersion → List ℕ → List ℕ → ℕ → List ℕ
 salted_of version password salt zero = []
 salted_of version password salt (suc zero) = round_of version password salt 1
-salted_of version password salt (suc (suc n)) = exclusive_or (salted_of version password salt (suc n)) (round_of version password salt (suc (suc n)))
+salted_of version password salt (suc (suc n)) = exclusive_or (salted_of version password salt (suc n))
+    (round_of version password salt (suc (suc n)))

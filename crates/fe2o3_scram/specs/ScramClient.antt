@@ -29,28 +29,42 @@ pub record ClientSide : Type 0 where
 
 -- the same client in another state
 abbrev pub with_state : ClientSide → ClientState → ClientSide
-with_state side state = record { user = side.user; password = side.password; version = side.version; limit = side.limit; state = state }
+with_state side state = record {
+  user = side.user;
+  password = side.password;
+  version = side.version;
+  limit =
+      side.limit;
+  state = state;
+}
 
 -- the client after its first message, with this nonce
 abbrev pub started : ClientSide → List ℕ → ClientSide
-started side nonce = with_state side (ClientFirstSent (base64_text nonce) (client_first_bare side.user (base64_text nonce)))
+started side nonce = with_state side (ClientFirstSent (base64_text nonce)
+    (client_first_bare side.user (base64_text nonce)))
 
 -- what a client holds against a server-first message
 abbrev pub holding : ClientSide → List ℕ → Client
 holding side nonce = record { nonce = nonce; password = side.password; limit = side.limit }
 
--- what a client in this state answers to a server-first message, and the client after it: one that has sent its first message answers it, any other refuses it unread, and a refusal changes nothing
+-- what a client in this state answers to a server-first message, and the client after it: one that has sent its
+-- first message answers it, any other refuses it unread, and a refusal changes nothing
 abbrev pub AnswersIn : ClientState → ClientSide → List ℕ → Result (List ℕ) ScramErrorKind → ClientSide → Type 0
 AnswersIn (ClientFirstSent nonce bare) side text (Ok message) next =
-    (signature : List ℕ) × AnswersServerFirst side.version (holding side nonce) bare text (Ok (message, signature)) × (next ≡ with_state side (ClientFinalSent signature))
-AnswersIn (ClientFirstSent nonce bare) side text (Err fault) next = ReadsServerFirst (holding side nonce) text (Err fault) × (next ≡ side)
+    (signature : List ℕ) × AnswersServerFirst side.version (holding side nonce) bare text (Ok (message, signature))
+    × (next ≡ with_state side (ClientFinalSent signature))
+AnswersIn (ClientFirstSent nonce bare) side text (Err fault) next =
+    ReadsServerFirst (holding side nonce) text (Err fault) × (next ≡ side)
 AnswersIn state side text (Ok message) next = ⊥
 AnswersIn state side text (Err fault) next = (fault ≡ IllegalClientState) × (next ≡ side)
 
--- whether a client in this state believes a server-final message, and the client after it: one that has answered tests it, any other refuses it unread, and a refusal changes nothing
+-- whether a client in this state believes a server-final message, and the client after it: one that has
+-- answered tests it, any other refuses it unread, and a refusal changes nothing
 abbrev pub BelievesIn : ClientState → ClientSide → List ℕ → Result (Unit {0}) ScramErrorKind → ClientSide → Type 0
-BelievesIn (ClientFinalSent signature) side text (Ok believed) next = ReadsServerFinal signature text (Ok believed) × (next ≡ with_state side Complete)
-BelievesIn (ClientFinalSent signature) side text (Err fault) next = ReadsServerFinal signature text (Err fault) × (next ≡ side)
+BelievesIn (ClientFinalSent signature) side text (Ok believed) next =
+    ReadsServerFinal signature text (Ok believed) × (next ≡ with_state side Complete)
+BelievesIn (ClientFinalSent signature) side text (Err fault) next =
+    ReadsServerFinal signature text (Err fault) × (next ≡ side)
 BelievesIn state side text (Ok believed) next = ⊥
 BelievesIn state side text (Err fault) next = (fault ≡ IllegalClientState) × (next ≡ side)
 

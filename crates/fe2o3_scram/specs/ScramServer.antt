@@ -18,19 +18,30 @@ pub data ServerState : Type 0 where
   ServerFirstSent : (challenge : Challenge) → ServerState
   ServerFinalSent : ServerState
 
--- what a server answers to a client-first message in whatever state, and its state after it: a challenge takes the place of an earlier one, an unknown user and a refusal change nothing
-abbrev pub ChallengesFrom : ServerState → Provider → List ℕ → List ℕ → Result (Option (List ℕ)) ServerScramErrorKind → ServerState → Type 0
+-- what a server answers to a client-first message in whatever state, and its state after it: a challenge takes
+-- the place of an earlier one, an unknown user and a refusal change nothing
+abbrev pub ChallengesFrom : ServerState → Provider → List ℕ → List ℕ → Result (Option (List ℕ)) ServerScramErrorKind
+    → ServerState → Type 0
 ChallengesFrom state provider nonce text (Ok (Some message)) next =
-    (challenge : Challenge) × AnswersClientFirst provider.records (base64_text nonce) text (Ok (Some challenge)) × (message ≡ challenge.first) × (next ≡ ServerFirstSent challenge)
-ChallengesFrom state provider nonce text (Ok None) next = AnswersClientFirst provider.records (base64_text nonce) text (Ok None) × (next ≡ state)
-ChallengesFrom state provider nonce text (Err fault) next = AnswersClientFirst provider.records (base64_text nonce) text (Err fault) × (next ≡ state)
+    (challenge : Challenge) × AnswersClientFirst provider.records (base64_text nonce) text (Ok (Some challenge))
+    × (message ≡ challenge.first) × (next ≡ ServerFirstSent challenge)
+ChallengesFrom state provider nonce text (Ok None) next =
+    AnswersClientFirst provider.records (base64_text nonce) text (Ok None) × (next ≡ state)
+ChallengesFrom state provider nonce text (Err fault) next =
+    AnswersClientFirst provider.records (base64_text nonce) text (Err fault) × (next ≡ state)
 
--- what a server answers to a client-final message, and its state after it: an accepted one closes the challenge, a refused one changes nothing, and without an open challenge it is refused unread
-abbrev pub ConcludesFrom : ServerState → Provider → List ℕ → Result (Option (List ℕ)) ServerScramErrorKind → ServerState → Type 0
+-- what a server answers to a client-final message, and its state after it: an accepted one closes the
+-- challenge, a refused one changes nothing, and without an open challenge it is refused unread
+abbrev pub ConcludesFrom : ServerState → Provider → List ℕ → Result (Option (List ℕ)) ServerScramErrorKind → ServerState
+    → Type 0
 ConcludesFrom (ServerFirstSent challenge) provider text (Ok (Some message)) next =
-    (stored : Record) × (record_at provider.records challenge.user ≡ Some stored) × AnswersClientFinal (server_of provider.version challenge.bare challenge.first challenge.nonce stored) text (Ok message) × (next ≡ ServerFinalSent)
+    (stored : Record) × (record_at provider.records challenge.user ≡ Some stored)
+    × AnswersClientFinal (server_of provider.version challenge.bare challenge.first challenge.nonce stored) text
+    (Ok message) × (next ≡ ServerFinalSent)
 ConcludesFrom (ServerFirstSent challenge) provider text (Err fault) next =
-    (((stored : Record) × (record_at provider.records challenge.user ≡ Some stored) × AnswersClientFinal (server_of provider.version challenge.bare challenge.first challenge.nonce stored) text (Err fault)) ⊎ ((record_at provider.records challenge.user ≡ None) × (fault ≡ AuthenticationFailed)))
+    (((stored : Record) × (record_at provider.records challenge.user ≡ Some stored)
+    × AnswersClientFinal (server_of provider.version challenge.bare challenge.first challenge.nonce stored) text
+    (Err fault)) ⊎ ((record_at provider.records challenge.user ≡ None) × (fault ≡ AuthenticationFailed)))
     × (next ≡ ServerFirstSent challenge)
 ConcludesFrom state provider text (Ok message) next = ⊥
 ConcludesFrom state provider text (Err fault) next = (fault ≡ IllegalAuthenticatorState) × (next ≡ state)
@@ -38,7 +49,8 @@ ConcludesFrom state provider text (Err fault) next = (fault ≡ IllegalAuthentic
 -- the state that the code's state is
 abbrev pub state_of : ScramAuthenticatorState → ServerState
 state_of CodeInitial = Initial
-state_of (CodeServerFirstSent user bare nonce first) = ServerFirstSent (record { user = string_bytes user; bare = bare; first = first; nonce = nonce })
+state_of (CodeServerFirstSent user bare nonce first) =
+    ServerFirstSent (record { user = string_bytes user; bare = bare; first = first; nonce = nonce })
 state_of CodeServerFinalSent = ServerFinalSent
 
 -- the provider that it holds

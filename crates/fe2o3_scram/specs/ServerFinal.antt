@@ -15,14 +15,17 @@ use Rattle.fe2o3_scram.specs.declared.scram_messages.error.ScramErrorKind.TheVar
 
 -- server-final-message: HMAC(ServerKey, AuthMessage)
 abbrev pub server_final_of : Server → ClientFinal → List ℕ
-server_final_of server final = codes "v=" ++ base64_text (hmac_of server.version server.server_key (auth_message server.bare server.first final.without))
+server_final_of server final = codes "v=" ++ base64_text
+    (hmac_of server.version server.server_key (auth_message server.bare server.first final.without))
 
 -- what the server answers to a client-final message: the first refusal, or the server-final message
 abbrev pub AnswersClientFinal : Server → List ℕ → Result (List ℕ) ServerScramErrorKind → Type 0
-AnswersClientFinal server text (Ok message) = (final : ClientFinal) × ReadsClientFinal server text (Ok final) × (message ≡ server_final_of server final)
+AnswersClientFinal server text (Ok message) = (final : ClientFinal) × ReadsClientFinal server text (Ok final)
+    × (message ≡ server_final_of server final)
 AnswersClientFinal server text (Err fault) = ReadsClientFinal server text (Err fault)
 
--- the HMAC values that the answer costs, as a meter shows them before and after: two where the proof is accepted, one where it alone is refused, none for another refusal, and no more than two where memory ran out
+-- the HMAC values that the answer costs, as a meter shows them before and after: two where the proof is
+-- accepted, one where it alone is refused, none for another refusal, and no more than two where memory ran out
 abbrev pub FinalCosts : {A : Type 0} → Result A ServerScramErrorKind → ℕ → ℕ → Type 0
 FinalCosts (Ok message) before after = after ≡ before + 2
 FinalCosts (Err AuthenticationFailed) before after = after ≡ before + 1
@@ -44,4 +47,5 @@ server_final_tests signature text =
 
 -- what the client reads: the first refusal that holds, or that this is the signature; parts after the first say nothing
 unfoldable pub ReadsServerFinal : List ℕ → List ℕ → Result (Unit {0}) ScramErrorKind → Type 0
-ReadsServerFinal signature text answer = Reads (server_final_tests signature text) (λ _. HasSignature text signature) answer
+ReadsServerFinal signature text answer = Reads (server_final_tests signature text)
+    (λ _. HasSignature text signature) answer

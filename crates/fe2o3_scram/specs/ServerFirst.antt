@@ -67,15 +67,18 @@ password_tests password = (NormalizeError, ¬ IsPrintable password) ∷ []
 
 -- all tests of the client, in their order
 abbrev pub server_first_tests : Client → List ℕ → List (ScramErrorKind × Type 0)
-server_first_tests client text = nonce_tests client.nonce text ++ (salt_tests text ++ (count_tests client.limit text ++ password_tests client.password))
+server_first_tests client text = nonce_tests client.nonce text
+    ++ (salt_tests text ++ (count_tests client.limit text ++ password_tests client.password))
 
 -- what the client reads: the first refusal that holds, or the values that are named; parts after the third say nothing
 unfoldable pub ReadsServerFirst : Client → List ℕ → Result ServerFirst ScramErrorKind → Type 0
 ReadsServerFirst client text answer = Reads (server_first_tests client text) (NamesServerFirst text) answer
 
--- server-first-message: the nonce of both sides, and the salt and the count of the record, in decimal without leading zeros
+-- server-first-message: the nonce of both sides, and the salt and the count of the record, in decimal without
+-- leading zeros
 abbrev pub server_first_of : List ℕ → Record → List ℕ
-server_first_of nonce stored = joined ((codes "r=" ++ nonce) ∷ (codes "s=" ++ base64_text stored.salt) ∷ (codes "i=" ++ decimal stored.count) ∷ [])
+server_first_of nonce stored =
+    joined ((codes "r=" ++ nonce) ∷ (codes "s=" ++ base64_text stored.salt) ∷ (codes "i=" ++ decimal stored.count) ∷ [])
 
 -- a challenge: its user, the client's bare message, the server's message, and the nonce of both sides
 pub record Challenge : Type 0 where
@@ -90,9 +93,12 @@ challenge_of client server_nonce stored =
     let nonce = client.nonce ++ server_nonce in
     record { user = client.user; bare = client.bare; first = server_first_of nonce stored; nonce = nonce }
 
--- what the server answers to a client-first message: the first refusal, nothing to a user whom it does not know, or the challenge
+-- what the server answers to a client-first message: the first refusal, nothing to a user whom it does not
+-- know, or the challenge
 abbrev pub AnswersClientFirst : Records → List ℕ → List ℕ → Result (Option Challenge) ServerScramErrorKind → Type 0
-AnswersClientFirst records server_nonce text (Ok None) = (client : ClientFirst) × ReadsClientFirst text (Ok client) × (record_at records client.user ≡ None)
+AnswersClientFirst records server_nonce text (Ok None) =
+    (client : ClientFirst) × ReadsClientFirst text (Ok client) × (record_at records client.user ≡ None)
 AnswersClientFirst records server_nonce text (Ok (Some challenge)) =
-    (client : ClientFirst) × (stored : Record) × ReadsClientFirst text (Ok client) × (record_at records client.user ≡ Some stored) × (challenge ≡ challenge_of client server_nonce stored)
+    (client : ClientFirst) × (stored : Record) × ReadsClientFirst text (Ok client)
+    × (record_at records client.user ≡ Some stored) × (challenge ≡ challenge_of client server_nonce stored)
 AnswersClientFirst records server_nonce text (Err fault) = ReadsClientFirst text (Err fault)

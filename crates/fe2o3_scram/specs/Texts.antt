@@ -1,4 +1,5 @@
--- The pieces of SCRAM texts: parts between commas and iteration counts (RFC 5802, section 5.1), and base64 with padding (RFC 4648, section 4).
+-- The pieces of SCRAM texts: parts between commas and iteration counts (RFC 5802, section 5.1), and base64 with
+-- padding (RFC 4648, section 4).
 -- A text is its list of bytes.
 use Rattle.std.specs.Prelude.{ℕ, List, [], ◌∷◌, ◌++◌, ◌≡◌, ◌≢◌, ◌<◌, length, slice_get, Some, true, codes, ◌⊎◌, ◌≤◌, ◌^◌}
 use Rattle.std.specs.List.{AllByRecursion, join_with_byte}
@@ -14,7 +15,8 @@ NoComma text = AllByRecursion (λ byte. byte ≢ 44) text
 abbrev pub joined : List (List ℕ) → List ℕ
 joined parts = join_with_byte 44 parts
 
--- the text is these parts, of which no one holds a comma, with single commas between them; the empty text is one empty part
+-- the text is these parts, of which no one holds a comma, with single commas between them; the empty text is
+-- one empty part
 pub record Parts (text : List ℕ) (parts : List (List ℕ)) : Type 0 where
   pub some : 0 < length parts
   pub apart : AllByRecursion NoComma parts
@@ -46,4 +48,5 @@ IsBase64 text bytes = IsBytes bytes × (text ≡ base64_text bytes)
 
 -- the text is one or more decimal digits, behind a plus or not, whose value is this count, from 1 to 4294967295
 abbrev pub IsCount : List ℕ → ℕ → Type 0
-IsCount text count = (digits : List ℕ) × ((text ≡ digits) ⊎ (text ≡ 43 ∷ digits)) × IsNumeral 10 digits × (count ≡ digits_value 10 digits) × (1 ≤ count) × (count < 2 ^ 32)
+IsCount text count = (digits : List ℕ) × ((text ≡ digits) ⊎ (text ≡ 43 ∷ digits)) × IsNumeral 10 digits
+    × (count ≡ digits_value 10 digits) × (1 ≤ count) × (count < 2 ^ 32)

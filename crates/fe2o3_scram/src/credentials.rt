@@ -48,7 +48,8 @@ pub trait ScramCredentialProvider: Clone {
         ensures { option_map kept result ≡ record_at (records self.now) username.now };
 
     /// A clone has the same version and the same records.
-    ghost clone_keeps: { (provider copy : Self) → Self.is_clone provider copy → (version copy ≡ version provider) × (records copy ≡ records provider) };
+    ghost clone_keeps: { (provider copy : Self) → Self.is_clone provider copy
+        → (version copy ≡ version provider) × (records copy ≡ records provider) };
 }
 
 impl<T: ScramCredentialProvider> ScramCredentialProvider for Rc<T> {
@@ -87,7 +88,19 @@ impl Model for SingleScramCredential {
 
     ghost Value = { Provider };
 
-    ghost view = { λ credential. record { version = credential.scram_version; records = (string_bytes credential.username, record { salt = credential.salt; count = credential.iterations; stored_key = credential.stored_key.items; server_key = credential.server_key.items }) ∷ [] } };
+    ghost view = { λ credential. record {
+      version = credential.scram_version;
+      records = (
+        string_bytes credential.username,
+        record {
+          salt = credential.salt;
+          count = credential.iterations;
+          stored_key =
+              credential.stored_key.items;
+          server_key = credential.server_key.items;
+        },
+      ) ∷ [];
+    } };
 }
 
 impl SingleScramCredential {
@@ -99,9 +112,15 @@ impl SingleScramCredential {
         scram_version: ScramVersion,
         salt: [u8; 32],
     ) -> Result<Self, ServerScramErrorKind>
-        ensures ok { IfOk result (λ credential. IsPrintable password.now × (credential ≡ record { version = scram_version; records = (string_bytes username, record_of scram_version password.now salt 4096) ∷ [] })) }
+        ensures ok { IfOk result (λ credential. IsPrintable password.now
+            × (credential ≡ record {
+              version = scram_version;
+              records =
+                  (string_bytes username, record_of scram_version password.now salt 4096) ∷ [];
+            })) }
         ensures not_printable { (result ≡ Err ServerScramErrorKind.NormalizeError) ↔ ¬ IsPrintable password.now }
-        ensures err { IfErr result (λ kind. (kind ≡ ServerScramErrorKind.NormalizeError) ⊎ (kind ≡ ServerScramErrorKind.OutOfMemory)) }
+        ensures err { IfErr result (λ kind. (kind ≡ ServerScramErrorKind.NormalizeError)
+            ⊎ (kind ≡ ServerScramErrorKind.OutOfMemory)) }
     {
         let salted_password = scram_version.compute_salted_password(
             alloc,
@@ -143,7 +162,10 @@ impl ScramCredentialProvider for SingleScramCredential {
 
     ghost records = { λ credential. credential.records };
 
-    ghost clone_keeps = { λ provider copy same. (ap (λ (value : Provider). value.version) same, ap (λ (value : Provider). value.records) same) };
+    ghost clone_keeps = { λ provider copy same. (
+      ap (λ (value : Provider). value.version) same,
+      ap (λ (value : Provider). value.records) same,
+    ) };
 
     fn scram_version(&self) -> &ScramVersion {
         &self.scram_version

@@ -86,7 +86,8 @@ impl ScramVersion {
         iterations: u32,
     ) -> Result<Vec<u8>, KeyError>
         requires { 1 ≤ iterations }
-        ensures ok { IfOk result (λ salted. IsPrintable password.now × (salted.items ≡ salted_of self.now password.now salt.now iterations)) }
+        ensures ok { IfOk result (λ salted. IsPrintable password.now
+            × (salted.items ≡ salted_of self.now password.now salt.now iterations)) }
         ensures not_printable { (result ≡ Err KeyError.NormalizeError) ↔ ¬ IsPrintable password.now }
     {
         let normalized_password = saslprep(password)?;
@@ -105,7 +106,8 @@ impl ScramVersion {
     ) -> Result<DigestBytes, OutOfMemory>
         requires iterations { 1 ≤ iterations }
         requires meter { meter.old ≤ 2 ^ 63 }
-        ensures salted { IfOk result (λ salted. digest_bytes salted ≡ salted_of self.now password.now salt.now iterations) }
+        ensures salted { IfOk result (λ salted. digest_bytes salted
+            ≡ salted_of self.now password.now salt.now iterations) }
         ensures counted { OnOk result (meter.new ≡ meter.old + iterations) }
         ensures memory { OnErr result (meter.new ≡ meter.old) }
     {

@@ -71,13 +71,28 @@ impl Model for ScramClient {
 
     ghost Value = { ClientSide };
 
-    ghost view = { λ client. record { user = string_bytes client.username; password = string_bytes client.password; version = client.scram; limit = client.iteration_limit; state = state_of client.state } };
+    ghost view = { λ client. record {
+      user = string_bytes client.username;
+      password =
+          string_bytes client.password;
+      version = client.scram;
+      limit = client.iteration_limit;
+      state =
+          state_of client.state;
+    } };
 }
 
 impl ScramClient {
     /// A client that has sent nothing, and accepts every iteration count.
     pub fn new(username: String, password: String, scram_version: ScramVersion) -> Self
-        ensures { result ≡ record { user = string_bytes username; password = string_bytes password; version = scram_version; limit = 4294967295; state = Initial } }
+        ensures { result ≡ record {
+          user = string_bytes username;
+          password = string_bytes password;
+          version =
+              scram_version;
+          limit = 4294967295;
+          state = Initial;
+        } }
     {
         Self {
             username,
@@ -90,7 +105,14 @@ impl ScramClient {
 
     /// The same client, which refuses an iteration count above the limit.
     pub fn with_iteration_limit(self, limit: u32) -> Self
-        ensures { result ≡ record { user = self.user; password = self.password; version = self.version; limit = limit; state = self.state } }
+        ensures { result ≡ record {
+          user = self.user;
+          password = self.password;
+          version = self.version;
+          limit =
+              limit;
+          state = self.state;
+        } }
     {
         Self {
             username: self.username,
@@ -128,7 +150,8 @@ impl ScramClient {
         alloc: Global,
         server_first: &str,
     ) -> Result<Vec<u8>, ScramErrorKind>
-        ensures answer { Gives ScramErrorKind.OutOfMemory (λ message. message.items) result (λ answer. AnswersIn self.old.state self.old server_first.now answer self.new) }
+        ensures answer { Gives ScramErrorKind.OutOfMemory (λ message. message.items) result
+            (λ answer. AnswersIn self.old.state self.old server_first.now answer self.new) }
         ensures err { OnErr result (self.new ≡ self.old) }
     {
         match &self.state {
@@ -160,7 +183,8 @@ impl ScramClient {
         alloc: Global,
         server_final: &[u8],
     ) -> Result<(), ScramErrorKind>
-        ensures answer { Gives ScramErrorKind.OutOfMemory (λ believed. believed) result (λ answer. BelievesIn self.old.state self.old server_final.now answer self.new) }
+        ensures answer { Gives ScramErrorKind.OutOfMemory (λ believed. believed) result
+            (λ answer. BelievesIn self.old.state self.old server_final.now answer self.new) }
         ensures err { OnErr result (self.new ≡ self.old) }
     {
         match &self.state {

@@ -87,7 +87,13 @@ impl<C: ScramCredentialProvider> ScramAuthenticator<C> {
         client_first_message: &[u8],
         nonce: &[u8; 32],
     ) -> Result<Option<Vec<u8>>, ServerScramErrorKind>
-        ensures answer { Gives ServerScramErrorKind.OutOfMemory (option_map (λ message. message.items)) result (λ answer. ChallengesFrom (state_in self.old) (record { version = C.version (provider_in self.old); records = C.records (provider_in self.old) }) nonce.now client_first_message.now answer (state_in self.new)) }
+        ensures answer { Gives ServerScramErrorKind.OutOfMemory (option_map (λ message. message.items)) result
+            (λ answer. ChallengesFrom (state_in self.old) (record {
+              version =
+                  C.version (provider_in self.old);
+              records = C.records (provider_in self.old);
+            }) nonce.now
+            client_first_message.now answer (state_in self.new)) }
         ensures provider { provider_in self.new ≡ provider_in self.old }
         ensures err { OnErr result (state_in self.new ≡ state_in self.old) }
     {
@@ -122,7 +128,12 @@ impl<C: ScramCredentialProvider> ScramAuthenticator<C> {
         alloc: Global,
         client_final_message: &[u8],
     ) -> Result<Option<Vec<u8>>, ServerScramErrorKind>
-        ensures answer { Gives ServerScramErrorKind.OutOfMemory (option_map (λ message. message.items)) result (λ answer. ConcludesFrom (state_in self.old) (record { version = C.version (provider_in self.old); records = C.records (provider_in self.old) }) client_final_message.now answer (state_in self.new)) }
+        ensures answer { Gives ServerScramErrorKind.OutOfMemory (option_map (λ message. message.items)) result
+            (λ answer. ConcludesFrom (state_in self.old) (record {
+              version = C.version (provider_in self.old);
+              records =
+                  C.records (provider_in self.old);
+            }) client_final_message.now answer (state_in self.new)) }
         ensures provider { provider_in self.new ≡ provider_in self.old }
         ensures err { OnErr result (state_in self.new ≡ state_in self.old) }
     {
@@ -162,7 +173,8 @@ fn challenge<'a, C: ScramCredentialProvider>(
     client_first_message: &'a [u8],
     nonce: &[u8; 32],
 ) -> Result<Option<ServerFirstMessage<'a>>, ServerScramErrorKind>
-    ensures { Gives ServerScramErrorKind.OutOfMemory (option_map challenge_values) result (AnswersClientFirst (C.records credentials.now) (base64_text nonce.now) client_first_message.now) }
+    ensures { Gives ServerScramErrorKind.OutOfMemory (option_map challenge_values) result
+        (AnswersClientFirst (C.records credentials.now) (base64_text nonce.now) client_first_message.now) }
 {
     let base64_server_nonce = base64_of(alloc, nonce)?;
     let version = *credentials.scram_version();
@@ -175,7 +187,8 @@ fn challenge<'a, C: ScramCredentialProvider>(
 }
 
 impl<C: ScramCredentialProvider> Clone for ScramAuthenticator<C> {
-    ghost is_clone = { λ authenticator copy. C.is_clone (provider_in authenticator) (provider_in copy) × (state_in copy ≡ state_in authenticator) };
+    ghost is_clone = { λ authenticator copy. C.is_clone (provider_in authenticator) (provider_in copy)
+        × (state_in copy ≡ state_in authenticator) };
 
     fn clone(&self) -> Result<Self, AllocError> {
         Ok(Self {

@@ -17,14 +17,16 @@ pub(crate) fn part(text: &str, k: usize) -> Option<&str>
 
 /// What follows the key in the part at place `k`, where that part begins with the key.
 pub(crate) fn attribute<'a>(text: &'a str, k: usize, key: &str) -> Option<&'a str>
-    ensures { MatchOption result ((rest : List ℕ) → ¬ Part text.now k (key.now ++ rest)) (λ rest. Part text.now k (key.now ++ rest.now)) }
+    ensures { MatchOption result ((rest : List ℕ) → ¬ Part text.now k (key.now ++ rest))
+        (λ rest. Part text.now k (key.now ++ rest.now)) }
 {
     after(part(text, k)?, key)
 }
 
 /// The last of several parts, and what stands before its comma.
 pub(crate) fn last_part(text: &str) -> Option<(&str, &str)>
-    ensures { MatchOption result ((before part : List ℕ) → ¬ LastPart text.now before part) (λ both. LastPart text.now both.0.now both.1.now) }
+    ensures { MatchOption result ((before part : List ℕ) → ¬ LastPart text.now before part)
+        (λ both. LastPart text.now both.0.now both.1.now) }
 {
     text.rsplit_once(',')
 }
@@ -45,7 +47,8 @@ pub(crate) fn base64_of(alloc: Global, bytes: &[u8]) -> Result<String, OutOfMemo
 
 /// The bytes that the text spells in base64, or `None` where it is no base64 text.
 pub(crate) fn bytes_of(alloc: Global, text: &str) -> Result<Option<Vec<u8>>, OutOfMemory>
-    ensures { IfOk result (λ read. MatchOption read ((bytes : List ℕ) → ¬ IsBase64 text.now bytes) (λ bytes. IsBase64 text.now bytes.items)) }
+    ensures { IfOk result (λ read. MatchOption read ((bytes : List ℕ) → ¬ IsBase64 text.now bytes)
+        (λ bytes. IsBase64 text.now bytes.items)) }
 {
     match STANDARD.decode(alloc, text.as_bytes()) {
         Ok(bytes) => Ok(Some(bytes)),

@@ -28,7 +28,16 @@ impl Model for Account {
 
     ghost Value = { List ℕ × Record };
 
-    ghost view = { λ account. (string_bytes account.name, record { salt = account.salt.items; count = account.iterations; stored_key = account.stored_key.items; server_key = account.server_key.items }) };
+    ghost view = { λ account. (
+      string_bytes account.name,
+      record {
+        salt = account.salt.items;
+        count = account.iterations;
+        stored_key =
+            account.stored_key.items;
+        server_key = account.server_key.items;
+      },
+    ) };
 }
 
 impl Account {
@@ -150,7 +159,10 @@ impl ScramCredentialProvider for Accounts {
 
     ghost records = { λ store. store.records };
 
-    ghost clone_keeps = { λ provider copy same. (ap (λ (value : Provider). value.version) same, ap (λ (value : Provider). value.records) same) };
+    ghost clone_keeps = { λ provider copy same. (
+      ap (λ (value : Provider). value.version) same,
+      ap (λ (value : Provider). value.records) same,
+    ) };
 
     fn scram_version(&self) -> &ScramVersion {
         &self.version

@@ -14,13 +14,13 @@ use Rattle.fe2o3_scram.specs.ClientFirst.{ReadsClientFirst}
 use Rattle.fe2o3_sasl.specs.ClientHistory.{Answering, client_at, answer_at, OpenAnswer, ClientHistory}
 use Rattle.fe2o3_scram.specs.Credentials.{Record, Provider, record_at, record_of}
 use Rattle.fe2o3_sasl.specs.Events.{Given, AreGiven, Login, IsLogin, IsRecord, ServerSays, Challenged, Concluded, Failed, ClientSays, Started, Answered, Reported, Refused, Scram}
-use Rattle.fe2o3_sasl.specs.Machines.{Acceptor, PlainAcceptor, acceptor_machine, ends_with}
+use Rattle.fe2o3_sasl.specs.SaslAcceptor.{Acceptor, PlainAcceptor, acceptor_machine, ends_with}
 use Rattle.fe2o3_scram.specs.ClientFinal.{ReadsClientFinal, Meets}
 use Rattle.fe2o3_scram.specs.ServerFinal.{ReadsServerFinal}
 use Rattle.fe2o3_scram.specs.ServerFirst.{ReadsServerFirst}
 use Rattle.fe2o3_sasl.specs.ServerHistory.{Challenging, Accepted, full_nonce, server_at, final_message, carried, says_auth, ServerHistory}
 use Rattle.fe2o3_sasl.specs.TwoSides.{Sides, Histories, Takes, Shows, proof_at, client_message, server_message, HasParts}
-use Rattle.fe2o3_sasl.specs.Verdicts.{Agreed, JudgesVerifier, JudgesProof}
+use Rattle.fe2o3_sasl.specs.Audit.{Agreed, JudgesVerifier, JudgesProof}
 
 -- the acceptor of PLAIN for the user `guest` with the password `guest`
 abbrev pub guests : Acceptor
@@ -29,11 +29,13 @@ guests = PlainAcceptor (codes "guest") (codes "guest")
 -- its machine answers the frame with an outcome of this code, and in no other way
 abbrev pub Ends : SaslFrame → SaslCode → Type 0
 Ends frame code = (nonce : List ℕ) → acceptor_machine guests nonce frame (ends_with code) guests
-    × ((reply : SaslFrame) (next : Acceptor) → acceptor_machine guests nonce frame reply next → (reply ≡ ends_with code) × (next ≡ guests))
+    × ((reply : SaslFrame) (next : Acceptor) → acceptor_machine guests nonce frame reply next
+    → (reply ≡ ends_with code) × (next ≡ guests))
 
 -- an init with this response, whatever else it says
 abbrev pub EndsInit : Option (List ℕ) → SaslCode → Type 0
-EndsInit response code = (mechanism : List ℕ) (hostname : Option (List ℕ)) → Ends (frames.Init mechanism response hostname) code
+EndsInit response code = (mechanism : List ℕ) (hostname : Option (List ℕ))
+    → Ends (frames.Init mechanism response hostname) code
 
 -- PLAIN: name and password of the guest, and a part more, end with Ok
 abbrev pub GuestsEnter : Type 0
@@ -105,11 +107,21 @@ binds nonce = codes "c=biws" ∷ (codes "r=" ++ nonce) ∷ []
 
 -- what the client makes of a server-first message that names this nonce
 abbrev pub answering : List ℕ → List ℕ → Answering
-answering text nonce = record { nonce = client_nonce; text = text; first = record { nonce = nonce; salt = salt; count = 4096 } }
+answering text nonce = record {
+  nonce = client_nonce;
+  text = text;
+  first =
+      record { nonce = nonce; salt = salt; count = 4096 };
+}
 
 -- what the server makes of a client-first message
 abbrev pub challenging : List ℕ → Challenging
-challenging bare = record { client = record { user = codes "user"; nonce = client_nonce; bare = bare }; nonce = server_nonce; stored = stored }
+challenging bare = record {
+  client = record { user = codes "user"; nonce = client_nonce; bare = bare };
+  nonce =
+      server_nonce;
+  stored = stored;
+}
 
 -- an init with the user's message
 abbrev pub sends_init : List ℕ → SaslFrame
@@ -151,7 +163,8 @@ auth_body = 2 ∷ 1 ∷ 0 ∷ 0 ∷ 0 ∷ 0x53 ∷ 0x44 ∷ 0xc0 ∷ 3 ∷ 1 ∷
 abbrev pub RefusalsHaveOneBody : Type 0
 RefusalsHaveOneBody = says_auth ≡ Concluded outcomes.Auth auth_body
 
--- what a server is sent: the init of `user`, an init of `nobody`, a response whose proof is the client's 32 bytes, the right response, the same again, and a list of mechanisms
+-- what a server is sent: the init of `user`, an init of `nobody`, a response whose proof is the client's 32
+-- bytes, the right response, the same again, and a list of mechanisms
 abbrev pub server_given : List SaslFrame
 server_given =
     sends_init (joined (names (codes "user")))
@@ -175,13 +188,17 @@ server_said =
 
 -- the proof of 32 bytes 01 does not meet the stored key
 abbrev pub IsWrong : List ℕ → Type 0
-IsWrong proof = ¬ Meets (server_at provider (challenging (joined (names (codes "user"))))) (record { without = joined (binds both); proof = proof })
+IsWrong proof = ¬ Meets (server_at provider (challenging (joined (names (codes "user")))))
+    (record { without = joined (binds both); proof = proof })
 
--- a server, if the wrong proof does not happen to meet the stored key: refusals leave the challenge open, and what it has accepted it does not accept again
+-- a server, if the wrong proof does not happen to meet the stored key: refusals leave the challenge open, and
+-- what it has accepted it does not accept again
 abbrev pub ServersAnswer : Type 0
-ServersAnswer = HaveBodies server_given × HaveBodies (frames.Challenge (joined (values both)) ∷ sends_ok answer ∷ []) × (IsWrong client_bytes → ServerHistory provider (arrive server_bytes server_given) server_said)
+ServersAnswer = HaveBodies server_given × HaveBodies (frames.Challenge (joined (values both)) ∷ sends_ok answer ∷ [])
+    × (IsWrong client_bytes → ServerHistory provider (arrive server_bytes server_given) server_said)
 
--- what a client is sent: the list of the one mechanism, an outcome Ok before its time, the challenge, an outcome Ok without data, an outcome Auth, the right outcome, and the same again
+-- what a client is sent: the list of the one mechanism, an outcome Ok before its time, the challenge, an
+-- outcome Ok without data, an outcome Auth, the right outcome, and the same again
 abbrev pub client_given : List SaslFrame
 client_given =
     frames.Mechanisms (codes "SCRAM-SHA-256" ∷ [])
@@ -205,9 +222,13 @@ client_said =
     ∷ Refused (Scram IllegalClientState)
     ∷ []
 
--- a client: refusals and an outcome other than Ok leave the answer open, and what it has believed it does not believe again
+-- a client: refusals and an outcome other than Ok leave the answer open, and what it has believed it does not
+-- believe again
 abbrev pub ClientsAnswer : Type 0
-ClientsAnswer = HaveBodies client_given × HaveBodies (sends_init (joined (names (codes "user"))) ∷ sends_response (joined (binds both)) (proof_at login answer) ∷ []) × ClientHistory login (arrive client_bytes client_given) client_said
+ClientsAnswer = HaveBodies client_given
+    × HaveBodies (sends_init (joined (names (codes "user")))
+    ∷ sends_response (joined (binds both)) (proof_at login answer) ∷ [])
+    × ClientHistory login (arrive client_bytes client_given) client_said
 
 -- ---- the shifted text
 
@@ -219,11 +240,13 @@ shifted_nonce = client_nonce ++ codes "x"
 abbrev pub shifted_bare : List ℕ
 shifted_bare = joined (names (codes "user") ++ values shifted_nonce)
 
--- the server's first message as the client gets it, with the server's own and the beginning of a client-final message behind it
+-- the server's first message as the client gets it, with the server's own and the beginning of a client-final
+-- message behind it
 abbrev pub shifted_first : List ℕ
 shifted_first = joined (values shifted_nonce ++ (values both ++ binds both))
 
--- what stands before the proof in the client's last message as the server gets it: the beginning of the one that it waits for, and the client's
+-- what stands before the proof in the client's last message as the server gets it: the beginning of the one
+-- that it waits for, and the client's
 abbrev pub shifted_without : List ℕ
 shifted_without = joined (binds both ++ binds shifted_nonce)
 
@@ -233,14 +256,21 @@ shifted_answer = answering shifted_first shifted_nonce
 
 -- what the server makes of it
 abbrev pub shifted_accepted : Accepted
-shifted_accepted = record { challenge = challenging shifted_bare; final = record { without = shifted_without; proof = proof_at login shifted_answer } }
+shifted_accepted = record {
+  challenge = challenging shifted_bare;
+  final =
+      record { without = shifted_without; proof = proof_at login shifted_answer };
+}
 
--- each side accepts what it reads, the proof that the server accepts is the client's, the verifier that the client takes is the server's, and both have one AuthMessage; but the init has five parts, and the sides mean two nonces
+-- each side accepts what it reads, the proof that the server accepts is the client's, the verifier that the
+-- client takes is the server's, and both have one AuthMessage; but the init has five parts, and the sides mean
+-- two nonces
 pub record IsShifted (answer : Answering) (accepted : Accepted) : Type 0 where
   pub client_first : ReadsClientFirst (codes "n,," ++ shifted_bare) (Ok accepted.challenge.client)
   pub kept : record_at provider.records accepted.challenge.client.user ≡ Some accepted.challenge.stored
   pub server_first : ReadsServerFirst (client_at login answer.nonce) shifted_first (Ok answer.first)
-  pub client_final : ReadsClientFinal (server_at provider accepted.challenge) (joined (shifted_without ∷ (codes "p=" ++ base64_text (proof_at login answer)) ∷ [])) (Ok accepted.final)
+  pub client_final : ReadsClientFinal (server_at provider accepted.challenge)
+      (joined (shifted_without ∷ (codes "p=" ++ base64_text (proof_at login answer)) ∷ [])) (Ok accepted.final)
   pub proof : proof_at login answer ≡ accepted.final.proof
   pub server_final : ReadsServerFinal (answer_at login answer).1 (final_message provider accepted) (Ok tt)
   pub message : client_message login answer ≡ server_message accepted
@@ -255,22 +285,29 @@ ShiftedTextsPass = IsShifted shifted_answer shifted_accepted
 abbrev pub shifted_sides : Sides
 shifted_sides = record {
   login = login;
-  client_events = arrive client_bytes (frames.Mechanisms (codes "SCRAM-SHA-256" ∷ []) ∷ frames.Challenge shifted_first ∷ sends_ok shifted_answer ∷ []);
+  client_events = arrive client_bytes (frames.Mechanisms (codes "SCRAM-SHA-256" ∷ []) ∷ frames.Challenge shifted_first
+      ∷ sends_ok shifted_answer ∷ []);
   client_replies =
       Started (body_of (sends_init (joined (names (codes "user")))))
       ∷ Answered (body_of (sends_response (joined (binds shifted_nonce)) (proof_at login shifted_answer)))
       ∷ Reported outcomes.Ok (Some (codes "v=" ++ base64_text (answer_at login shifted_answer).1))
       ∷ [];
   provider = provider;
-  server_events = arrive server_bytes (sends_init shifted_bare ∷ sends_response shifted_without (proof_at login shifted_answer) ∷ []);
-  server_replies = Challenged (body_of (frames.Challenge (joined (values both)))) ∷ Concluded outcomes.Ok (body_of (sends_ok shifted_answer)) ∷ [];
+  server_events = arrive server_bytes (sends_init shifted_bare
+      ∷ sends_response shifted_without (proof_at login shifted_answer) ∷ []);
+  server_replies = Challenged (body_of (frames.Challenge (joined (values both))))
+      ∷ Concluded outcomes.Ok (body_of (sends_ok shifted_answer)) ∷ [];
 }
 
--- each frame has a body, the two lists are histories, the client takes the server's verifier and shows it the proof that it accepts, and both are judged to agree on user name and client nonce, and on nothing more
+-- each frame has a body, the two lists are histories, the client takes the server's verifier and shows it the
+-- proof that it accepts, and both are judged to agree on user name and client nonce, and on nothing more
 pub record ShiftsHistories (sides : Sides) (answer : Answering) (accepted : Accepted) : Type 0 where
-  pub client_given : HaveBodies (frames.Mechanisms (codes "SCRAM-SHA-256" ∷ []) ∷ frames.Challenge shifted_first ∷ sends_ok shifted_answer ∷ [])
-  pub client_said : HaveBodies (sends_init (joined (names (codes "user"))) ∷ sends_response (joined (binds shifted_nonce)) (proof_at login shifted_answer) ∷ [])
-  pub server_given : HaveBodies (sends_init shifted_bare ∷ sends_response shifted_without (proof_at login shifted_answer) ∷ [])
+  pub client_given : HaveBodies (frames.Mechanisms (codes "SCRAM-SHA-256" ∷ []) ∷ frames.Challenge shifted_first
+      ∷ sends_ok shifted_answer ∷ [])
+  pub client_said : HaveBodies (sends_init (joined (names (codes "user")))
+      ∷ sends_response (joined (binds shifted_nonce)) (proof_at login shifted_answer) ∷ [])
+  pub server_given : HaveBodies (sends_init shifted_bare
+      ∷ sends_response shifted_without (proof_at login shifted_answer) ∷ [])
   pub server_said : HaveBodies (frames.Challenge (joined (values both)) ∷ sends_ok shifted_answer ∷ [])
   pub login : IsLogin sides.login
   pub client_held : AreGiven sides.client_events

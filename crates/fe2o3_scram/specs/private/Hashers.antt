@@ -33,4 +33,5 @@ version_of (BytesSha512 bytes) = Sha512
 -- the two hashers have taken in the pads of the key
 abbrev pub IsKeyOf : HmacKey → ScramVersion → List ℕ → Type 0
 IsKeyOf hmac_key version key =
-    HasTaken hmac_key.inner version (masked 0x36 (key_block version key)) × HasTaken hmac_key.outer version (masked 0x5c (key_block version key))
+    HasTaken hmac_key.inner version (masked 0x36 (key_block version key))
+    × HasTaken hmac_key.outer version (masked 0x5c (key_block version key))

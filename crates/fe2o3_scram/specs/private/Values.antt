@@ -21,7 +21,12 @@ values_of values = record { nonce = values.nonce.now; salt = values.salt.items; 
 
 -- what was read of a client-first message
 abbrev pub client_first_values : ClientFirstValues → ClientFirst
-client_first_values values = record { user = cow_str_bytes values.username; nonce = values.client_nonce.now; bare = values.client_first_message_bare.now }
+client_first_values values = record {
+  user = cow_str_bytes values.username;
+  nonce = values.client_nonce.now;
+  bare =
+      values.client_first_message_bare.now;
+}
 
 -- what was read of a client-final message
 abbrev pub client_final_values : ClientFinalValues → ClientFinal
@@ -29,7 +34,13 @@ client_final_values values = record { without = values.without_proof.now; proof 
 
 -- the challenge that a server-first message is
 abbrev pub challenge_values : ServerFirstMessage → Challenge
-challenge_values message = record { user = cow_str_bytes message.username; bare = message.client_first_message_bare.now; first = message.message; nonce = message.client_server_nonce }
+challenge_values message = record {
+  user = cow_str_bytes message.username;
+  bare =
+      message.client_first_message_bare.now;
+  first = message.message;
+  nonce = message.client_server_nonce;
+}
 
 -- the tests of a proof that was read
 abbrev pub key_tests : Server → ClientFinal → List (ServerScramErrorKind × Type 0)
@@ -40,5 +51,6 @@ key_tests server final =
 
 -- what the server answers to a proof that was read
 abbrev pub AnswersProof : Server → ClientFinal → Result (Vec ℕ Global) ServerScramErrorKind → Type 0
-AnswersProof server final (Ok message) = (length final.proof ≡ digest_len server.version) × Meets server final × (message.items ≡ server_final_of server final)
+AnswersProof server final (Ok message) = (length final.proof ≡ digest_len server.version) × Meets server final
+    × (message.items ≡ server_final_of server final)
 AnswersProof server final (Err fault) = fault ≢ OutOfMemory → IsFirst (key_tests server final) fault

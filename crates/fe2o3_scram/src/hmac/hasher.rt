@@ -85,7 +85,8 @@ impl Hasher {
 
     /// Takes in the input.
     pub fn update(&mut self, input: &[u8])
-        ensures { (version : ScramVersion) (message : List ℕ) → HasTaken self.old version message → HasTaken self.new version (message ++ input.now) }
+        ensures { (version : ScramVersion) (message : List ℕ) → HasTaken self.old version message
+            → HasTaken self.new version (message ++ input.now) }
     {
         match self {
             Hasher::Sha1(state) => state.update(input),
@@ -97,8 +98,10 @@ impl Hasher {
     /// The digest of what was taken in and the input after it.
     #[tactic(auto, unfolding(crate::specs::Hmac::digest))]
     pub fn digest_with(&self, input: &[u8]) -> DigestBytes
-        ensures bytes { (version : ScramVersion) (message : List ℕ) → HasTaken self.now version message → digest_bytes result ≡ digest version (message ++ input.now) }
-        ensures version { (version : ScramVersion) (message : List ℕ) → HasTaken self.now version message → version_of result ≡ version }
+        ensures bytes { (version : ScramVersion) (message : List ℕ) → HasTaken self.now version message
+            → digest_bytes result ≡ digest version (message ++ input.now) }
+        ensures version { (version : ScramVersion) (message : List ℕ) → HasTaken self.now version message
+            → version_of result ≡ version }
     {
         match self {
             Hasher::Sha1(state) => {

@@ -63,8 +63,10 @@ impl HmacKey {
     #[tactic(auto, unfolding(crate::specs::Hmac::hmac_of))]
     pub fn mac(&self, message: &[u8], meter: &mut Meter) -> DigestBytes
         requires { meter.old + 1 < 2 ^ 64 }
-        ensures value { (version : ScramVersion) (key : List ℕ) → IsKeyOf self.now version key → digest_bytes result ≡ hmac_of version key message.now }
-        ensures version { (version : ScramVersion) (key : List ℕ) → IsKeyOf self.now version key → version_of result ≡ version }
+        ensures value { (version : ScramVersion) (key : List ℕ) → IsKeyOf self.now version key
+            → digest_bytes result ≡ hmac_of version key message.now }
+        ensures version { (version : ScramVersion) (key : List ℕ) → IsKeyOf self.now version key
+            → version_of result ≡ version }
         ensures counted { meter.new ≡ meter.old + 1 }
     {
         meter.add_one();

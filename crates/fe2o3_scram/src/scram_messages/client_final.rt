@@ -28,7 +28,13 @@ impl ScramVersion {
         server_first: &str,
         client_first_message_bare: &[u8],
     ) -> Result<(Vec<u8>, Vec<u8>), ScramErrorKind>
-        ensures { Gives ScramErrorKind.OutOfMemory (λ answer. (answer.0.items, answer.1.items)) result (AnswersServerFirst self.now (record { nonce = client_nonce.now; password = password.now; limit = 4294967295 }) client_first_message_bare.now server_first.now) }
+        ensures { Gives ScramErrorKind.OutOfMemory (λ answer. (answer.0.items, answer.1.items)) result
+            (AnswersServerFirst self.now (record {
+              nonce = client_nonce.now;
+              password = password.now;
+              limit =
+                  4294967295;
+            }) client_first_message_bare.now server_first.now) }
     {
         self.compute_client_final_message_metered(
             alloc,
@@ -51,8 +57,15 @@ impl ScramVersion {
         meter: &mut Meter,
     ) -> Result<(Vec<u8>, Vec<u8>), ScramErrorKind>
         requires { meter.old ≤ 2 ^ 63 }
-        ensures answer { Gives ScramErrorKind.OutOfMemory (λ answer. (answer.0.items, answer.1.items)) result (AnswersServerFirst self.now (record { nonce = client_nonce.now; password = password.now; limit = 4294967295 }) client_first_message_bare.now server_first.now) }
-        ensures cost { AnswerCosts (record { nonce = client_nonce.now; password = password.now; limit = 4294967295 }) server_first.now result meter.old meter.new }
+        ensures answer { Gives ScramErrorKind.OutOfMemory (λ answer. (answer.0.items, answer.1.items)) result
+            (AnswersServerFirst self.now (record {
+              nonce = client_nonce.now;
+              password = password.now;
+              limit =
+                  4294967295;
+            }) client_first_message_bare.now server_first.now) }
+        ensures cost { AnswerCosts (record { nonce = client_nonce.now; password = password.now; limit = 4294967295 })
+            server_first.now result meter.old meter.new }
     {
         self.compute_client_final_message_limited(
             alloc,
@@ -78,8 +91,11 @@ impl ScramVersion {
         meter: &mut Meter,
     ) -> Result<(Vec<u8>, Vec<u8>), ScramErrorKind>
         requires { meter.old ≤ 2 ^ 63 }
-        ensures answer { Gives ScramErrorKind.OutOfMemory (λ answer. (answer.0.items, answer.1.items)) result (AnswersServerFirst self.now (record { nonce = client_nonce.now; password = password.now; limit = limit }) client_first_message_bare.now server_first.now) }
-        ensures cost { AnswerCosts (record { nonce = client_nonce.now; password = password.now; limit = limit }) server_first.now result meter.old meter.new }
+        ensures answer { Gives ScramErrorKind.OutOfMemory (λ answer. (answer.0.items, answer.1.items)) result
+            (AnswersServerFirst self.now (record { nonce = client_nonce.now; password = password.now; limit = limit })
+            client_first_message_bare.now server_first.now) }
+        ensures cost { AnswerCosts (record { nonce = client_nonce.now; password = password.now; limit = limit })
+            server_first.now result meter.old meter.new }
     {
         let first = read_server_first(alloc, client_nonce, password, limit, server_first)?;
         let answer = self.answer(
@@ -105,7 +121,8 @@ impl ScramVersion {
     ) -> Result<(Vec<u8>, Vec<u8>), OutOfMemory>
         requires some { 1 ≤ first.now.iterations }
         requires meter { meter.old ≤ 2 ^ 63 }
-        ensures answer { IfOk result (λ answer. (answer.0.items, answer.1.items) ≡ answer_of self.now password.now client_first_message_bare.now server_first.now (values_of first.now)) }
+        ensures answer { IfOk result (λ answer. (answer.0.items, answer.1.items)
+            ≡ answer_of self.now password.now client_first_message_bare.now server_first.now (values_of first.now)) }
         ensures counted { OnOk result (meter.new ≡ meter.old + (first.now.iterations + 4)) }
         ensures memory { OnErr result (meter.new ≤ meter.old + (first.now.iterations + 4)) }
     {
@@ -173,7 +190,8 @@ fn client_final(
     client_final_message_without_proof: &[u8],
     client_proof: &[u8],
 ) -> Result<Vec<u8>, OutOfMemory>
-    ensures { IfOk result (λ text. text.items ≡ client_final_of client_final_message_without_proof.now client_proof.now) }
+    ensures { IfOk result (λ text. text.items ≡ client_final_of client_final_message_without_proof.now
+        client_proof.now) }
 {
     let mut buf = client_final_message_without_proof.to_vec(alloc)?;
     buf.push(b',')?;
@@ -189,7 +207,8 @@ pub(crate) fn auth_message(
     server_first_message: &[u8],
     client_final_message_without_proof: &[u8],
 ) -> Result<Vec<u8>, OutOfMemory>
-    ensures { IfOk result (λ text. text.items ≡ auth_message client_first_message_bare.now server_first_message.now client_final_message_without_proof.now) }
+    ensures { IfOk result (λ text. text.items ≡ auth_message client_first_message_bare.now server_first_message.now
+        client_final_message_without_proof.now) }
 {
     let mut buf = client_first_message_bare.to_vec(alloc)?;
     buf.push(b',')?;

@@ -22,7 +22,8 @@ pub(crate) struct ClientFinalValues<'a> {
 pub(crate) fn test_binding(alloc: Global, client_final: &str) -> Result<(), ServerScramErrorKind>
     ensures tested { OnOk result (NoneHolds (binding_tests client_final.now)) }
     ensures bound { OnOk result (HasBinding client_final.now (codes "n,,")) }
-    ensures err { IfErr result (λ kind. kind ≢ ServerScramErrorKind.OutOfMemory → IsFirst (binding_tests client_final.now) kind) }
+    ensures err { IfErr result (λ kind. kind ≢ ServerScramErrorKind.OutOfMemory
+        → IsFirst (binding_tests client_final.now) kind) }
 {
     let Some(base64_binding) = attribute(client_final, 0, CHANNEL_BINDING_KEY) else {
         return Err(ServerScramErrorKind::CannotParseClientFinalMessage);
@@ -61,7 +62,8 @@ pub(crate) fn read_proof(
 ) -> Result<ClientFinalValues<'_>, ServerScramErrorKind>
     ensures tested { IfOk result (λ _. NoneHolds (spelling_tests client_final.now)) }
     ensures named { IfOk result (λ final. HasProof client_final.now (client_final_values final)) }
-    ensures err { IfErr result (λ kind. kind ≢ ServerScramErrorKind.OutOfMemory → IsFirst (spelling_tests client_final.now) kind) }
+    ensures err { IfErr result (λ kind. kind ≢ ServerScramErrorKind.OutOfMemory
+        → IsFirst (spelling_tests client_final.now) kind) }
 {
     let Some((without_proof, last)) = last_part(client_final) else {
         return Err(ServerScramErrorKind::ProofNotFoundInClientFinal);

@@ -57,7 +57,8 @@ pub fn unescape_username(alloc: Global, text: &str) -> Result<CowStr<'_>, Unesca
     ensures borrowed { IfOk result (λ name. IsBorrowedStr name ↔ NoEquals text.now) }
 
     // A text without an equals sign takes no memory.
-    ensures err { IfErr result (λ error. ((error ≡ UnescapeError.Invalid) × ((name : List ℕ) → escaped name ≢ text.now)) ⊎ ((error ≡ UnescapeError.OutOfMemory) × ¬ NoEquals text.now)) }
+    ensures err { IfErr result (λ error. ((error ≡ UnescapeError.Invalid) × ((name : List ℕ) → escaped name ≢ text.now))
+        ⊎ ((error ≡ UnescapeError.OutOfMemory) × ¬ NoEquals text.now)) }
 {
     if text.contains(',') {
         return Err(UnescapeError::Invalid);
@@ -73,7 +74,8 @@ pub fn unescape_username(alloc: Global, text: &str) -> Result<CowStr<'_>, Unesca
 fn unescape(alloc: Global, text: &str) -> Result<String, UnescapeError>
     requires { NoComma text.now }
     ensures ok { IfOk result (λ name. escaped (string_bytes name) ≡ text.now) }
-    ensures err { IfErr result (λ error. error ≢ UnescapeError.OutOfMemory → (error ≡ UnescapeError.Invalid) × ((name : List ℕ) → escaped name ≢ text.now)) }
+    ensures err { IfErr result (λ error. error ≢ UnescapeError.OutOfMemory
+        → (error ≡ UnescapeError.Invalid) × ((name : List ℕ) → escaped name ≢ text.now)) }
 {
     let mut name = String::new(alloc);
     let mut rest = text;
@@ -95,7 +97,8 @@ fn unescape(alloc: Global, text: &str) -> Result<String, UnescapeError>
 
 /// What stands before the first equals sign, and what follows it.
 fn at_equals(text: &str) -> Option<(&str, &str)>
-    ensures { MatchOption result (NoEquals text.now) (λ both. NoEquals both.0.now × (text.now ≡ both.0.now ++ (61 ∷ both.1.now))) }
+    ensures { MatchOption result (NoEquals text.now) (λ both. NoEquals both.0.now
+        × (text.now ≡ both.0.now ++ (61 ∷ both.1.now))) }
 {
     text.split_once('=')
 }

@@ -35,7 +35,9 @@ impl ScramVersion {
         server_first_message: &[u8],
         stored_password: &StoredPassword<'_>,
     ) -> Result<Vec<u8>, ServerScramErrorKind>
-        ensures { Gives ServerScramErrorKind.OutOfMemory (λ message. message.items) result (AnswersClientFinal (server_of self.now client_first_message_bare.now server_first_message.now client_server_nonce.now (kept stored_password.now)) client_final.now) }
+        ensures { Gives ServerScramErrorKind.OutOfMemory (λ message. message.items) result
+            (AnswersClientFinal (server_of self.now client_first_message_bare.now server_first_message.now
+            client_server_nonce.now (kept stored_password.now)) client_final.now) }
     {
         self.compute_server_final_message_metered(
             alloc,
@@ -60,7 +62,9 @@ impl ScramVersion {
         meter: &mut Meter,
     ) -> Result<Vec<u8>, ServerScramErrorKind>
         requires { meter.old ≤ 2 ^ 63 }
-        ensures answer { Gives ServerScramErrorKind.OutOfMemory (λ message. message.items) result (AnswersClientFinal (server_of self.now client_first_message_bare.now server_first_message.now client_server_nonce.now (kept stored_password.now)) client_final.now) }
+        ensures answer { Gives ServerScramErrorKind.OutOfMemory (λ message. message.items) result
+            (AnswersClientFinal (server_of self.now client_first_message_bare.now server_first_message.now
+            client_server_nonce.now (kept stored_password.now)) client_final.now) }
         ensures cost { FinalCosts result meter.old meter.new }
     {
         let Ok(text) = str::from_utf8(client_final) else {
@@ -90,7 +94,9 @@ impl ScramVersion {
         meter: &mut Meter,
     ) -> Result<Vec<u8>, ServerScramErrorKind>
         requires { meter.old ≤ 2 ^ 63 }
-        ensures answer { (nonce : List ℕ) → AnswersProof (server_of self.now client_first_message_bare.now server_first_message.now nonce (kept stored_password.now)) (client_final_values values.entry) result }
+        ensures answer { (nonce : List ℕ)
+            → AnswersProof (server_of self.now client_first_message_bare.now server_first_message.now nonce
+            (kept stored_password.now)) (client_final_values values.entry) result }
         ensures cost { FinalCosts result meter.old meter.new }
     {
         if values.proof.len() != self.digest_len() {
@@ -124,7 +130,9 @@ impl ScramVersion {
     ) -> bool
         requires sized { vec_len client_proof ≡ digest_len self.now }
         requires meter { meter.old + 1 < 2 ^ 64 }
-        ensures verdict { IsTrue result ↔ (digest self.now (exclusive_or client_proof.items (hmac_of self.now stored_key.now auth_message.now)) ≡ stored_key.now) }
+        ensures verdict { IsTrue result
+            ↔ (digest self.now (exclusive_or client_proof.items (hmac_of self.now stored_key.now auth_message.now))
+            ≡ stored_key.now) }
         ensures counted { meter.new ≡ meter.old + 1 }
     {
         // ClientKey := ClientProof XOR HMAC(StoredKey, AuthMessage)
@@ -142,7 +150,8 @@ impl ScramVersion {
         meter: &mut Meter,
     ) -> Result<Vec<u8>, OutOfMemory>
         requires { meter.old + 1 < 2 ^ 64 }
-        ensures text { IfOk result (λ message. message.items ≡ codes "v=" ++ base64_text (hmac_of self.now server_key.now auth_message.now)) }
+        ensures text { IfOk result (λ message. message.items ≡ codes "v="
+            ++ base64_text (hmac_of self.now server_key.now auth_message.now)) }
         ensures counted { meter.new ≡ meter.old + 1 }
     {
         let server_signature = HmacKey::new(*self, server_key).mac(auth_message, meter);

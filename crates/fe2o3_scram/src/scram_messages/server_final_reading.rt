@@ -18,7 +18,8 @@ impl ScramVersion {
         server_final: &[u8],
         server_signature: &[u8],
     ) -> Result<(), ScramErrorKind>
-        ensures { Gives ScramErrorKind.OutOfMemory (λ value. value) result (ReadsServerFinal server_signature.now server_final.now) }
+        ensures { Gives ScramErrorKind.OutOfMemory (λ value. value) result
+            (ReadsServerFinal server_signature.now server_final.now) }
     {
         let Ok(text) = str::from_utf8(server_final) else {
             return Err(ScramErrorKind::Utf8Error);

@@ -44,7 +44,8 @@ impl ScramVersion {
         base64_server_nonce: &str,
         credentials: &C,
     ) -> Result<Option<ServerFirstMessage<'a>>, ServerScramErrorKind>
-        ensures { Gives ServerScramErrorKind.OutOfMemory (option_map challenge_values) result (AnswersClientFirst (C.records credentials.now) base64_server_nonce.now client_first.now) }
+        ensures { Gives ServerScramErrorKind.OutOfMemory (option_map challenge_values) result
+            (AnswersClientFirst (C.records credentials.now) base64_server_nonce.now client_first.now) }
     {
         let client_first = read_client_first(alloc, client_first)?;
         let Some(stored_password) = credentials.get_stored_password(&client_first.username) else {

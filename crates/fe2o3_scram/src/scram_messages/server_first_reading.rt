@@ -28,7 +28,9 @@ pub(crate) fn read_server_first<'a>(
     limit: u32,
     server_first: &'a str,
 ) -> Result<ServerFirstValues<'a>, ScramErrorKind>
-    ensures reads { Gives ScramErrorKind.OutOfMemory values_of result (ReadsServerFirst (record { nonce = client_nonce.now; password = password.now; limit = limit }) server_first.now) }
+    ensures reads { Gives ScramErrorKind.OutOfMemory values_of result
+        (ReadsServerFirst (record { nonce = client_nonce.now; password = password.now; limit = limit })
+        server_first.now) }
     ensures count { IfOk result (λ first. (1 ≤ first.iterations) × (first.iterations ≤ limit)) }
 {
     let nonce = read_nonce(client_nonce, server_first)?;
@@ -71,7 +73,8 @@ fn read_nonce<'a>(client_nonce: &str, server_first: &'a str) -> Result<&'a str, 
 fn read_salt(alloc: Global, server_first: &str) -> Result<Vec<u8>, ScramErrorKind>
     ensures tested { IfOk result (λ _. NoneHolds (salt_tests server_first.now)) }
     ensures named { IfOk result (λ salt. HasSalt server_first.now salt.items) }
-    ensures err { IfErr result (λ kind. kind ≢ ScramErrorKind.OutOfMemory → IsFirst (salt_tests server_first.now) kind) }
+    ensures err { IfErr result (λ kind. kind ≢ ScramErrorKind.OutOfMemory
+        → IsFirst (salt_tests server_first.now) kind) }
 {
     let Some(base64_salt) = attribute(server_first, 1, SALT_KEY) else {
         return Err(ScramErrorKind::SaltNotFound);

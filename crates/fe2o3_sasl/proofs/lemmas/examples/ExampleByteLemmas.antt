@@ -30,8 +30,10 @@ bytes_number : (form : Form) (n : ℕ) → n < limit form → IsBytes (number fo
 bytes_number Eight n below = IsBytes-cons n [] (omega (arith, below)) IsBytes-nil
 bytes_number ThirtyTwo n below = IsBytes-high_first 4 n
 
-bytes_content : (form : Form) (bytes : List ℕ) → length bytes < limit form → IsBytes bytes → IsBytes (content form bytes)
-bytes_content form bytes below are = IsBytes-append (number form (length bytes)) bytes (bytes_number form (length bytes) below) are
+bytes_content : (form : Form) (bytes : List ℕ) → length bytes < limit form → IsBytes bytes
+    → IsBytes (content form bytes)
+bytes_content form bytes below are = IsBytes-append (number form (length bytes)) bytes
+    (bytes_number form (length bytes) below) are
 
 bytes_choice : (form : Form) (short long : ℕ) → short < 256 → long < 256 → choice short long form < 256
 bytes_choice Eight short long below too = below
@@ -40,7 +42,8 @@ bytes_choice ThirtyTwo short long below too = too
 bytes_binary : (bytes : List ℕ) → length bytes < 2 ^ 16 → IsBytes bytes → IsBytes (canonical_variable 0xa0 0xb0 bytes)
 bytes_binary bytes short are =
     let form = shortest (length bytes) in
-    IsBytes-cons (choice 0xa0 0xb0 form) (content form bytes) (bytes_choice form 0xa0 0xb0 (omega arith) (omega arith)) (bytes_content form bytes (shortest_fits (length bytes) (omega (arith, short))) are)
+    IsBytes-cons (choice 0xa0 0xb0 form) (content form bytes) (bytes_choice form 0xa0 0xb0 (omega arith) (omega arith))
+    (bytes_content form bytes (shortest_fits (length bytes) (omega (arith, short))) are)
 
 bytes_size : (form : Form) (n : ℕ) → 1 + n < limit form → n < 2 ^ 31 → IsBytes (number form (width form + n))
 bytes_size Eight n below short = bytes_number Eight (1 + n) below
@@ -51,7 +54,8 @@ bytes_count Eight count few = bytes_number Eight count (omega (arith, few))
 bytes_count ThirtyTwo count few = bytes_number ThirtyTwo count (omega (arith, few))
 
 -- the body of a frame whose items are bytes
-bytes_body : (frame : SaslFrame) → code_of (kind_of frame) < 256 → length (items_of frame) < 2 ^ 31 → count_of frame < 256 → IsBytes (items_of frame) → IsBytes (body_of frame)
+bytes_body : (frame : SaslFrame) → code_of (kind_of frame) < 256 → length (items_of frame) < 2 ^ 31
+    → count_of frame < 256 → IsBytes (items_of frame) → IsBytes (body_of frame)
 bytes_body frame code short few are =
     let n = length (items_of frame) in
     let form = shortest (1 + n) in
@@ -59,41 +63,56 @@ bytes_body frame code short few are =
     let fits : 1 + n < limit form = shortest_fits (1 + n) (omega (arith, short)) in
     let head : List ℕ = 2 ∷ 1 ∷ 0 ∷ 0 ∷ 0 ∷ 0x53 ∷ [] in
     let rest = number form m ++ (number form (count_of frame) ++ items_of frame) in
-    let bytes_rest : IsBytes rest = IsBytes-append (number form m) (number form (count_of frame) ++ items_of frame) (bytes_size form n fits short) (IsBytes-append (number form (count_of frame)) (items_of frame) (bytes_count form (count_of frame) few) are) in
-    let list = IsBytes-cons (choice 0xc0 0xd0 form) rest (bytes_choice form 0xc0 0xd0 (omega arith) (omega arith)) bytes_rest in
-    let whole : IsBytes (body_parts frame form m (count_of frame)) = IsBytes-append head (code_of (kind_of frame) ∷ choice 0xc0 0xd0 form ∷ rest) (IsBytes-literal head refl) (IsBytes-cons (code_of (kind_of frame)) (choice 0xc0 0xd0 form ∷ rest) code list) in
-    let is : canonical frame ≡ Some (body_parts frame form m (count_of frame)) = body_in_parts frame form n m refl (omega (arith, short)) refl refl in
+    let bytes_rest : IsBytes rest = IsBytes-append (number form m) (number form (count_of frame) ++ items_of frame)
+    (bytes_size form n fits short) (IsBytes-append (number form (count_of frame)) (items_of frame)
+    (bytes_count form (count_of frame) few) are) in
+    let list = IsBytes-cons (choice 0xc0 0xd0 form) rest (bytes_choice form 0xc0 0xd0 (omega arith) (omega arith))
+    bytes_rest in
+    let whole : IsBytes (body_parts frame form m (count_of frame)) =
+    IsBytes-append head (code_of (kind_of frame) ∷ choice 0xc0 0xd0 form ∷ rest) (IsBytes-literal head refl)
+    (IsBytes-cons (code_of (kind_of frame)) (choice 0xc0 0xd0 form ∷ rest) code list) in
+    let is : canonical frame ≡ Some (body_parts frame form m (count_of frame)) =
+    body_in_parts frame form n m refl (omega (arith, short)) refl refl in
     subst (λ (some : Option (List ℕ)). IsBytes (carried [] (λ body. body) some)) (sym is) whole
 
 bytes_items : (text : List ℕ) → length text < 2 ^ 16 → IsBytes text → IsBytes (canonical_variable 0xa0 0xb0 text ++ [])
-bytes_items text short are = IsBytes-append (canonical_variable 0xa0 0xb0 text) [] (bytes_binary text short are) IsBytes-nil
+bytes_items text short are = IsBytes-append (canonical_variable 0xa0 0xb0 text) []
+    (bytes_binary text short are) IsBytes-nil
 
 pub bytes_challenge : (text : List ℕ) → length text < 2 ^ 16 → IsBytes text → IsBytes (body_of (frames.Challenge text))
-bytes_challenge text short are = bytes_body (frames.Challenge text) (omega arith) (omega (arith, short_items text short)) (omega arith) (bytes_items text short are)
+bytes_challenge text short are = bytes_body (frames.Challenge text) (omega arith)
+    (omega (arith, short_items text short)) (omega arith) (bytes_items text short are)
 
 pub bytes_init : (bare : List ℕ) → length bare < 2 ^ 15 → IsBytes bare → IsBytes (body_of (sends_init bare))
 bytes_init bare short are =
     let text = codes "n,," ++ bare in
     let small : length text < 2 ^ 16 = omega (arith, short) in
     let name : List ℕ = 0xa3 ∷ 13 ∷ codes "SCRAM-SHA-256" in
-    let whole = IsBytes-append name (canonical_variable 0xa0 0xb0 text ++ []) (IsBytes-literal name refl) (bytes_items text small (IsBytes-append (codes "n,,") bare (IsBytes-literal (codes "n,,") refl) are)) in
+    let whole = IsBytes-append name (canonical_variable 0xa0 0xb0 text ++ []) (IsBytes-literal name refl)
+    (bytes_items text small (IsBytes-append (codes "n,,") bare (IsBytes-literal (codes "n,,") refl) are)) in
     bytes_body (sends_init bare) (omega arith) (omega (arith, short_items text small)) (omega arith) whole
 
-pub bytes_response : (without proof : List ℕ) → length without < 2 ^ 15 → length proof ≡ 32 → IsBytes without → IsBytes (body_of (sends_response without proof))
+pub bytes_response : (without proof : List ℕ) → length without < 2 ^ 15 → length proof ≡ 32 → IsBytes without
+    → IsBytes (body_of (sends_response without proof))
 bytes_response without proof short long are =
     let last = codes ",p=" ++ base64_text proof in
     let text = joined (without ∷ (codes "p=" ++ base64_text proof) ∷ []) in
     let small = short_response without proof short long in
-    let bytes : IsBytes text = IsBytes-append without last are (IsBytes-append (codes ",p=") (base64_text proof) (IsBytes-literal (codes ",p=") refl) (IsBytes-small (base64_text proof) (plain-base64_text proof).1)) in
-    bytes_body (frames.Response text) (omega arith) (omega (arith, short_items text small)) (omega arith) (bytes_items text small bytes)
+    let bytes : IsBytes text = IsBytes-append without last are
+    (IsBytes-append (codes ",p=") (base64_text proof) (IsBytes-literal (codes ",p=") refl)
+    (IsBytes-small (base64_text proof) (plain-base64_text proof).1)) in
+    bytes_body (frames.Response text) (omega arith) (omega (arith, short_items text small)) (omega arith)
+    (bytes_items text small bytes)
 
 pub bytes_ok : (answer : Answering) → IsBytes (body_of (sends_ok answer))
 bytes_ok answer =
     let signature = (answer_at login answer).1 in
     let text = codes "v=" ++ base64_text signature in
     let code : List ℕ = 0x50 ∷ 0 ∷ [] in
-    let bytes = bytes_items text (short_ok answer) (IsBytes-append (codes "v=") (base64_text signature) (IsBytes-literal (codes "v=") refl) (IsBytes-small (base64_text signature) (plain-base64_text signature).1)) in
-    bytes_body (sends_ok answer) (omega arith) (omega (arith, short_items text (short_ok answer))) (omega arith) (IsBytes-append code (canonical_variable 0xa0 0xb0 text ++ []) (IsBytes-literal code refl) bytes)
+    let bytes = bytes_items text (short_ok answer) (IsBytes-append (codes "v=") (base64_text signature)
+    (IsBytes-literal (codes "v=") refl) (IsBytes-small (base64_text signature) (plain-base64_text signature).1)) in
+    bytes_body (sends_ok answer) (omega arith) (omega (arith, short_items text (short_ok answer))) (omega arith)
+    (IsBytes-append code (canonical_variable 0xa0 0xb0 text ++ []) (IsBytes-literal code refl) bytes)
 
 pub bytes_mechanisms : IsBytes (body_of (frames.Mechanisms (codes "SCRAM-SHA-256" ∷ [])))
 unfolding canonical
@@ -106,11 +125,23 @@ given_each [] are k event at = absurd (none-some event at)
 given_each (first ∷ events) are zero event at = subst IsGiven (same_Some first event at) are.0
 given_each (first ∷ events) are (suc k) event at = given_each events are.1 k event at
 
-pub given : (byte : ℕ) (frame : SaslFrame) → byte < 256 → IsBytes (body_of frame) → IsGiven (arrives (replicate 32 byte) frame)
+pub given : (byte : ℕ) (frame : SaslFrame) → byte < 256 → IsBytes (body_of frame)
+    → IsGiven (arrives (replicate 32 byte) frame)
 given byte frame below are = record { body = are; nonce = IsBytes-replicate 32 byte below; length = refl }
 
 pub is_login : IsLogin login
-is_login = record { user = IsUtf8-literal (codes "user") refl; password = IsUtf8-literal (codes "pencil") refl; limit = omega arith }
+is_login = record {
+  user = IsUtf8-literal (codes "user") refl;
+  password = IsUtf8-literal (codes "pencil") refl;
+  limit =
+      omega arith;
+}
 
 pub is_record : IsRecord stored
-is_record = record { salt = IsBytes-replicate 32 3 (omega arith); count = omega arith; stored_key = IsBytes-digest Sha256 _; server_key = IsBytes-hmac_of Sha256 _ _ }
+is_record = record {
+  salt = IsBytes-replicate 32 3 (omega arith);
+  count = omega arith;
+  stored_key =
+      IsBytes-digest Sha256 _;
+  server_key = IsBytes-hmac_of Sha256 _ _;
+}

@@ -35,11 +35,20 @@ plain_nonce : (nonce : List ℕ) → Plain nonce → Plain (codes "r=" ++ nonce)
 plain_nonce nonce plain = plain-append (codes "r=") nonce (plain-literal (codes "r=") refl refl) plain
 
 pub plain_names : (user : List ℕ) → Plain user → AllByRecursion Plain (names user)
-plain_names user plain = (plain-append (codes "n=") user (plain-literal (codes "n=") refl refl) plain, (plain_nonce client_nonce (plain-base64_text client_bytes), tt))
+plain_names user plain = (
+  plain-append (codes "n=") user (plain-literal (codes "n=") refl refl) plain,
+  (plain_nonce client_nonce (plain-base64_text client_bytes), tt),
+)
 
 pub plain_values : (nonce : List ℕ) → Plain nonce → AllByRecursion Plain (values nonce)
-plain_values nonce plain =
-    (plain_nonce nonce plain, (plain-append (codes "s=") (base64_text salt) (plain-literal (codes "s=") refl refl) (plain-base64_text salt), (plain-literal (codes "i=4096") refl refl, tt)))
+plain_values nonce plain = (
+  plain_nonce nonce plain,
+  (
+    plain-append (codes "s=") (base64_text salt) (plain-literal (codes "s=") refl refl)
+        (plain-base64_text salt),
+    (plain-literal (codes "i=4096") refl refl, tt),
+  ),
+)
 
 pub plain_binds : (nonce : List ℕ) → Plain nonce → AllByRecursion Plain (binds nonce)
 plain_binds nonce plain = (plain-literal (codes "c=biws") refl refl, (plain_nonce nonce plain, tt))
@@ -47,25 +56,42 @@ plain_binds nonce plain = (plain-literal (codes "c=biws") refl refl, (plain_nonc
 -- ---- the client-first message, with more parts behind the nonce
 
 pub reads_names : (user : List ℕ) (more : List (List ℕ)) → escaped user ≡ user → Plain user → AllByRecursion Plain more
-    → ReadsClientFirst (codes "n,," ++ joined (names user ++ more)) (Ok (record { user = user; nonce = client_nonce; bare = joined (names user ++ more) }))
+    → ReadsClientFirst (codes "n,," ++ joined (names user ++ more))
+    (Ok (record { user = user; nonce = client_nonce; bare = joined (names user ++ more) }))
 reads_names user more sent plain too =
     let all = plain-more (names user) more (plain_names user plain) too in
     let parts = parts_joined (codes "n=" ++ user) ((codes "r=" ++ client_nonce) ∷ more) all in
-    named (codes "n,," ++ joined (names user ++ more)) (joined (names user ++ more)) (IsUtf8-append (codes "n,,") (joined (names user ++ more)) (IsUtf8-literal (codes "n,,") refl) (utf8_joined (names user ++ more) all)) refl user user client_nonce
+    named (codes "n,," ++ joined (names user ++ more)) (joined (names user ++ more))
+    (IsUtf8-append (codes "n,,") (joined (names user ++ more)) (IsUtf8-literal (codes "n,,") refl)
+    (utf8_joined (names user ++ more) all)) refl user user client_nonce
     (names user ++ more, parts, refl) sent (names user ++ more, parts, refl)
 
 -- ---- the server-first message, with more parts behind the count
 
 password_printable : IsPrintable (codes "pencil")
 password_printable =
-    let each : AllByRecursion (λ byte. (0x20 ≤ byte) × (byte ≤ 0x7e)) (codes "pencil") = ((omega arith, omega arith), ((omega arith, omega arith), ((omega arith, omega arith), ((omega arith, omega arith), ((omega arith, omega arith), ((omega arith, omega arith), tt)))))) in
+    let each : AllByRecursion (λ byte. (0x20 ≤ byte) × (byte ≤ 0x7e)) (codes "pencil") = (
+      (omega arith, omega arith),
+      (
+        (omega arith, omega arith),
+        (
+          (omega arith, omega arith),
+          (
+            (omega arith, omega arith),
+            ((omega arith, omega arith), ((omega arith, omega arith), tt)),
+          ),
+        ),
+      ),
+    ) in
     All-from_recursion (λ byte. (0x20 ≤ byte) × (byte ≤ 0x7e)) (codes "pencil") each
 
 counted : IsCount (codes "4096") 4096
 counted = subst (λ (digits : List ℕ). IsCount digits 4096) count_text (IsCount-decimal 4096 (omega arith) (omega arith))
 
-pub reads_values : (nonce rest : List ℕ) (more : List (List ℕ)) → nonce ≡ client_nonce ++ rest → Plain nonce → AllByRecursion Plain more
-    → ReadsServerFirst (client_at login client_nonce) (joined (values nonce ++ more)) (Ok (answering (joined (values nonce ++ more)) nonce).first)
+pub reads_values : (nonce rest : List ℕ) (more : List (List ℕ)) → nonce ≡ client_nonce ++ rest → Plain nonce
+    → AllByRecursion Plain more
+    → ReadsServerFirst (client_at login client_nonce) (joined (values nonce ++ more))
+    (Ok (answering (joined (values nonce ++ more)) nonce).first)
 reads_values nonce rest more begins plain too =
     let text = joined (values nonce ++ more) in
     let all = plain-more (values nonce) more (plain_values nonce plain) too in
@@ -74,34 +100,56 @@ reads_values nonce rest more begins plain too =
     let has_salt : HasSalt text salt = (IsBytes-replicate 32 3 (omega arith), (values nonce ++ more, parts, refl)) in
     let digits : Part text 2 (codes "i=" ++ codes "4096") = (values nonce ++ more, parts, refl) in
     let count : HasCount text 4096 = (codes "4096", digits, counted) in
-    values_read (client_at login client_nonce) text (answering text nonce).first
-    (λ few. few (codes "i=4096") digits, (not_extended text nonce has_nonce, (λ none. none nonce has_nonce, (same_nonce text client_nonce nonce rest has_nonce begins, tt))))
-    (λ none. none (base64_text salt) has_salt.1, (λ none. none salt has_salt, tt))
-    (λ none. none (codes "4096") digits, (λ none. none 4096 count, (not_too_large text login.limit 4096 count (omega arith), tt)))
+    values_read (client_at login client_nonce) text (answering text nonce).first (
+      λ few. few (codes "i=4096") digits,
+      (
+        not_extended text nonce has_nonce,
+        (λ none. none nonce has_nonce, (same_nonce text client_nonce nonce rest has_nonce begins, tt)),
+      ),
+    )
+    (λ none. none (base64_text salt) has_salt.1, (λ none. none salt has_salt, tt)) (
+      λ none. none (codes "4096") digits,
+      (
+        λ none. none 4096 count,
+        (not_too_large text login.limit 4096 count (omega arith), tt),
+      ),
+    )
     password_printable has_nonce has_salt count
 
 -- ---- the AuthMessage
 
-three_joined : (p : List ℕ) (ps : List (List ℕ)) (q : List ℕ) (qs : List (List ℕ)) (r : List ℕ) (rs : List (List ℕ)) → joined (joined (p ∷ ps) ∷ joined (q ∷ qs) ∷ joined (r ∷ rs) ∷ []) ≡ joined (p ∷ ps ++ (q ∷ qs ++ r ∷ rs))
-three_joined p ps q qs r rs = ap (λ (rest : List ℕ). joined (p ∷ ps) ++ 44 ∷ rest) (joined-append q qs r rs) ∙ joined-append p ps q (qs ++ r ∷ rs)
+three_joined : (p : List ℕ) (ps : List (List ℕ)) (q : List ℕ) (qs : List (List ℕ)) (r : List ℕ) (rs : List (List ℕ))
+    → joined (joined (p ∷ ps) ∷ joined (q ∷ qs) ∷ joined (r ∷ rs) ∷ []) ≡ joined (p ∷ ps ++ (q ∷ qs ++ r ∷ rs))
+three_joined p ps q qs r rs = ap (λ (rest : List ℕ). joined (p ∷ ps) ++ 44 ∷ rest) (joined-append q qs r rs)
+    ∙ joined-append p ps q (qs ++ r ∷ rs)
 
 -- all parts of the client's, where the server-first message has more behind the count
-pub client_joined : (nonce : List ℕ) (more : List (List ℕ)) → client_message login (answering (joined (values nonce ++ more)) nonce) ≡ joined (names (codes "user") ++ ((values nonce ++ more) ++ binds nonce))
+pub client_joined : (nonce : List ℕ) (more : List (List ℕ))
+    → client_message login (answering (joined (values nonce ++ more)) nonce)
+    ≡ joined (names (codes "user") ++ ((values nonce ++ more) ++ binds nonce))
 client_joined nonce more =
     let text = joined (values nonce ++ more) in
     ap (λ (name : List ℕ). auth_message (joined (names name)) text (without_proof nonce)) user_text
-    ∙ ap (λ (binding : List ℕ). auth_message (joined (names (codes "user"))) text (joined ((codes "c=" ++ binding) ∷ (codes "r=" ++ nonce) ∷ []))) header_text
-    ∙ three_joined (codes "n=user") ((codes "r=" ++ client_nonce) ∷ []) (codes "r=" ++ nonce) ((codes "s=" ++ base64_text salt) ∷ codes "i=4096" ∷ more) (codes "c=biws") ((codes "r=" ++ nonce) ∷ [])
+    ∙ ap (λ (binding : List ℕ). auth_message (joined (names (codes "user"))) text
+    (joined ((codes "c=" ++ binding) ∷ (codes "r=" ++ nonce) ∷ []))) header_text
+    ∙ three_joined (codes "n=user") ((codes "r=" ++ client_nonce) ∷ []) (codes "r=" ++ nonce)
+    ((codes "s=" ++ base64_text salt) ∷ codes "i=4096" ∷ more) (codes "c=biws") ((codes "r=" ++ nonce) ∷ [])
 
 -- and of the server's, where the client's messages have more behind the nonce
-pub server_joined : (more others : List (List ℕ)) → auth_message (joined (names (codes "user") ++ more)) (first_message (challenging (joined (names (codes "user") ++ more)))) (joined (binds both ++ others)) ≡ joined ((names (codes "user") ++ more) ++ (values both ++ (binds both ++ others)))
+pub server_joined : (more others : List (List ℕ)) → auth_message (joined (names (codes "user") ++ more))
+    (first_message (challenging (joined (names (codes "user") ++ more)))) (joined (binds both ++ others))
+    ≡ joined ((names (codes "user") ++ more) ++ (values both ++ (binds both ++ others)))
 server_joined more others =
-    ap (λ (count : List ℕ). auth_message (joined (names (codes "user") ++ more)) (joined ((codes "r=" ++ both) ∷ (codes "s=" ++ base64_text salt) ∷ (codes "i=" ++ count) ∷ [])) (joined (binds both ++ others))) count_text
-    ∙ three_joined (codes "n=user") ((codes "r=" ++ client_nonce) ∷ more) (codes "r=" ++ both) ((codes "s=" ++ base64_text salt) ∷ codes "i=4096" ∷ []) (codes "c=biws") ((codes "r=" ++ both) ∷ others)
+    ap (λ (count : List ℕ). auth_message (joined (names (codes "user") ++ more))
+    (joined ((codes "r=" ++ both) ∷ (codes "s=" ++ base64_text salt) ∷ (codes "i=" ++ count) ∷ []))
+    (joined (binds both ++ others))) count_text
+    ∙ three_joined (codes "n=user") ((codes "r=" ++ client_nonce) ∷ more) (codes "r=" ++ both)
+    ((codes "s=" ++ base64_text salt) ∷ codes "i=4096" ∷ []) (codes "c=biws") ((codes "r=" ++ both) ∷ others)
 
 -- the server-first message as the server writes it
 pub first_joined : (bare : List ℕ) → first_message (challenging bare) ≡ joined (values both)
-first_joined bare = ap (λ (count : List ℕ). joined ((codes "r=" ++ both) ∷ (codes "s=" ++ base64_text salt) ∷ (codes "i=" ++ count) ∷ [])) count_text
+first_joined bare = ap (λ (count : List ℕ). joined ((codes "r=" ++ both) ∷ (codes "s=" ++ base64_text salt)
+    ∷ (codes "i=" ++ count) ∷ [])) count_text
 
 -- ---- the client's proof
 
@@ -113,24 +161,34 @@ module _ (text nonce : List ℕ) where
   mac = hmac_of Sha256 (digest Sha256 key) (client_message login (answering text nonce))
 
   same_length : length key ≡ length mac
-  same_length = length-hmac_of Sha256 _ (codes "Client Key") ∙ sym (length-hmac_of Sha256 (digest Sha256 key) (client_message login (answering text nonce)))
+  same_length = length-hmac_of Sha256 _ (codes "Client Key")
+      ∙ sym (length-hmac_of Sha256 (digest Sha256 key) (client_message login (answering text nonce)))
 
   pub length-proof : length (proof_at login (answering text nonce)) ≡ 32
   length-proof = length-exclusive_or key mac same_length ∙ length-hmac_of Sha256 _ (codes "Client Key")
 
   pub IsBytes-proof : IsBytes (proof_at login (answering text nonce))
-  IsBytes-proof = IsBytes-exclusive_or key mac (IsBytes-hmac_of Sha256 _ (codes "Client Key")) (IsBytes-hmac_of Sha256 (digest Sha256 key) (client_message login (answering text nonce)))
+  IsBytes-proof = IsBytes-exclusive_or key mac (IsBytes-hmac_of Sha256 _ (codes "Client Key"))
+      (IsBytes-hmac_of Sha256 (digest Sha256 key) (client_message login (answering text nonce)))
 
   -- it meets the stored key where the server has the client's AuthMessage
-  pub proof_meets : (message : List ℕ) → client_message login (answering text nonce) ≡ message → digest Sha256 (exclusive_or (proof_at login (answering text nonce)) (hmac_of Sha256 stored.stored_key message)) ≡ stored.stored_key
+  pub proof_meets : (message : List ℕ) → client_message login (answering text nonce) ≡ message
+      → digest Sha256 (exclusive_or (proof_at login (answering text nonce)) (hmac_of Sha256 stored.stored_key message))
+      ≡ stored.stored_key
   proof_meets message same =
-      ap (λ (one : List ℕ). digest Sha256 (exclusive_or (proof_at login (answering text nonce)) (hmac_of Sha256 (digest Sha256 key) one))) (sym same) ∙ ap (digest Sha256) (exclusive_or-back key mac same_length)
+      ap (λ (one : List ℕ). digest Sha256 (exclusive_or (proof_at login (answering text nonce))
+      (hmac_of Sha256 (digest Sha256 key) one))) (sym same)
+      ∙ ap (digest Sha256) (exclusive_or-back key mac same_length)
 
   -- and then the signature is the one that the client waits for
-  pub signature_read : (message : List ℕ) → client_message login (answering text nonce) ≡ message → ReadsServerFinal (answer_at login (answering text nonce)).1 (codes "v=" ++ base64_text (hmac_of Sha256 stored.server_key message)) (Ok tt)
+  pub signature_read : (message : List ℕ) → client_message login (answering text nonce) ≡ message
+      → ReadsServerFinal (answer_at login (answering text nonce)).1
+      (codes "v=" ++ base64_text (hmac_of Sha256 stored.server_key message)) (Ok tt)
   signature_read message same =
       let signature = (answer_at login (answering text nonce)).1 in
-      subst (λ (one : List ℕ). ReadsServerFinal signature (codes "v=" ++ base64_text (hmac_of Sha256 stored.server_key one)) (Ok tt)) same (reads_signature signature (IsBytes-hmac_of Sha256 _ _))
+      subst (λ (one : List ℕ). ReadsServerFinal signature (codes "v="
+      ++ base64_text (hmac_of Sha256 stored.server_key one)) (Ok tt)) same
+      (reads_signature signature (IsBytes-hmac_of Sha256 _ _))
 
 -- ---- the client-final message, with more parts between the nonce and the proof
 
@@ -142,35 +200,45 @@ module _ (more : List (List ℕ)) (too : AllByRecursion Plain more) (proof : Lis
   last = codes "p=" ++ base64_text proof
 
   plain_last : Plain last
-  plain_last = plain-append (codes "p=") (base64_text proof) (plain-literal (codes "p=") refl refl) (plain-base64_text proof)
+  plain_last = plain-append (codes "p=") (base64_text proof) (plain-literal (codes "p=") refl refl)
+      (plain-base64_text proof)
 
   abbrev parts : List (List ℕ)
   parts = binds both ++ (more ++ last ∷ [])
 
   plain_parts : AllByRecursion Plain parts
-  plain_parts = plain-more (binds both) (more ++ last ∷ []) (plain_binds both plain_both) (plain-more more (last ∷ []) too (plain_last, tt))
+  plain_parts = plain-more (binds both) (more ++ last ∷ []) (plain_binds both plain_both)
+      (plain-more more (last ∷ []) too (plain_last, tt))
 
   whole : final_text more proof ≡ joined parts
   whole = joined-append (codes "c=biws") ((codes "r=" ++ both) ∷ more) last []
 
   final_parts : Parts (final_text more proof) parts
-  final_parts = let joins = parts_joined (codes "c=biws") ((codes "r=" ++ both) ∷ (more ++ last ∷ [])) plain_parts in record { some = joins.some; apart = joins.apart; whole = sym whole }
+  final_parts = let joins = parts_joined (codes "c=biws") ((codes "r=" ++ both) ∷ (more ++ last ∷ [])) plain_parts in
+      record { some = joins.some; apart = joins.apart; whole = sym whole }
 
   pub utf8_final : IsUtf8 (final_text more proof)
   utf8_final = subst IsUtf8 (sym whole) (utf8_joined parts plain_parts)
 
-  pub has_final : IsBytes proof → HasProof (final_text more proof) (record { without = joined (binds both ++ more); proof = proof })
+  pub has_final : IsBytes proof → HasProof (final_text more proof)
+      (record { without = joined (binds both ++ more); proof = proof })
   has_final bytes = (bytes, (plain_last.0, refl))
 
-  pub reads_final : (server : Server) → server.nonce ≡ both → IsBytes proof → length proof ≡ digest_len server.version → Meets server (record { without = joined (binds both ++ more); proof = proof })
-      → ReadsClientFinal server (final_text more proof) (Ok (record { without = joined (binds both ++ more); proof = proof }))
+  pub reads_final : (server : Server) → server.nonce ≡ both → IsBytes proof → length proof ≡ digest_len server.version
+      → Meets server (record { without = joined (binds both ++ more); proof = proof })
+      → ReadsClientFinal server (final_text more proof) (Ok
+      (record { without = joined (binds both ++ more); proof = proof }))
   reads_final server same bytes sized meets =
       let text = final_text more proof in
       let binding : Part text 0 (codes "c=" ++ codes "biws") = (parts, final_parts, refl) in
       let nonce : Part text 1 (codes "r=" ++ both) = (parts, final_parts, refl) in
       final_read server text (record { without = joined (binds both ++ more); proof = proof }) utf8_final
       (record {
-        binding = (IsBytes-literal (codes "n,,") refl, subst (λ (spelling : List ℕ). Part text 0 (codes "c=" ++ spelling)) (sym header_text) binding);
+        binding = (
+          IsBytes-literal (codes "n,,") refl,
+          subst
+              (λ (spelling : List ℕ). Part text 0 (codes "c=" ++ spelling)) (sym header_text) binding,
+        );
         nonce = subst (λ (some : List ℕ). Part text 1 (codes "r=" ++ some)) (sym same) nonce;
         proof = has_final bytes;
         sized = sized;

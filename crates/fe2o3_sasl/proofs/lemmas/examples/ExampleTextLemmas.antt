@@ -18,7 +18,8 @@ use Rattle.fe2o3_scram.proofs.lemmas.hashes.DigestLemmas.{IsBytes-nil, IsBytes-c
 abbrev pub Plain : List ℕ → Type 0
 Plain text = NoComma text × Small text
 
-pub plain-literal : (text : List ℕ) → list_all (λ byte. not (eqb byte 44)) text ≡ true → list_all (λ byte. nat_lt byte 128) text ≡ true → Plain text
+pub plain-literal : (text : List ℕ) → list_all (λ byte. not (eqb byte 44)) text ≡ true
+    → list_all (λ byte. nat_lt byte 128) text ≡ true → Plain text
 plain-literal text passes too = (no_comma-test text passes, small-test text too)
 
 pub plain-append : (front back : List ℕ) → Plain front → Plain back → Plain (front ++ back)
@@ -27,12 +28,14 @@ plain-append front back plain too = (no_comma-append front back plain.0 too.0, s
 pub plain-base64_text : (bytes : List ℕ) → Plain (base64_text bytes)
 plain-base64_text bytes = (no_comma-base64_text bytes, small-base64_text bytes)
 
-pub plain-more : (parts more : List (List ℕ)) → AllByRecursion Plain parts → AllByRecursion Plain more → AllByRecursion Plain (parts ++ more)
+pub plain-more : (parts more : List (List ℕ)) → AllByRecursion Plain parts → AllByRecursion Plain more
+    → AllByRecursion Plain (parts ++ more)
 plain-more [] more plain too = too
 plain-more (part ∷ parts) more plain too = (plain.0, plain-more parts more plain.1 too)
 
 -- such texts are the parts of what they are joined to
-pub parts_joined : (part : List ℕ) (parts : List (List ℕ)) → AllByRecursion Plain (part ∷ parts) → Parts (joined (part ∷ parts)) (part ∷ parts)
+pub parts_joined : (part : List ℕ) (parts : List (List ℕ)) → AllByRecursion Plain (part ∷ parts)
+    → Parts (joined (part ∷ parts)) (part ∷ parts)
 parts_joined part parts plain = record { some = omega arith; apart = apart (part ∷ parts) plain; whole = refl }
   where
     apart : (parts : List (List ℕ)) → AllByRecursion Plain parts → AllByRecursion NoComma parts
@@ -42,22 +45,26 @@ parts_joined part parts plain = record { some = omega arith; apart = apart (part
 pub small_joined : (parts : List (List ℕ)) → AllByRecursion Plain parts → Small (joined parts)
 small_joined [] plain = tt
 small_joined (part ∷ []) plain = plain.0.1
-small_joined (part ∷ next ∷ more) plain = small-append part (44 ∷ joined (next ∷ more)) plain.0.1 (omega arith, small_joined (next ∷ more) plain.1)
+small_joined (part ∷ next ∷ more) plain = small-append part (44 ∷ joined (next ∷ more)) plain.0.1
+    (omega arith, small_joined (next ∷ more) plain.1)
 
 pub utf8_joined : (parts : List (List ℕ)) → AllByRecursion Plain parts → IsUtf8 (joined parts)
 utf8_joined parts plain = IsUtf8-small (joined parts) (small_joined parts plain)
 
 pub IsBytes-small : (text : List ℕ) → Small text → IsBytes text
 IsBytes-small [] small = IsBytes-nil
-IsBytes-small (byte ∷ text) small = let below = small.0 in IsBytes-cons byte text (omega (arith, below)) (IsBytes-small text small.1)
+IsBytes-small (byte ∷ text) small = let below = small.0 in
+    IsBytes-cons byte text (omega (arith, below)) (IsBytes-small text small.1)
 
 pub bytes_joined : (parts : List (List ℕ)) → AllByRecursion Plain parts → IsBytes (joined parts)
 bytes_joined parts plain = IsBytes-small (joined parts) (small_joined parts plain)
 
 -- two joined texts are joined
-pub joined-append : (part : List ℕ) (parts : List (List ℕ)) (other : List ℕ) (others : List (List ℕ)) → joined (part ∷ parts) ++ 44 ∷ joined (other ∷ others) ≡ joined (part ∷ parts ++ other ∷ others)
+pub joined-append : (part : List ℕ) (parts : List (List ℕ)) (other : List ℕ) (others : List (List ℕ))
+    → joined (part ∷ parts) ++ 44 ∷ joined (other ∷ others) ≡ joined (part ∷ parts ++ other ∷ others)
 joined-append part [] other others = refl
-joined-append part (next ∷ more) other others = append_assoc part (44 ∷ joined (next ∷ more)) (44 ∷ joined (other ∷ others)) ∙ ap (λ (rest : List ℕ). part ++ 44 ∷ rest) (joined-append next more other others)
+joined-append part (next ∷ more) other others = append_assoc part (44 ∷ joined (next ∷ more))
+    (44 ∷ joined (other ∷ others)) ∙ ap (λ (rest : List ℕ). part ++ 44 ∷ rest) (joined-append next more other others)
 
 -- ---- texts
 
@@ -81,7 +88,8 @@ count_text = refl
 pub length-base64_text : (bytes : List ℕ) → length bytes ≡ 32 → length (base64_text bytes) ≡ 44
 unfolding base64_text
 length-base64_text bytes long =
-    length-append (encode_symbols alphabet bytes) (replicate (padding_len (length bytes)) 61) ∙ rw (length-encode_symbols alphabet bytes, length-replicate {A = ℕ} (padding_len (length bytes)) 61, long) refl
+    length-append (encode_symbols alphabet bytes) (replicate (padding_len (length bytes)) 61)
+    ∙ rw (length-encode_symbols alphabet bytes, length-replicate {A = ℕ} (padding_len (length bytes)) 61, long) refl
 
 pub IsBytes-replicate : (n byte : ℕ) → byte < 256 → IsBytes (replicate n byte)
 IsBytes-replicate zero byte below = IsBytes-nil

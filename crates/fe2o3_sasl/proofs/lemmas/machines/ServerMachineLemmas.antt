@@ -15,9 +15,10 @@ use Rattle.fe2o3_scram.specs.ServerFirst.{Challenge, challenge_of}
 use Rattle.fe2o3_scram.specs.ClientFirst.{ClientFirst}
 use Rattle.fe2o3_scram.specs.Credentials.{Record, Provider, record_at}
 use Rattle.fe2o3_sasl.specs.Events.{Given, ServerSays, Challenged, Concluded, Failed}
-use Rattle.fe2o3_sasl.specs.HistoryLaws.{AcceptorRunsAreHistories}
+use Rattle.fe2o3_sasl.specs.Laws.{AcceptorRunsAreHistories}
 use Rattle.fe2o3_scram.specs.Hmac.{mechanism_name}
-use Rattle.fe2o3_sasl.specs.Machines.{AcceptorGives, AcceptorSteps, acceptor_machine, Acceptor, ScramAcceptor, Sends, server_says, ends_with, server_frame, Runs}
+use Rattle.fe2o3_sasl.specs.Runs.{AcceptorGives, AcceptorSteps, Sends, server_says, Runs}
+use Rattle.fe2o3_sasl.specs.SaslAcceptor.{acceptor_machine, Acceptor, ScramAcceptor, ends_with, server_frame}
 use Rattle.fe2o3_scram.specs.ClientFinal.{ClientFinal, ReadsClientFinal, server_of}
 use Rattle.fe2o3_sasl.specs.ServerHistory.{Challenging, Accepted, FitsAsInit, FitsAsResponse, FitsAt, Open, ServerAnswers, ServerAllocates, ServerHistory, SpellsBody, carried, is_challenge, is_ok, first_message, full_nonce, final_message, server_at, says_auth}
 use Rattle.fe2o3_scram.specs.ScramServer.{ServerState, Initial, ServerFirstSent, ServerFinalSent, ChallengesFrom, ConcludesFrom}
@@ -32,27 +33,41 @@ use Rattle.fe2o3_sasl.proofs.lemmas.frames.SpellingLemmas.{sent}
 -- ---- the table moves along what is held
 
 -- the table says the same where the same challenges are open
-pub server_moves : (provider : Provider) (IsOpen Other : Challenging → Type 0) → AreSame IsOpen Other → (event : Given) (spelled : Result SaslFrame Error) (says : ServerSays) → ServerAnswers provider IsOpen event spelled says → ServerAnswers provider Other event spelled says
+pub server_moves : (provider : Provider) (IsOpen Other : Challenging → Type 0) → AreSame IsOpen Other
+    → (event : Given) (spelled : Result SaslFrame Error) (says : ServerSays)
+    → ServerAnswers provider IsOpen event spelled says → ServerAnswers provider Other event spelled says
 server_moves P IsOpen Other same event (Err fault) s h = h
 server_moves P IsOpen Other same event (Ok (frames.Mechanisms names)) s h = h
 server_moves P IsOpen Other same event (Ok (frames.Challenge text)) s h = h
 server_moves P IsOpen Other same event (Ok (frames.Outcome code more)) s h = h
 server_moves P IsOpen Other same event (Ok (frames.Init mechanism response hostname)) s h = h
-server_moves P IsOpen Other same event (Ok (frames.Response text)) s (inl h) = inl (h.0, (same.0 h.0.challenge h.1.0, h.1.1), h.2)
-server_moves P IsOpen Other same event (Ok (frames.Response text)) s (inr h) = inr (λ p x. h.0 p (same.1 p.challenge x.0, x.1), h.1)
+server_moves P IsOpen Other same event (Ok (frames.Response text)) s (inl h) =
+    inl (h.0, (same.0 h.0.challenge h.1.0, h.1.1), h.2)
+server_moves P IsOpen Other same event (Ok (frames.Response text)) s (inr h) =
+    inr (λ p x. h.0 p (same.1 p.challenge x.0, x.1), h.1)
 
 -- what an event fits as stays where the list goes on
-fits_same : (provider : Provider) (events more : List Given) (k : ℕ) → k < length events → AreSame (FitsAt provider events k) (FitsAt provider (events ++ more) k)
-fits_same P es more k l = (λ c h. (h.0, h.1, slice_get-front es more k l ∙ h.2, h.3, h.4), λ c h. (h.0, h.1, sym (slice_get-front es more k l) ∙ h.2, h.3, h.4))
+fits_same : (provider : Provider) (events more : List Given) (k : ℕ) → k < length events
+    → AreSame (FitsAt provider events k) (FitsAt provider (events ++ more) k)
+fits_same P es more k l = (
+  λ c h. (h.0, h.1, slice_get-front es more k l ∙ h.2, h.3, h.4),
+  λ c h. (h.0, h.1, sym (slice_get-front es more k l) ∙ h.2, h.3, h.4),
+)
 
-open_same : (provider : Provider) (events more : List Given) (replies others : List ServerSays) (k : ℕ) → length replies ≡ length events → k ≤ length replies → AreSame (Open provider events replies k) (Open provider (events ++ more) (replies ++ others) k)
-open_same P es more rs others k n l = open_by_front is_challenge is_ok (FitsAt P es) (FitsAt P (es ++ more)) rs others k l (λ j b. fits_same P es more j (omega (arith, n)))
+open_same : (provider : Provider) (events more : List Given) (replies others : List ServerSays) (k : ℕ)
+    → length replies ≡ length events → k ≤ length replies
+    → AreSame (Open provider events replies k) (Open provider (events ++ more) (replies ++ others) k)
+open_same P es more rs others k n l = open_by_front is_challenge is_ok (FitsAt P es)
+    (FitsAt P (es ++ more)) rs others k l (λ j b. fits_same P es more j (omega (arith, n)))
 
 -- what a history says of a reply
 abbrev Says : Provider → (Challenging → Type 0) → Given → ServerSays → Type 0
-Says provider IsOpen event says = (spelled : Result SaslFrame Error) × SpellsBody event.body spelled × ((ServerAllocates spelled × (says ≡ Failed faults.OutOfMemory)) ⊎ ServerAnswers provider IsOpen event spelled says)
+Says provider IsOpen event says = (spelled : Result SaslFrame Error) × SpellsBody event.body spelled
+    × ((ServerAllocates spelled × (says ≡ Failed faults.OutOfMemory))
+    ⊎ ServerAnswers provider IsOpen event spelled says)
 
-says_moves : (provider : Provider) (IsOpen Other : Challenging → Type 0) → AreSame IsOpen Other → (event : Given) (says : ServerSays) → Says provider IsOpen event says → Says provider Other event says
+says_moves : (provider : Provider) (IsOpen Other : Challenging → Type 0) → AreSame IsOpen Other
+    → (event : Given) (says : ServerSays) → Says provider IsOpen event says → Says provider Other event says
 says_moves P IsOpen Other same event says h = (
   h.0,
   h.1,
@@ -61,28 +76,42 @@ says_moves P IsOpen Other same event says h = (
 )
 
 -- the next reply of a history
-pub history_push : (provider : Provider) (events : List Given) (replies : List ServerSays) (event : Given) (says : ServerSays) → ServerHistory provider events replies → Says provider (Open provider events replies (length replies)) event says
+pub history_push : (provider : Provider) (events : List Given) (replies : List ServerSays) (event : Given)
+    (says : ServerSays) → ServerHistory provider events replies
+    → Says provider (Open provider events replies (length replies)) event says
     → ServerHistory provider (events ++ event ∷ []) (replies ++ says ∷ [])
 history_push P es rs e says h s = record {
   count = length-append rs (says ∷ []) ∙ (ap (λ n. n + 1) h.count ∙ sym (length-append es (e ∷ [])));
-  each = λ k event t at said. ⊎_elim (front k event t at said) (last k event t at said) (below_or_at k (length rs) (within k t said));
+  each = λ k event t at said. ⊎_elim (front k event t at said) (last k event t at said)
+      (below_or_at k (length rs) (within k t said));
 }
   where
     within : (k : ℕ) (t : ServerSays) → slice_get (rs ++ says ∷ []) k ≡ Some t → k < suc (length rs)
     within k t said = omega (arith, slice_get_within (rs ++ says ∷ []) k t said, length-append rs (says ∷ []))
 
-    moved : (k : ℕ) (event : Given) (t : ServerSays) → k ≤ length rs → Says P (Open P es rs k) event t → Says P (Open P (es ++ e ∷ []) (rs ++ says ∷ []) k) event t
-    moved k event t l x = says_moves P (Open P es rs k) (Open P (es ++ e ∷ []) (rs ++ says ∷ []) k) (open_same P es (e ∷ []) rs (says ∷ []) k h.count l) event t x
+    moved : (k : ℕ) (event : Given) (t : ServerSays) → k ≤ length rs → Says P (Open P es rs k) event t
+        → Says P (Open P (es ++ e ∷ []) (rs ++ says ∷ []) k) event t
+    moved k event t l x = says_moves P (Open P es rs k) (Open P (es ++ e ∷ []) (rs ++ says ∷ []) k)
+        (open_same P es (e ∷ []) rs (says ∷ []) k h.count l) event t x
 
-    front : (k : ℕ) (event : Given) (t : ServerSays) → slice_get (es ++ e ∷ []) k ≡ Some event → slice_get (rs ++ says ∷ []) k ≡ Some t → k < length rs → Says P (Open P (es ++ e ∷ []) (rs ++ says ∷ []) k) event t
-    front k event t at said l = moved k event t (omega arith) (h.each k event t (sym (slice_get-front es (e ∷ []) k (omega (arith, h.count))) ∙ at) (sym (slice_get-front rs (says ∷ []) k l) ∙ said))
+    front : (k : ℕ) (event : Given) (t : ServerSays) → slice_get (es ++ e ∷ []) k ≡ Some event
+        → slice_get (rs ++ says ∷ []) k ≡ Some t → k < length rs
+        → Says P (Open P (es ++ e ∷ []) (rs ++ says ∷ []) k) event t
+    front k event t at said l = moved k event t (omega arith)
+        (h.each k event t (sym (slice_get-front es (e ∷ []) k (omega (arith, h.count))) ∙ at)
+        (sym (slice_get-front rs (says ∷ []) k l) ∙ said))
 
-    last : (k : ℕ) (event : Given) (t : ServerSays) → slice_get (es ++ e ∷ []) k ≡ Some event → slice_get (rs ++ says ∷ []) k ≡ Some t → k ≡ length rs → Says P (Open P (es ++ e ∷ []) (rs ++ says ∷ []) k) event t
+    last : (k : ℕ) (event : Given) (t : ServerSays) → slice_get (es ++ e ∷ []) k ≡ Some event
+        → slice_get (rs ++ says ∷ []) k ≡ Some t → k ≡ length rs
+        → Says P (Open P (es ++ e ∷ []) (rs ++ says ∷ []) k) event t
     last k event t at said n =
-        let x : e ≡ event = same_Some e event (sym (slice_get-behind es e []) ∙ (ap (slice_get (es ++ e ∷ [])) (sym h.count ∙ sym n) ∙ at)) in
-        let y : says ≡ t = same_Some says t (sym (slice_get-behind rs says []) ∙ (ap (slice_get (rs ++ says ∷ [])) (sym n) ∙ said)) in
+        let x : e ≡ event = same_Some e event (sym (slice_get-behind es e [])
+        ∙ (ap (slice_get (es ++ e ∷ [])) (sym h.count ∙ sym n) ∙ at)) in
+        let y : says ≡ t = same_Some says t (sym (slice_get-behind rs says [])
+        ∙ (ap (slice_get (rs ++ says ∷ [])) (sym n) ∙ said)) in
         let z = subst (λ (k : ℕ). Says P (Open P es rs k) e says) (sym n) s in
-        moved k event t (omega arith) (subst (λ (t : ServerSays). Says P (Open P es rs k) event t) y (subst (λ (x : Given). Says P (Open P es rs k) x says) x z))
+        moved k event t (omega arith) (subst (λ (t : ServerSays). Says P (Open P es rs k) event t) y
+        (subst (λ (x : Given). Says P (Open P es rs k) x says) x z))
 
 -- ---- the state and the challenge that is open
 
@@ -96,64 +125,117 @@ abbrev Known : Provider → Option Challenging → Type 0
 Known provider held = (c : Challenging) → held ≡ Some c → record_at provider.records c.client.user ≡ Some c.stored
 
 -- a step, as a history has it: what it says, what is open behind it, and that the state has it
-record Stepped (provider : Provider) (held : Option Challenging) (event : Given) (spelled : Result SaslFrame Error) (says : ServerSays) (next : ServerState) : Type 0 where
+record Stepped (provider : Provider) (held : Option Challenging) (event : Given) (spelled : Result SaslFrame Error)
+    (says : ServerSays) (next : ServerState) : Type 0 where
   after : Option Challenging
-  answers : (ServerAllocates spelled × (says ≡ Failed faults.OutOfMemory)) ⊎ ServerAnswers provider (λ c. held ≡ Some c) event spelled says
-  turns : Turns is_challenge is_ok (λ c. (frame : SaslFrame) × (spelled ≡ Ok frame) × FitsAsInit provider event frame c) held says after
+  answers : (ServerAllocates spelled × (says ≡ Failed faults.OutOfMemory))
+      ⊎ ServerAnswers provider (λ c. held ≡ Some c) event spelled says
+  turns : Turns is_challenge is_ok (λ c. (frame : SaslFrame) × (spelled ≡ Ok frame) × FitsAsInit provider event frame c)
+      held says after
   shown : Shown after next
 
 -- a reply that opens and closes nothing
-idle : (provider : Provider) (held : Option Challenging) (event : Given) (spelled : Result SaslFrame Error) (says : ServerSays) (state next : ServerState) → is_challenge says ≡ false → is_ok says ≡ false → next ≡ state → Shown held state
-    → (ServerAllocates spelled × (says ≡ Failed faults.OutOfMemory)) ⊎ ServerAnswers provider (λ c. held ≡ Some c) event spelled says → Stepped provider held event spelled says next
-idle P held event spelled says state next c o e shown answers = record { after = held; answers = answers; turns = inr (inr (c, o, refl)); shown = subst (Shown held) (sym e) shown }
+idle : (provider : Provider) (held : Option Challenging) (event : Given) (spelled : Result SaslFrame Error)
+    (says : ServerSays) (state next : ServerState) → is_challenge says ≡ false → is_ok says ≡ false → next ≡ state
+    → Shown held state
+    → (ServerAllocates spelled × (says ≡ Failed faults.OutOfMemory))
+    ⊎ ServerAnswers provider (λ c. held ≡ Some c) event spelled says → Stepped provider held event spelled says next
+idle P held event spelled says state next c o e shown answers =
+    record { after = held; answers = answers; turns = inr (inr (c, o, refl)); shown = subst (Shown held) (sym e) shown }
 
 -- where the machine leaves the state, what is sent leaves it too
-stays : {S A : Type 0} (too_large : A) (says : List ℕ → A) (body : Option (List ℕ)) (state moved : S) (reply : A) (next : S) → moved ≡ state → Sends too_large says body state moved reply next → next ≡ state
+stays : {S A : Type 0} (too_large : A) (says : List ℕ → A) (body : Option (List ℕ)) (state moved : S) (reply : A)
+    (next : S) → moved ≡ state → Sends too_large says body state moved reply next → next ≡ state
 stays too_large says None state moved reply next e h = h.1
 stays too_large says (Some body) state moved reply next e h = h.1 ∙ e
 
-auth_idle : (body : Option (List ℕ)) (says : ServerSays) → says ≡ carried (Failed faults.TooLarge) (λ b. Concluded outcomes.Auth b) body → (is_challenge says ≡ false) × (is_ok says ≡ false)
+auth_idle : (body : Option (List ℕ)) (says : ServerSays)
+    → says ≡ carried (Failed faults.TooLarge) (λ b. Concluded outcomes.Auth b) body
+    → (is_challenge says ≡ false) × (is_ok says ≡ false)
 auth_idle None says e = (ap is_challenge e, ap is_ok e)
 auth_idle (Some body) says e = (ap is_challenge e, ap is_ok e)
 
 -- Auth, where the init does not fit
-auth_init : (provider : Provider) (held : Option Challenging) (event : Given) (mechanism : List ℕ) (response hostname : Option (List ℕ)) (says : ServerSays) (state moved next : ServerState) (reply : SaslFrame) → Shown held state
-    → ((c : Challenging) → ¬ FitsAsInit provider event (frames.Init mechanism response hostname) c) → reply ≡ ends_with outcomes.Auth → moved ≡ state
-    → Sends (Failed faults.TooLarge) (server_says reply) (canonical reply) state moved says next → Stepped provider held event (Ok (frames.Init mechanism response hostname)) says next
+auth_init : (provider : Provider) (held : Option Challenging) (event : Given) (mechanism : List ℕ)
+    (response hostname : Option (List ℕ)) (says : ServerSays) (state moved next : ServerState) (reply : SaslFrame)
+    → Shown held state
+    → ((c : Challenging) → ¬ FitsAsInit provider event (frames.Init mechanism response hostname) c)
+    → reply ≡ ends_with outcomes.Auth → moved ≡ state
+    → Sends (Failed faults.TooLarge) (server_says reply) (canonical reply) state moved says next
+    → Stepped provider held event (Ok (frames.Init mechanism response hostname)) says next
 auth_init P held event mechanism response hostname says state moved next reply shown unfit r m h =
-    let g = subst (λ (f : SaslFrame). Sends (Failed faults.TooLarge) (server_says f) (canonical f) state moved says next) r h in
-    let e : says ≡ says_auth = (sent (Failed faults.TooLarge) (λ b. Concluded outcomes.Auth b) (canonical (frames.Outcome outcomes.Auth None)) state moved says next g).0 in
+    let g = subst (λ (f : SaslFrame). Sends (Failed faults.TooLarge) (server_says f)
+    (canonical f) state moved says next) r h in
+    let e : says ≡ says_auth = (sent (Failed faults.TooLarge) (λ b. Concluded outcomes.Auth b)
+    (canonical (frames.Outcome outcomes.Auth None)) state moved says next g).0 in
     let i = auth_idle (canonical (frames.Outcome outcomes.Auth None)) says e in
-    idle P held event (Ok (frames.Init mechanism response hostname)) says state next i.0 i.1 (stays (Failed faults.TooLarge) (λ b. Concluded outcomes.Auth b) (canonical (frames.Outcome outcomes.Auth None)) state moved says next m g) shown (inr (inr (unfit, e)))
+    idle P held event (Ok (frames.Init mechanism response hostname)) says state next i.0 i.1
+    (stays (Failed faults.TooLarge) (λ b. Concluded outcomes.Auth b)
+    (canonical (frames.Outcome outcomes.Auth None)) state moved says next m g) shown (inr (inr (unfit, e)))
 
 -- Auth, where the response does not fit
-auth_response : (provider : Provider) (held : Option Challenging) (event : Given) (text : List ℕ) (says : ServerSays) (state moved next : ServerState) (reply : SaslFrame) → Shown held state
-    → ((p : Accepted) → ¬ FitsAsResponse provider (λ c. held ≡ Some c) (frames.Response text) p) → reply ≡ ends_with outcomes.Auth → moved ≡ state
-    → Sends (Failed faults.TooLarge) (server_says reply) (canonical reply) state moved says next → Stepped provider held event (Ok (frames.Response text)) says next
+auth_response : (provider : Provider) (held : Option Challenging) (event : Given) (text : List ℕ) (says : ServerSays)
+    (state moved next : ServerState) (reply : SaslFrame) → Shown held state
+    → ((p : Accepted) → ¬ FitsAsResponse provider (λ c. held ≡ Some c) (frames.Response text) p)
+    → reply ≡ ends_with outcomes.Auth → moved ≡ state
+    → Sends (Failed faults.TooLarge) (server_says reply) (canonical reply) state moved says next
+    → Stepped provider held event (Ok (frames.Response text)) says next
 auth_response P held event text says state moved next reply shown unfit r m h =
-    let g = subst (λ (f : SaslFrame). Sends (Failed faults.TooLarge) (server_says f) (canonical f) state moved says next) r h in
-    let e : says ≡ says_auth = (sent (Failed faults.TooLarge) (λ b. Concluded outcomes.Auth b) (canonical (frames.Outcome outcomes.Auth None)) state moved says next g).0 in
+    let g = subst (λ (f : SaslFrame). Sends (Failed faults.TooLarge) (server_says f)
+    (canonical f) state moved says next) r h in
+    let e : says ≡ says_auth = (sent (Failed faults.TooLarge) (λ b. Concluded outcomes.Auth b)
+    (canonical (frames.Outcome outcomes.Auth None)) state moved says next g).0 in
     let i = auth_idle (canonical (frames.Outcome outcomes.Auth None)) says e in
-    idle P held event (Ok (frames.Response text)) says state next i.0 i.1 (stays (Failed faults.TooLarge) (λ b. Concluded outcomes.Auth b) (canonical (frames.Outcome outcomes.Auth None)) state moved says next m g) shown (inr (inr (unfit, e)))
+    idle P held event (Ok (frames.Response text)) says state next i.0 i.1
+    (stays (Failed faults.TooLarge) (λ b. Concluded outcomes.Auth b)
+    (canonical (frames.Outcome outcomes.Auth None)) state moved says next m g) shown (inr (inr (unfit, e)))
 
 -- a challenge that is sent, or too large
-challenge_step : (provider : Provider) (held : Option Challenging) (event : Given) (frame : SaslFrame) (c : Challenging) (body : Option (List ℕ)) (says : ServerSays) (state moved next : ServerState) → Shown held state → FitsAsInit provider event frame c
-    → moved ≡ ServerFirstSent (challenge_of c.client c.nonce c.stored) → Sends (Failed faults.TooLarge) (λ b. Challenged b) body state moved says next → ServerAnswers provider (λ c. held ≡ Some c) event (Ok frame) says → Stepped provider held event (Ok frame) says next
-challenge_step P held event frame c None says state moved next shown fits m h answers = idle P held event (Ok frame) says state next (ap is_challenge h.0) (ap is_ok h.0) h.1 shown (inr answers)
-challenge_step P held event frame c (Some body) says state moved next shown fits m h answers = record { after = Some c; answers = inr answers; turns = inl (ap is_challenge h.0, (c, (frame, refl, fits), refl)); shown = h.1 ∙ m }
+challenge_step : (provider : Provider) (held : Option Challenging) (event : Given) (frame : SaslFrame) (c : Challenging)
+    (body : Option (List ℕ)) (says : ServerSays) (state moved next : ServerState) → Shown held state
+    → FitsAsInit provider event frame c
+    → moved ≡ ServerFirstSent (challenge_of c.client c.nonce c.stored)
+    → Sends (Failed faults.TooLarge) (λ b. Challenged b) body state moved says next
+    → ServerAnswers provider (λ c. held ≡ Some c) event (Ok frame) says
+    → Stepped provider held event (Ok frame) says next
+challenge_step P held event frame c None says state moved next shown fits m h answers =
+    idle P held event (Ok frame) says state next (ap is_challenge h.0) (ap is_ok h.0) h.1 shown (inr answers)
+challenge_step P held event frame c (Some body) says state moved next shown fits m h answers =
+    record {
+      after = Some c;
+      answers = inr answers;
+      turns =
+          inl (ap is_challenge h.0, (c, (frame, refl, fits), refl));
+      shown = h.1 ∙ m;
+    }
 
 -- an Ok that is sent, or too large
-ok_step : (provider : Provider) (held : Option Challenging) (event : Given) (frame : SaslFrame) (body : Option (List ℕ)) (says : ServerSays) (state moved next : ServerState) → Shown held state → moved ≡ ServerFinalSent
-    → Sends (Failed faults.TooLarge) (λ b. Concluded outcomes.Ok b) body state moved says next → ServerAnswers provider (λ c. held ≡ Some c) event (Ok frame) says → Stepped provider held event (Ok frame) says next
-ok_step P held event frame None says state moved next shown m h answers = idle P held event (Ok frame) says state next (ap is_challenge h.0) (ap is_ok h.0) h.1 shown (inr answers)
+ok_step : (provider : Provider) (held : Option Challenging) (event : Given) (frame : SaslFrame) (body : Option (List ℕ))
+    (says : ServerSays) (state moved next : ServerState) → Shown held state → moved ≡ ServerFinalSent
+    → Sends (Failed faults.TooLarge) (λ b. Concluded outcomes.Ok b) body state moved says next
+    → ServerAnswers provider (λ c. held ≡ Some c) event (Ok frame) says
+    → Stepped provider held event (Ok frame) says next
+ok_step P held event frame None says state moved next shown m h answers =
+    idle P held event (Ok frame) says state next (ap is_challenge h.0) (ap is_ok h.0) h.1 shown (inr answers)
 ok_step P held event frame (Some body) says state moved next shown m h answers =
-    record { after = None; answers = inr answers; turns = inr (inl (ap is_challenge h.0, ap is_ok h.0, refl)); shown = λ challenge e. let x = sym m ∙ (sym h.1 ∙ e) in absurd (cc) }
+    record {
+      after = None;
+      answers = inr answers;
+      turns = inr (inl (ap is_challenge h.0, ap is_ok h.0, refl));
+      shown =
+          λ challenge e. let x = sym m ∙ (sym h.1 ∙ e) in absurd (cc);
+    }
 
 -- ---- the two rows with a machine behind them
 
-init_step : (provider : Provider) (held : Option Challenging) (event : Given) (mechanism text : List ℕ) (hostname : Option (List ℕ)) (says : ServerSays) (state moved next : ServerState) (reply : SaslFrame) (answer : Result (Option (List ℕ)) ServerScramErrorKind)
-    → Shown held state → mechanism ≡ mechanism_name provider.version → ChallengesFrom state provider event.nonce text answer moved → reply ≡ server_frame (λ message. frames.Challenge message) answer
-    → Sends (Failed faults.TooLarge) (server_says reply) (canonical reply) state moved says next → Stepped provider held event (Ok (frames.Init mechanism (Some text) hostname)) says next
+init_step : (provider : Provider) (held : Option Challenging) (event : Given) (mechanism text : List ℕ)
+    (hostname : Option (List ℕ)) (says : ServerSays) (state moved next : ServerState) (reply : SaslFrame)
+    (answer : Result (Option (List ℕ)) ServerScramErrorKind)
+    → Shown held state → mechanism ≡ mechanism_name provider.version
+    → ChallengesFrom state provider event.nonce text answer moved
+    → reply ≡ server_frame (λ message. frames.Challenge message) answer
+    → Sends (Failed faults.TooLarge) (server_says reply) (canonical reply) state moved says next
+    → Stepped provider held event (Ok (frames.Init mechanism (Some text) hostname)) says next
 init_step P held event mechanism text hostname says state moved next reply (Ok (Some message)) shown name from r h =
     let challenge = from.0 in
     let c : Challenging = record { client = from.1.0; nonce = base64_text event.nonce; stored = from.1.1 } in
@@ -161,36 +243,61 @@ init_step P held event mechanism text hostname says state moved next reply (Ok (
     let made : challenge ≡ challenge_of c.client c.nonce c.stored = from.1.4 in
     let first : message ≡ first_message c = from.2 ∙ ap (λ (x : Challenge). x.first) made in
     let frame : reply ≡ frames.Challenge (first_message c) = r ∙ ap (λ (t : List ℕ). frames.Challenge t) first in
-    let g = subst (λ (f : SaslFrame). Sends (Failed faults.TooLarge) (server_says f) (canonical f) state moved says next) frame h in
-    let e = (sent (Failed faults.TooLarge) (λ b. Challenged b) (canonical (frames.Challenge (first_message c))) state moved says next g).0 in
-    challenge_step P held event (frames.Init mechanism (Some text) hostname) c (canonical (frames.Challenge (first_message c))) says state moved next shown fits (from.3 ∙ ap (λ (x : Challenge). ServerFirstSent x) made) g (inl (c, fits, e))
+    let g = subst (λ (f : SaslFrame). Sends (Failed faults.TooLarge) (server_says f)
+    (canonical f) state moved says next) frame h in
+    let e = (sent (Failed faults.TooLarge) (λ b. Challenged b)
+    (canonical (frames.Challenge (first_message c))) state moved says next g).0 in
+    challenge_step P held event (frames.Init mechanism (Some text) hostname) c
+    (canonical (frames.Challenge (first_message c))) says state moved next shown fits
+    (from.3 ∙ ap (λ (x : Challenge). ServerFirstSent x) made) g (inl (c, fits, e))
 init_step P held event mechanism text hostname says state moved next reply (Ok None) shown name from r h =
     auth_init P held event mechanism (Some text) hostname says state moved next reply shown
-    (λ c fits. none-some c.stored (sym from.0.2 ∙ (ap (λ (first : ClientFirst). record_at P.records first.user) (one_client_first_value text from.0.0 c.client from.0.1 fits.1) ∙ fits.2)))
+    (λ c fits. none-some c.stored
+    (sym from.0.2 ∙ (ap (λ (first : ClientFirst). record_at P.records first.user)
+    (one_client_first_value text from.0.0 c.client from.0.1 fits.1) ∙ fits.2)))
     r from.1 h
 init_step P held event mechanism text hostname says state moved next reply (Err fault) shown name from r h =
-    auth_init P held event mechanism (Some text) hostname says state moved next reply shown (λ c fits. let e = one_client_first text (Err fault) (Ok c.client) from.0 fits.1 in absurd (cc)) r from.1 h
+    auth_init P held event mechanism (Some text) hostname says state moved next reply shown (λ c fits. let e =
+    one_client_first text (Err fault) (Ok c.client) from.0 fits.1 in absurd (cc)) r from.1 h
 
 -- the server reads a response against the challenge that is open
-same_server : (provider : Provider) (c : Challenging) (stored : Record) → record_at provider.records c.client.user ≡ Some c.stored → record_at provider.records c.client.user ≡ Some stored → stored ≡ c.stored
+same_server : (provider : Provider) (c : Challenging) (stored : Record)
+    → record_at provider.records c.client.user ≡ Some c.stored → record_at provider.records c.client.user ≡ Some stored
+    → stored ≡ c.stored
 same_server P c stored h k = same_Some stored c.stored (sym k ∙ h)
 
-response_step : (provider : Provider) (c : Challenging) (event : Given) (text : List ℕ) (says : ServerSays) (moved next : ServerState) (reply : SaslFrame) (answer : Result (Option (List ℕ)) ServerScramErrorKind)
-    → record_at provider.records c.client.user ≡ Some c.stored → ConcludesFrom (ServerFirstSent (challenge_of c.client c.nonce c.stored)) provider text answer moved → reply ≡ server_frame (λ message. frames.Outcome outcomes.Ok (Some message)) answer
-    → Sends (Failed faults.TooLarge) (server_says reply) (canonical reply) (ServerFirstSent (challenge_of c.client c.nonce c.stored)) moved says next → Stepped provider (Some c) event (Ok (frames.Response text)) says next
+response_step : (provider : Provider) (c : Challenging) (event : Given) (text : List ℕ) (says : ServerSays)
+    (moved next : ServerState) (reply : SaslFrame) (answer : Result (Option (List ℕ)) ServerScramErrorKind)
+    → record_at provider.records c.client.user ≡ Some c.stored
+    → ConcludesFrom (ServerFirstSent (challenge_of c.client c.nonce c.stored)) provider text answer moved
+    → reply ≡ server_frame (λ message. frames.Outcome outcomes.Ok (Some message)) answer
+    → Sends (Failed faults.TooLarge) (server_says reply) (canonical reply)
+    (ServerFirstSent (challenge_of c.client c.nonce c.stored)) moved says next
+    → Stepped provider (Some c) event (Ok (frames.Response text)) says next
 response_step P c event text says moved next reply (Ok (Some message)) known from r h =
     let stored = same_server P c from.0 known from.1 in
     let final = from.2.0 in
     let p : Accepted = record { challenge = c; final = final } in
-    let reads : ReadsClientFinal (server_at P c) text (Ok final) = subst (λ (x : Record). ReadsClientFinal (server_of P.version c.client.bare (first_message c) (full_nonce c) x) text (Ok final)) stored from.2.1 in
-    let said : message ≡ final_message P p = from.2.2 ∙ ap (λ (x : Record). Rattle.fe2o3_scram.specs.ServerFinal.server_final_of (server_of P.version c.client.bare (first_message c) (full_nonce c) x) final) stored in
-    let frame : reply ≡ frames.Outcome outcomes.Ok (Some (final_message P p)) = r ∙ ap (λ (t : List ℕ). frames.Outcome outcomes.Ok (Some t)) said in
-    let g = subst (λ (f : SaslFrame). Sends (Failed faults.TooLarge) (server_says f) (canonical f) (ServerFirstSent (challenge_of c.client c.nonce c.stored)) moved says next) frame h in
-    let e = (sent (Failed faults.TooLarge) (λ b. Concluded outcomes.Ok b) (canonical (frames.Outcome outcomes.Ok (Some (final_message P p)))) (ServerFirstSent (challenge_of c.client c.nonce c.stored)) moved says next g).0 in
-    ok_step P (Some c) event (frames.Response text) (canonical (frames.Outcome outcomes.Ok (Some (final_message P p)))) says (ServerFirstSent (challenge_of c.client c.nonce c.stored)) moved next refl from.3 g (inl (p, (refl, reads), e))
+    let reads : ReadsClientFinal (server_at P c) text (Ok final) =
+    subst (λ (x : Record). ReadsClientFinal (server_of P.version c.client.bare (first_message c) (full_nonce c) x)
+    text (Ok final)) stored from.2.1 in
+    let said : message ≡ final_message P p = from.2.2 ∙ ap
+    (λ (x : Record). Rattle.fe2o3_scram.specs.ServerFinal.server_final_of
+    (server_of P.version c.client.bare (first_message c) (full_nonce c) x) final) stored in
+    let frame : reply ≡ frames.Outcome outcomes.Ok (Some (final_message P p)) =
+    r ∙ ap (λ (t : List ℕ). frames.Outcome outcomes.Ok (Some t)) said in
+    let g = subst (λ (f : SaslFrame). Sends (Failed faults.TooLarge) (server_says f) (canonical f)
+    (ServerFirstSent (challenge_of c.client c.nonce c.stored)) moved says next) frame h in
+    let e = (sent (Failed faults.TooLarge) (λ b. Concluded outcomes.Ok b)
+    (canonical (frames.Outcome outcomes.Ok (Some (final_message P p))))
+    (ServerFirstSent (challenge_of c.client c.nonce c.stored)) moved says next g).0 in
+    ok_step P (Some c) event (frames.Response text) (canonical (frames.Outcome outcomes.Ok (Some (final_message P p))))
+    says (ServerFirstSent (challenge_of c.client c.nonce c.stored)) moved next refl from.3 g
+    (inl (p, (refl, reads), e))
 response_step P c event text says moved next reply (Ok None) known from r h = absurd from
 response_step P c event text says moved next reply (Err fault) known from r h =
-    auth_response P (Some c) event text says (ServerFirstSent (challenge_of c.client c.nonce c.stored)) moved next reply refl (λ p fits. unfit p fits from.0) r from.1 h
+    auth_response P (Some c) event text says (ServerFirstSent (challenge_of c.client c.nonce c.stored)) moved next reply
+    refl (λ p fits. unfit p fits from.0) r from.1 h
   where
     unfit : (p : Accepted) → FitsAsResponse P (λ d. Some c ≡ Some d) (frames.Response text) p
         → ((stored : Record) × (record_at P.records c.client.user ≡ Some stored) × ReadsClientFinal (server_of P.version c.client.bare (first_message c) (full_nonce c) stored) text (Err fault)) ⊎ ((record_at P.records c.client.user ≡ None) × (fault ≡ Rattle.fe2o3_scram.specs.declared.scram_messages.error.ServerScramErrorKind.TheVariants.AuthenticationFailed)) → ⊥
@@ -198,19 +305,30 @@ response_step P c event text says moved next reply (Err fault) known from r h =
         let stored = same_server P c x.0 known x.1 in
         let same : c ≡ p.challenge = same_Some c p.challenge fits.0 in
         let refused : ReadsClientFinal (server_at P p.challenge) text (Err fault) =
-        subst (λ (d : Challenging). ReadsClientFinal (server_at P d) text (Err fault)) same (subst (λ (r : Record). ReadsClientFinal (server_of P.version c.client.bare (first_message c) (full_nonce c) r) text (Err fault)) stored x.2) in
+        subst (λ (d : Challenging). ReadsClientFinal (server_at P d) text (Err fault)) same
+        (subst (λ (r : Record). ReadsClientFinal (server_of P.version c.client.bare (first_message c)
+        (full_nonce c) r) text (Err fault)) stored x.2) in
         let e = one_client_final (server_at P p.challenge) text (Err fault) (Ok p.final) refused fits.1 in
         cc
     unfit p fits (inr x) = none-some c.stored (sym x.0 ∙ known)
 
 -- without an open challenge
-closed_step : (provider : Provider) (event : Given) (text : List ℕ) (says : ServerSays) (state moved next : ServerState) (reply : SaslFrame) (answer : Result (Option (List ℕ)) ServerScramErrorKind)
-    → Shown None state → ConcludesFrom state provider text answer moved → reply ≡ server_frame (λ message. frames.Outcome outcomes.Ok (Some message)) answer → Sends (Failed faults.TooLarge) (server_says reply) (canonical reply) state moved says next → Stepped provider None event (Ok (frames.Response text)) says next
-closed_step P event text says (ServerFirstSent challenge) moved next reply answer shown from r h = absurd (shown challenge refl)
+closed_step : (provider : Provider) (event : Given) (text : List ℕ) (says : ServerSays) (state moved next : ServerState)
+    (reply : SaslFrame) (answer : Result (Option (List ℕ)) ServerScramErrorKind)
+    → Shown None state → ConcludesFrom state provider text answer moved
+    → reply ≡ server_frame (λ message. frames.Outcome outcomes.Ok (Some message)) answer
+    → Sends (Failed faults.TooLarge) (server_says reply) (canonical reply) state moved says next
+    → Stepped provider None event (Ok (frames.Response text)) says next
+closed_step P event text says (ServerFirstSent challenge) moved next reply answer shown from r h =
+    absurd (shown challenge refl)
 closed_step P event text says Initial moved next reply (Ok message) shown from r h = absurd from
-closed_step P event text says Initial moved next reply (Err fault) shown from r h = auth_response P None event text says Initial moved next reply shown (λ p fits. none-some p.challenge fits.0) r from.1 h
+closed_step P event text says Initial moved next reply (Err fault) shown from r h =
+    auth_response P None event text says Initial moved next reply shown
+    (λ p fits. none-some p.challenge fits.0) r from.1 h
 closed_step P event text says ServerFinalSent moved next reply (Ok message) shown from r h = absurd from
-closed_step P event text says ServerFinalSent moved next reply (Err fault) shown from r h = auth_response P None event text says ServerFinalSent moved next reply shown (λ p fits. none-some p.challenge fits.0) r from.1 h
+closed_step P event text says ServerFinalSent moved next reply (Err fault) shown from r h =
+    auth_response P None event text says ServerFinalSent moved next reply shown
+    (λ p fits. none-some p.challenge fits.0) r from.1 h
 
 -- ---- one step
 
@@ -219,45 +337,77 @@ abbrev machine : Provider → ServerState → List ℕ → SaslFrame → SaslFra
 machine provider state nonce (frames.Init mechanism (Some text) hostname) reply next =
     ((mechanism ≢ mechanism_name provider.version) × (reply ≡ ends_with outcomes.Auth) × (next ≡ state))
     ⊎ ((mechanism ≡ mechanism_name provider.version)
-    × ((answer : Result (Option (List ℕ)) ServerScramErrorKind) × ChallengesFrom state provider nonce text answer next × (reply ≡ server_frame (λ message. frames.Challenge message) answer)))
-machine provider state nonce (frames.Init mechanism None hostname) reply next = (reply ≡ ends_with outcomes.Auth) × (next ≡ state)
+    × ((answer : Result (Option (List ℕ)) ServerScramErrorKind) × ChallengesFrom state provider nonce text answer next
+    × (reply ≡ server_frame (λ message. frames.Challenge message) answer)))
+machine provider state nonce (frames.Init mechanism None hostname) reply next =
+    (reply ≡ ends_with outcomes.Auth) × (next ≡ state)
 machine provider state nonce (frames.Response text) reply next =
     (answer : Result (Option (List ℕ)) ServerScramErrorKind) × ConcludesFrom state provider text answer next
     × (reply ≡ server_frame (λ message. frames.Outcome outcomes.Ok (Some message)) answer)
 machine provider state nonce frame reply next = ⊥
 
-gives_init : (provider : Provider) (held : Option Challenging) (event : Given) (mechanism : List ℕ) (response hostname : Option (List ℕ)) (says : ServerSays) (state moved next : ServerState) (reply : SaslFrame) → Shown held state
-    → machine provider state event.nonce (frames.Init mechanism response hostname) reply moved → Sends (Failed faults.TooLarge) (server_says reply) (canonical reply) state moved says next → Stepped provider held event (Ok (frames.Init mechanism response hostname)) says next
-gives_init P held event mechanism None hostname says state moved next reply shown m h = auth_init P held event mechanism None hostname says state moved next reply shown (λ c fits. fits) m.0 m.1 h
-gives_init P held event mechanism (Some text) hostname says state moved next reply shown (inl m) h = auth_init P held event mechanism (Some text) hostname says state moved next reply shown (λ c fits. m.0 fits.0) m.1 m.2 h
-gives_init P held event mechanism (Some text) hostname says state moved next reply shown (inr m) h = init_step P held event mechanism text hostname says state moved next reply m.1.0 shown m.0 m.1.1 m.1.2 h
+gives_init : (provider : Provider) (held : Option Challenging) (event : Given) (mechanism : List ℕ)
+    (response hostname : Option (List ℕ)) (says : ServerSays) (state moved next : ServerState) (reply : SaslFrame)
+    → Shown held state
+    → machine provider state event.nonce (frames.Init mechanism response hostname) reply moved
+    → Sends (Failed faults.TooLarge) (server_says reply) (canonical reply) state moved says next
+    → Stepped provider held event (Ok (frames.Init mechanism response hostname)) says next
+gives_init P held event mechanism None hostname says state moved next reply shown m h =
+    auth_init P held event mechanism None hostname says state moved next reply shown (λ c fits. fits) m.0 m.1 h
+gives_init P held event mechanism (Some text) hostname says state moved next reply shown (inl m) h =
+    auth_init P held event mechanism (Some text) hostname says state moved next reply shown
+    (λ c fits. m.0 fits.0) m.1 m.2 h
+gives_init P held event mechanism (Some text) hostname says state moved next reply shown (inr m) h =
+    init_step P held event mechanism text hostname says state moved next reply m.1.0 shown m.0 m.1.1 m.1.2 h
 
-gives_response : (provider : Provider) (held : Option Challenging) (event : Given) (text : List ℕ) (says : ServerSays) (state moved next : ServerState) (reply : SaslFrame) → Shown held state → Known provider held
-    → machine provider state event.nonce (frames.Response text) reply moved → Sends (Failed faults.TooLarge) (server_says reply) (canonical reply) state moved says next → Stepped provider held event (Ok (frames.Response text)) says next
-gives_response P None event text says state moved next reply shown known m h = closed_step P event text says state moved next reply m.0 shown m.1 m.2 h
+gives_response : (provider : Provider) (held : Option Challenging) (event : Given) (text : List ℕ) (says : ServerSays)
+    (state moved next : ServerState) (reply : SaslFrame) → Shown held state → Known provider held
+    → machine provider state event.nonce (frames.Response text) reply moved
+    → Sends (Failed faults.TooLarge) (server_says reply) (canonical reply) state moved says next
+    → Stepped provider held event (Ok (frames.Response text)) says next
+gives_response P None event text says state moved next reply shown known m h =
+    closed_step P event text says state moved next reply m.0 shown m.1 m.2 h
 gives_response P (Some c) event text says state moved next reply shown known m h =
-    response_step P c event text says moved next reply m.0 (known c refl) (subst (λ (s : ServerState). ConcludesFrom s P text m.0 moved) shown m.1) m.2 (subst (λ (s : ServerState). Sends (Failed faults.TooLarge) (server_says reply) (canonical reply) s moved says next) shown h)
+    response_step P c event text says moved next reply m.0 (known c refl)
+    (subst (λ (s : ServerState). ConcludesFrom s P text m.0 moved) shown m.1) m.2
+    (subst (λ (s : ServerState). Sends (Failed faults.TooLarge) (server_says reply)
+    (canonical reply) s moved says next) shown h)
 
 -- what the machine gives is what the table gives
-stepped : (provider : Provider) (held : Option Challenging) (event : Given) (spelled : Result SaslFrame Error) (says : ServerSays) (state next : ServerState) → Shown held state → Known provider held
+stepped : (provider : Provider) (held : Option Challenging) (event : Given) (spelled : Result SaslFrame Error)
+    (says : ServerSays) (state next : ServerState) → Shown held state → Known provider held
     → AcceptorGives (machine provider) state event spelled says next → Stepped provider held event spelled says next
-stepped P held event (Err fault) says state next shown known h = idle P held event (Err fault) says state next (ap is_challenge h.0) (ap is_ok h.0) h.1 shown (inr h.0)
-stepped P held event (Ok (frames.Mechanisms names)) says state next shown known h = idle P held event (Ok (frames.Mechanisms names)) says state next (ap is_challenge h.0) (ap is_ok h.0) h.1 shown (inr h.0)
-stepped P held event (Ok (frames.Challenge text)) says state next shown known h = idle P held event (Ok (frames.Challenge text)) says state next (ap is_challenge h.0) (ap is_ok h.0) h.1 shown (inr h.0)
-stepped P held event (Ok (frames.Outcome code more)) says state next shown known h = idle P held event (Ok (frames.Outcome code more)) says state next (ap is_challenge h.0) (ap is_ok h.0) h.1 shown (inr h.0)
+stepped P held event (Err fault) says state next shown known h =
+    idle P held event (Err fault) says state next (ap is_challenge h.0) (ap is_ok h.0) h.1 shown (inr h.0)
+stepped P held event (Ok (frames.Mechanisms names)) says state next shown known h =
+    idle P held event (Ok (frames.Mechanisms names)) says state next (ap is_challenge h.0) (ap is_ok h.0) h.1 shown
+    (inr h.0)
+stepped P held event (Ok (frames.Challenge text)) says state next shown known h =
+    idle P held event (Ok (frames.Challenge text)) says state next (ap is_challenge h.0) (ap is_ok h.0) h.1 shown
+    (inr h.0)
+stepped P held event (Ok (frames.Outcome code more)) says state next shown known h =
+    idle P held event (Ok (frames.Outcome code more)) says state next (ap is_challenge h.0) (ap is_ok h.0) h.1 shown
+    (inr h.0)
 stepped P held event (Ok (frames.Init mechanism response hostname)) says state next shown known (inl h) =
-    idle P held event (Ok (frames.Init mechanism response hostname)) says state next (ap is_challenge h.0) (ap is_ok h.0) h.1 shown (inl (tt, h.0))
-stepped P held event (Ok (frames.Init mechanism response hostname)) says state next shown known (inr h) = gives_init P held event mechanism response hostname says state h.1 next h.0 shown h.2 h.3
-stepped P held event (Ok (frames.Response text)) says state next shown known (inl h) = idle P held event (Ok (frames.Response text)) says state next (ap is_challenge h.0) (ap is_ok h.0) h.1 shown (inl (tt, h.0))
-stepped P held event (Ok (frames.Response text)) says state next shown known (inr h) = gives_response P held event text says state h.1 next h.0 shown known h.2 h.3
+    idle P held event (Ok (frames.Init mechanism response hostname)) says state next (ap is_challenge h.0)
+    (ap is_ok h.0) h.1 shown (inl (tt, h.0))
+stepped P held event (Ok (frames.Init mechanism response hostname)) says state next shown known (inr h) =
+    gives_init P held event mechanism response hostname says state h.1 next h.0 shown h.2 h.3
+stepped P held event (Ok (frames.Response text)) says state next shown known (inl h) =
+    idle P held event (Ok (frames.Response text)) says state next (ap is_challenge h.0) (ap is_ok h.0) h.1 shown
+    (inl (tt, h.0))
+stepped P held event (Ok (frames.Response text)) says state next shown known (inr h) =
+    gives_response P held event text says state h.1 next h.0 shown known h.2 h.3
 
 -- ---- the run
 
 -- the record of what is open is the provider's
-known : (provider : Provider) (events : List Given) (replies : List ServerSays) (held : Option Challenging) → Holds is_challenge is_ok (FitsAt provider events) replies held → Known provider held
+known : (provider : Provider) (events : List Given) (replies : List ServerSays) (held : Option Challenging)
+    → Holds is_challenge is_ok (FitsAt provider events) replies held → Known provider held
 known P es rs held holds c e = let o = holds.found c e in stored o.2.0 o.2.1 o.2.4
   where
-    stored : (event : Given) (frame : SaslFrame) → FitsAsInit P event frame c → record_at P.records c.client.user ≡ Some c.stored
+    stored : (event : Given) (frame : SaslFrame) → FitsAsInit P event frame c
+        → record_at P.records c.client.user ≡ Some c.stored
     stored event (frames.Mechanisms names) h = absurd h
     stored event (frames.Challenge text) h = absurd h
     stored event (frames.Response text) h = absurd h
@@ -265,77 +415,126 @@ known P es rs held holds c e = let o = holds.found c e in stored o.2.0 o.2.1 o.2
     stored event (frames.Init mechanism None hostname) h = absurd h
     stored event (frames.Init mechanism (Some text) hostname) h = h.2
 
-runs_on : (provider : Provider) (events more : List Given) (replies others : List ServerSays) (held : Option Challenging) (state last : ServerState) → ServerHistory provider events replies → Holds is_challenge is_ok (FitsAt provider events) replies held → Shown held state
-    → Runs (AcceptorSteps (machine provider)) state more others last → ServerHistory provider (events ++ more) (replies ++ others)
+runs_on : (provider : Provider) (events more : List Given) (replies others : List ServerSays)
+    (held : Option Challenging) (state last : ServerState) → ServerHistory provider events replies
+    → Holds is_challenge is_ok (FitsAt provider events) replies held → Shown held state
+    → Runs (AcceptorSteps (machine provider)) state more others last
+    → ServerHistory provider (events ++ more) (replies ++ others)
 runs_on P es [] rs others held state last h holds shown run =
-    subst (λ (x : List Given). ServerHistory P x (rs ++ others)) (sym (append-nil es)) (subst (λ (x : List ServerSays). ServerHistory P es (rs ++ x)) (sym run.0) (subst (λ (x : List ServerSays). ServerHistory P es x) (sym (append-nil rs)) h))
+    subst (λ (x : List Given). ServerHistory P x (rs ++ others)) (sym (append-nil es))
+    (subst (λ (x : List ServerSays). ServerHistory P es (rs ++ x)) (sym run.0)
+    (subst (λ (x : List ServerSays). ServerHistory P es x) (sym (append-nil rs)) h))
 runs_on P es (e ∷ more) rs others held state last h holds shown run =
     let says = run.0 in
     let spelled = run.3.0 in
     let step = stepped P held e spelled says state run.1 shown (known P es rs held holds) run.3.2 in
-    let told : Says P (Open P es rs (length rs)) e says = says_moves P (λ c. held ≡ Some c) (Open P es rs (length rs)) (holds.found, holds.only) e says (spelled, run.3.1, step.answers) in
+    let told : Says P (Open P es rs (length rs)) e says =
+    says_moves P (λ c. held ≡ Some c) (Open P es rs (length rs)) (holds.found, holds.only) e says
+    (spelled, run.3.1, step.answers) in
     let pushed = history_push P es rs e says h told in
-    let there : slice_get (es ++ e ∷ []) (length rs) ≡ Some e = ap (slice_get (es ++ e ∷ [])) h.count ∙ slice_get-behind es e [] in
+    let there : slice_get (es ++ e ∷ []) (length rs) ≡ Some e =
+    ap (slice_get (es ++ e ∷ [])) h.count ∙ slice_get-behind es e [] in
     let turns = turned spelled says step.after there run.3.1 step.turns in
-    let kept = holds_push is_challenge is_ok (FitsAt P es) (FitsAt P (es ++ e ∷ [])) rs says held step.after (λ j b. fits_same P es (e ∷ []) j (omega (arith, h.count))) (one_fits_at P (es ++ e ∷ []) (length rs)) holds turns in
-    let rest = runs_on P (es ++ e ∷ []) more (rs ++ says ∷ []) run.2 step.after run.1 last pushed kept step.shown run.5 in
+    let kept = holds_push is_challenge is_ok (FitsAt P es) (FitsAt P (es ++ e ∷ [])) rs says held step.after
+    (λ j b. fits_same P es (e ∷ []) j (omega (arith, h.count)))
+    (one_fits_at P (es ++ e ∷ []) (length rs)) holds turns in
+    let rest = runs_on P (es ++ e ∷ []) more (rs ++ says ∷ []) run.2 step.after run.1 last pushed kept step.shown
+    run.5 in
     subst (λ (x : List ServerSays). ServerHistory P (es ++ e ∷ more) (rs ++ x)) (sym run.4)
-    (subst (λ (x : List Given). ServerHistory P x (rs ++ says ∷ run.2)) (append_assoc es (e ∷ []) more) (subst (λ (x : List ServerSays). ServerHistory P ((es ++ e ∷ []) ++ more) x) (append_assoc rs (says ∷ []) run.2) rest))
+    (subst (λ (x : List Given). ServerHistory P x (rs ++ says ∷ run.2)) (append_assoc es (e ∷ []) more)
+    (subst (λ (x : List ServerSays). ServerHistory P ((es ++ e ∷ []) ++ more) x)
+    (append_assoc rs (says ∷ []) run.2) rest))
   where
-    turned : (spelled : Result SaslFrame Error) (says : ServerSays) (after : Option Challenging) → slice_get (es ++ e ∷ []) (length rs) ≡ Some e → SpellsBody e.body spelled
-        → Turns is_challenge is_ok (λ c. (frame : SaslFrame) × (spelled ≡ Ok frame) × FitsAsInit P e frame c) held says after → Turns is_challenge is_ok (FitsAt P (es ++ e ∷ []) (length rs)) held says after
-    turned spelled says after there spells (inl t) = inl (t.0, (t.1.0, (e, t.1.1.0, there, subst (λ (s : Result SaslFrame Error). SpellsBody e.body s) t.1.1.1 spells, t.1.1.2), t.1.2))
+    turned : (spelled : Result SaslFrame Error) (says : ServerSays) (after : Option Challenging)
+        → slice_get (es ++ e ∷ []) (length rs) ≡ Some e → SpellsBody e.body spelled
+        → Turns is_challenge is_ok (λ c. (frame : SaslFrame) × (spelled ≡ Ok frame) × FitsAsInit P e frame c) held says
+        after → Turns is_challenge is_ok (FitsAt P (es ++ e ∷ []) (length rs)) held says after
+    turned spelled says after there spells (inl t) =
+        inl (
+          t.0,
+          (
+            t.1.0,
+            (
+              e,
+              t.1.1.0,
+              there,
+              subst (λ (s : Result SaslFrame Error). SpellsBody e.body s) t.1.1.1
+                  spells,
+              t.1.1.2,
+            ),
+            t.1.2,
+          ),
+        )
     turned spelled says after there spells (inr t) = inr t
 
 -- ---- the provider stays, and the state alone moves
 
-stated : (provider : Provider) (state : ServerState) (nonce : List ℕ) (frame reply : SaslFrame) (next : Acceptor) → acceptor_machine (ScramAcceptor provider state) nonce frame reply next
+stated : (provider : Provider) (state : ServerState) (nonce : List ℕ) (frame reply : SaslFrame) (next : Acceptor)
+    → acceptor_machine (ScramAcceptor provider state) nonce frame reply next
     → (after : ServerState) × (next ≡ ScramAcceptor provider after) × machine provider state nonce frame reply after
 stated P s n (frames.Init mechanism (Some text) hostname) r next (inl x) = (s, x.2, inl (x.0, x.1, refl))
-stated P s n (frames.Init mechanism (Some text) hostname) r next (inr x) = (x.1.1, x.1.4, inr (x.0, (x.1.0, x.1.2, x.1.3)))
+stated P s n (frames.Init mechanism (Some text) hostname) r next (inr x) =
+    (x.1.1, x.1.4, inr (x.0, (x.1.0, x.1.2, x.1.3)))
 stated P s n (frames.Init mechanism None hostname) r next x = (s, x.1, (x.0, refl))
 stated P s n (frames.Response text) r next x = (x.1, x.4, (x.0, x.2, x.3))
 stated P s n (frames.Mechanisms names) r next x = absurd x
 stated P s n (frames.Challenge text) r next x = absurd x
 stated P s n (frames.Outcome code more) r next x = absurd x
 
-sends_back : (body : Option (List ℕ)) (says_body : List ℕ → ServerSays) (provider : Provider) (state after : ServerState) (moved next : Acceptor) (says : ServerSays) → moved ≡ ScramAcceptor provider after
+sends_back : (body : Option (List ℕ)) (says_body : List ℕ → ServerSays) (provider : Provider)
+    (state after : ServerState) (moved next : Acceptor) (says : ServerSays) → moved ≡ ScramAcceptor provider after
     → Sends (Failed faults.TooLarge) says_body body (ScramAcceptor provider state) moved says next
-    → (last : ServerState) × (next ≡ ScramAcceptor provider last) × Sends (Failed faults.TooLarge) says_body body state after says last
+    → (last : ServerState) × (next ≡ ScramAcceptor provider last)
+    × Sends (Failed faults.TooLarge) says_body body state after says last
 sends_back None says_body P s after moved next says e h = (s, h.1, (h.0, refl))
 sends_back (Some body) says_body P s after moved next says e h = (after, h.1 ∙ e, (h.0, refl))
 
-step_back : (provider : Provider) (state : ServerState) (event : Given) (frame reply : SaslFrame) (moved next : Acceptor) (says : ServerSays) → acceptor_machine (ScramAcceptor provider state) event.nonce frame reply moved
-    → Sends (Failed faults.TooLarge) (server_says reply) (canonical reply) (ScramAcceptor provider state) moved says next
+step_back : (provider : Provider) (state : ServerState) (event : Given) (frame reply : SaslFrame)
+    (moved next : Acceptor) (says : ServerSays) → acceptor_machine
+    (ScramAcceptor provider state) event.nonce frame reply moved
+    → Sends (Failed faults.TooLarge) (server_says reply) (canonical reply)
+    (ScramAcceptor provider state) moved says next
     → (last : ServerState) × (next ≡ ScramAcceptor provider last)
-    × ((reply : SaslFrame) × (moved : ServerState) × machine provider state event.nonce frame reply moved × Sends (Failed faults.TooLarge) (server_says reply) (canonical reply) state moved says last)
+    × ((reply : SaslFrame) × (moved : ServerState) × machine provider state event.nonce frame reply moved
+    × Sends (Failed faults.TooLarge) (server_says reply) (canonical reply) state moved says last)
 step_back P s event frame reply moved next says m h =
     let x = stated P s event.nonce frame reply moved m in
     let b = sends_back (canonical reply) (server_says reply) P s x.0 moved next says x.1 h in
     (b.0, b.1, (reply, x.0, x.2, b.2))
 
-gives_back : (provider : Provider) (state : ServerState) (event : Given) (spelled : Result SaslFrame Error) (says : ServerSays) (next : Acceptor) → AcceptorGives acceptor_machine (ScramAcceptor provider state) event spelled says next
-    → (last : ServerState) × (next ≡ ScramAcceptor provider last) × AcceptorGives (machine provider) state event spelled says last
+gives_back : (provider : Provider) (state : ServerState) (event : Given) (spelled : Result SaslFrame Error)
+    (says : ServerSays) (next : Acceptor) → AcceptorGives acceptor_machine
+    (ScramAcceptor provider state) event spelled says next
+    → (last : ServerState) × (next ≡ ScramAcceptor provider last)
+    × AcceptorGives (machine provider) state event spelled says last
 gives_back P s event (Err fault) says next h = (s, h.1, (h.0, refl))
 gives_back P s event (Ok (frames.Mechanisms names)) says next h = (s, h.1, (h.0, refl))
 gives_back P s event (Ok (frames.Challenge text)) says next h = (s, h.1, (h.0, refl))
 gives_back P s event (Ok (frames.Outcome code more)) says next h = (s, h.1, (h.0, refl))
 gives_back P s event (Ok (frames.Init mechanism response hostname)) says next (inl h) = (s, h.1, inl (h.0, refl))
 gives_back P s event (Ok (frames.Init mechanism response hostname)) says next (inr h) =
-    let b = step_back P s event (frames.Init mechanism response hostname) h.0 h.1 next says h.2 h.3 in (b.0, b.1, inr b.2)
+    let b = step_back P s event (frames.Init mechanism response hostname) h.0 h.1 next says h.2 h.3 in
+    (b.0, b.1, inr b.2)
 gives_back P s event (Ok (frames.Response text)) says next (inl h) = (s, h.1, inl (h.0, refl))
 gives_back P s event (Ok (frames.Response text)) says next (inr h) =
     let b = step_back P s event (frames.Response text) h.0 h.1 next says h.2 h.3 in (b.0, b.1, inr b.2)
 
-runs_back : (provider : Provider) (state : ServerState) (events : List Given) (replies : List ServerSays) (last : Acceptor) → Runs (AcceptorSteps acceptor_machine) (ScramAcceptor provider state) events replies last
+runs_back : (provider : Provider) (state : ServerState) (events : List Given) (replies : List ServerSays)
+    (last : Acceptor) → Runs (AcceptorSteps acceptor_machine) (ScramAcceptor provider state) events replies last
     → (end : ServerState) × Runs (AcceptorSteps (machine provider)) state events replies end
 runs_back P s [] replies last h = (s, (h.0, refl))
 runs_back P s (event ∷ events) replies last h =
     let g = gives_back P s event h.3.0 h.0 h.1 h.3.2 in
-    let r = runs_back P g.0 events h.2 last (subst (λ (x : Acceptor). Runs (AcceptorSteps acceptor_machine) x events h.2 last) g.1 h.5) in
+    let r = runs_back P g.0 events h.2 last
+    (subst (λ (x : Acceptor). Runs (AcceptorSteps acceptor_machine) x events h.2 last) g.1 h.5) in
     (r.0, (h.0, g.0, h.2, (h.3.0, h.3.1, g.2), h.4, r.1))
 
 pub acceptor_runs_are_histories : AcceptorRunsAreHistories
 acceptor_runs_are_histories P es rs last run =
     let back = runs_back P Initial es rs last run in
-    runs_on P [] es [] rs None Initial back.0 (record { count = refl; each = λ k event s at said. absurd (none-some event at) }) (holds_nothing is_challenge is_ok (FitsAt P [])) (λ challenge e. absurd (cc)) back.1
+    runs_on P [] es [] rs None Initial back.0 (record {
+      count = refl;
+      each =
+          λ k event s at said. absurd (none-some event at);
+    }) (holds_nothing is_challenge is_ok (FitsAt P []))
+    (λ challenge e. absurd (cc)) back.1

@@ -2,7 +2,7 @@
 use Rattle.std.proofs.Common.{◌≡◌, ◌⊎◌, ℕ, zero, suc, ◌<◌, Bool, true, false, true≢false, Some, List, [], ◌∷◌, ◌++◌, length, refl, sym, ap, ◌∙◌, arith, ⊎_elim}
 use Rattle.std.specs.Prelude.{slice_get}
 use Rattle.fe2o3_sasl.specs.ClientHistory.{is_start, is_answer, ends_answer}
-use Rattle.fe2o3_sasl.specs.HistoryLaws.{CloseApart, PositionsAreUsedOnce}
+use Rattle.fe2o3_sasl.specs.Laws.{CloseApart, PositionsAreUsedOnce}
 use Rattle.fe2o3_sasl.specs.Positions.{test_at, IsLastOpen}
 use Rattle.fe2o3_sasl.specs.ServerHistory.{is_challenge, is_ok}
 
@@ -27,7 +27,8 @@ slice_get-behind [] y ys = refl
 slice_get-behind (x ∷ xs) y ys = slice_get-behind xs y ys
 
 -- positions that agree make one list
-pub same_list : {A : Type 0} (xs ys : List A) → length xs ≡ length ys → ((k : ℕ) → k < length xs → slice_get xs k ≡ slice_get ys k) → xs ≡ ys
+pub same_list : {A : Type 0} (xs ys : List A) → length xs ≡ length ys
+    → ((k : ℕ) → k < length xs → slice_get xs k ≡ slice_get ys k) → xs ≡ ys
 same_list [] [] e h = refl
 same_list [] (y ∷ ys) e h = absurd (omega arith)
 same_list (x ∷ xs) [] e h = absurd (omega arith)
@@ -40,7 +41,9 @@ same_list (x ∷ xs) (y ∷ ys) e h =
 
 module _ {A : Type 0} (opens closes : A → Bool) where
   -- what is open stays open over a reply that neither opens nor closes
-  pub stays_open : (replies : List A) (k j : ℕ) → test_at opens (slice_get replies k) ≡ false → test_at closes (slice_get replies k) ≡ false → IsLastOpen opens closes replies k j → IsLastOpen opens closes replies (suc k) j
+  pub stays_open : (replies : List A) (k j : ℕ) → test_at opens (slice_get replies k) ≡ false
+      → test_at closes (slice_get replies k) ≡ false → IsLastOpen opens closes replies k j
+      → IsLastOpen opens closes replies (suc k) j
   stays_open replies k j o c h = record {
     before = omega (arith, h.before);
     opened = h.opened;
@@ -49,20 +52,31 @@ module _ {A : Type 0} (opens closes : A → Bool) where
   }
 
   -- and was open before it
-  pub was_open : (replies : List A) (k j : ℕ) → test_at opens (slice_get replies k) ≡ false → IsLastOpen opens closes replies (suc k) j → IsLastOpen opens closes replies k j
+  pub was_open : (replies : List A) (k j : ℕ) → test_at opens (slice_get replies k) ≡ false
+      → IsLastOpen opens closes replies (suc k) j → IsLastOpen opens closes replies k j
   was_open replies k j o h = record {
-    before = ⊎_elim (λ (l : j < k). l) (λ (e : j ≡ k). absurd (true≢false (sym h.opened ∙ (ap (λ (z : ℕ). test_at opens (slice_get replies z)) e ∙ o)))) (below_or_at j k h.before);
+    before = ⊎_elim (λ (l : j < k). l) (λ (e : j ≡ k). absurd
+        (true≢false (sym h.opened ∙ (ap (λ (z : ℕ). test_at opens (slice_get replies z)) e ∙ o))))
+        (below_or_at j k h.before);
     opened = h.opened;
     last = λ i a b. h.last i a (omega arith);
     kept = λ i a b. h.kept i a (omega arith);
   }
 
   -- a reply that opens is open behind it
-  pub opens_here : (replies : List A) (k : ℕ) → test_at opens (slice_get replies k) ≡ true → IsLastOpen opens closes replies (suc k) k
-  opens_here replies k o = record { before = omega arith; opened = o; last = λ i a b. absurd (omega arith); kept = λ i a b. absurd (omega arith) }
+  pub opens_here : (replies : List A) (k : ℕ) → test_at opens (slice_get replies k) ≡ true
+      → IsLastOpen opens closes replies (suc k) k
+  opens_here replies k o = record {
+    before = omega arith;
+    opened = o;
+    last = λ i a b. absurd (omega arith);
+    kept =
+        λ i a b. absurd (omega arith);
+  }
 
   -- one position is open at most
-  pub one_open : (replies : List A) (k i j : ℕ) → IsLastOpen opens closes replies k i → IsLastOpen opens closes replies k j → i ≡ j
+  pub one_open : (replies : List A) (k i j : ℕ) → IsLastOpen opens closes replies k i
+      → IsLastOpen opens closes replies k j → i ≡ j
   one_open replies k i j p q =
       ⊎_elim (λ (l : i < j). absurd (true≢false (sym q.opened ∙ p.last j l q.before)))
       (⊎_elim (λ (e : i ≡ j). e) (λ (l : j < i). absurd (true≢false (sym p.opened ∙ q.last i l p.before))))
@@ -72,7 +86,8 @@ module _ {A : Type 0} (opens closes : A → Bool) where
       three i j = grind arith
 
   -- what is open at k depends on the replies before k alone
-  pub open_agree : (replies others : List A) (k j : ℕ) → ((i : ℕ) → i < k → slice_get replies i ≡ slice_get others i) → IsLastOpen opens closes replies k j → IsLastOpen opens closes others k j
+  pub open_agree : (replies others : List A) (k j : ℕ) → ((i : ℕ) → i < k → slice_get replies i ≡ slice_get others i)
+      → IsLastOpen opens closes replies k j → IsLastOpen opens closes others k j
   open_agree replies others k j e h = record {
     before = h.before;
     opened = ap (test_at opens) (sym (e j h.before)) ∙ h.opened;
@@ -91,4 +106,8 @@ module _ {A : Type 0} (opens closes : A → Bool) where
       three i j = grind arith
 
 pub positions_are_used_once : PositionsAreUsedOnce
-positions_are_used_once = (close_apart is_challenge is_ok, close_apart is_answer ends_answer, close_apart is_start is_answer)
+positions_are_used_once = (
+  close_apart is_challenge is_ok,
+  close_apart is_answer ends_answer,
+  close_apart is_start is_answer,
+)

@@ -11,7 +11,7 @@ use Rattle.fe2o3_sasl_wire.specs.SaslFrames.{SaslFrame}
 use Rattle.fe2o3_scram.specs.declared.scram_messages.error.ScramErrorKind.{ScramErrorKind}
 use Rattle.fe2o3_sasl.specs.ClientHistory.{OpenAnswer, IsDue, ClientAnswers, ClientAllocates, ReadsOutcome}
 use Rattle.fe2o3_scram.specs.Credentials.{Provider}
-use Rattle.fe2o3_sasl.specs.Events.{Given, Login, ServerSays, Concluded, Failed, ClientSays, Reported, Refused, Scram, NoMemory}
+use Rattle.fe2o3_sasl.specs.Events.{Given, Login, ServerSays, Concluded, Failed, ClientSays, Reported, Refused, Scram, OutOfMemory}
 use Rattle.fe2o3_sasl.specs.Headline.{IsOkBody, OkOnlyWhereAccepted, OkWhereverAccepted, SignedAt, ReportedOnlyWhereSigned, ReportedWhereverSigned, IssuedVerifiersAgree}
 use Rattle.fe2o3_scram.specs.Hmac.{hmac_of}
 use Rattle.fe2o3_sasl.specs.Positions.{test_at}
@@ -28,78 +28,120 @@ use Rattle.fe2o3_sasl.proofs.lemmas.frames.SpellingLemmas.{one_spelling}
 -- ---- the server
 
 -- what is carried as an Ok has its body
-ok_body : (outcome : Option (List ℕ)) (body : List ℕ) → Concluded outcomes.Ok body ≡ carried (Failed faults.TooLarge) (λ b. Concluded outcomes.Ok b) outcome → outcome ≡ Some body
+ok_body : (outcome : Option (List ℕ)) (body : List ℕ) → Concluded outcomes.Ok body
+    ≡ carried (Failed faults.TooLarge) (λ b. Concluded outcomes.Ok b) outcome → outcome ≡ Some body
 ok_body None body is = absurd (cc)
 ok_body (Some other) body is = cc
 
 -- an Ok is that of a response that fits
-ok_told : (provider : Provider) (IsOpen : Challenging → Type 0) (event : Given) (frame : SaslFrame) (accepted : Accepted) (body : List ℕ) → FitsAsResponse provider IsOpen frame accepted
-    → ((one other : Accepted) → FitsAsResponse provider IsOpen frame one → FitsAsResponse provider IsOpen frame other → one ≡ other) → ServerAnswers provider IsOpen event (Ok frame) (Concluded outcomes.Ok body) → IsOkBody provider accepted body
+ok_told : (provider : Provider) (IsOpen : Challenging → Type 0) (event : Given) (frame : SaslFrame)
+    (accepted : Accepted) (body : List ℕ) → FitsAsResponse provider IsOpen frame accepted
+    → ((one other : Accepted) → FitsAsResponse provider IsOpen frame one → FitsAsResponse provider IsOpen frame other
+    → one ≡ other) → ServerAnswers provider IsOpen event (Ok frame) (Concluded outcomes.Ok body)
+    → IsOkBody provider accepted body
 ok_told provider IsOpen event (frames.Mechanisms names) accepted body fits one row = absurd fits
 ok_told provider IsOpen event (frames.Challenge text) accepted body fits one row = absurd fits
 ok_told provider IsOpen event (frames.Outcome code more) accepted body fits one row = absurd fits
 ok_told provider IsOpen event (frames.Init mechanism response hostname) accepted body fits one row = absurd fits
 ok_told provider IsOpen event (frames.Response text) accepted body fits one (inl row) =
     ok_body (canonical (frames.Outcome outcomes.Ok (Some (final_message provider accepted)))) body
-    (subst (λ (other : Accepted). Concluded outcomes.Ok body ≡ carried (Failed faults.TooLarge) (λ b. Concluded outcomes.Ok b) (canonical (frames.Outcome outcomes.Ok (Some (final_message provider other))))) (one row.0 accepted row.1 fits) row.2)
+    (subst (λ (other : Accepted). Concluded outcomes.Ok body
+    ≡ carried (Failed faults.TooLarge) (λ b. Concluded outcomes.Ok b)
+    (canonical (frames.Outcome outcomes.Ok (Some (final_message provider other)))))
+    (one row.0 accepted row.1 fits) row.2)
 ok_told provider IsOpen event (frames.Response text) accepted body fits one (inr row) = absurd (row.0 accepted fits)
 
 -- the table's row at a response that is accepted
-accepted_row : (provider : Provider) (events : List Given) (replies : List ServerSays) (n : ℕ) (accepted : Accepted) (says : ServerSays) → ServerHistory provider events replies → (accepts : AcceptsAt provider events replies n accepted)
-    → slice_get replies n ≡ Some says → (says ≡ Failed faults.OutOfMemory) ⊎ ServerAnswers provider (Open provider events replies n) accepts.0 (Ok accepts.1) says
+accepted_row : (provider : Provider) (events : List Given) (replies : List ServerSays) (n : ℕ) (accepted : Accepted)
+    (says : ServerSays) → ServerHistory provider events replies
+    → (accepts : AcceptsAt provider events replies n accepted)
+    → slice_get replies n ≡ Some says → (says ≡ Failed faults.OutOfMemory)
+    ⊎ ServerAnswers provider (Open provider events replies n) accepts.0 (Ok accepts.1) says
 accepted_row provider events replies n accepted says history accepts at =
     let row = history.each n accepts.0 says accepts.2 at in
     let spelled = one_spelling accepts.0.body row.0 (Ok accepts.1) row.1 accepts.3 in
     ⊎_elim (λ (none : ServerAllocates row.0 × (says ≡ Failed faults.OutOfMemory)). inl none.1)
-    (λ (told : ServerAnswers provider (Open provider events replies n) accepts.0 row.0 says). inr (subst (λ (s : Result SaslFrame Error). ServerAnswers provider (Open provider events replies n) accepts.0 s says) spelled told)) row.2
+    (λ (told : ServerAnswers provider (Open provider events replies n) accepts.0 row.0 says). inr
+    (subst (λ (s : Result SaslFrame Error). ServerAnswers provider
+    (Open provider events replies n) accepts.0 s says) spelled told)) row.2
 
 pub ok_only_where_accepted : OkOnlyWhereAccepted
 ok_only_where_accepted provider events replies n body history at =
     let is = ok_accepts provider events replies n body history at in
     let accepts = is.1 in
-    let one = one_response provider (Open provider events replies n) (Open provider events replies n) (one_challenge provider events replies n) accepts.1 in
-    let told = ⊎_elim (λ (none : Concluded outcomes.Ok body ≡ Failed faults.OutOfMemory). absurd (cc)) (λ (told : ServerAnswers provider (Open provider events replies n) accepts.0 (Ok accepts.1) (Concluded outcomes.Ok body)). ok_told provider (Open provider events replies n) accepts.0 accepts.1 is.0 body accepts.4 one told)
-    (accepted_row provider events replies n is.0 (Concluded outcomes.Ok body) history accepts at) in
-    ((is.0, accepts, told), λ j k opened later also. true≢false (sym (ap (test_at is_ok) at) ∙ also.kept n opened.before later))
+    let one = one_response provider (Open provider events replies n) (Open provider events replies n)
+    (one_challenge provider events replies n) accepts.1 in
+    let told = ⊎_elim (λ (none : Concluded outcomes.Ok body ≡ Failed faults.OutOfMemory). absurd (cc))
+    (λ (told : ServerAnswers provider (Open provider events replies n) accepts.0 (Ok accepts.1)
+    (Concluded outcomes.Ok body)). ok_told provider (Open provider events replies n) accepts.0 accepts.1 is.0 body
+    accepts.4 one told)
+    (accepted_row provider events replies n is.0 (Concluded outcomes.Ok body) history accepts at) in (
+      (is.0, accepts, told),
+      λ j k opened later also. true≢false
+          (sym (ap (test_at is_ok) at) ∙ also.kept n opened.before later),
+    )
 
 -- an outcome that is not too large is sent
-sent_ok : (outcome : Option (List ℕ)) (says : ServerSays) → says ≡ carried (Failed faults.TooLarge) (λ b. Concluded outcomes.Ok b) outcome → says ≢ Failed faults.TooLarge → (body : List ℕ) × (says ≡ Concluded outcomes.Ok body)
+sent_ok : (outcome : Option (List ℕ)) (says : ServerSays)
+    → says ≡ carried (Failed faults.TooLarge) (λ b. Concluded outcomes.Ok b) outcome → says ≢ Failed faults.TooLarge
+    → (body : List ℕ) × (says ≡ Concluded outcomes.Ok body)
 sent_ok None says is fits = absurd (fits is)
 sent_ok (Some body) says is fits = (body, is)
 
-ok_row : (provider : Provider) (IsOpen : Challenging → Type 0) (event : Given) (frame : SaslFrame) (accepted : Accepted) (says : ServerSays) → FitsAsResponse provider IsOpen frame accepted
-    → ServerAnswers provider IsOpen event (Ok frame) says → says ≢ Failed faults.TooLarge → (body : List ℕ) × (says ≡ Concluded outcomes.Ok body)
+ok_row : (provider : Provider) (IsOpen : Challenging → Type 0) (event : Given) (frame : SaslFrame) (accepted : Accepted)
+    (says : ServerSays) → FitsAsResponse provider IsOpen frame accepted
+    → ServerAnswers provider IsOpen event (Ok frame) says → says ≢ Failed faults.TooLarge
+    → (body : List ℕ) × (says ≡ Concluded outcomes.Ok body)
 ok_row provider IsOpen event (frames.Mechanisms names) accepted says fits row small = absurd fits
 ok_row provider IsOpen event (frames.Challenge text) accepted says fits row small = absurd fits
 ok_row provider IsOpen event (frames.Outcome code more) accepted says fits row small = absurd fits
 ok_row provider IsOpen event (frames.Init mechanism response hostname) accepted says fits row small = absurd fits
-ok_row provider IsOpen event (frames.Response text) accepted says fits (inl row) small = sent_ok (canonical (frames.Outcome outcomes.Ok (Some (final_message provider row.0)))) says row.2 small
+ok_row provider IsOpen event (frames.Response text) accepted says fits (inl row) small =
+    sent_ok (canonical (frames.Outcome outcomes.Ok (Some (final_message provider row.0)))) says row.2 small
 ok_row provider IsOpen event (frames.Response text) accepted says fits (inr row) small = absurd (row.0 accepted fits)
 
 pub ok_wherever_accepted : OkWhereverAccepted
 ok_wherever_accepted provider events replies n accepted says history accepts at memory small =
     ⊎_elim (λ (none : says ≡ Failed faults.OutOfMemory). absurd (memory none))
     (λ (told : ServerAnswers provider (Open provider events replies n) accepts.0 (Ok accepts.1) says).
-    let sent = ok_row provider (Open provider events replies n) accepts.0 accepts.1 accepted says accepts.4 told small in
-    let one = one_response provider (Open provider events replies n) (Open provider events replies n) (one_challenge provider events replies n) accepts.1 in
-    (sent.0, sent.1, ok_told provider (Open provider events replies n) accepts.0 accepts.1 accepted sent.0 accepts.4 one (subst (λ (reply : ServerSays). ServerAnswers provider (Open provider events replies n) accepts.0 (Ok accepts.1) reply) sent.1 told)))
+    let sent = ok_row provider (Open provider events replies n) accepts.0 accepts.1 accepted says accepts.4 told
+    small in
+    let one = one_response provider (Open provider events replies n) (Open provider events replies n)
+    (one_challenge provider events replies n) accepts.1 in (
+      sent.0,
+      sent.1,
+      ok_told provider (Open provider events replies n) accepts.0 accepts.1 accepted sent.0 accepts.4 one
+          (subst (λ (reply : ServerSays). ServerAnswers provider (Open provider events replies n) accepts.0
+          (Ok accepts.1) reply) sent.1 told),
+    ))
     (accepted_row provider events replies n accepted says history accepts at)
 
 -- ---- the client
 
-signed : (login : Login) (events : List Given) (replies : List ClientSays) (m : ℕ) (event : Given) (more : Option (List ℕ)) → slice_get events m ≡ Some event → SpellsBody event.body (Ok (frames.Outcome outcomes.Ok more))
-    → ReadsOutcome login (OpenAnswer login events replies m) more (Ok tt) → (text : List ℕ) × (more ≡ Some text) × SignedAt login events replies m text
+signed : (login : Login) (events : List Given) (replies : List ClientSays) (m : ℕ) (event : Given)
+    (more : Option (List ℕ)) → slice_get events m ≡ Some event
+    → SpellsBody event.body (Ok (frames.Outcome outcomes.Ok more))
+    → ReadsOutcome login (OpenAnswer login events replies m) more (Ok tt)
+    → (text : List ℕ) × (more ≡ Some text) × SignedAt login events replies m text
 signed login events replies m event None at spells reads = absurd reads
-signed login events replies m event (Some text) at spells reads = (text, refl, (event, reads.0, at, spells, reads.1, reads.2))
+signed login events replies m event (Some text) at spells reads =
+    (text, refl, (event, reads.0, at, spells, reads.1, reads.2))
 
 pub reported_only_where_signed : ReportedOnlyWhereSigned
 reported_only_where_signed login events replies m more history at =
-    let event = some_at events m (omega (arith, history.count, slice_get_within replies m (Reported outcomes.Ok more) at)) in
+    let event = some_at events m (omega (
+      arith,
+      history.count,
+      slice_get_within replies m (Reported outcomes.Ok more) at,
+    )) in
     let row = history.each m event.0 (Reported outcomes.Ok more) event.1 at in
-    ⊎_elim (λ (none : ClientAllocates login row.0 × (Reported outcomes.Ok more ≡ Refused NoMemory)). let is = none.1 in absurd (cc))
-    (λ (told : ClientAnswers login (IsDue events replies m) (OpenAnswer login events replies m) event.0 row.0 (Reported outcomes.Ok more)).
+    ⊎_elim (λ (none : ClientAllocates login row.0 × (Reported outcomes.Ok more ≡ Refused OutOfMemory)). let is = none.1
+    in absurd (cc))
+    (λ (told : ClientAnswers login (IsDue events replies m) (OpenAnswer login events replies m) event.0 row.0
+    (Reported outcomes.Ok more)).
     let is = reported login (IsDue events replies m) (OpenAnswer login events replies m) event.0 row.0 more told in
-    signed login events replies m event.0 more event.1 (subst (λ (s : Result SaslFrame Error). SpellsBody event.0.body s) is.0 row.1) is.1)
+    signed login events replies m event.0 more event.1 (subst
+    (λ (s : Result SaslFrame Error). SpellsBody event.0.body s) is.0 row.1) is.1)
     row.2
 
 pub reported_wherever_signed : ReportedWhereverSigned
@@ -108,17 +150,21 @@ reported_wherever_signed login events replies m text says history is at memory =
     let row = history.each m event says is.2 at in
     let spelled = one_spelling event.body row.0 (Ok (frames.Outcome outcomes.Ok (Some text))) row.1 is.3 in
     let reads : ReadsOutcome login (OpenAnswer login events replies m) (Some text) (Ok tt) = (is.1, is.4, is.5) in
-    ⊎_elim (λ (none : ClientAllocates login row.0 × (says ≡ Refused NoMemory)). absurd (memory none.1))
+    ⊎_elim (λ (none : ClientAllocates login row.0 × (says ≡ Refused OutOfMemory)). absurd (memory none.1))
     (λ (told : ClientAnswers login (IsDue events replies m) (OpenAnswer login events replies m) event row.0 says).
-    go reads (subst (λ (s : Result SaslFrame Error). ClientAnswers login (IsDue events replies m) (OpenAnswer login events replies m) event s says) spelled told))
+    go reads (subst (λ (s : Result SaslFrame Error). ClientAnswers login (IsDue events replies m)
+    (OpenAnswer login events replies m) event s says) spelled told))
     row.2
   where
     go : ReadsOutcome login (OpenAnswer login events replies m) (Some text) (Ok tt)
-        → (ReadsOutcome login (OpenAnswer login events replies m) (Some text) (Ok tt) × (says ≡ Reported outcomes.Ok (Some text)))
-        ⊎ ((kind : ScramErrorKind) × ReadsOutcome login (OpenAnswer login events replies m) (Some text) (Err kind) × (says ≡ Refused (Scram kind)))
+        → (ReadsOutcome login (OpenAnswer login events replies m) (Some text) (Ok tt)
+        × (says ≡ Reported outcomes.Ok (Some text)))
+        ⊎ ((kind : ScramErrorKind) × ReadsOutcome login (OpenAnswer login events replies m) (Some text) (Err kind)
+        × (says ≡ Refused (Scram kind)))
         → says ≡ Reported outcomes.Ok (Some text)
     go reads (inl told) = told.1
-    go reads (inr told) = let same = one_reading_of_outcome login (OpenAnswer login events replies m) (one_open_answer login events replies m) (Some text) (Ok tt) (Err told.0) reads told.1 in absurd (cc)
+    go reads (inr told) = let same = one_reading_of_outcome login (OpenAnswer login events replies m)
+        (one_open_answer login events replies m) (Some text) (Ok tt) (Err told.0) reads told.1 in absurd (cc)
 
 -- ---- both
 
@@ -128,5 +174,10 @@ issued_verifiers_agree sides m n accepted histories kept takes =
     let meets = met sides taken.0 accepted histories kept (inl (m, n, takes, taken.1)) in
     let signature = taken.2 in
     let its_key = accepted.challenge.stored.server_key in
-    let one = signature.one ∙ ap (λ version. hmac_of version its_key (server_message accepted)) (sym signature.version) in
-    (taken.0, taken.1, (λ same. agree sides taken.0 accepted meets same), λ differ. (signature.version, record { differ = differ; one = one }))
+    let one = signature.one ∙ ap (λ version. hmac_of version its_key (server_message accepted))
+    (sym signature.version) in (
+      taken.0,
+      taken.1,
+      (λ same. agree sides taken.0 accepted meets same),
+      λ differ. (signature.version, record { differ = differ; one = one }),
+    )

@@ -6,7 +6,7 @@ use Rattle.fe2o3_scram.specs.Texts.{base64_text}
 use Rattle.fe2o3_sasl.specs.ClientHistory.{Answering, AnswersAt, OpenAnswer}
 use Rattle.fe2o3_sasl.specs.Events.{IsRecord}
 use Rattle.fe2o3_scram.specs.Hmac.{digest_len, hmac_of}
-use Rattle.fe2o3_sasl.specs.HistoryLaws.{Meet, EqualMessagesAgree, NoShortExtensions}
+use Rattle.fe2o3_sasl.specs.Laws.{AreMatched, EqualMessagesAgree, NoShortExtensions}
 use Rattle.fe2o3_scram.specs.Keys.{stored_key}
 use Rattle.fe2o3_sasl.specs.ServerHistory.{Accepted, AcceptsAt, final_message}
 use Rattle.fe2o3_sasl.specs.TwoSides.{Sides, Histories, Takes, Shows, Agree, client_message, server_message, salted_at, client_key_at, server_key_at}
@@ -32,11 +32,15 @@ one_version Sha512 Sha512 same = refl
 -- the signature that the client waited for is the one that the server gave
 pub record OneSignature (sides : Sides) (answer : Answering) (accepted : Accepted) : Type 0 where
   pub version : sides.login.version ≡ sides.provider.version
-  pub one : hmac_of sides.login.version (server_key_at sides.login answer) (client_message sides.login answer) ≡ hmac_of sides.provider.version accepted.challenge.stored.server_key (server_message accepted)
+  pub one : hmac_of sides.login.version (server_key_at sides.login answer) (client_message sides.login answer)
+      ≡ hmac_of sides.provider.version accepted.challenge.stored.server_key (server_message accepted)
 
-pub taken_signature : (sides : Sides) (m n : ℕ) (accepted : Accepted) → Histories sides → Takes sides m n accepted → (answer : Answering) × OpenAnswer sides.login sides.client_events sides.client_replies m answer × OneSignature sides answer accepted
+pub taken_signature : (sides : Sides) (m n : ℕ) (accepted : Accepted) → Histories sides → Takes sides m n accepted
+    → (answer : Answering) × OpenAnswer sides.login sides.client_events sides.client_replies m answer
+    × OneSignature sides answer accepted
 taken_signature sides m n accepted histories takes =
-    let stands = signature_of_ok sides.login sides.client_events sides.client_replies m takes.text histories.client takes.reported in
+    let stands = signature_of_ok sides.login sides.client_events sides.client_replies m takes.text histories.client
+    takes.reported in
     let answer = stands.0 in
     let version = sides.login.version in
     let other = sides.provider.version in
@@ -44,35 +48,56 @@ taken_signature sides m n accepted histories takes =
     let its_key = accepted.challenge.stored.server_key in
     let auth = client_message sides.login answer in
     let its_auth = server_message accepted in
-    let parts : codes "v=" ++ base64_text (hmac_of version key auth) ≡ codes "v=" ++ base64_text (hmac_of other its_key its_auth) = one_part takes.text 0 (codes "v=" ++ base64_text (hmac_of version key auth)) (final_message sides.provider accepted) stands.2.1 takes.one in
+    let parts : codes "v=" ++ base64_text (hmac_of version key auth) ≡ codes "v="
+    ++ base64_text (hmac_of other its_key its_auth) = one_part takes.text 0
+    (codes "v=" ++ base64_text (hmac_of version key auth))
+    (final_message sides.provider accepted) stands.2.1 takes.one in
     let texts : base64_text (hmac_of version key auth) ≡ base64_text (hmac_of other its_key its_auth) = cc in
-    let one = one_spelled (base64_text (hmac_of version key auth)) (hmac_of version key auth) (hmac_of other its_key its_auth) (IsBytes-hmac_of version key auth, refl) (IsBytes-hmac_of other its_key its_auth, texts) in
-    (answer, stands.1, record { version = one_version version other (sym (length-hmac_of version key auth) ∙ (ap length one ∙ length-hmac_of other its_key its_auth)); one = one })
+    let one = one_spelled (base64_text (hmac_of version key auth)) (hmac_of version key auth)
+    (hmac_of other its_key its_auth) (IsBytes-hmac_of version key auth, refl)
+    (IsBytes-hmac_of other its_key its_auth, texts) in (
+      answer,
+      stands.1,
+      record {
+        version = one_version version other
+            (sym (length-hmac_of version key auth) ∙ (ap length one ∙ length-hmac_of other its_key its_auth));
+        one = one;
+      },
+    )
 
 -- a proof that was shown has the length of either side's digest
-pub shown_version : (sides : Sides) (k n : ℕ) (answer : Answering) (accepted : Accepted) → Shows sides k n answer accepted → sides.login.version ≡ sides.provider.version
+pub shown_version : (sides : Sides) (k n : ℕ) (answer : Answering) (accepted : Accepted)
+    → Shows sides k n answer accepted → sides.login.version ≡ sides.provider.version
 shown_version sides k n answer accepted shows =
     let version = sides.login.version in
     let salted = salted_at sides.login answer in
     let key = client_key_at sides.login answer in
     let pad = hmac_of version (stored_key version salted) (client_message sides.login answer) in
     let long : length key ≡ digest_len version = length-hmac_of version salted (codes "Client Key") in
-    let wide : length pad ≡ digest_len version = length-hmac_of version (stored_key version salted) (client_message sides.login answer) in
-    let sized = (is_accepted sides.provider sides.server_events sides.server_replies n accepted shows.ok.accepts).names.sized in
-    one_version version sides.provider.version (sym long ∙ (sym (length-exclusive_or key pad (long ∙ sym wide)) ∙ (ap length shows.one ∙ sized)))
+    let wide : length pad ≡ digest_len version = length-hmac_of version (stored_key version salted)
+    (client_message sides.login answer) in
+    let sized = (is_accepted sides.provider sides.server_events sides.server_replies n accepted
+    shows.ok.accepts).names.sized in
+    one_version version sides.provider.version
+    (sym long ∙ (sym (length-exclusive_or key pad (long ∙ sym wide)) ∙ (ap length shows.one ∙ sized)))
 
 -- equal AuthMessages of an answer and of what was accepted
-pub same_at : (sides : Sides) (k n : ℕ) (answer : Answering) (accepted : Accepted) → IsRecord accepted.challenge.stored → AnswersAt sides.login sides.client_events sides.client_replies k answer → AcceptsAt sides.provider sides.server_events sides.server_replies n accepted
+pub same_at : (sides : Sides) (k n : ℕ) (answer : Answering) (accepted : Accepted) → IsRecord accepted.challenge.stored
+    → AnswersAt sides.login sides.client_events sides.client_replies k answer
+    → AcceptsAt sides.provider sides.server_events sides.server_replies n accepted
     → client_message sides.login answer ≡ server_message accepted → SameMessages sides.login answer accepted
 same_at sides k n answer accepted kept answers accepts same =
-    same_messages sides.provider sides.login answer accepted kept (is_answering sides.login sides.client_events sides.client_replies k answer answers) (is_accepted sides.provider sides.server_events sides.server_replies n accepted accepts) same
+    same_messages sides.provider sides.login answer accepted kept
+    (is_answering sides.login sides.client_events sides.client_replies k answer answers)
+    (is_accepted sides.provider sides.server_events sides.server_replies n accepted accepts) same
 
 -- what a meeting says
 pub record Met (sides : Sides) (answer : Answering) (accepted : Accepted) : Type 0 where
   pub version : sides.login.version ≡ sides.provider.version
   pub same : client_message sides.login answer ≡ server_message accepted → SameMessages sides.login answer accepted
 
-pub met : (sides : Sides) (answer : Answering) (accepted : Accepted) → Histories sides → IsRecord accepted.challenge.stored → Meet sides answer accepted → Met sides answer accepted
+pub met : (sides : Sides) (answer : Answering) (accepted : Accepted) → Histories sides
+    → IsRecord accepted.challenge.stored → AreMatched sides answer accepted → Met sides answer accepted
 met sides answer accepted histories kept (inl taken) =
     let takes = taken.2 in
     let answered = taken.3 in record {
@@ -86,13 +111,24 @@ met sides answer accepted histories kept (inr shown) =
     }
 
 -- both sides mean one login
-pub agree : (sides : Sides) (answer : Answering) (accepted : Accepted) → Met sides answer accepted → client_message sides.login answer ≡ server_message accepted → Agree sides.login sides.provider answer accepted
+pub agree : (sides : Sides) (answer : Answering) (accepted : Accepted) → Met sides answer accepted
+    → client_message sides.login answer ≡ server_message accepted → Agree sides.login sides.provider answer accepted
 agree sides answer accepted is same =
     let messages = is.same same in
-    record { version = is.version; user = messages.user; nonce = messages.nonce; full_nonce = messages.full; salt = messages.salt; count = messages.count }
+    record {
+      version = is.version;
+      user = messages.user;
+      nonce = messages.nonce;
+      full_nonce = messages.full;
+      salt =
+          messages.salt;
+      count = messages.count;
+    }
 
 pub equal_messages_agree : EqualMessagesAgree
-equal_messages_agree sides answer accepted histories kept meet same = agree sides answer accepted (met sides answer accepted histories kept meet) same
+equal_messages_agree sides answer accepted histories kept meet same =
+    agree sides answer accepted (met sides answer accepted histories kept meet) same
 
 pub no_short_extensions : NoShortExtensions
-no_short_extensions sides answer accepted histories kept meet same = let messages = (met sides answer accepted histories kept meet).same same in (messages.not_three, messages.not_four)
+no_short_extensions sides answer accepted histories kept meet same = let messages =
+    (met sides answer accepted histories kept meet).same same in (messages.not_three, messages.not_four)

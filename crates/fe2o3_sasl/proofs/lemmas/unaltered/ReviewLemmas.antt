@@ -10,7 +10,7 @@ use Rattle.fe2o3_sasl_wire.specs.Canonical.{canonical}
 use Rattle.fe2o3_sasl_wire.specs.SaslFrames as frames
 use Rattle.fe2o3_sasl_wire.specs.SaslFrames.{SaslFrame}
 use Rattle.fe2o3_sasl.specs.ClientHistory.{AnswersAt, IsDue, OpenAnswer, ClientHistory, is_start, is_answer, ends_answer}
-use Rattle.fe2o3_sasl.specs.Events.{Given, ServerSays, ClientSays, Refused, NoMemory, Failed}
+use Rattle.fe2o3_sasl.specs.Events.{Given, ServerSays, ClientSays, Refused, OutOfMemory, Failed}
 use Rattle.fe2o3_sasl.specs.examples.Examples.{client_bytes, server_bytes, client_nonce, server_nonce, both, salt, login, provider, names, values, binds, answer, challenging, sends_init, sends_response, sends_ok, body_of, arrives}
 use Rattle.fe2o3_sasl.specs.Review.{plain_sides, PremisesCanBeMet, RefusersHaveNoRun, UnalteredRunsAreAudited, AnswersOkExactly, ReportsOkExactly, VerifierAgrees, ServersAnswerExactly, ClientsReportExactly, VerifiersAgree}
 use Rattle.fe2o3_scram.specs.SaslprepAscii.{IsPrintable}
@@ -42,10 +42,15 @@ abbrev response : SaslFrame
 response = sends_response (joined (binds both)) (proof_at login answer)
 
 abbrev right : Accepted
-right = record { challenge = challenging bare; final = record { without = joined (binds both); proof = proof_at login answer } }
+right = record {
+  challenge = challenging bare;
+  final =
+      record { without = joined (binds both); proof = proof_at login answer };
+}
 
 asked_sent : canonical asked ≡ Some (body_of asked)
-asked_sent = challenge_bodied (joined (values both)) (omega (arith, short_joined (values both) (short_values both (omega (arith, length-both)))))
+asked_sent = challenge_bodied (joined (values both)) (omega
+    (arith, short_joined (values both) (short_values both (omega (arith, length-both)))))
 
 response_is_sent : canonical response ≡ Some (body_of response)
 response_is_sent = answer_sent both server_nonce [] refl plain_both tt (omega (arith, length-both))
@@ -76,17 +81,36 @@ abbrev replies : List ServerSays
 replies = plain_sides.server_replies
 
 fits_first : FitsAt provider events 0 right.challenge
-fits_first = (arrives server_bytes init, init, refl, spells_body init (init_texts bare) start_sent, init_fits [] [] tt tt (joined (values both)) both)
+fits_first = (
+  arrives server_bytes init,
+  init,
+  refl,
+  spells_body init (init_texts bare) start_sent,
+  init_fits [] [] tt tt (joined (values both)) both,
+)
 
 servers_history : ServerHistory provider events replies
 servers_history =
     server_history provider events replies refl (
-      (Ok init, spells_body init (init_texts bare) start_sent, inr (inl (right.challenge, init_fits [] [] tt tt (joined (values both)) both, challenge_said [] [] tt tt (joined (values both)) both))),
+      (
+        Ok init,
+        spells_body init (init_texts bare) start_sent,
+        inr (inl (
+          right.challenge,
+          init_fits [] [] tt tt (joined (values both)) both,
+          challenge_said [] [] tt tt (joined (values both)) both,
+        )),
+      ),
       (
         (
           Ok response,
           spells_body response (tt, tt) response_is_sent,
-          inr (inl (right, response_fits [] [] tt tt (joined (values both)) both one_message (Open provider events replies 1) (0, opens_here is_challenge is_ok replies 0 refl, fits_first), ok_said [] [] tt tt (joined (values both)) both one_message)),
+          inr (inl (
+            right,
+            response_fits [] [] tt tt (joined (values both)) both one_message
+                (Open provider events replies 1) (0, opens_here is_challenge is_ok replies 0 refl, fits_first),
+            ok_said [] [] tt tt (joined (values both)) both one_message,
+          )),
         ),
         tt,
       ),
@@ -102,7 +126,13 @@ due_one : IsDue given said 1 client_nonce
 due_one = (0, opens_here is_start is_answer said 0 refl, (arrives client_bytes offer, refl, refl))
 
 answers_one : AnswersAt login given said 1 answer
-answers_one = (arrives client_bytes asked, joined (values both), refl, spells_body asked (tt, tt) asked_sent, challenge_read both server_nonce [] refl plain_both tt (omega (arith, length-both)) (IsDue given said 1) due_one)
+answers_one = (
+  arrives client_bytes asked,
+  joined (values both),
+  refl,
+  spells_body asked (tt, tt) asked_sent,
+  challenge_read both server_nonce [] refl plain_both tt (omega (arith, length-both)) (IsDue given said 1) due_one,
+)
 
 clients_history : ClientHistory login given said
 clients_history =
@@ -112,13 +142,23 @@ clients_history =
         (
           Ok asked,
           spells_body asked (tt, tt) asked_sent,
-          inr (inl (answer, challenge_read both server_nonce [] refl plain_both tt (omega (arith, length-both)) (IsDue given said 1) due_one, answer_said both server_nonce [] refl plain_both tt (omega (arith, length-both)))),
+          inr (inl (
+            answer,
+            challenge_read both server_nonce [] refl plain_both tt (omega (arith, length-both))
+                (IsDue given said 1) due_one,
+            answer_said both server_nonce [] refl plain_both tt
+                (omega (arith, length-both)),
+          )),
         ),
         (
           (
             Ok (sends_ok answer),
             spells_body (sends_ok answer) (tt, (tt, tt)) (ok_sent answer),
-            inr (inl (outcome_read both server_nonce [] refl plain_both tt (omega (arith, length-both)) (OpenAnswer login given said 2) (1, opens_here is_answer ends_answer said 1 refl, answers_one), refl)),
+            inr (inl (
+              outcome_read both server_nonce [] refl plain_both tt (omega (arith, length-both))
+                  (OpenAnswer login given said 2) (1, opens_here is_answer ends_answer said 1 refl, answers_one),
+              refl,
+            )),
           ),
           tt,
         ),
@@ -127,13 +167,33 @@ clients_history =
 
 printable : IsPrintable (codes "pencil")
 printable =
-    let each : AllByRecursion (λ byte. (0x20 ≤ byte) × (byte ≤ 0x7e)) (codes "pencil") = ((omega arith, omega arith), ((omega arith, omega arith), ((omega arith, omega arith), ((omega arith, omega arith), ((omega arith, omega arith), ((omega arith, omega arith), tt)))))) in
+    let each : AllByRecursion (λ byte. (0x20 ≤ byte) × (byte ≤ 0x7e)) (codes "pencil") = (
+      (omega arith, omega arith),
+      (
+        (omega arith, omega arith),
+        (
+          (omega arith, omega arith),
+          (
+            (omega arith, omega arith),
+            ((omega arith, omega arith), ((omega arith, omega arith), tt)),
+          ),
+        ),
+      ),
+    ) in
     All-from_recursion (λ byte. (0x20 ≤ byte) × (byte ≤ 0x7e)) (codes "pencil") each
 
 holds : HoldsLogin plain_sides salt 4096
-holds = record { version = refl; stored = refl; bytes = IsBytes-replicate 32 3 (omega arith); printable = printable; some = omega arith; within = omega arith }
+holds = record {
+  version = refl;
+  stored = refl;
+  bytes = IsBytes-replicate 32 3 (omega arith);
+  printable =
+      printable;
+  some = omega arith;
+  within = omega arith;
+}
 
-complete : (k : ℕ) → slice_get said k ≢ Some (Refused NoMemory)
+complete : (k : ℕ) → slice_get said k ≢ Some (Refused OutOfMemory)
 complete zero e = absurd (cc)
 complete (suc zero) e = absurd (cc)
 complete (suc (suc zero)) e = absurd (cc)
@@ -161,7 +221,9 @@ unaltered_runs_are_audited sides salt count run histories login holds done =
       proof_verdicts = (logs.proof, tt);
     }
   where
-    two_complete : (replies : List ServerSays) (challenge outcome : List ℕ) → replies ≡ Rattle.fe2o3_sasl.specs.Events.Challenged challenge ∷ Rattle.fe2o3_sasl.specs.Events.Concluded outcomes.Ok outcome ∷ [] → ServerComplete replies
+    two_complete : (replies : List ServerSays) (challenge outcome : List ℕ)
+        → replies ≡ Rattle.fe2o3_sasl.specs.Events.Challenged challenge
+        ∷ Rattle.fe2o3_sasl.specs.Events.Concluded outcomes.Ok outcome ∷ [] → ServerComplete replies
     two_complete replies challenge outcome is zero e = absurd (cc)
     two_complete replies challenge outcome is (suc zero) e = absurd (cc)
     two_complete replies challenge outcome is (suc (suc k)) e = absurd (cc)

@@ -38,7 +38,8 @@ IsBytes-cons b bytes below are (suc i) = are i
 
 pub IsBytes-append : (front back : List ℕ) → IsBytes front → IsBytes back → IsBytes (front ++ back)
 IsBytes-append [] back are too = too
-IsBytes-append (b ∷ front) back are too = IsBytes-cons b (front ++ back) (are 0) (IsBytes-append front back (λ i. are (suc i)) too)
+IsBytes-append (b ∷ front) back are too = IsBytes-cons b (front ++ back) (are 0)
+    (IsBytes-append front back (λ i. are (suc i)) too)
 
 byte_at-small : (k n : ℕ) → byte_at k n < 256
 byte_at-small zero n = omega arith
@@ -46,22 +47,26 @@ byte_at-small (suc k) n = omega arith
 
 pub IsBytes-high_first : (k n : ℕ) → IsBytes (bytes_high_first k n)
 IsBytes-high_first zero n = IsBytes-nil
-IsBytes-high_first (suc k) n = IsBytes-cons (byte_at k n) (bytes_high_first k n) (byte_at-small k n) (IsBytes-high_first k n)
+IsBytes-high_first (suc k) n = IsBytes-cons (byte_at k n) (bytes_high_first k n) (byte_at-small k n)
+    (IsBytes-high_first k n)
 
 IsBytes-sha1_bytes : (state : List ℕ) (n : ℕ) → IsBytes (one.digest_bytes state n)
 unfolding one.digest_bytes
 IsBytes-sha1_bytes state zero = IsBytes-nil
-IsBytes-sha1_bytes state (suc n) = IsBytes-append (one.digest_bytes state n) (to_be_bytes w32 (slice_index state n)) (IsBytes-sha1_bytes state n) (IsBytes-high_first 4 (slice_index state n))
+IsBytes-sha1_bytes state (suc n) = IsBytes-append (one.digest_bytes state n) (to_be_bytes w32 (slice_index state n))
+    (IsBytes-sha1_bytes state n) (IsBytes-high_first 4 (slice_index state n))
 
 IsBytes-sha256_bytes : (state : List ℕ) (n : ℕ) → IsBytes (two.digest_bytes state n)
 unfolding two.digest_bytes
 IsBytes-sha256_bytes state zero = IsBytes-nil
-IsBytes-sha256_bytes state (suc n) = IsBytes-append (two.digest_bytes state n) (to_be_bytes w32 (slice_index state n)) (IsBytes-sha256_bytes state n) (IsBytes-high_first 4 (slice_index state n))
+IsBytes-sha256_bytes state (suc n) = IsBytes-append (two.digest_bytes state n) (to_be_bytes w32 (slice_index state n))
+    (IsBytes-sha256_bytes state n) (IsBytes-high_first 4 (slice_index state n))
 
 IsBytes-sha512_bytes : (state : List ℕ) (n : ℕ) → IsBytes (five.digest_bytes state n)
 unfolding five.digest_bytes
 IsBytes-sha512_bytes state zero = IsBytes-nil
-IsBytes-sha512_bytes state (suc n) = IsBytes-append (five.digest_bytes state n) (to_be_bytes w64 (slice_index state n)) (IsBytes-sha512_bytes state n) (IsBytes-high_first 8 (slice_index state n))
+IsBytes-sha512_bytes state (suc n) = IsBytes-append (five.digest_bytes state n) (to_be_bytes w64 (slice_index state n))
+    (IsBytes-sha512_bytes state n) (IsBytes-high_first 8 (slice_index state n))
 
 pub IsBytes-digest : (version : ScramVersion) (message : List ℕ) → IsBytes (digest version message)
 unfolding digest one.sha1 two.sha256 five.sha512
@@ -69,7 +74,8 @@ IsBytes-digest Sha1 message = IsBytes-sha1_bytes _ 5
 IsBytes-digest Sha256 message = IsBytes-sha256_bytes _ 8
 IsBytes-digest Sha512 message = IsBytes-sha512_bytes _ 8
 
-pub length-hmac_of : (version : ScramVersion) (key message : List ℕ) → length (hmac_of version key message) ≡ digest_len version
+pub length-hmac_of : (version : ScramVersion) (key message : List ℕ)
+    → length (hmac_of version key message) ≡ digest_len version
 unfolding hmac_of
 length-hmac_of version key message = length-digest version _
 

@@ -9,13 +9,16 @@ xor-back x a = xor_assoc x a a ∙ (ap (bit_xor x) (xor_self a) ∙ xor_zero_r x
 
 xor-cancel : (x a b : ℕ) → bit_xor x a ≡ bit_xor x b → a ≡ b
 xor-cancel x a b same =
-    sym (xor_zero_l a) ∙ (ap (λ z. bit_xor z a) (sym (xor_self x)) ∙ (xor_assoc x x a ∙ (ap (bit_xor x) same ∙ (sym (xor_assoc x x b) ∙ (ap (λ z. bit_xor z b) (xor_self x) ∙ xor_zero_l b)))))
+    sym (xor_zero_l a) ∙ (ap (λ z. bit_xor z a) (sym (xor_self x))
+    ∙ (xor_assoc x x a ∙ (ap (bit_xor x) same ∙ (sym (xor_assoc x x b)
+    ∙ (ap (λ z. bit_xor z b) (xor_self x) ∙ xor_zero_l b)))))
 
 xor-pads : (x a b : ℕ) → bit_xor (bit_xor x a) b ≡ x → a ≡ b
 xor-pads x a b same = xor-cancel x a b (sym (xor-back (bit_xor x a) b) ∙ ap (λ z. bit_xor z b) same)
 
 -- a key that comes back out of its proof was turned by one pad twice
-pub one_pad : (key pad other : List ℕ) → length key ≡ length pad → length key ≡ length other → exclusive_or (exclusive_or key pad) other ≡ key → pad ≡ other
+pub one_pad : (key pad other : List ℕ) → length key ≡ length pad → length key ≡ length other
+    → exclusive_or (exclusive_or key pad) other ≡ key → pad ≡ other
 unfolding exclusive_or
 one_pad [] [] [] long too same = refl
 one_pad [] [] (y ∷ other) long too same = absurd (omega (arith, too))

@@ -11,7 +11,8 @@ pub exclusive_or-nil : (right : List ℕ) → exclusive_or [] right ≡ []
 unfolding exclusive_or
 exclusive_or-nil right = refl
 
-pub exclusive_or-cons : (x y : ℕ) (left right : List ℕ) → exclusive_or (x ∷ left) (y ∷ right) ≡ bit_xor x y ∷ exclusive_or left right
+pub exclusive_or-cons : (x y : ℕ) (left right : List ℕ)
+    → exclusive_or (x ∷ left) (y ∷ right) ≡ bit_xor x y ∷ exclusive_or left right
 unfolding exclusive_or
 exclusive_or-cons x y left right = refl
 
@@ -19,7 +20,8 @@ pub xored_to-zero : (left right : List ℕ) → left ≡ xored_to left right 0
 xored_to-zero left right = sym (ap (λ front. front ++ left) (exclusive_or-nil []))
 
 step : (k : ℕ) (left right : List ℕ) → k < length left → length left ≡ length right
-    → slice_set (xored_to left right k) k (bit_xor (slice_index_or (xored_to left right k) k 0) (slice_index_or right k 0)) ≡ xored_to left right (suc k)
+    → slice_set (xored_to left right k) k (bit_xor (slice_index_or (xored_to left right k) k 0)
+    (slice_index_or right k 0)) ≡ xored_to left right (suc k)
 unfolding exclusive_or
 step k [] right below same = absurd (omega (arith, below))
 step k (x ∷ left) [] below same = absurd (omega (arith, same))
@@ -30,12 +32,15 @@ step (suc k) (x ∷ left) (y ∷ right) below same =
     ap (λ rest. bit_xor x y ∷ rest) (step k left right less equal)
 
 -- one more byte
-pub xored_to-next : (k : ℕ) (left right now : List ℕ) → k < length left → length left ≡ length right → now ≡ xored_to left right k
+pub xored_to-next : (k : ℕ) (left right now : List ℕ) → k < length left → length left ≡ length right
+    → now ≡ xored_to left right k
     → slice_set now k (bit_xor (slice_index_or now k 0) (slice_index_or right k 0)) ≡ xored_to left right (k + 1)
-xored_to-next k left right now below same is = let next : k + 1 ≡ suc k = omega arith in rw (is, next) (step k left right below same)
+xored_to-next k left right now below same is = let next : k + 1 ≡ suc k = omega arith in
+    rw (is, next) (step k left right below same)
 
 -- all bytes
-pub xored_to-all : (k : ℕ) (left right : List ℕ) → length left ≡ k → length right ≡ k → xored_to left right k ≡ exclusive_or left right
+pub xored_to-all : (k : ℕ) (left right : List ℕ) → length left ≡ k → length right ≡ k
+    → xored_to left right k ≡ exclusive_or left right
 unfolding exclusive_or
 xored_to-all k [] [] long same = let none : k ≡ 0 = omega (arith, long) in rw none refl
 xored_to-all k [] (y ∷ right) long same = absurd (omega (arith, long, same))

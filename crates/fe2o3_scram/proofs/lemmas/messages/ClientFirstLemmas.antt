@@ -17,69 +17,109 @@ one_bare : (text bare other : List ℕ) → text ≡ codes "n,," ++ bare → tex
 one_bare text bare other is too = let both : codes "n,," ++ bare ≡ codes "n,," ++ other = sym is ∙ too in cc
 
 part_of_bare : (text bare part : List ℕ) (k : ℕ) → text ≡ codes "n,," ++ bare → BarePart text k part → Part bare k part
-part_of_bare text bare part k is has = subst (λ (behind : List ℕ). Part behind k part) (one_bare text has.0 bare has.1 is) has.2
+part_of_bare text bare part k is has = subst (λ (behind : List ℕ). Part behind k part)
+    (one_bare text has.0 bare has.1 is) has.2
 
 pub not_utf8 : (text : List ℕ) → ¬ IsUtf8 text → ReadsClientFirst text (Err Utf8Error)
 unfolding ReadsClientFirst
 not_utf8 text fails = inl (fails, refl)
 
-pub no_header : (text : List ℕ) → IsUtf8 text → ¬ Begins text (codes "n,,") → ReadsClientFirst text (Err CannotParseGs2Header)
+pub no_header : (text : List ℕ) → IsUtf8 text → ¬ Begins text (codes "n,,")
+    → ReadsClientFirst text (Err CannotParseGs2Header)
 unfolding ReadsClientFirst
 no_header text utf8 none = inr (λ fails. fails utf8, inl (none, refl))
 
 module _ (text bare : List ℕ) (utf8 : IsUtf8 text) (header : text ≡ codes "n,," ++ bare) where
   pub no_name : ((rest : List ℕ) → ¬ Part bare 0 (codes "n=" ++ rest)) → ReadsClientFirst text (Err CannotParseUsername)
   unfolding ReadsClientFirst
-  no_name none = inr (λ fails. fails utf8, inr (λ absent. absent (bare, header), inl (λ user has. none (escaped user) (part_of_bare text bare (codes "n=" ++ escaped user) 0 header has), refl)))
+  no_name none = inr (
+    λ fails. fails utf8,
+    inr (
+      λ absent. absent (bare, header),
+      inl (λ user has. none (escaped user) (part_of_bare text bare (codes "n=" ++ escaped user) 0 header has), refl),
+    ),
+  )
 
-  pub bad_name : (spelling : List ℕ) → Part bare 0 (codes "n=" ++ spelling) → ((name : List ℕ) → escaped name ≢ spelling) → ReadsClientFirst text (Err CannotParseUsername)
+  pub bad_name : (spelling : List ℕ) → Part bare 0 (codes "n=" ++ spelling)
+      → ((name : List ℕ) → escaped name ≢ spelling) → ReadsClientFirst text (Err CannotParseUsername)
   unfolding ReadsClientFirst
   bad_name spelling is bad =
-      inr (λ fails. fails utf8, inr (λ absent. absent (bare, header), inl (λ user has. bad user (other user (part_of_bare text bare (codes "n=" ++ escaped user) 0 header has)), refl)))
+      inr (
+        λ fails. fails utf8,
+        inr (
+          λ absent. absent (bare, header),
+          inl (
+            λ user has. bad user (other user (part_of_bare text bare (codes "n=" ++ escaped user) 0 header has)),
+            refl,
+          ),
+        ),
+      )
     where
       other : (user : List ℕ) → Part bare 0 (codes "n=" ++ escaped user) → escaped user ≡ spelling
-      other user part = let both : codes "n=" ++ escaped user ≡ codes "n=" ++ spelling = one_part bare 0 (codes "n=" ++ escaped user) (codes "n=" ++ spelling) part is in cc
+      other user part = let both : codes "n=" ++ escaped user ≡ codes "n=" ++ spelling =
+          one_part bare 0 (codes "n=" ++ escaped user) (codes "n=" ++ spelling) part is in cc
 
   -- the part of the user whom the text spells
-  user_part : (spelling user : List ℕ) → Part bare 0 (codes "n=" ++ spelling) → escaped user ≡ spelling → Part bare 0 (codes "n=" ++ escaped user)
+  user_part : (spelling user : List ℕ) → Part bare 0 (codes "n=" ++ spelling) → escaped user ≡ spelling
+      → Part bare 0 (codes "n=" ++ escaped user)
   user_part spelling user is spells = subst (λ (spelt : List ℕ). Part bare 0 (codes "n=" ++ spelt)) (sym spells) is
 
-  pub no_nonce : (spelling user : List ℕ) → Part bare 0 (codes "n=" ++ spelling) → escaped user ≡ spelling → ((rest : List ℕ) → ¬ Part bare 1 (codes "r=" ++ rest)) → ReadsClientFirst text (Err CannotParseClientNonce)
+  pub no_nonce : (spelling user : List ℕ) → Part bare 0 (codes "n=" ++ spelling) → escaped user ≡ spelling
+      → ((rest : List ℕ) → ¬ Part bare 1 (codes "r=" ++ rest)) → ReadsClientFirst text (Err CannotParseClientNonce)
   unfolding ReadsClientFirst
   no_nonce spelling user is spells none =
       inr (
         λ fails. fails utf8,
         inr (
           λ absent. absent (bare, header),
-          inr (λ nobody. nobody user (bare, header, user_part spelling user is spells), inl (λ nonce has. none nonce (part_of_bare text bare (codes "r=" ++ nonce) 1 header has), refl)),
+          inr (
+            λ nobody. nobody user (bare, header, user_part spelling user is spells),
+            inl (λ nonce has. none nonce (part_of_bare text bare (codes "r=" ++ nonce) 1 header has), refl),
+          ),
         ),
       )
 
-  pub named : (spelling user nonce : List ℕ) → Part bare 0 (codes "n=" ++ spelling) → escaped user ≡ spelling → Part bare 1 (codes "r=" ++ nonce) → ReadsClientFirst text (Ok (record { user = user; nonce = nonce; bare = bare }))
+  pub named : (spelling user nonce : List ℕ) → Part bare 0 (codes "n=" ++ spelling) → escaped user ≡ spelling
+      → Part bare 1 (codes "r=" ++ nonce) → ReadsClientFirst text
+      (Ok (record { user = user; nonce = nonce; bare = bare }))
   unfolding ReadsClientFirst
   named spelling user nonce is spells has =
       let part = user_part spelling user is spells in (
-        (λ fails. fails utf8, (λ absent. absent (bare, header), (λ nobody. nobody user (bare, header, part), (λ none. none nonce (bare, header, has), tt)))),
+        (
+          λ fails. fails utf8,
+          (
+            λ absent. absent (bare, header),
+            (λ nobody. nobody user (bare, header, part), (λ none. none nonce (bare, header, has), tt)),
+          ),
+        ),
         record { bare = header; user = part; nonce = has },
       )
 
 abbrev made : List ℕ → List ℕ → List ℕ → ClientFirst
 made user nonce bare = record { user = user; nonce = nonce; bare = bare }
 
-one_values : (text : List ℕ) (first other : ClientFirst) → NamesClientFirst text first → NamesClientFirst text other → first ≡ other
+one_values : (text : List ℕ) (first other : ClientFirst) → NamesClientFirst text first → NamesClientFirst text other
+    → first ≡ other
 one_values text first other names too =
     let bare = one_bare text first.bare other.bare names.bare too.bare in
-    let users : codes "n=" ++ escaped first.user ≡ codes "n=" ++ escaped other.user = one_part other.bare 0 (codes "n=" ++ escaped first.user) (codes "n=" ++ escaped other.user) (subst (λ (behind : List ℕ). Part behind 0 (codes "n=" ++ escaped first.user)) bare names.user) too.user in
-    let nonces : codes "r=" ++ first.nonce ≡ codes "r=" ++ other.nonce = one_part other.bare 1 (codes "r=" ++ first.nonce) (codes "r=" ++ other.nonce) (subst (λ (behind : List ℕ). Part behind 1 (codes "r=" ++ first.nonce)) bare names.nonce) too.nonce in
+    let users : codes "n=" ++ escaped first.user ≡ codes "n=" ++ escaped other.user =
+    one_part other.bare 0 (codes "n=" ++ escaped first.user) (codes "n=" ++ escaped other.user)
+    (subst (λ (behind : List ℕ). Part behind 0 (codes "n=" ++ escaped first.user)) bare names.user) too.user in
+    let nonces : codes "r=" ++ first.nonce ≡ codes "r=" ++ other.nonce =
+    one_part other.bare 1 (codes "r=" ++ first.nonce) (codes "r=" ++ other.nonce)
+    (subst (λ (behind : List ℕ). Part behind 1 (codes "r=" ++ first.nonce)) bare names.nonce) too.nonce in
     let user = one_escaped first.user other.user (cc) in
     let nonce : first.nonce ≡ other.nonce = cc in
     λ i. made (user i) (nonce i) (bare i)
 
-pub one_client_first : (text : List ℕ) (answer other : Result ClientFirst ServerScramErrorKind) → ReadsClientFirst text answer → ReadsClientFirst text other → answer ≡ other
+pub one_client_first : (text : List ℕ) (answer other : Result ClientFirst ServerScramErrorKind)
+    → ReadsClientFirst text answer → ReadsClientFirst text other → answer ≡ other
 unfolding ReadsClientFirst
-one_client_first text answer other reads too = one_reading (client_first_tests text) (NamesClientFirst text) (one_values text) answer other reads too
+one_client_first text answer other reads too = one_reading (client_first_tests text) (NamesClientFirst text)
+    (one_values text) answer other reads too
 
 -- the refusal of a text that no name is escaped to
-pub invalid_name : (error : UnescapeError) (P Q : Type 0) → error ≡ Invalid → ((error ≡ Invalid) × P) ⊎ ((error ≡ UnescapeOutOfMemory) × Q) → P
+pub invalid_name : (error : UnescapeError) (P Q : Type 0) → error ≡ Invalid
+    → ((error ≡ Invalid) × P) ⊎ ((error ≡ UnescapeOutOfMemory) × Q) → P
 invalid_name error P Q is (inl found) = found.1
 invalid_name error P Q is (inr other) = let wrong : Invalid ≡ UnescapeOutOfMemory = sym is ∙ other.0 in absurd (cc)

@@ -37,22 +37,28 @@ use Rattle.fe2o3_scram.proofs.lemmas.messages.ServerFirstLemmas.{values_read, sa
 
 pub IsBytes-literal : (bytes : List ℕ) → list_all (λ byte. nat_lt byte 256) bytes ≡ true → IsBytes bytes
 IsBytes-literal [] passes = IsBytes-nil
-IsBytes-literal (x ∷ bytes) passes = let both = and_parts (nat_lt x 256) (list_all (λ byte. nat_lt byte 256) bytes) passes in IsBytes-cons x bytes (grind (arith, both)) (IsBytes-literal bytes both.1)
+IsBytes-literal (x ∷ bytes) passes = let both = and_parts (nat_lt x 256)
+    (list_all (λ byte. nat_lt byte 256) bytes) passes in IsBytes-cons x bytes (grind (arith, both))
+    (IsBytes-literal bytes both.1)
 
 pub IsBytes-exclusive_or : (left right : List ℕ) → IsBytes left → IsBytes right → IsBytes (exclusive_or left right)
 unfolding exclusive_or
 IsBytes-exclusive_or [] right are too = IsBytes-nil
 IsBytes-exclusive_or (x ∷ left) [] are too = IsBytes-nil
-IsBytes-exclusive_or (x ∷ left) (y ∷ right) are too = IsBytes-cons (bit_xor x y) _ (xor_of_8 x y (are 0) (too 0)) (IsBytes-exclusive_or left right (λ i. are (suc i)) (λ i. too (suc i)))
+IsBytes-exclusive_or (x ∷ left) (y ∷ right) are too = IsBytes-cons (bit_xor x y) _ (xor_of_8 x y (are 0) (too 0))
+    (IsBytes-exclusive_or left right (λ i. are (suc i)) (λ i. too (suc i)))
 
-pub length-exclusive_or : (left right : List ℕ) → length left ≡ length right → length (exclusive_or left right) ≡ length left
+pub length-exclusive_or : (left right : List ℕ) → length left ≡ length right
+    → length (exclusive_or left right) ≡ length left
 unfolding exclusive_or
 length-exclusive_or [] right same = refl
 length-exclusive_or (x ∷ left) [] same = absurd (omega (arith, same))
-length-exclusive_or (x ∷ left) (y ∷ right) same = let less : length left ≡ length right = omega (arith, same) in ap suc (length-exclusive_or left right less)
+length-exclusive_or (x ∷ left) (y ∷ right) same = let less : length left ≡ length right = omega (arith, same) in
+    ap suc (length-exclusive_or left right less)
 
 -- what was turned is turned back
-pub exclusive_or-back : (left right : List ℕ) → length left ≡ length right → exclusive_or (exclusive_or left right) right ≡ left
+pub exclusive_or-back : (left right : List ℕ) → length left ≡ length right
+    → exclusive_or (exclusive_or left right) right ≡ left
 unfolding exclusive_or
 exclusive_or-back [] right same = refl
 exclusive_or-back (x ∷ left) [] same = absurd (omega (arith, same))
@@ -66,7 +72,8 @@ exclusive_or-back (x ∷ left) (y ∷ right) same =
 
 no_comma-digits : (digits : List ℕ) → AllDigits 10 digits → NoComma digits
 no_comma-digits [] are = tt
-no_comma-digits (d ∷ digits) are = let range = digit_from_value d are.0 in (λ is. absurd (omega (arith, range, is)), no_comma-digits digits are.1)
+no_comma-digits (d ∷ digits) are = let range = digit_from_value d are.0 in
+    (λ is. absurd (omega (arith, range, is)), no_comma-digits digits are.1)
 
 pub no_comma-decimal : (n : ℕ) → n < 2 ^ 64 → NoComma (decimal n)
 no_comma-decimal n small = no_comma-digits (decimal n) (decimal_is_IsNumeral n small).0.1
@@ -86,7 +93,8 @@ three_parts : (p q r : List ℕ) → NoComma p → NoComma q → NoComma r → P
 three_parts p q r plain too also = record { some = omega arith; apart = (plain, (too, (also, tt))); whole = refl }
 
 -- a key and a text behind it, as one part
-pub part_of : (key text : List ℕ) → list_all (λ byte. not (eqb byte 44)) key ≡ true → NoComma text → NoComma (key ++ text)
+pub part_of : (key text : List ℕ) → list_all (λ byte. not (eqb byte 44)) key ≡ true → NoComma text
+    → NoComma (key ++ text)
 part_of key text passes plain = no_comma-append key text (no_comma-test key passes) plain
 
 pub only_part : (text : List ℕ) → NoComma text → Parts text (text ∷ [])
@@ -102,73 +110,129 @@ nonce_text x sound = IsUtf8-append x.client_nonce x.server_nonce sound.client_te
 
 bare_text : (user nonce : List ℕ) → IsUtf8 user → IsUtf8 nonce → IsUtf8 (client_first_bare user nonce)
 bare_text user nonce utf8 too =
-    IsUtf8-append (codes "n=" ++ escaped user) (codes ",r=" ++ nonce) (IsUtf8-append (codes "n=") (escaped user) (IsUtf8-literal (codes "n=") refl) (IsUtf8-escaped user utf8)) (IsUtf8-append (codes ",r=") nonce (IsUtf8-literal (codes ",r=") refl) too)
+    IsUtf8-append (codes "n=" ++ escaped user) (codes ",r=" ++ nonce)
+    (IsUtf8-append (codes "n=") (escaped user) (IsUtf8-literal (codes "n=") refl) (IsUtf8-escaped user utf8))
+    (IsUtf8-append (codes ",r=") nonce (IsUtf8-literal (codes ",r=") refl) too)
 
-reads_client_first : (x : Exchange) → IsSound x → ReadsClientFirst (client_first x.user x.client_nonce) (Ok (record { user = x.user; nonce = x.client_nonce; bare = bare_in x }))
+reads_client_first : (x : Exchange) → IsSound x → ReadsClientFirst (client_first x.user x.client_nonce)
+    (Ok (record { user = x.user; nonce = x.client_nonce; bare = bare_in x }))
 reads_client_first x sound =
-    let parts = two_parts (codes "n=" ++ escaped x.user) (codes "r=" ++ x.client_nonce) (part_of (codes "n=") (escaped x.user) refl (no_comma-escaped x.user)) (part_of (codes "r=") x.client_nonce refl sound.client_plain) in
-    let utf8 = IsUtf8-append (codes "n,,") (bare_in x) (IsUtf8-literal (codes "n,,") refl) (bare_text x.user x.client_nonce sound.user sound.client_text) in
-    named (client_first x.user x.client_nonce) (bare_in x) utf8 refl (escaped x.user) x.user x.client_nonce (_, parts, refl) refl (_, parts, refl)
+    let parts = two_parts (codes "n=" ++ escaped x.user) (codes "r=" ++ x.client_nonce)
+    (part_of (codes "n=") (escaped x.user) refl (no_comma-escaped x.user))
+    (part_of (codes "r=") x.client_nonce refl sound.client_plain) in
+    let utf8 = IsUtf8-append (codes "n,,") (bare_in x) (IsUtf8-literal (codes "n,,") refl)
+    (bare_text x.user x.client_nonce sound.user sound.client_text) in
+    named (client_first x.user x.client_nonce) (bare_in x) utf8 refl (escaped x.user) x.user x.client_nonce
+    (_, parts, refl) refl (_, parts, refl)
 
 -- server-first
 
-pub not_extended : (text nonce : List ℕ) → Part text 0 (codes "r=" ++ nonce) → ¬ ((rest : List ℕ) × Part text 0 (codes "m=" ++ rest))
+pub not_extended : (text nonce : List ℕ) → Part text 0 (codes "r=" ++ nonce)
+    → ¬ ((rest : List ℕ) × Part text 0 (codes "m=" ++ rest))
 not_extended text nonce is has =
-    let same : codes "r=" ++ nonce ≡ codes "m=" ++ has.0 = one_part text 0 (codes "r=" ++ nonce) (codes "m=" ++ has.0) is has.1 in
+    let same : codes "r=" ++ nonce ≡ codes "m=" ++ has.0 =
+    one_part text 0 (codes "r=" ++ nonce) (codes "m=" ++ has.0) is has.1 in
     let letter : ◌≡◌ {A = ℕ} 114 109 = ap (λ bytes. get_or bytes 0 0) same in
     omega (arith, letter)
 
-reads_server_first : (x : Exchange) → IsSound x → ReadsServerFirst (record { nonce = x.client_nonce; password = x.password; limit = x.limit }) (first_in x) (Ok (named_in x))
+reads_server_first : (x : Exchange) → IsSound x → ReadsServerFirst
+    (record { nonce = x.client_nonce; password = x.password; limit = x.limit }) (first_in x) (Ok (named_in x))
 reads_server_first x sound =
     let wide : x.count < 2 ^ 64 = omega (arith, sound.within, sound.limit) in
     let small : x.count < 2 ^ 32 = omega (arith, sound.within, sound.limit) in
-    let parts = three_parts (codes "r=" ++ nonce_in x) (codes "s=" ++ base64_text x.salt) (codes "i=" ++ decimal x.count)
-    (part_of (codes "r=") (nonce_in x) refl (nonce_plain x sound)) (part_of (codes "s=") (base64_text x.salt) refl (no_comma-base64_text x.salt)) (part_of (codes "i=") (decimal x.count) refl (no_comma-decimal x.count wide)) in
+    let parts = three_parts (codes "r=" ++ nonce_in x) (codes "s=" ++ base64_text x.salt)
+    (codes "i=" ++ decimal x.count)
+    (part_of (codes "r=") (nonce_in x) refl (nonce_plain x sound))
+    (part_of (codes "s=") (base64_text x.salt) refl (no_comma-base64_text x.salt))
+    (part_of (codes "i=") (decimal x.count) refl (no_comma-decimal x.count wide)) in
     let nonce : Part (first_in x) 0 (codes "r=" ++ nonce_in x) = (_, parts, refl) in
     let salt : HasSalt (first_in x) x.salt = (sound.salt, (_, parts, refl)) in
     let digits : Part (first_in x) 2 (codes "i=" ++ decimal x.count) = (_, parts, refl) in
     let count : HasCount (first_in x) x.count = (decimal x.count, digits, IsCount-decimal x.count sound.some small) in
-    values_read (record { nonce = x.client_nonce; password = x.password; limit = x.limit }) (first_in x) (named_in x)
-    (λ few. few (codes "i=" ++ decimal x.count) digits, (not_extended (first_in x) (nonce_in x) nonce, (λ none. none (nonce_in x) nonce, (same_nonce (first_in x) x.client_nonce (nonce_in x) x.server_nonce nonce refl, tt))))
-    (λ none. none (base64_text x.salt) salt.1, (λ none. none x.salt salt, tt))
-    (λ none. none (decimal x.count) digits, (λ none. none x.count count, (not_too_large (first_in x) x.limit x.count count sound.within, tt)))
+    values_read (record { nonce = x.client_nonce; password = x.password; limit = x.limit }) (first_in x) (named_in x) (
+      λ few. few (codes "i=" ++ decimal x.count) digits,
+      (
+        not_extended (first_in x) (nonce_in x) nonce,
+        (
+          λ none. none (nonce_in x) nonce,
+          (same_nonce (first_in x) x.client_nonce (nonce_in x) x.server_nonce nonce refl, tt),
+        ),
+      ),
+    )
+    (λ none. none (base64_text x.salt) salt.1, (λ none. none x.salt salt, tt)) (
+      λ none. none (decimal x.count) digits,
+      (
+        λ none. none x.count count,
+        (not_too_large (first_in x) x.limit x.count count sound.within, tt),
+      ),
+    )
     sound.printable nonce salt count
 
 -- client-final
 
-final_parts : (c r p : List ℕ) → NoComma c → NoComma r → NoComma p → Parts (joined (joined (c ∷ r ∷ []) ∷ p ∷ [])) (c ∷ r ∷ p ∷ [])
-final_parts c r p plain too also = record { some = omega arith; apart = (plain, (too, (also, tt))); whole = sym (append_assoc c (44 ∷ r) (44 ∷ p)) }
+final_parts : (c r p : List ℕ) → NoComma c → NoComma r → NoComma p
+    → Parts (joined (joined (c ∷ r ∷ []) ∷ p ∷ [])) (c ∷ r ∷ p ∷ [])
+final_parts c r p plain too also = record {
+  some = omega arith;
+  apart = (plain, (too, (also, tt)));
+  whole =
+      sym (append_assoc c (44 ∷ r) (44 ∷ p));
+}
 
 final_text : (nonce proof : List ℕ) → IsUtf8 nonce → IsUtf8 (client_final_of (without_proof nonce) proof)
 final_text nonce proof utf8 =
     IsUtf8-append (without_proof nonce) (codes ",p=" ++ base64_text proof)
-    (IsUtf8-append (codes "c=" ++ base64_text (codes "n,,")) (codes ",r=" ++ nonce) (IsUtf8-append (codes "c=") (base64_text (codes "n,,")) (IsUtf8-literal (codes "c=") refl) (IsUtf8-base64_text (codes "n,,"))) (IsUtf8-append (codes ",r=") nonce (IsUtf8-literal (codes ",r=") refl) utf8))
+    (IsUtf8-append (codes "c=" ++ base64_text (codes "n,,")) (codes ",r=" ++ nonce)
+    (IsUtf8-append (codes "c=") (base64_text (codes "n,,")) (IsUtf8-literal (codes "c=") refl)
+    (IsUtf8-base64_text (codes "n,,"))) (IsUtf8-append (codes ",r=") nonce
+    (IsUtf8-literal (codes ",r=") refl) utf8))
     (IsUtf8-append (codes ",p=") (base64_text proof) (IsUtf8-literal (codes ",p=") refl) (IsUtf8-base64_text proof))
 
 -- a message that names its values is read
-pub final_read : (server : Server) (text : List ℕ) (final : ClientFinal) → IsUtf8 text → NamesClientFinal server text final → ReadsClientFinal server text (Ok final)
+pub final_read : (server : Server) (text : List ℕ) (final : ClientFinal) → IsUtf8 text
+    → NamesClientFinal server text final → ReadsClientFinal server text (Ok final)
 unfolding ReadsClientFinal
 final_read server text final utf8 names =
     let rest = spelling_tests text ++ proof_tests server text in (
       (
         λ fails. fails utf8,
-        NoneHolds-append (binding_tests text) (nonce_tests server.nonce text ++ rest) (λ none. none (base64_text (codes "n,,")) names.binding.1, (λ none. none (codes "n,,") names.binding, (λ other. other names.binding, tt)))
-            (NoneHolds-append (nonce_tests server.nonce text) rest (λ none. none server.nonce names.nonce, (λ other. other names.nonce, tt))
-            (NoneHolds-append (spelling_tests text) (proof_tests server text) (λ none. none final.without (base64_text final.proof) names.proof.1, (λ none. none final names.proof, tt)) (none_of_proof server text final names.proof names.sized names.meets))),
+        NoneHolds-append (binding_tests text) (nonce_tests server.nonce text ++ rest) (
+          λ none. none (base64_text (codes "n,,")) names.binding.1,
+          (λ none. none (codes "n,,") names.binding, (λ other. other names.binding, tt)),
+        )
+            (NoneHolds-append (nonce_tests server.nonce text) rest
+            (λ none. none server.nonce names.nonce, (λ other. other names.nonce, tt))
+            (NoneHolds-append (spelling_tests text) (proof_tests server text) (
+              λ none. none final.without (base64_text final.proof) names.proof.1,
+              (λ none. none final names.proof, tt),
+            )
+            (none_of_proof server text final names.proof names.sized names.meets))),
       ),
       names,
     )
 
-reads_final : (server : Server) (proof : List ℕ) → NoComma server.nonce → IsUtf8 server.nonce → IsBytes proof → length proof ≡ digest_len server.version → Meets server (record { without = without_proof server.nonce; proof = proof })
-    → ReadsClientFinal server (client_final_of (without_proof server.nonce) proof) (Ok (record { without = without_proof server.nonce; proof = proof }))
+reads_final : (server : Server) (proof : List ℕ) → NoComma server.nonce → IsUtf8 server.nonce → IsBytes proof
+    → length proof ≡ digest_len server.version → Meets server
+    (record { without = without_proof server.nonce; proof = proof })
+    → ReadsClientFinal server (client_final_of (without_proof server.nonce) proof)
+    (Ok (record { without = without_proof server.nonce; proof = proof }))
 reads_final server proof plain utf8 bytes sized meets =
     let nonce = server.nonce in
     let text = client_final_of (without_proof nonce) proof in
     let final : ClientFinal = record { without = without_proof nonce; proof = proof } in
     let last = part_of (codes "p=") (base64_text proof) refl (no_comma-base64_text proof) in
-    let parts = final_parts (codes "c=" ++ base64_text (codes "n,,")) (codes "r=" ++ nonce) (codes "p=" ++ base64_text proof) (part_of (codes "c=") (base64_text (codes "n,,")) refl (no_comma-base64_text (codes "n,,"))) (part_of (codes "r=") nonce refl plain) last in
+    let parts = final_parts (codes "c=" ++ base64_text (codes "n,,")) (codes "r=" ++ nonce)
+    (codes "p=" ++ base64_text proof) (part_of (codes "c=") (base64_text (codes "n,,")) refl
+    (no_comma-base64_text (codes "n,,"))) (part_of (codes "r=") nonce refl plain) last in
     final_read server text final (final_text nonce proof utf8)
-    (record { binding = (IsBytes-literal (codes "n,,") refl, (_, parts, refl)); nonce = (_, parts, refl); proof = (bytes, (last, refl)); sized = sized; meets = meets })
+    (record {
+      binding = (IsBytes-literal (codes "n,,") refl, (_, parts, refl));
+      nonce = (_, parts, refl);
+      proof =
+          (bytes, (last, refl));
+      sized = sized;
+      meets = meets;
+    })
 
 reads_client_final : (x : Exchange) → IsSound x → ReadsClientFinal (server_in x) (answer_in x).0 (Ok (final_in x))
 reads_client_final x sound =
@@ -180,19 +244,24 @@ reads_client_final x sound =
     let key_long : length key ≡ digest_len v = length-hmac_of v salted (codes "Client Key") in
     let mac_long : length mac ≡ digest_len v = length-hmac_of v (stored_key v salted) auth in
     reads_final (server_in x) (client_proof v salted auth) (nonce_plain x sound) (nonce_text x sound)
-    (IsBytes-exclusive_or key mac (IsBytes-hmac_of v salted (codes "Client Key")) (IsBytes-hmac_of v (stored_key v salted) auth))
+    (IsBytes-exclusive_or key mac (IsBytes-hmac_of v salted (codes "Client Key"))
+    (IsBytes-hmac_of v (stored_key v salted) auth))
     (length-exclusive_or key mac (key_long ∙ sym mac_long) ∙ key_long)
     (ap (digest v) (exclusive_or-back key mac (key_long ∙ sym mac_long)))
 
 -- server-final
 
-pub reads_signature : (signature : List ℕ) → IsBytes signature → ReadsServerFinal signature (codes "v=" ++ base64_text signature) (Ok tt)
+pub reads_signature : (signature : List ℕ) → IsBytes signature
+    → ReadsServerFinal signature (codes "v=" ++ base64_text signature) (Ok tt)
 reads_signature signature bytes =
     let text = codes "v=" ++ base64_text signature in
     let plain = part_of (codes "v=") (base64_text signature) refl (no_comma-base64_text signature) in
-    same_signature signature text (IsUtf8-append (codes "v=") (base64_text signature) (IsUtf8-literal (codes "v=") refl) (IsUtf8-base64_text signature)) (base64_text signature) signature (_, only_part text plain, refl) (bytes, refl) refl
+    same_signature signature text (IsUtf8-append (codes "v=") (base64_text signature) (IsUtf8-literal (codes "v=") refl)
+    (IsUtf8-base64_text signature)) (base64_text signature) signature (_, only_part text plain, refl)
+    (bytes, refl) refl
 
-reads_server_final : (x : Exchange) → ReadsServerFinal (answer_in x).1 (server_final_of (server_in x) (final_in x)) (Ok tt)
+reads_server_final : (x : Exchange) → ReadsServerFinal (answer_in x).1 (server_final_of (server_in x) (final_in x))
+    (Ok tt)
 reads_server_final x = reads_signature (answer_in x).1 (IsBytes-hmac_of x.version _ _)
 
 pub succeeds : (x : Exchange) → IsSound x → Succeeds x

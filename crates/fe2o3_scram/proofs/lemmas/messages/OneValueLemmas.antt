@@ -10,37 +10,47 @@ use Rattle.fe2o3_scram.proofs.lemmas.messages.ClientFinalLemmas.{one_client_fina
 use Rattle.fe2o3_scram.proofs.lemmas.messages.ClientFirstLemmas.{one_client_first}
 use Rattle.fe2o3_scram.proofs.lemmas.messages.ServerFirstLemmas.{one_server_first}
 
-pub names_client_first : (text : List ℕ) (first : ClientFirst) → ReadsClientFirst text (Ok first) → NamesClientFirst text first
+pub names_client_first : (text : List ℕ) (first : ClientFirst) → ReadsClientFirst text (Ok first)
+    → NamesClientFirst text first
 unfolding ReadsClientFirst
 names_client_first text first reads = reads.1
 
-pub names_server_first : (client : Client) (text : List ℕ) (first : ServerFirst) → ReadsServerFirst client text (Ok first) → NamesServerFirst text first
+pub names_server_first : (client : Client) (text : List ℕ) (first : ServerFirst)
+    → ReadsServerFirst client text (Ok first) → NamesServerFirst text first
 unfolding ReadsServerFirst
 names_server_first client text first reads = reads.1
 
-pub names_client_final : (server : Server) (text : List ℕ) (final : ClientFinal) → ReadsClientFinal server text (Ok final) → NamesClientFinal server text final
+pub names_client_final : (server : Server) (text : List ℕ) (final : ClientFinal)
+    → ReadsClientFinal server text (Ok final) → NamesClientFinal server text final
 unfolding ReadsClientFinal
 names_client_final server text final reads = reads.1
 
-pub names_server_final : (signature text : List ℕ) (believed : Unit {0}) → ReadsServerFinal signature text (Ok believed) → HasSignature text signature
+pub names_server_final : (signature text : List ℕ) (believed : Unit {0}) → ReadsServerFinal signature text (Ok believed)
+    → HasSignature text signature
 unfolding ReadsServerFinal
 names_server_final signature text believed reads = reads.1
 
 -- one value each
-pub one_client_first_value : (text : List ℕ) (first other : ClientFirst) → ReadsClientFirst text (Ok first) → ReadsClientFirst text (Ok other) → first ≡ other
-one_client_first_value text first other reads too = same first other (one_client_first text (Ok first) (Ok other) reads too)
+pub one_client_first_value : (text : List ℕ) (first other : ClientFirst) → ReadsClientFirst text (Ok first)
+    → ReadsClientFirst text (Ok other) → first ≡ other
+one_client_first_value text first other reads too = same first other
+    (one_client_first text (Ok first) (Ok other) reads too)
   where
     same : (x y : ClientFirst) → ◌≡◌ {A = Result ClientFirst ServerScramErrorKind} (Ok x) (Ok y) → x ≡ y
     same x y e = cc
 
-pub one_client_final_value : (server : Server) (text : List ℕ) (final other : ClientFinal) → ReadsClientFinal server text (Ok final) → ReadsClientFinal server text (Ok other) → final ≡ other
-one_client_final_value server text final other reads too = same final other (one_client_final server text (Ok final) (Ok other) reads too)
+pub one_client_final_value : (server : Server) (text : List ℕ) (final other : ClientFinal)
+    → ReadsClientFinal server text (Ok final) → ReadsClientFinal server text (Ok other) → final ≡ other
+one_client_final_value server text final other reads too =
+    same final other (one_client_final server text (Ok final) (Ok other) reads too)
   where
     same : (x y : ClientFinal) → ◌≡◌ {A = Result ClientFinal ServerScramErrorKind} (Ok x) (Ok y) → x ≡ y
     same x y e = cc
 
-pub one_server_first_value : (client : Client) (text : List ℕ) (first other : ServerFirst) → ReadsServerFirst client text (Ok first) → ReadsServerFirst client text (Ok other) → first ≡ other
-one_server_first_value client text first other reads too = same first other (one_server_first client text (Ok first) (Ok other) reads too)
+pub one_server_first_value : (client : Client) (text : List ℕ) (first other : ServerFirst)
+    → ReadsServerFirst client text (Ok first) → ReadsServerFirst client text (Ok other) → first ≡ other
+one_server_first_value client text first other reads too =
+    same first other (one_server_first client text (Ok first) (Ok other) reads too)
   where
     same : (x y : ServerFirst) → ◌≡◌ {A = Result ServerFirst ScramErrorKind} (Ok x) (Ok y) → x ≡ y
     same x y e = cc

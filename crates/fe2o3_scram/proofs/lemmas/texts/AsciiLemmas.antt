@@ -31,19 +31,27 @@ small-get_or (x ∷ text) (suc i) small = small-get_or text i small.1
 
 pub small-test : (text : List ℕ) → list_all (λ byte. nat_lt byte 128) text ≡ true → Small text
 small-test [] passes = tt
-small-test (x ∷ text) passes = let both = and_parts (nat_lt x 128) (list_all (λ byte. nat_lt byte 128) text) passes in (grind (arith, both), small-test text both.1)
+small-test (x ∷ text) passes = let both = and_parts (nat_lt x 128) (list_all (λ byte. nat_lt byte 128) text) passes in
+    (grind (arith, both), small-test text both.1)
 
 small-encode_symbols : (symbols bytes : List ℕ) → Small symbols → Small (encode_symbols symbols bytes)
 unfolding encode_symbols
 small-encode_symbols symbols [] small = tt
 small-encode_symbols symbols (a ∷ []) small = (small-get_or symbols _ small, (small-get_or symbols _ small, tt))
-small-encode_symbols symbols (a ∷ b ∷ []) small = (small-get_or symbols _ small, (small-get_or symbols _ small, (small-get_or symbols _ small, tt)))
-small-encode_symbols symbols (a ∷ b ∷ c ∷ bytes) small =
-    (small-get_or symbols _ small, (small-get_or symbols _ small, (small-get_or symbols _ small, (small-get_or symbols _ small, small-encode_symbols symbols bytes small))))
+small-encode_symbols symbols (a ∷ b ∷ []) small =
+    (small-get_or symbols _ small, (small-get_or symbols _ small, (small-get_or symbols _ small, tt)))
+small-encode_symbols symbols (a ∷ b ∷ c ∷ bytes) small = (
+  small-get_or symbols _ small,
+  (
+    small-get_or symbols _ small,
+    (small-get_or symbols _ small, (small-get_or symbols _ small, small-encode_symbols symbols bytes small)),
+  ),
+)
 
 pub small-base64_text : (bytes : List ℕ) → Small (base64_text bytes)
 unfolding base64_text
-small-base64_text bytes = small-append (encode_symbols alphabet bytes) (replicate (padding_len (length bytes)) 61) (small-encode_symbols alphabet bytes (small-test alphabet refl)) (small-replicate (padding_len (length bytes)))
+small-base64_text bytes = small-append (encode_symbols alphabet bytes) (replicate (padding_len (length bytes)) 61)
+    (small-encode_symbols alphabet bytes (small-test alphabet refl)) (small-replicate (padding_len (length bytes)))
 
 ascii : (text : List ℕ) → Small text → IsAscii text
 ascii [] small i = IsAscii-nil i
@@ -65,7 +73,8 @@ pub IsUtf8-literal : (text : List ℕ) → list_all (λ byte. nat_lt byte 128) t
 IsUtf8-literal text passes = IsUtf8-small text (small-test text passes)
 
 IsUtf8-escaped_byte : (b : ℕ) → b < 128 → IsUtf8 (escaped_byte b)
-IsUtf8-escaped_byte b small = by_cases b IsUtf8 (λ _. IsUtf8-literal (codes "=2C") refl) (λ _. IsUtf8-literal (codes "=3D") refl) (λ comma equals. IsUtf8-small (b ∷ []) (small, tt))
+IsUtf8-escaped_byte b small = by_cases b IsUtf8 (λ _. IsUtf8-literal (codes "=2C") refl)
+    (λ _. IsUtf8-literal (codes "=3D") refl) (λ comma equals. IsUtf8-small (b ∷ []) (small, tt))
 
 -- neither a comma nor an equals sign
 abbrev Plain : ℕ → Type 0
@@ -79,10 +88,18 @@ wide : (c : ℕ) → 128 ≤ c → AllByRecursion Plain (encode c)
 unfolding encode
 wide c large = rw (le-ltb c 128 large) (go (nat_lt c 2048) (nat_lt c 65536))
   where
-    go : (x y : Bool) → AllByRecursion Plain (cond x ((192 + c / 64) ∷ next c ∷ []) (cond y ((224 + c / 4096) ∷ next (c / 64) ∷ next c ∷ []) ((240 + c / 262144) ∷ next (c / 4096) ∷ next (c / 64) ∷ next c ∷ [])))
+    go : (x y : Bool) → AllByRecursion Plain (cond x ((192 + c / 64) ∷ next c ∷ [])
+        (cond y ((224 + c / 4096) ∷ next (c / 64) ∷ next c ∷ [])
+        ((240 + c / 262144) ∷ next (c / 4096) ∷ next (c / 64) ∷ next c ∷ [])))
     go true y = (high (192 + c / 64) (omega arith), (high (next c) (omega arith), tt))
-    go false true = (high (224 + c / 4096) (omega arith), (high (next (c / 64)) (omega arith), (high (next c) (omega arith), tt)))
-    go false false = (high (240 + c / 262144) (omega arith), (high (next (c / 4096)) (omega arith), (high (next (c / 64)) (omega arith), (high (next c) (omega arith), tt))))
+    go false true = (
+      high (224 + c / 4096) (omega arith),
+      (high (next (c / 64)) (omega arith), (high (next c) (omega arith), tt)),
+    )
+    go false false = (
+      high (240 + c / 262144) (omega arith),
+      (high (next (c / 4096)) (omega arith), (high (next (c / 64)) (omega arith), (high (next c) (omega arith), tt))),
+    )
 
 no_commas : (text : List ℕ) → AllByRecursion Plain text → NoComma text
 no_commas [] plain = tt
@@ -94,15 +111,18 @@ no_equals (b ∷ text) plain = (plain.0.1, no_equals text plain.1)
 
 character : (c : ℕ) → scalar c ≡ true → IsUtf8 (escaped (encode c))
 character c is = elim (cases_lt c 128) [
-  | inl small ↦ rw (encode_ascii c small, escaped-cons c [], escaped-nil) (IsUtf8-append (escaped_byte c) [] (IsUtf8-escaped_byte c small) IsUtf8-nil)
-  | inr large ↦ rw (escaped-plain (encode c) (no_commas (encode c) (wide c large)) (no_equals (encode c) (wide c large))) (IsUtf8-encode c is)
+  | inl small ↦ rw (encode_ascii c small, escaped-cons c [], escaped-nil)
+      (IsUtf8-append (escaped_byte c) [] (IsUtf8-escaped_byte c small) IsUtf8-nil)
+  | inr large ↦ rw (escaped-plain (encode c) (no_commas (encode c) (wide c large))
+      (no_equals (encode c) (wide c large))) (IsUtf8-encode c is)
 ]
 
 characters : (cs : List ℕ) → scalars cs ≡ true → IsUtf8 (escaped (encodes cs))
 characters [] are = rw escaped-nil IsUtf8-nil
 characters (c ∷ cs) are =
     let both = and_parts (scalar c) (scalars cs) are in
-    rw (escaped-append (encode c) (encodes cs)) (IsUtf8-append (escaped (encode c)) (escaped (encodes cs)) (character c both.0) (characters cs both.1))
+    rw (escaped-append (encode c) (encodes cs)) (IsUtf8-append (escaped (encode c)) (escaped (encodes cs))
+    (character c both.0) (characters cs both.1))
 
 -- an escaped name is UTF-8 where the name is
 pub IsUtf8-escaped : (name : List ℕ) → IsUtf8 name → IsUtf8 (escaped name)

@@ -23,9 +23,11 @@ unfolding base64_text
 decode_of-base64_text bytes are = decode_of-encode_of standard bytes refl are
 
 -- what is refused spells no bytes
-pub none_spelled : (text : List ℕ) (fault : DecodeError) → decode_of standard text ≡ Err fault → (bytes : List ℕ) → ¬ IsBase64 text bytes
+pub none_spelled : (text : List ℕ) (fault : DecodeError) → decode_of standard text ≡ Err fault → (bytes : List ℕ)
+    → ¬ IsBase64 text bytes
 none_spelled text fault refused bytes is =
-    let read = decode_of-base64_text bytes is.0 in let wrong : Ok bytes ≡ Err fault = (sym read ∙ rw is.1 at refused) in cc
+    let read = decode_of-base64_text bytes is.0 in let wrong : Ok bytes ≡ Err fault = (sym read ∙ rw is.1 at refused) in
+    cc
 
 -- a text spells one list of bytes
 pub one_spelled : (text bytes others : List ℕ) → IsBase64 text bytes → IsBase64 text others → bytes ≡ others
@@ -44,7 +46,8 @@ no_comma-append (x ∷ front) back plain too = (plain.0, no_comma-append front b
 pub no_comma-test : (text : List ℕ) → list_all (λ byte. not (eqb byte 44)) text ≡ true → NoComma text
 no_comma-test [] passes = tt
 no_comma-test (x ∷ text) passes =
-    let both = and_parts (not (eqb x 44)) (list_all (λ byte. not (eqb byte 44)) text) passes in (eqb-false x 44 (not-true (eqb x 44) both.0), no_comma-test text both.1)
+    let both = and_parts (not (eqb x 44)) (list_all (λ byte. not (eqb byte 44)) text) passes in
+    (eqb-false x 44 (not-true (eqb x 44) both.0), no_comma-test text both.1)
 
 no_comma-replicate : (n : ℕ) → NoComma (replicate n 61)
 no_comma-replicate zero = tt
@@ -58,13 +61,28 @@ no_comma-get_or (x ∷ text) (suc i) plain = no_comma-get_or text i plain.1
 no_comma-encode_symbols : (symbols bytes : List ℕ) → NoComma symbols → NoComma (encode_symbols symbols bytes)
 unfolding encode_symbols
 no_comma-encode_symbols symbols [] plain = tt
-no_comma-encode_symbols symbols (a ∷ []) plain = (no_comma-get_or symbols _ plain, (no_comma-get_or symbols _ plain, tt))
-no_comma-encode_symbols symbols (a ∷ b ∷ []) plain = (no_comma-get_or symbols _ plain, (no_comma-get_or symbols _ plain, (no_comma-get_or symbols _ plain, tt)))
-no_comma-encode_symbols symbols (a ∷ b ∷ c ∷ bytes) plain =
-    (no_comma-get_or symbols _ plain, (no_comma-get_or symbols _ plain, (no_comma-get_or symbols _ plain, (no_comma-get_or symbols _ plain, no_comma-encode_symbols symbols bytes plain))))
+no_comma-encode_symbols symbols (a ∷ []) plain =
+    (no_comma-get_or symbols _ plain, (no_comma-get_or symbols _ plain, tt))
+no_comma-encode_symbols symbols (a ∷ b ∷ []) plain =
+    (no_comma-get_or symbols _ plain, (no_comma-get_or symbols _ plain, (no_comma-get_or symbols _ plain, tt)))
+no_comma-encode_symbols symbols (a ∷ b ∷ c ∷ bytes) plain = (
+  no_comma-get_or symbols _ plain,
+  (
+    no_comma-get_or symbols _ plain,
+    (
+      no_comma-get_or symbols _ plain,
+      (
+        no_comma-get_or symbols _ plain,
+        no_comma-encode_symbols symbols bytes plain,
+      ),
+    ),
+  ),
+)
 
 -- a spelling holds no comma
 pub no_comma-base64_text : (bytes : List ℕ) → NoComma (base64_text bytes)
 unfolding base64_text
 no_comma-base64_text bytes =
-    no_comma-append (encode_symbols alphabet bytes) (replicate (padding_len (length bytes)) 61) (no_comma-encode_symbols alphabet bytes (no_comma-test alphabet refl)) (no_comma-replicate (padding_len (length bytes)))
+    no_comma-append (encode_symbols alphabet bytes) (replicate (padding_len (length bytes)) 61)
+    (no_comma-encode_symbols alphabet bytes (no_comma-test alphabet refl))
+    (no_comma-replicate (padding_len (length bytes)))

@@ -20,14 +20,16 @@ escaped-one b = escaped-cons b [] ∙ ap (λ rest. escaped_byte b ++ rest) escap
 pub escaped-append : (front back : List ℕ) → escaped (front ++ back) ≡ escaped front ++ escaped back
 unfolding escaped
 escaped-append [] back = refl
-escaped-append (b ∷ front) back = ap (λ rest. escaped_byte b ++ rest) (escaped-append front back) ∙ sym (append_assoc (escaped_byte b) (escaped front) (escaped back))
+escaped-append (b ∷ front) back = ap (λ rest. escaped_byte b ++ rest) (escaped-append front back)
+    ∙ sym (append_assoc (escaped_byte b) (escaped front) (escaped back))
 
 -- a byte that is sent as itself
 pub escaped_byte-plain : (b : ℕ) → b ≢ 44 → b ≢ 61 → escaped_byte b ≡ b ∷ []
 escaped_byte-plain b no_comma no_equals = rw (ne_eqb b 44 no_comma, ne_eqb b 61 no_equals) refl
 
 -- what holds of both escapes and of a byte sent as itself holds of an escaped byte
-pub by_cases : (b : ℕ) (P : List ℕ → Type 0) → (b ≡ 44 → P (codes "=2C")) → (b ≡ 61 → P (codes "=3D")) → (b ≢ 44 → b ≢ 61 → P (b ∷ [])) → P (escaped_byte b)
+pub by_cases : (b : ℕ) (P : List ℕ → Type 0) → (b ≡ 44 → P (codes "=2C")) → (b ≡ 61 → P (codes "=3D"))
+    → (b ≢ 44 → b ≢ 61 → P (b ∷ [])) → P (escaped_byte b)
 by_cases b P comma equals plain = go (eqb b 44) (eqb b 61) refl refl
   where
     go : (x y : Bool) → eqb b 44 ≡ x → eqb b 61 ≡ y → P (cond x (codes "=2C") (cond y (codes "=3D") (b ∷ [])))
@@ -36,18 +38,21 @@ by_cases b P comma equals plain = go (eqb b 44) (eqb b 61) refl refl
     go false false is other = plain (eqb-false b 44 is) (eqb-false b 61 other)
 
 no_comma-escaped_byte : (b : ℕ) → NoComma (escaped_byte b)
-no_comma-escaped_byte b = by_cases b NoComma (λ _. no_comma-test (codes "=2C") refl) (λ _. no_comma-test (codes "=3D") refl) (λ no_comma no_equals. (no_comma, tt))
+no_comma-escaped_byte b = by_cases b NoComma (λ _. no_comma-test (codes "=2C") refl)
+    (λ _. no_comma-test (codes "=3D") refl) (λ no_comma no_equals. (no_comma, tt))
 
 pub no_comma-escaped : (name : List ℕ) → NoComma (escaped name)
 unfolding escaped
 no_comma-escaped [] = tt
-no_comma-escaped (b ∷ name) = no_comma-append (escaped_byte b) (escaped name) (no_comma-escaped_byte b) (no_comma-escaped name)
+no_comma-escaped (b ∷ name) = no_comma-append (escaped_byte b) (escaped name) (no_comma-escaped_byte b)
+    (no_comma-escaped name)
 
 -- a text with neither byte is sent as itself
 pub escaped-plain : (text : List ℕ) → NoComma text → NoEquals text → escaped text ≡ text
 unfolding escaped
 escaped-plain [] no_comma no_equals = refl
-escaped-plain (b ∷ text) no_comma no_equals = rw (escaped_byte-plain b no_comma.0 no_equals.0, escaped-plain text no_comma.1 no_equals.1) refl
+escaped-plain (b ∷ text) no_comma no_equals =
+    rw (escaped_byte-plain b no_comma.0 no_equals.0, escaped-plain text no_comma.1 no_equals.1) refl
 
 byte_at : {text other : List ℕ} → text ≡ other → (i : ℕ) → get_or text i 0 ≡ get_or other i 0
 byte_at same i = ap (λ bytes. get_or bytes i 0) same
@@ -55,20 +60,26 @@ byte_at same i = ap (λ bytes. get_or bytes i 0) same
 -- where two escaped bytes begin one text, they are one
 escaped_byte-same : (a b : ℕ) (s t : List ℕ) → escaped_byte a ++ s ≡ escaped_byte b ++ t → (a ≡ b) × (s ≡ t)
 escaped_byte-same a b s t = by_cases a (λ x. x ++ s ≡ escaped_byte b ++ t → (a ≡ b) × (s ≡ t))
-    (λ ea. by_cases b (λ y. codes "=2C" ++ s ≡ y ++ t → (a ≡ b) × (s ≡ t)) (λ eb e. (ea ∙ sym eb, cc)) (λ eb e. absurd (omega (arith, byte_at e 1))) (λ n k e. absurd (k (sym (byte_at e 0)))))
-    (λ ea. by_cases b (λ y. codes "=3D" ++ s ≡ y ++ t → (a ≡ b) × (s ≡ t)) (λ eb e. absurd (omega (arith, byte_at e 1))) (λ eb e. (ea ∙ sym eb, cc)) (λ n k e. absurd (k (sym (byte_at e 0)))))
-    (λ m j. by_cases b (λ y. a ∷ s ≡ y ++ t → (a ≡ b) × (s ≡ t)) (λ eb e. absurd (j (byte_at e 0))) (λ eb e. absurd (j (byte_at e 0))) (λ n k e. (cc, cc)))
+    (λ ea. by_cases b (λ y. codes "=2C" ++ s ≡ y ++ t → (a ≡ b) × (s ≡ t)) (λ eb e. (ea ∙ sym eb, cc))
+    (λ eb e. absurd (omega (arith, byte_at e 1))) (λ n k e. absurd (k (sym (byte_at e 0)))))
+    (λ ea. by_cases b (λ y. codes "=3D" ++ s ≡ y ++ t → (a ≡ b) × (s ≡ t)) (λ eb e. absurd (omega (arith, byte_at e 1)))
+    (λ eb e. (ea ∙ sym eb, cc)) (λ n k e. absurd (k (sym (byte_at e 0)))))
+    (λ m j. by_cases b (λ y. a ∷ s ≡ y ++ t → (a ≡ b) × (s ≡ t)) (λ eb e. absurd (j (byte_at e 0)))
+    (λ eb e. absurd (j (byte_at e 0))) (λ n k e. (cc, cc)))
 
 not_empty : (b : ℕ) (text : List ℕ) → [] ≢ escaped_byte b ++ text
 not_empty b text = by_cases b (λ x. [] ≢ x ++ text) (λ _ e. cc) (λ _ e. cc) (λ _ _ e. cc)
 
 -- a name whose escaped text begins as another's does goes on from that other
-escaped-front : (name other rest : List ℕ) → escaped other ≡ escaped name ++ rest → (more : List ℕ) × (other ≡ name ++ more) × (escaped more ≡ rest)
+escaped-front : (name other rest : List ℕ) → escaped other ≡ escaped name ++ rest
+    → (more : List ℕ) × (other ≡ name ++ more) × (escaped more ≡ rest)
 unfolding escaped
 escaped-front [] other rest is = (other, refl, is)
-escaped-front (b ∷ name) [] rest is = absurd (not_empty b (escaped name ++ rest) (is ∙ append_assoc (escaped_byte b) (escaped name) rest))
+escaped-front (b ∷ name) [] rest is =
+    absurd (not_empty b (escaped name ++ rest) (is ∙ append_assoc (escaped_byte b) (escaped name) rest))
 escaped-front (b ∷ name) (c ∷ other) rest is =
-    let same = escaped_byte-same c b (escaped other) (escaped name ++ rest) (is ∙ append_assoc (escaped_byte b) (escaped name) rest) in
+    let same = escaped_byte-same c b (escaped other) (escaped name ++ rest)
+    (is ∙ append_assoc (escaped_byte b) (escaped name) rest) in
     let more = escaped-front name other rest same.1 in
     let head = same.0 in
     let tail = more.1 in
@@ -87,15 +98,18 @@ one_escaped (a ∷ name) (b ∷ other) is =
     cc
 
 -- one more byte of the name is escaped
-pub escaped-next : (name : List ℕ) (k : ℕ) → k < length name → escaped (take (k + 1) name) ≡ escaped (take k name) ++ escaped_byte (get_or name k 0)
+pub escaped-next : (name : List ℕ) (k : ℕ) → k < length name
+    → escaped (take (k + 1) name) ≡ escaped (take k name) ++ escaped_byte (get_or name k 0)
 escaped-next name k below = let next : k + 1 ≡ suc k = omega arith in rw next (go name k below)
   where
-    go : (name : List ℕ) (k : ℕ) → k < length name → escaped (take (suc k) name) ≡ escaped (take k name) ++ escaped_byte (get_or name k 0)
+    go : (name : List ℕ) (k : ℕ) → k < length name → escaped (take (suc k) name) ≡ escaped (take k name)
+        ++ escaped_byte (get_or name k 0)
     go [] k below = absurd (omega (arith, below))
     go (x ∷ name) zero below = escaped-one x ∙ sym (ap (λ rest. rest ++ escaped_byte x) escaped-nil)
     go (x ∷ name) (suc k) below =
         let less : k < length name = omega (arith, below) in
-        escaped-cons x (take (suc k) name) ∙ ap (λ rest. escaped_byte x ++ rest) (go name k less) ∙ sym (append_assoc (escaped_byte x) (escaped (take k name)) (escaped_byte (get_or name k 0)))
+        escaped-cons x (take (suc k) name) ∙ ap (λ rest. escaped_byte x ++ rest) (go name k less)
+        ∙ sym (append_assoc (escaped_byte x) (escaped (take k name)) (escaped_byte (get_or name k 0)))
         ∙ sym (ap (λ rest. rest ++ escaped_byte (get_or name k 0)) (escaped-cons x (take k name)))
 
 pub ruleset escaping = (escaped-nil, escaped-next, escaped_byte-plain)
@@ -110,29 +124,41 @@ no_comma-front (b ∷ front) back plain = (plain.0, no_comma-front front back pl
 
 -- the reading of a text without commas: name was read of its front, and rest is left
 
-before_plain : (text name rest before tail : List ℕ) → NoComma text → text ≡ escaped name ++ rest → NoEquals before → rest ≡ before ++ tail → escaped before ≡ before
+before_plain : (text name rest before tail : List ℕ) → NoComma text → text ≡ escaped name ++ rest → NoEquals before
+    → rest ≡ before ++ tail → escaped before ≡ before
 before_plain text name rest before tail no_comma read no_equals cut =
-    escaped-plain before (no_comma-front before tail (rw cut at (no_comma-back (escaped name) rest (rw read at no_comma)))) no_equals
+    escaped-plain before (no_comma-front before tail (rw cut at
+    (no_comma-back (escaped name) rest (rw read at no_comma)))) no_equals
 
 -- nothing is read yet
 pub none_read : (text name : List ℕ) → name ≡ [] → text ≡ escaped name ++ text
 none_read text name empty = sym (ap (λ start. escaped start ++ text) empty ∙ ap (λ start. start ++ text) escaped-nil)
 
 -- one more escape is read
-pub one_more_read : (text name plain_too escape_too rest before escape more : List ℕ) (b : ℕ) → NoComma text → text ≡ escaped name ++ rest → NoEquals before × (rest ≡ before ++ (61 ∷ escape)) → 61 ∷ escape ≡ escaped_byte b ++ more → plain_too ≡ name ++ before → escape_too ≡ plain_too ++ (b ∷ []) → text ≡ escaped escape_too ++ more
+pub one_more_read : (text name plain_too escape_too rest before escape more : List ℕ) (b : ℕ) → NoComma text
+    → text ≡ escaped name ++ rest → NoEquals before × (rest ≡ before ++ (61 ∷ escape))
+    → 61 ∷ escape ≡ escaped_byte b ++ more → plain_too ≡ name ++ before → escape_too ≡ plain_too ++ (b ∷ [])
+    → text ≡ escaped escape_too ++ more
 one_more_read text name plain_too escape_too rest before escape more b no_comma read cut spelt first second =
     let plain = before_plain text name rest before (61 ∷ escape) no_comma read cut.0 cut.1 in
     let whole : escaped ((name ++ before) ++ (b ∷ [])) ≡ (escaped name ++ before) ++ escaped_byte b =
-    escaped-append (name ++ before) (b ∷ []) ∙ ap (λ start. start ++ escaped (b ∷ [])) (escaped-append name before ∙ ap (λ start. escaped name ++ start) plain) ∙ ap (λ last. (escaped name ++ before) ++ last) (escaped-one b) in
+    escaped-append (name ++ before) (b ∷ []) ∙ ap (λ start. start ++ escaped (b ∷ []))
+    (escaped-append name before ∙ ap (λ start. escaped name ++ start) plain)
+    ∙ ap (λ last. (escaped name ++ before) ++ last) (escaped-one b) in
     rw (second, first)
-    (read ∙ ap (λ last. escaped name ++ last) (cut.1 ∙ ap (λ last. before ++ last) spelt) ∙ sym (append_assoc (escaped name) before (escaped_byte b ++ more)) ∙ sym (append_assoc (escaped name ++ before) (escaped_byte b) more) ∙ sym (ap (λ start. start ++ more) whole))
+    (read ∙ ap (λ last. escaped name ++ last) (cut.1 ∙ ap (λ last. before ++ last) spelt)
+    ∙ sym (append_assoc (escaped name) before (escaped_byte b ++ more))
+    ∙ sym (append_assoc (escaped name ++ before) (escaped_byte b) more) ∙ sym (ap (λ start. start ++ more) whole))
 
 -- an equals sign begins no escape
-pub no_escape : (text name rest before escape : List ℕ) → NoComma text → text ≡ escaped name ++ rest → NoEquals before → rest ≡ before ++ (61 ∷ escape) → ¬ Begins escape (codes "2C") → ¬ Begins escape (codes "3D") → (other : List ℕ) → escaped other ≢ text
+pub no_escape : (text name rest before escape : List ℕ) → NoComma text → text ≡ escaped name ++ rest → NoEquals before
+    → rest ≡ before ++ (61 ∷ escape) → ¬ Begins escape (codes "2C") → ¬ Begins escape (codes "3D") → (other : List ℕ)
+    → escaped other ≢ text
 no_escape text name rest before escape no_comma read no_equals cut comma equals other is =
     let plain = before_plain text name rest before (61 ∷ escape) no_comma read no_equals cut in
     let after_name = escaped-front name other rest (is ∙ read) in
-    let after_before = escaped-front before after_name.0 (61 ∷ escape) (after_name.2 ∙ cut ∙ sym (ap (λ start. start ++ (61 ∷ escape)) plain)) in
+    let after_before = escaped-front before after_name.0 (61 ∷ escape)
+    (after_name.2 ∙ cut ∙ sym (ap (λ start. start ++ (61 ∷ escape)) plain)) in
     last after_before.0 after_before.2
   where
     last : (more : List ℕ) → escaped more ≡ 61 ∷ escape → ⊥
@@ -144,28 +170,34 @@ no_escape text name rest before escape no_comma read no_equals cut comma equals 
         (sym (escaped-cons b more) ∙ starts)
 
 -- the rest holds no escape
-pub all_read : (text name rest : List ℕ) → NoComma text → text ≡ escaped name ++ rest → NoEquals rest → escaped (name ++ rest) ≡ text
+pub all_read : (text name rest : List ℕ) → NoComma text → text ≡ escaped name ++ rest → NoEquals rest
+    → escaped (name ++ rest) ≡ text
 all_read text name rest no_comma read no_equals =
-    escaped-append name rest ∙ ap (λ last. escaped name ++ last) (escaped-plain rest (no_comma-back (escaped name) rest (rw read at no_comma)) no_equals) ∙ sym read
+    escaped-append name rest ∙ ap (λ last. escaped name ++ last)
+    (escaped-plain rest (no_comma-back (escaped name) rest (rw read at no_comma)) no_equals) ∙ sym read
 
 pub ruleset unescaping = (no_escape, all_read)
 
 no_comma-at : (text : List ℕ) (i : ℕ) → NoComma text → i < length text → get_or text i 0 ≢ 44
 no_comma-at [] i plain below = absurd (omega (arith, below))
 no_comma-at (b ∷ text) zero plain below = plain.0
-no_comma-at (b ∷ text) (suc i) plain below = let less : i < length text = omega (arith, below) in no_comma-at text i plain.1 less
+no_comma-at (b ∷ text) (suc i) plain below = let less : i < length text = omega (arith, below) in
+    no_comma-at text i plain.1 less
 
 -- a text with a comma is no escaped name
-pub comma_refused : (text : List ℕ) (i : ℕ) → i < length text → get_or text i 0 ≡ 44 → (name : List ℕ) → escaped name ≢ text
+pub comma_refused : (text : List ℕ) (i : ℕ) → i < length text → get_or text i 0 ≡ 44 → (name : List ℕ)
+    → escaped name ≢ text
 comma_refused text i below comma name is = no_comma-at text i (rw is at (no_comma-escaped name)) below comma
 
 pub no_comma-index : (text : List ℕ) → ((i : ℕ) → i < length text → get_or text i 0 ≢ 44) → NoComma text
 no_comma-index [] none = tt
-no_comma-index (b ∷ text) none = (none 0 (omega arith), no_comma-index text (λ i below. none (suc i) (omega (arith, below))))
+no_comma-index (b ∷ text) none =
+    (none 0 (omega arith), no_comma-index text (λ i below. none (suc i) (omega (arith, below))))
 
 pub no_equals-index : (text : List ℕ) → ((i : ℕ) → i < length text → get_or text i 0 ≢ 61) → NoEquals text
 no_equals-index [] none = tt
-no_equals-index (b ∷ text) none = (none 0 (omega arith), no_equals-index text (λ i below. none (suc i) (omega (arith, below))))
+no_equals-index (b ∷ text) none =
+    (none 0 (omega arith), no_equals-index text (λ i below. none (suc i) (omega (arith, below))))
 
 pub has_equals : (text : List ℕ) → (i : ℕ) × (i < length text) × (get_or text i 0 ≡ 61) → ¬ NoEquals text
 has_equals text found none = at text found.0 none found.1 found.2
@@ -176,11 +208,14 @@ has_equals text found none = at text found.0 none found.1 found.2
     at (b ∷ text) (suc i) none below = let less : i < length text = omega (arith, below) in at text i none.1 less
 
 -- what a search that found nothing says of each byte
-pub not_contained : (text : List ℕ) (byte : ℕ) (found : Bool) → found ≡ false → ((i : ℕ) → i < length text → get_or text i 0 ≡ byte → found ≡ true) → (i : ℕ) → i < length text → get_or text i 0 ≢ byte
+pub not_contained : (text : List ℕ) (byte : ℕ) (found : Bool) → found ≡ false
+    → ((i : ℕ) → i < length text → get_or text i 0 ≡ byte → found ≡ true) → (i : ℕ) → i < length text
+    → get_or text i 0 ≢ byte
 not_contained text byte found is finds i below at = let wrong : true ≡ false = sym (finds i below at) ∙ is in cc
 
 pub ruleset names = (escaped-plain, comma_refused, no_equals-index)
 
-pub MatchOption-weaker : {X : Type 0} (found : Option X) (A A' : Type 0) (B B' : X → Type 0) → (A → A') → ((x : X) → B x → B' x) → MatchOption found A B → MatchOption found A' B'
+pub MatchOption-weaker : {X : Type 0} (found : Option X) (A A' : Type 0) (B B' : X → Type 0) → (A → A')
+    → ((x : X) → B x → B' x) → MatchOption found A B → MatchOption found A' B'
 MatchOption-weaker None A A' B B' f g h = f h
 MatchOption-weaker (Some x) A A' B B' f g h = g x h

@@ -7,4 +7,5 @@ use Rattle.fe2o3_scram.proofs.texts.part.Goals as goal
 pub returns : goal.returns
 returns c =
     part_from_pieces (λ (part : Bor (List ℕ)). part.now) c.args.text.now c.args.k c.nth.result
-    (nth_from_yields_List _ _ c.args.k c.nth.ensures.ran (YieldsList-from_str_split 44 c.args.text.now (lit< tt) c.split.ensures.text c.split.ensures.has_more c.split.ensures.pattern))
+    (nth_from_yields_List _ _ c.args.k c.nth.ensures.ran (YieldsList-from_str_split 44 c.args.text.now
+    (lit< tt) c.split.ensures.text c.split.ensures.has_more c.split.ensures.pattern))

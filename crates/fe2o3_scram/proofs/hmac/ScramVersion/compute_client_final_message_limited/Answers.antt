@@ -7,13 +7,26 @@ use Rattle.fe2o3_scram.proofs.hmac.ScramVersion.compute_client_final_message_lim
 
 pub returns-in_err-answer-clause-cost : goal.returns-in_err-answer-clause-cost
 returns-in_err-answer-clause-cost c =
-    let client : Client = record { nonce = c.args.client_nonce.now; password = c.args.password.now; limit = c.args.limit } in
+    let client : Client = record {
+      nonce = c.args.client_nonce.now;
+      password = c.args.password.now;
+      limit =
+          c.args.limit;
+    } in
     let from = err_from_is_err_and c.from_residual-in_err-answer.result c.from_residual-in_err-answer.ensures.1 in
-    costs_of_answer client c.args.server_first.now c.from_residual-in_err-answer.result (values_of c.in_ok-first.first) c.args.meter.now c.answer.new.meter
+    costs_of_answer client c.args.server_first.now c.from_residual-in_err-answer.result
+    (values_of c.in_ok-first.first) c.args.meter.now c.answer.new.meter
     c.in_ok-first.ensures.reads c.in_ok-first.ensures.count.1 (rw from.1 tt) c.in_err-answer.ensures.memory
 
 pub returns-clause-cost : goal.returns-clause-cost
 returns-clause-cost c =
-    let client : Client = record { nonce = c.args.client_nonce.now; password = c.args.password.now; limit = c.args.limit } in
-    costs_of_answer client c.args.server_first.now (Ok c.in_ok-answer.answer) (values_of c.in_ok-first.first) c.args.meter.now c.answer.new.meter
-    c.in_ok-first.ensures.reads c.in_ok-first.ensures.count.1 c.in_ok-answer.ensures.counted (omega (arith, c.in_ok-answer.ensures.counted))
+    let client : Client = record {
+      nonce = c.args.client_nonce.now;
+      password = c.args.password.now;
+      limit =
+          c.args.limit;
+    } in
+    costs_of_answer client c.args.server_first.now (Ok c.in_ok-answer.answer)
+    (values_of c.in_ok-first.first) c.args.meter.now c.answer.new.meter
+    c.in_ok-first.ensures.reads c.in_ok-first.ensures.count.1 c.in_ok-answer.ensures.counted
+    (omega (arith, c.in_ok-answer.ensures.counted))

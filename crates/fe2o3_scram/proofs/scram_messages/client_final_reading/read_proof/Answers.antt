@@ -3,14 +3,24 @@ use Rattle.fe2o3_scram.proofs.lemmas.messages.ClientFinalLemmas.{no_proof, has_p
 use Rattle.fe2o3_scram.proofs.scram_messages.client_final_reading.read_proof.Goals as goal
 
 pub returns-in_default-after-clause-err : goal.returns-in_default-after-clause-err
-returns-in_default-after-clause-err c = λ _. inl (no_proof c.args.client_final.now c.in-Some.without_proof.now c.in-Some.last.now c.in-Some.ensures c.in_default-after.ensures, refl)
+returns-in_default-after-clause-err c =
+    λ _. inl (
+      no_proof c.args.client_final.now c.in-Some.without_proof.now c.in-Some.last.now c.in-Some.ensures
+          c.in_default-after.ensures,
+      refl,
+    )
 
 pub returns-in_default-2-clause-err : goal.returns-in_default-2-clause-err
 returns-in_default-2-clause-err c =
     let spelling = c.in-Some-after.base64_proof.now in
     λ _. inr (
-      proof_part c.args.client_final.now c.in-Some.without_proof.now c.in-Some.last.now spelling c.in-Some.ensures c.in-Some-after.ensures,
-      inl (unread_proof c.args.client_final.now c.in-Some.without_proof.now c.in-Some.last.now spelling c.in-Some.ensures c.in-Some-after.ensures (rw c.in_default-2.is at c.in_ok-proof.ensures), refl),
+      proof_part c.args.client_final.now c.in-Some.without_proof.now c.in-Some.last.now spelling c.in-Some.ensures
+          c.in-Some-after.ensures,
+      inl (
+        unread_proof c.args.client_final.now c.in-Some.without_proof.now c.in-Some.last.now spelling
+            c.in-Some.ensures c.in-Some-after.ensures (rw c.in_default-2.is at c.in_ok-proof.ensures),
+        refl,
+      ),
     )
 
 pub returns-clause-tested : goal.returns-clause-tested
@@ -18,9 +28,13 @@ returns-clause-tested c =
     let without = c.in-Some.without_proof.now in
     let spelling = c.in-Some-after.base64_proof.now in
     let proof = c.in-Some-2.proof.items in
-    let has = has_proof c.args.client_final.now without c.in-Some.last.now spelling proof c.in-Some.ensures c.in-Some-after.ensures (rw c.in-Some-2.is at c.in_ok-proof.ensures) in
-    (proof_part c.args.client_final.now without c.in-Some.last.now spelling c.in-Some.ensures c.in-Some-after.ensures, (λ none. none (record { without = without; proof = proof }) has, tt))
+    let has = has_proof c.args.client_final.now without c.in-Some.last.now spelling proof c.in-Some.ensures
+    c.in-Some-after.ensures (rw c.in-Some-2.is at c.in_ok-proof.ensures) in (
+      proof_part c.args.client_final.now without c.in-Some.last.now spelling c.in-Some.ensures c.in-Some-after.ensures,
+      (λ none. none (record { without = without; proof = proof }) has, tt),
+    )
 
 pub returns-clause-named : goal.returns-clause-named
 returns-clause-named c =
-    has_proof c.args.client_final.now c.in-Some.without_proof.now c.in-Some.last.now c.in-Some-after.base64_proof.now c.in-Some-2.proof.items c.in-Some.ensures c.in-Some-after.ensures (rw c.in-Some-2.is at c.in_ok-proof.ensures)
+    has_proof c.args.client_final.now c.in-Some.without_proof.now c.in-Some.last.now c.in-Some-after.base64_proof.now
+    c.in-Some-2.proof.items c.in-Some.ensures c.in-Some-after.ensures (rw c.in-Some-2.is at c.in_ok-proof.ensures)

@@ -6,18 +6,32 @@ use Rattle.fe2o3_scram.proofs.scram_messages.server_first_reading.read_count.Goa
 pub returns-in_default-count_of-clause-err : goal.returns-in_default-count_of-clause-err
 returns-in_default-count_of-clause-err c =
     let digits = c.in-Some.iter_count_str.now in
-    inr (λ none. none digits c.in-Some.ensures, inl (no_count c.args.server_first.now digits c.in-Some.ensures c.in_default-count_of.ensures, refl))
+    inr (
+      λ none. none digits c.in-Some.ensures,
+      inl (no_count c.args.server_first.now digits c.in-Some.ensures c.in_default-count_of.ensures, refl),
+    )
 
 pub returns-then-iterations-limit-clause-err : goal.returns-then-iterations-limit-clause-err
 returns-then-iterations-limit-clause-err c =
     let digits = c.in-Some.iter_count_str.now in
     let count = c.in-Some-count_of.iterations in
     let has : HasCount c.args.server_first.now count = (digits, c.in-Some.ensures, c.in-Some-count_of.ensures) in
-    inr (λ none. none digits c.in-Some.ensures, inr (λ none. none count has, inl ((count, has, c.if-iterations-limit.true), refl)))
+    inr (
+      λ none. none digits c.in-Some.ensures,
+      inr (
+        λ none. none count has,
+        inl ((count, has, c.if-iterations-limit.true), refl),
+      ),
+    )
 
 pub returns-clause-tested : goal.returns-clause-tested
 returns-clause-tested c =
     let digits = c.in-Some.iter_count_str.now in
     let count = c.in-Some-count_of.iterations in
-    let has : HasCount c.args.server_first.now count = (digits, c.in-Some.ensures, c.in-Some-count_of.ensures) in
-    (λ none. none digits c.in-Some.ensures, (λ none. none count has, (not_too_large c.args.server_first.now c.args.limit count has c.if-iterations-limit.false, tt)))
+    let has : HasCount c.args.server_first.now count = (digits, c.in-Some.ensures, c.in-Some-count_of.ensures) in (
+      λ none. none digits c.in-Some.ensures,
+      (
+        λ none. none count has,
+        (not_too_large c.args.server_first.now c.args.limit count has c.if-iterations-limit.false, tt),
+      ),
+    )

@@ -3,11 +3,18 @@ use Rattle.fe2o3_scram.proofs.lemmas.messages.ServerFirstLemmas.{other_nonce, sa
 use Rattle.fe2o3_scram.proofs.scram_messages.server_first_reading.read_nonce.Goals as goal
 
 pub returns-in-Some-attribute-clause-err : goal.returns-in-Some-attribute-clause-err
-returns-in-Some-attribute-clause-err c = inr (λ few. few c.in-Some.field-0.now c.in-Some.ensures, inl ((c.in-Some-attribute.field-0.now, c.in-Some-attribute.ensures), refl))
+returns-in-Some-attribute-clause-err c =
+    inr (
+      λ few. few c.in-Some.field-0.now c.in-Some.ensures,
+      inl ((c.in-Some-attribute.field-0.now, c.in-Some-attribute.ensures), refl),
+    )
 
 pub returns-in_default-attribute-2-clause-err : goal.returns-in_default-attribute-2-clause-err
 returns-in_default-attribute-2-clause-err c =
-    inr (λ few. few c.in-Some.field-0.now c.in-Some.ensures, inr (λ has. c.in_default-attribute.ensures has.0 has.1, inl (c.in_default-attribute-2.ensures, refl)))
+    inr (
+      λ few. few c.in-Some.field-0.now c.in-Some.ensures,
+      inr (λ has. c.in_default-attribute.ensures has.0 has.1, inl (c.in_default-attribute-2.ensures, refl)),
+    )
 
 pub returns-in_default-after-clause-err : goal.returns-in_default-after-clause-err
 returns-in_default-after-clause-err c =
@@ -16,7 +23,14 @@ returns-in_default-after-clause-err c =
       λ few. few c.in-Some.field-0.now c.in-Some.ensures,
       inr (
         λ has. c.in_default-attribute.ensures has.0 has.1,
-        inr (λ none. none nonce c.in-Some-attribute-2.ensures, inl (other_nonce c.args.server_first.now c.args.client_nonce.now nonce c.in-Some-attribute-2.ensures c.in_default-after.ensures, refl)),
+        inr (
+          λ none. none nonce c.in-Some-attribute-2.ensures,
+          inl (
+            other_nonce c.args.server_first.now c.args.client_nonce.now nonce c.in-Some-attribute-2.ensures
+                c.in_default-after.ensures,
+            refl,
+          ),
+        ),
       ),
     )
 
@@ -28,7 +42,11 @@ returns-clause-tested c =
         λ has. c.in_default-attribute.ensures has.0 has.1,
         (
           λ none. none nonce c.in-Some-attribute-2.ensures,
-          (same_nonce c.args.server_first.now c.args.client_nonce.now nonce c.in-Some-after.field-0.now c.in-Some-attribute-2.ensures c.in-Some-after.ensures, tt),
+          (
+            same_nonce c.args.server_first.now c.args.client_nonce.now nonce c.in-Some-after.field-0.now
+                c.in-Some-attribute-2.ensures c.in-Some-after.ensures,
+            tt,
+          ),
         ),
       ),
     )

@@ -6,31 +6,66 @@ use Rattle.fe2o3_scram.proofs.scram_messages.server_first_reading.read_server_fi
 
 pub returns-in_err-nonce-clause-reads : goal.returns-in_err-nonce-clause-reads
 returns-in_err-nonce-clause-reads c =
-    let client : Client = record { nonce = c.args.client_nonce.now; password = c.args.password.now; limit = c.args.limit } in
+    let client : Client = record {
+      nonce = c.args.client_nonce.now;
+      password = c.args.password.now;
+      limit =
+          c.args.limit;
+    } in
     let from = err_from_is_err_and c.from_residual.result c.from_residual.ensures.1 in
-    rw (from.1, from.2) (λ _. nonce_refused client c.args.server_first.now c.in_err-nonce.field-0.0 c.in_err-nonce.ensures.err)
+    rw (from.1, from.2) (λ _. nonce_refused client c.args.server_first.now c.in_err-nonce.field-0.0
+    c.in_err-nonce.ensures.err)
 
 pub returns-in_err-salt-clause-reads : goal.returns-in_err-salt-clause-reads
 returns-in_err-salt-clause-reads c =
-    let client : Client = record { nonce = c.args.client_nonce.now; password = c.args.password.now; limit = c.args.limit } in
+    let client : Client = record {
+      nonce = c.args.client_nonce.now;
+      password = c.args.password.now;
+      limit =
+          c.args.limit;
+    } in
     let from = err_from_is_err_and c.from_residual-in_err-salt.result c.from_residual-in_err-salt.ensures.1 in
-    rw (from.1, from.2) (λ other. salt_refused client c.args.server_first.now c.in_err-salt.field-0.0 c.in_ok-nonce.ensures.tested (c.in_err-salt.ensures.err other))
+    rw (from.1, from.2) (λ other. salt_refused client c.args.server_first.now c.in_err-salt.field-0.0
+    c.in_ok-nonce.ensures.tested (c.in_err-salt.ensures.err other))
 
 pub returns-in_err-iterations-clause-reads : goal.returns-in_err-iterations-clause-reads
 returns-in_err-iterations-clause-reads c =
-    let client : Client = record { nonce = c.args.client_nonce.now; password = c.args.password.now; limit = c.args.limit } in
-    let from = err_from_is_err_and c.from_residual-in_err-iterations.result c.from_residual-in_err-iterations.ensures.1 in
+    let client : Client = record {
+      nonce = c.args.client_nonce.now;
+      password = c.args.password.now;
+      limit =
+          c.args.limit;
+    } in
+    let from = err_from_is_err_and c.from_residual-in_err-iterations.result
+    c.from_residual-in_err-iterations.ensures.1 in
     rw (from.1, from.2)
-    (λ _. count_refused client c.args.server_first.now c.in_err-iterations.field-0.0 c.in_ok-nonce.ensures.tested c.in_ok-salt.ensures.tested c.in_err-iterations.ensures.err)
+    (λ _. count_refused client c.args.server_first.now c.in_err-iterations.field-0.0 c.in_ok-nonce.ensures.tested
+    c.in_ok-salt.ensures.tested c.in_err-iterations.ensures.err)
 
 pub returns-then-is_err-clause-reads : goal.returns-then-is_err-clause-reads
 returns-then-is_err-clause-reads c =
-    let client : Client = record { nonce = c.args.client_nonce.now; password = c.args.password.now; limit = c.args.limit } in
-    λ _. password_refused client c.args.server_first.now c.in_ok-nonce.ensures.tested c.in_ok-salt.ensures.tested c.in_ok-iterations.ensures.tested (search rules)
+    let client : Client = record {
+      nonce = c.args.client_nonce.now;
+      password = c.args.password.now;
+      limit =
+          c.args.limit;
+    } in
+    λ _. password_refused client c.args.server_first.now c.in_ok-nonce.ensures.tested c.in_ok-salt.ensures.tested
+    c.in_ok-iterations.ensures.tested (search rules)
 
 pub returns-clause-reads : goal.returns-clause-reads
 returns-clause-reads c =
-    let client : Client = record { nonce = c.args.client_nonce.now; password = c.args.password.now; limit = c.args.limit } in
-    values_read client c.args.server_first.now (record { nonce = c.in_ok-nonce.nonce.now; salt = c.in_ok-salt.salt.items; count = c.in_ok-iterations.iterations })
+    let client : Client = record {
+      nonce = c.args.client_nonce.now;
+      password = c.args.password.now;
+      limit =
+          c.args.limit;
+    } in
+    values_read client c.args.server_first.now (record {
+      nonce = c.in_ok-nonce.nonce.now;
+      salt =
+          c.in_ok-salt.salt.items;
+      count = c.in_ok-iterations.iterations;
+    })
     c.in_ok-nonce.ensures.tested c.in_ok-salt.ensures.tested c.in_ok-iterations.ensures.tested (search rules)
     c.in_ok-nonce.ensures.named c.in_ok-salt.ensures.named c.in_ok-iterations.ensures.named

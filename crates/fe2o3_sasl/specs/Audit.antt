@@ -1,10 +1,11 @@
--- What is found on two lists of frame bodies, and how each finding is judged: the project's own words, over the keys of RFC 5802, section 3.
+-- What is found on two lists of frame bodies, and how each finding is judged: the project's own words, over the
+-- keys of RFC 5802, section 3.
 use Rattle.std.specs.Prelude.{◌≡◌, ◌≢◌, ◌⊎◌, ℕ, ◌<◌, Option, Some, None, List, [], ◌∷◌, ◌++◌, map}
 use Rattle.std.specs.List.{AllByRecursion}
 use Rattle.fe2o3_sasl.specs.ClientHistory.{Answering, ClientComplete, OpenAnswer}
 use Rattle.fe2o3_scram.specs.Hmac.{digest}
 use Rattle.fe2o3_sasl.specs.ServerHistory.{Accepted, full_nonce, ServerComplete}
-use Rattle.fe2o3_sasl.specs.TwoSides.{Sides, Histories, Takes, Shows, Agree, IsPlainInit, SameMac, SameHash, client_message, server_message, client_key_at, server_key_at, recovered_at}
+use Rattle.fe2o3_sasl.specs.TwoSides.{Sides, Histories, Takes, Shows, Agree, IsPlainInit, MacCollision, HashCollision, client_message, server_message, client_key_at, server_key_at, recovered_at}
 
 -- the nonce of both sides, the salt and the iteration count
 pub record Parameters : Type 0 where
@@ -12,11 +13,12 @@ pub record Parameters : Type 0 where
   pub salt : List ℕ
   pub iterations : ℕ
 
--- both sides mean one login, of which these are the values; or two texts or keys of the sides themselves collide; or the proof was made with another key
+-- both sides mean one login, of which these are the values; or two texts or keys of the sides themselves
+-- collide; or the proof was made with another key
 pub data Verdict : Type 0 where
   Agreed : (user client_nonce : List ℕ) → (parameters : Option Parameters) → Verdict
-  OneMac : (client_key client_text server_key server_text : List ℕ) → Verdict
-  OneHash : (client_key recovered : List ℕ) → Verdict
+  SameMac : (client_key client_text server_key server_text : List ℕ) → Verdict
+  SameHash : (client_key recovered : List ℕ) → Verdict
   OtherKey : Verdict
 
 -- the parameters are given exactly where the init was plain
@@ -30,39 +32,46 @@ AreParameters accepted (Some parameters) =
 abbrev pub AreAgreed : Sides → Answering → Accepted → List ℕ → List ℕ → Option Parameters → Type 0
 AreAgreed sides answer accepted user nonce parameters =
     (client_message sides.login answer ≡ server_message accepted) × Agree sides.login sides.provider answer accepted
-    × (user ≡ accepted.challenge.client.user) × (nonce ≡ accepted.challenge.client.nonce) × AreParameters accepted parameters
+    × (user ≡ accepted.challenge.client.user) × (nonce ≡ accepted.challenge.client.nonce)
+    × AreParameters accepted parameters
 
 -- the AuthMessages differ, and their HMAC values under these keys are one
-abbrev pub HaveOneMac : Sides → Answering → Accepted → List ℕ → List ℕ → Type 0
-HaveOneMac sides answer accepted client_key server_key =
-    (sides.login.version ≡ sides.provider.version) × SameMac sides.login.version client_key (client_message sides.login answer) server_key (server_message accepted)
+abbrev pub MessagesCollide : Sides → Answering → Accepted → List ℕ → List ℕ → Type 0
+MessagesCollide sides answer accepted client_key server_key =
+    (sides.login.version ≡ sides.provider.version) × MacCollision sides.login.version client_key
+    (client_message sides.login answer) server_key (server_message accepted)
 
--- the verdict on a verifier that the client took: both agree, or the AuthMessages collide under the server keys of the two sides
+-- the verdict on a verifier that the client took: both agree, or the AuthMessages collide under the server keys
+-- of the two sides
 abbrev pub JudgesVerifier : Sides → Answering → Accepted → Verdict → Type 0
-JudgesVerifier sides answer accepted (Agreed user nonce parameters) = AreAgreed sides answer accepted user nonce parameters
-JudgesVerifier sides answer accepted (OneMac client_key client_text server_key server_text) =
+JudgesVerifier sides answer accepted (Agreed user nonce parameters) =
+    AreAgreed sides answer accepted user nonce parameters
+JudgesVerifier sides answer accepted (SameMac client_key client_text server_key server_text) =
     (client_key ≡ server_key_at sides.login answer) × (client_text ≡ client_message sides.login answer)
     × (server_key ≡ accepted.challenge.stored.server_key) × (server_text ≡ server_message accepted)
-    × HaveOneMac sides answer accepted client_key server_key
+    × MessagesCollide sides answer accepted client_key server_key
 JudgesVerifier sides answer accepted verdict = ⊥
 
 -- the client's key is the one whose digest the server stores
 abbrev pub IsStoredKey : Sides → Answering → Accepted → Type 0
-IsStoredKey sides answer accepted = digest sides.login.version (client_key_at sides.login answer) ≡ accepted.challenge.stored.stored_key
+IsStoredKey sides answer accepted = digest sides.login.version (client_key_at sides.login answer)
+    ≡ accepted.challenge.stored.stored_key
 
--- the verdict on a proof that the server accepted: the key was another; or both agree; or the client's key and the recovered one collide; or the AuthMessages do under the stored key
+-- the verdict on a proof that the server accepted: the key was another; or both agree; or the client's key and
+-- the recovered one collide; or the AuthMessages do under the stored key
 abbrev pub JudgesProof : Sides → Answering → Accepted → Verdict → Type 0
 JudgesProof sides answer accepted OtherKey = ¬ IsStoredKey sides answer accepted
-JudgesProof sides answer accepted (Agreed user nonce parameters) = IsStoredKey sides answer accepted × AreAgreed sides answer accepted user nonce parameters
-JudgesProof sides answer accepted (OneHash client_key recovered) =
+JudgesProof sides answer accepted (Agreed user nonce parameters) =
+    IsStoredKey sides answer accepted × AreAgreed sides answer accepted user nonce parameters
+JudgesProof sides answer accepted (SameHash client_key recovered) =
     IsStoredKey sides answer accepted × (client_message sides.login answer ≢ server_message accepted)
     × (client_key ≡ client_key_at sides.login answer) × (recovered ≡ recovered_at sides.provider accepted)
-    × (sides.login.version ≡ sides.provider.version) × SameHash sides.login.version client_key recovered
-JudgesProof sides answer accepted (OneMac client_key client_text server_key server_text) =
+    × (sides.login.version ≡ sides.provider.version) × HashCollision sides.login.version client_key recovered
+JudgesProof sides answer accepted (SameMac client_key client_text server_key server_text) =
     IsStoredKey sides answer accepted × (client_key_at sides.login answer ≡ recovered_at sides.provider accepted)
     × (client_key ≡ accepted.challenge.stored.stored_key) × (client_text ≡ client_message sides.login answer)
     × (server_key ≡ accepted.challenge.stored.stored_key) × (server_text ≡ server_message accepted)
-    × HaveOneMac sides answer accepted client_key server_key
+    × MessagesCollide sides answer accepted client_key server_key
 
 -- a finding is of a verifier that the client took, or of a proof that it showed
 pub data FindingKind : Type 0 where
@@ -103,15 +112,19 @@ pub record Lists (R : ℕ → ℕ → Type 0) (places : List (ℕ × ℕ)) : Typ
 -- a verifier that the client took, with its verdict
 abbrev pub IsVerifierFinding : Sides → Finding → Type 0
 IsVerifierFinding sides finding =
-    (finding.kind ≡ OfVerifier) × ((answer : Answering) × (accepted : Accepted) × Takes sides finding.client finding.server accepted
-    × OpenAnswer sides.login sides.client_events sides.client_replies finding.client answer × JudgesVerifier sides answer accepted finding.verdict)
+    (finding.kind ≡ OfVerifier) × ((answer : Answering) × (accepted : Accepted)
+    × Takes sides finding.client finding.server accepted
+    × OpenAnswer sides.login sides.client_events sides.client_replies finding.client answer
+    × JudgesVerifier sides answer accepted finding.verdict)
 
 -- a proof that the client showed, with its verdict
 abbrev pub IsProofFinding : Sides → Finding → Type 0
 IsProofFinding sides finding =
-    (finding.kind ≡ OfProof) × ((answer : Answering) × (accepted : Accepted) × Shows sides finding.client finding.server answer accepted × JudgesProof sides answer accepted finding.verdict)
+    (finding.kind ≡ OfProof) × ((answer : Answering) × (accepted : Accepted)
+    × Shows sides finding.client finding.server answer accepted × JudgesProof sides answer accepted finding.verdict)
 
--- what an audit lists: of two histories without want of memory exactly the pairs of `Takes`, and then exactly those of `Shows`, each once, in order, and with its verdict
+-- what an audit lists: of two histories without want of memory exactly the pairs of `Takes`, and then exactly
+-- those of `Shows`, each once, in order, and with its verdict
 pub record Audits (sides : Sides) (findings : List Finding) : Type 0 where
   pub verifiers : List Finding
   pub proofs : List Finding
@@ -120,6 +133,7 @@ pub record Audits (sides : Sides) (findings : List Finding) : Type 0 where
   pub client_complete : ClientComplete sides.client_replies
   pub server_complete : ServerComplete sides.server_replies
   pub takes : Lists (λ m n. (accepted : Accepted) × Takes sides m n accepted) (map place_of verifiers)
-  pub shows : Lists (λ k n. (answer : Answering) × (accepted : Accepted) × Shows sides k n answer accepted) (map place_of proofs)
+  pub shows : Lists (λ k n. (answer : Answering) × (accepted : Accepted) × Shows sides k n answer accepted)
+      (map place_of proofs)
   pub verifier_verdicts : AllByRecursion (IsVerifierFinding sides) verifiers
   pub proof_verdicts : AllByRecursion (IsProofFinding sides) proofs

@@ -1,0 +1,174 @@
+-- What holds of every history, and of every two. Each is the contract of a function of `laws`.
+use Rattle.std.specs.Prelude.{◌≡◌, ◌≢◌, ◌⊎◌, ℕ, suc, ◌<◌, ◌≤◌, Bool, true, false, Some, None, List, length, take, slice_get, Ok}
+use Rattle.std.specs.List.{filter}
+use Rattle.fe2o3_sasl_wire.specs.declared.amqp_types.SaslCode.TheVariants as outcomes
+use Rattle.fe2o3_sasl_wire.specs.declared.sasl_frames.error.Error.TheVariants as faults
+use Rattle.fe2o3_sasl_wire.specs.SaslFrames as frames
+use Rattle.fe2o3_sasl.specs.ClientHistory.{Answering, AnswersAt, OpenAnswer, ClientHistory, ClientComplete, Start, is_start, is_answer, ends_answer}
+use Rattle.fe2o3_scram.specs.Credentials.{Provider}
+use Rattle.fe2o3_sasl.specs.Events.{Given, AreGiven, Login, IsLogin, IsRecord, ServerSays, Concluded, Failed, ClientSays}
+use Rattle.fe2o3_sasl.specs.Runs.{Runs, AcceptorSteps, ProfileSteps}
+use Rattle.fe2o3_sasl.specs.SaslAcceptor.{acceptor_machine, Acceptor, ScramAcceptor}
+use Rattle.fe2o3_sasl.specs.SaslProfile.{scram_profile, Profile}
+use Rattle.fe2o3_sasl.specs.Positions.{test_at, IsLastOpen}
+use Rattle.fe2o3_sasl.specs.ServerHistory.{Challenging, Accepted, AcceptsAt, Open, ServerHistory, ServerComplete, SpellsBody, is_challenge, is_ok, full_nonce, says_auth}
+use Rattle.fe2o3_scram.specs.ScramServer as server_states
+use Rattle.fe2o3_sasl.specs.TwoSides.{Sides, Histories, Takes, Shows, Agree, HasParts, IsPlainInit, client_message, server_message}
+use Rattle.fe2o3_sasl.specs.UnalteredRuns.{UnalteredRun, HoldsLogin, LogsIn, agreed}
+use Rattle.fe2o3_sasl.specs.Audit.{Verdict, JudgesVerifier, JudgesProof}
+
+-- a history without want of memory is a function of the events
+abbrev pub OneServerHistory : Type 0
+OneServerHistory = (provider : Provider) (events : List Given) (replies others : List ServerSays)
+    → ServerHistory provider events replies → ServerHistory provider events others
+    → ServerComplete replies → ServerComplete others → replies ≡ others
+
+-- likewise of a client
+abbrev pub OneClientHistory : Type 0
+OneClientHistory = (login : Login) (events : List Given) (replies others : List ClientSays)
+    → ClientHistory login events replies → ClientHistory login events others
+    → ClientComplete replies → ClientComplete others → replies ≡ others
+
+-- each run of the SCRAM acceptor's machine from its first state is a server history
+abbrev pub AcceptorRunsAreHistories : Type 0
+AcceptorRunsAreHistories = (provider : Provider) (events : List Given) (replies : List ServerSays) (last : Acceptor)
+    → Runs (AcceptorSteps acceptor_machine) (ScramAcceptor provider server_states.Initial) events replies last
+    → ServerHistory provider events replies
+
+-- each run of a SCRAM profile's machine from its first state is a client history
+abbrev pub ProfileRunsAreHistories : Type 0
+ProfileRunsAreHistories = (login : Login) (events : List Given) (replies : List ClientSays) (last : Profile)
+    → Runs (ProfileSteps None) (scram_profile login) events replies last → ClientHistory login events replies
+
+-- up to each position the outcomes Ok are no more than the challenges
+abbrev pub OksWithinChallenges : Type 0
+OksWithinChallenges = (provider : Provider) (events : List Given) (replies : List ServerSays) (k : ℕ)
+    → ServerHistory provider events replies
+    → length (filter is_ok (take k replies)) ≤ length (filter is_challenge (take k replies))
+
+-- after an Ok at n every response is refused, the accepted one among them, until there is a challenge again
+abbrev pub RepeatedResponsesAreRefused : Type 0
+RepeatedResponsesAreRefused = (provider : Provider) (events : List Given) (replies : List ServerSays) (n k : ℕ)
+    (body : List ℕ) (event : Given) (text : List ℕ) (says : ServerSays)
+    → ServerHistory provider events replies → n < k → slice_get replies n ≡ Some (Concluded outcomes.Ok body)
+    → ((i : ℕ) → n < i → i < k → test_at is_challenge (slice_get replies i) ≡ false)
+    → slice_get events k ≡ Some event → SpellsBody event.body (Ok (frames.Response text))
+    → slice_get replies k ≡ Some says → (says ≡ says_auth) ⊎ (says ≡ Failed faults.OutOfMemory)
+
+-- a response text that is accepted under two challenges was made for one full nonce
+abbrev pub OneResponseOneNonce : Type 0
+OneResponseOneNonce = (provider : Provider) (events : List Given) (replies : List ServerSays) (n k : ℕ)
+    (event again : Given) (text : List ℕ) (accepted other : Accepted)
+    → slice_get events n ≡ Some event → slice_get events k ≡ Some again
+    → SpellsBody event.body (Ok (frames.Response text)) → SpellsBody again.body (Ok (frames.Response text))
+    → AcceptsAt provider events replies n accepted → AcceptsAt provider events replies k other
+    → full_nonce accepted.challenge ≡ full_nonce other.challenge
+
+-- a reply that is neither a challenge nor an Ok leaves open what was open
+abbrev pub RefusalsLeaveOpen : Type 0
+RefusalsLeaveOpen = (provider : Provider) (events : List Given) (replies : List ServerSays) (k : ℕ)
+    (challenge : Challenging) → test_at is_challenge (slice_get replies k) ≡ false
+    → test_at is_ok (slice_get replies k) ≡ false
+    → (Open provider events replies k challenge → Open provider events replies (suc k) challenge)
+    × (Open provider events replies (suc k) challenge → Open provider events replies k challenge)
+
+-- two positions that close have not the same one open
+abbrev pub CloseApart : {A : Type 0} → (A → Bool) → (A → Bool) → Type 0
+CloseApart {A} opens closes = (replies : List A) (j m n : ℕ) → IsLastOpen opens closes replies m j
+    → IsLastOpen opens closes replies n j
+    → test_at closes (slice_get replies m) ≡ true → test_at closes (slice_get replies n) ≡ true → m ≡ n
+
+-- two Oks of a server never have one open challenge, two reported Oks never one answer, two answers never one start
+abbrev pub PositionsAreUsedOnce : Type 0
+PositionsAreUsedOnce = CloseApart is_challenge is_ok × CloseApart is_answer ends_answer × CloseApart is_start is_answer
+
+-- the client took the server's verifier, or showed the proof that the server accepted
+abbrev pub AreMatched : Sides → Answering → Accepted → Type 0
+AreMatched sides answer accepted =
+    ((m n : ℕ) × Takes sides m n accepted × OpenAnswer sides.login sides.client_events sides.client_replies m answer)
+    ⊎ ((k n : ℕ) × Shows sides k n answer accepted)
+
+-- equal AuthMessages: both sides mean one login
+abbrev pub EqualMessagesAgree : Type 0
+EqualMessagesAgree = (sides : Sides) (answer : Answering) (accepted : Accepted) → Histories sides
+    → IsRecord accepted.challenge.stored
+    → AreMatched sides answer accepted → client_message sides.login answer ≡ server_message accepted
+    → Agree sides.login sides.provider answer accepted
+
+-- and the init had not three parts, and not four
+abbrev pub NoShortExtensions : Type 0
+NoShortExtensions = (sides : Sides) (answer : Answering) (accepted : Accepted) → Histories sides
+    → IsRecord accepted.challenge.stored
+    → AreMatched sides answer accepted → client_message sides.login answer ≡ server_message accepted
+    → ¬ HasParts accepted.challenge.client.bare 3 × ¬ HasParts accepted.challenge.client.bare 4
+
+-- each verifier that the client took and the server issued has its verdict: both agree, or the sides' own
+-- AuthMessages share one HMAC value
+abbrev pub TakenVerifiersAreJudged : Type 0
+TakenVerifiersAreJudged = (sides : Sides) (m n : ℕ) (accepted : Accepted) → Histories sides
+    → IsRecord accepted.challenge.stored → Takes sides m n accepted
+    → (answer : Answering) × (verdict : Verdict) × OpenAnswer sides.login sides.client_events sides.client_replies m
+    answer × JudgesVerifier sides answer accepted verdict
+
+-- each proof that the client showed and the server accepted has its verdict
+abbrev pub ShownProofsAreJudged : Type 0
+ShownProofsAreJudged = (sides : Sides) (k n : ℕ) (answer : Answering) (accepted : Accepted) → Histories sides
+    → IsRecord accepted.challenge.stored
+    → Shows sides k n answer accepted → (verdict : Verdict) × JudgesProof sides answer accepted verdict
+
+-- and no other verdict
+abbrev pub OneVerdictEach : Type 0
+OneVerdictEach = (sides : Sides) (answer : Answering) (accepted : Accepted) (verdict other : Verdict)
+    → (JudgesVerifier sides answer accepted verdict → JudgesVerifier sides answer accepted other → verdict ≡ other)
+    × (JudgesProof sides answer accepted verdict → JudgesProof sides answer accepted other → verdict ≡ other)
+
+-- two positions whose events carry one nonce
+abbrev pub RepeatsNonce : List Given → ℕ → ℕ → Type 0
+RepeatsNonce events i j = (i ≢ j) × ((event again : Given) × (slice_get events i ≡ Some event)
+    × (slice_get events j ≡ Some again) × (event.nonce ≡ again.nonce))
+
+-- the answers at these two positions come from two starts with one nonce
+abbrev pub FromTwoStarts : Sides → ℕ → ℕ → Type 0
+FromTwoStarts sides k l = (s t : ℕ) × Start sides.client_replies k s × Start sides.client_replies l t
+    × RepeatsNonce sides.client_events s t
+
+-- the Oks at these two positions come from two challenges with one nonce
+abbrev pub FromTwoChallenges : Sides → ℕ → ℕ → Type 0
+FromTwoChallenges sides n o = (i j : ℕ) × IsLastOpen is_challenge is_ok sides.server_replies n i
+    × IsLastOpen is_challenge is_ok sides.server_replies o j × RepeatsNonce sides.server_events i j
+
+-- the client took at m, for its answer at k, what the server accepted at n, and the AuthMessages are equal
+abbrev pub TakesAgreed : Sides → ℕ → ℕ → ℕ → Accepted → Type 0
+TakesAgreed sides m k n accepted = (answer : Answering) × Takes sides m n accepted
+    × IsLastOpen is_answer ends_answer sides.client_replies m k
+    × AnswersAt sides.login sides.client_events sides.client_replies k answer
+    × (client_message sides.login answer ≡ server_message accepted)
+
+-- the client showed at k what the server accepted at n, and the AuthMessages are equal
+abbrev pub ShowsAgreed : Sides → ℕ → ℕ → Accepted → Type 0
+ShowsAgreed sides k n accepted = (answer : Answering) × Shows sides k n answer accepted
+    × (client_message sides.login answer ≡ server_message accepted)
+
+-- one Ok of the server that the client took at two positions, or showed at two, with equal AuthMessages, is of
+-- two starts with one nonce
+abbrev pub RepeatedClientPositions : Type 0
+RepeatedClientPositions = (sides : Sides) (n k l : ℕ) (accepted other : Accepted) → AreGiven sides.client_events
+    → IsRecord accepted.challenge.stored → IsRecord other.challenge.stored
+    → ((m p : ℕ) → m ≢ p → TakesAgreed sides m k n accepted → TakesAgreed sides p l n other → FromTwoStarts sides k l)
+    × (k ≢ l → ShowsAgreed sides k n accepted → ShowsAgreed sides l n other → FromTwoStarts sides k l)
+
+-- one position of the client with two Oks of the server, both to a plain init and with equal AuthMessages, is
+-- of two challenges with one nonce
+abbrev pub RepeatedServerPositions : Type 0
+RepeatedServerPositions = (sides : Sides) (k n o : ℕ) (accepted other : Accepted) → AreGiven sides.server_events
+    → IsRecord accepted.challenge.stored → IsRecord other.challenge.stored
+    → n ≢ o → IsPlainInit accepted → IsPlainInit other
+    → ((m l : ℕ) → TakesAgreed sides m k n accepted → TakesAgreed sides m l o other → FromTwoChallenges sides n o)
+    × (ShowsAgreed sides k n accepted → ShowsAgreed sides k o other → FromTwoChallenges sides n o)
+
+-- an unaltered run against the record of the login's own password, which the client can use, logs in, whatever
+-- the nonces, where memory was not wanting
+abbrev pub UnalteredRunsLogIn : Type 0
+UnalteredRunsLogIn = (sides : Sides) (salt : List ℕ) (count : ℕ) (run : UnalteredRun sides) → Histories sides
+    → IsLogin sides.login → HoldsLogin sides salt count
+    → ClientComplete sides.client_replies → LogsIn sides (agreed run salt count)

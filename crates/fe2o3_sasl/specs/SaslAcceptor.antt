@@ -1,0 +1,70 @@
+-- What an acceptor answers to one frame (AMQP 1.0, part 5, section 5.3.2).
+use Rattle.std.specs.Prelude.{◌≡◌, ◌≢◌, ◌⊎◌, ℕ, Option, Some, None, List, [], ◌∷◌, codes, slice_get, Result, Ok}
+use Rattle.std.specs.List.{AllByRecursion, join_with_byte}
+use Rattle.fe2o3_sasl_wire.specs.declared.amqp_types.SaslCode.{SaslCode}
+use Rattle.fe2o3_sasl_wire.specs.declared.amqp_types.SaslCode.TheVariants as outcomes
+use Rattle.fe2o3_sasl_wire.specs.SaslFrames as frames
+use Rattle.fe2o3_sasl_wire.specs.SaslFrames.{SaslFrame}
+use Rattle.fe2o3_scram.specs.declared.scram_messages.error.ServerScramErrorKind.{ServerScramErrorKind}
+use Rattle.fe2o3_scram.specs.Credentials.{Provider}
+use Rattle.fe2o3_scram.specs.Hmac.{mechanism_name}
+use Rattle.fe2o3_scram.specs.ScramServer.{ServerState, ChallengesFrom, ConcludesFrom}
+
+-- the acceptors, each with all that its answers depend on: SCRAM over a provider, in a state; PLAIN for one
+-- user, and ANONYMOUS, which keep none
+pub data Acceptor : Type 0 where
+  ScramAcceptor : (provider : Provider) → (state : ServerState) → Acceptor
+  PlainAcceptor : (user password : List ℕ) → Acceptor
+  AnonymousAcceptor : Acceptor
+
+-- the names of its mechanisms
+abbrev pub acceptor_names : Acceptor → List (List ℕ)
+acceptor_names (ScramAcceptor provider state) = mechanism_name provider.version ∷ []
+acceptor_names (PlainAcceptor user password) = codes "PLAIN" ∷ []
+acceptor_names AnonymousAcceptor = codes "ANONYMOUS" ∷ []
+
+-- cut at its zero bytes, the text has this part at place k, counted from 0
+abbrev pub ZeroPart : List ℕ → ℕ → List ℕ → Type 0
+ZeroPart text k part = (parts : List (List ℕ)) × AllByRecursion (λ some. AllByRecursion (λ byte. byte ≢ 0) some) parts
+    × (join_with_byte 0 parts ≡ text) × (slice_get parts k ≡ Some part)
+
+-- a message of PLAIN (RFC 4616, section 2) names this user and this password; its first part and those after
+-- the third say nothing
+abbrev pub NamesPlain : List ℕ → List ℕ → List ℕ → Type 0
+NamesPlain user password text = ZeroPart text 1 user × ZeroPart text 2 password
+
+-- an outcome without data
+abbrev pub ends_with : SaslCode → SaslFrame
+ends_with code = frames.Outcome code None
+
+-- the frame of what a SCRAM server answers: but for a message it is Auth
+abbrev pub server_frame : (List ℕ → SaslFrame) → Result (Option (List ℕ)) ServerScramErrorKind → SaslFrame
+server_frame frame (Ok (Some message)) = frame message
+server_frame frame answer = ends_with outcomes.Auth
+
+-- the machine of an acceptor: from a nonce and an init or a response to a reply and the acceptor after it
+abbrev pub acceptor_machine : Acceptor → List ℕ → SaslFrame → SaslFrame → Acceptor → Type 0
+acceptor_machine (ScramAcceptor provider state) nonce (frames.Init mechanism (Some text) hostname) reply next =
+    ((mechanism ≢ mechanism_name provider.version) × (reply ≡ ends_with outcomes.Auth)
+    × (next ≡ ScramAcceptor provider state))
+    ⊎ ((mechanism ≡ mechanism_name provider.version)
+    × ((answer : Result (Option (List ℕ)) ServerScramErrorKind) × (after : ServerState)
+    × ChallengesFrom state provider nonce text answer after
+    × (reply ≡ server_frame (λ message. frames.Challenge message) answer) × (next ≡ ScramAcceptor provider after)))
+acceptor_machine (ScramAcceptor provider state) nonce (frames.Response text) reply next =
+    (answer : Result (Option (List ℕ)) ServerScramErrorKind) × (after : ServerState)
+    × ConcludesFrom state provider text answer after
+    × (reply ≡ server_frame (λ message. frames.Outcome outcomes.Ok (Some message)) answer)
+    × (next ≡ ScramAcceptor provider after)
+acceptor_machine (PlainAcceptor user password) nonce (frames.Init mechanism (Some text) hostname) reply next =
+    ((NamesPlain user password text × (reply ≡ ends_with outcomes.Ok))
+    ⊎ (¬ NamesPlain user password text × (reply ≡ ends_with outcomes.Auth))) × (next ≡ PlainAcceptor user password)
+acceptor_machine (PlainAcceptor user password) nonce (frames.Response text) reply next =
+    (reply ≡ ends_with outcomes.Sys) × (next ≡ PlainAcceptor user password)
+acceptor_machine AnonymousAcceptor nonce (frames.Init mechanism response hostname) reply next =
+    (reply ≡ ends_with outcomes.Ok) × (next ≡ AnonymousAcceptor)
+acceptor_machine AnonymousAcceptor nonce (frames.Response text) reply next =
+    (reply ≡ ends_with outcomes.Ok) × (next ≡ AnonymousAcceptor)
+acceptor_machine acceptor nonce (frames.Init mechanism None hostname) reply next =
+    (reply ≡ ends_with outcomes.Auth) × (next ≡ acceptor)
+acceptor_machine acceptor nonce frame reply next = ⊥

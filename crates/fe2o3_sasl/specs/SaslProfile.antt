@@ -1,0 +1,87 @@
+-- What a client's profile answers to one frame (AMQP 1.0, part 5, section 5.3.2).
+use Rattle.std.specs.Prelude.{◌≡◌, ◌⊎◌, ℕ, Option, Some, None, List, ◌∷◌, ◌++◌, codes, Result, Ok, Err}
+use Rattle.std.specs.List.{Contains}
+use Rattle.std.specs.Str.{IsUtf8}
+use Rattle.fe2o3_sasl_wire.specs.declared.amqp_types.SaslCode.TheVariants as outcomes
+use Rattle.fe2o3_sasl_wire.specs.SaslFrames as frames
+use Rattle.fe2o3_sasl_wire.specs.SaslFrames.{SaslFrame}
+use Rattle.fe2o3_scram.specs.declared.scram_messages.error.ScramErrorKind.{ScramErrorKind}
+use Rattle.fe2o3_scram.specs.declared.scram_messages.error.ScramErrorKind.TheVariants.{Utf8Error, ServerSignatureMismatch}
+use Rattle.fe2o3_scram.specs.Texts.{base64_text}
+use Rattle.fe2o3_scram.specs.ClientFirst.{client_first}
+use Rattle.fe2o3_scram.specs.ScramClient as client_states
+use Rattle.fe2o3_scram.specs.ScramClient.{ClientSide, started, AnswersIn, BelievesIn}
+use Rattle.fe2o3_sasl.specs.Events.{Login, ClientFault, NotImplemented, Scram}
+use Rattle.fe2o3_scram.specs.Hmac.{mechanism_name}
+
+-- the profiles: SCRAM of the three versions, PLAIN, ANONYMOUS and EXTERNAL
+pub data Profile : Type 0 where
+  ScramProfile : (client : ClientSide) → Profile
+  PlainProfile : (user password : List ℕ) → Profile
+  AnonymousProfile : Profile
+  ExternalProfile : Profile
+
+-- the name of its mechanism
+abbrev pub profile_name : Profile → List ℕ
+profile_name (ScramProfile client) = mechanism_name client.version
+profile_name (PlainProfile user password) = codes "PLAIN"
+profile_name AnonymousProfile = codes "ANONYMOUS"
+profile_name ExternalProfile = codes "EXTERNAL"
+
+-- its initial response, with this nonce
+abbrev pub initial_response : Profile → List ℕ → Option (List ℕ)
+initial_response (ScramProfile client) nonce = Some (client_first client.user (base64_text nonce))
+initial_response (PlainProfile user password) nonce = Some (0 ∷ user ++ 0 ∷ password)
+initial_response profile nonce = None
+
+-- the profile after its init
+abbrev pub after_init : Profile → List ℕ → Profile
+after_init (ScramProfile client) nonce = ScramProfile (started client nonce)
+after_init profile nonce = profile
+
+-- the frame of what a SCRAM client answers, or its refusal
+abbrev pub client_frame : {A : Type 0} → (A → SaslFrame) → Result A ScramErrorKind → Result SaslFrame ClientFault
+client_frame frame (Ok answer) = Ok (frame answer)
+client_frame frame (Err kind) = Err (Scram kind)
+
+-- the machine of a profile: from the profile, a hostname, a nonce and a frame to a reply and the profile after it
+abbrev pub profile_machine : Profile → Option (List ℕ) → List ℕ → SaslFrame → Result SaslFrame ClientFault → Profile
+    → Type 0
+profile_machine profile hostname nonce (frames.Mechanisms names) reply next =
+    (Contains names (profile_name profile)
+    × (reply ≡ Ok (frames.Init (profile_name profile) (initial_response profile nonce) hostname))
+    × (next ≡ after_init profile nonce))
+    ⊎ (¬ Contains names (profile_name profile) × (reply ≡ Err NotImplemented) × (next ≡ profile))
+profile_machine (ScramProfile client) hostname nonce (frames.Challenge text) reply next =
+    (¬ IsUtf8 text × (reply ≡ Err (Scram Utf8Error)) × (next ≡ ScramProfile client))
+    ⊎ (IsUtf8 text × ((answer : Result (List ℕ) ScramErrorKind) × (after : ClientSide)
+    × AnswersIn client.state client text answer after
+    × (reply ≡ client_frame (λ message. frames.Response message) answer) × (next ≡ ScramProfile after)))
+profile_machine (ScramProfile client) hostname nonce (frames.Outcome outcomes.Ok None) reply next =
+    (reply ≡ Err (Scram ServerSignatureMismatch)) × (next ≡ ScramProfile client)
+profile_machine (ScramProfile client) hostname nonce (frames.Outcome outcomes.Ok (Some text)) reply next =
+    (answer : Result (Unit {0}) ScramErrorKind) × (after : ClientSide)
+    × BelievesIn client.state client text answer after
+    × (reply ≡ client_frame (λ believed. frames.Outcome outcomes.Ok (Some text)) answer) × (next ≡ ScramProfile after)
+profile_machine profile hostname nonce (frames.Outcome code more) reply next =
+    (reply ≡ Ok (frames.Outcome code more)) × (next ≡ profile)
+profile_machine profile hostname nonce frame reply next = (reply ≡ Err NotImplemented) × (next ≡ profile)
+
+-- the replies that memory may be wanting for: those to a mechanisms list with the name, to a challenge for
+-- SCRAM, and to an outcome with data
+abbrev pub ProfileAllocates : Profile → SaslFrame → Type 0
+ProfileAllocates profile (frames.Mechanisms names) = Contains names (profile_name profile)
+ProfileAllocates (ScramProfile client) (frames.Challenge text) = Unit {0}
+ProfileAllocates profile (frames.Outcome code (Some text)) = Unit {0}
+ProfileAllocates profile frame = ⊥
+
+-- a SCRAM profile before its first message
+abbrev pub scram_profile : Login → Profile
+scram_profile login = ScramProfile (record {
+  user = login.user;
+  password = login.password;
+  version =
+      login.version;
+  limit = login.limit;
+  state = client_states.Initial;
+})
