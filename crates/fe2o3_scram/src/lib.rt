@@ -22,7 +22,7 @@ mod texts;
 pub use crate::credentials::{
     DEFAULT_SCRAM_ITERATIONS, ScramCredentialProvider, SingleScramCredential, StoredPassword,
 };
-pub use crate::hmac::{Meter, ScramVersion};
+pub use crate::hmac::{Meter, ScramVersion, UnknownMechanism};
 pub use crate::pbkdf2_hi::KeyError;
 pub use crate::saslprep_ascii::{NormalizeError, saslprep};
 pub use crate::scram_client::ScramClient;
