@@ -3,7 +3,7 @@ use Rattle.std.specs.Prelude.{ℕ, List, [], ◌∷◌, ◌++◌, ◌≡◌, cod
 use Rattle.fe2o3_scram.specs.declared.hmac.ScramVersion.{ScramVersion}
 use Rattle.fe2o3_scram.specs.declared.scram_messages.error.ScramErrorKind.{ScramErrorKind}
 use Rattle.fe2o3_scram.specs.Texts.{base64_text, joined, Part, LastPart}
-use Rattle.fe2o3_scram.specs.Keys.{auth_message, client_proof, server_signature}
+use Rattle.fe2o3_scram.specs.Keys.{auth_message, client_key, client_proof, server_key, server_signature, recovered_client_key, MeetsStoredKey}
 use Rattle.fe2o3_scram.specs.Pbkdf2Hi.{salted_of}
 use Rattle.fe2o3_scram.specs.ServerFirst.{Client, ServerFirst, ReadsServerFirst}
 use Rattle.std.specs.Str.{IsUtf8}
@@ -11,7 +11,7 @@ use Rattle.base64.specs.GeneralPurpose.{IsBytes}
 use Rattle.fe2o3_scram.specs.declared.scram_messages.error.ServerScramErrorKind.{ServerScramErrorKind}
 use Rattle.fe2o3_scram.specs.declared.scram_messages.error.ServerScramErrorKind.TheVariants.{Utf8Error, CannotParseClientFinalMessage, Base64DecodeError, InvalidChannelBinding, IncorrectClientFinalNonce, ProofNotFoundInClientFinal, XorLengthMismatch, AuthenticationFailed}
 use Rattle.fe2o3_scram.specs.Credentials.{Record}
-use Rattle.fe2o3_scram.specs.Hmac.{digest, digest_len, hmac_of, exclusive_or}
+use Rattle.fe2o3_scram.specs.Hmac.{digest_len}
 use Rattle.fe2o3_scram.specs.Readings.{Reads}
 
 -- client-final-message-without-proof: the GS2 header in base64 and the nonce of both sides
@@ -31,8 +31,8 @@ abbrev pub answer_of : ScramVersion → List ℕ → List ℕ → List ℕ → S
 answer_of version password bare text first =
     let salted = salted_of version password first.salt first.count in
     let auth = auth_message bare text (without_proof first.nonce) in (
-      client_final_of (without_proof first.nonce) (client_proof version salted auth),
-      server_signature version salted auth,
+      client_final_of (without_proof first.nonce) (client_proof version (client_key version salted) auth),
+      server_signature version (server_key version salted) auth,
     )
 
 -- what the client answers to a server-first message: the first refusal that holds, or the answer to what it names
@@ -87,15 +87,15 @@ HasBinding text binding = IsBytes binding × Part text 0 (codes "c=" ++ base64_t
 abbrev pub HasProof : List ℕ → ClientFinal → Type 0
 HasProof text final = IsBytes final.proof × LastPart text final.without (codes "p=" ++ base64_text final.proof)
 
--- the key that the proof gives away, where it meets the stored key: ClientKey = ClientProof XOR HMAC(StoredKey,
--- AuthMessage)
+-- the key that the proof gives away, where it meets the stored key
 abbrev pub recovered_key : Server → ClientFinal → List ℕ
-recovered_key server final = exclusive_or final.proof (hmac_of server.version server.stored_key
-    (auth_message server.bare server.first final.without))
+recovered_key server final = recovered_client_key server.version server.stored_key final.proof
+    (auth_message server.bare server.first final.without)
 
--- the proof meets the stored key: H(ClientKey) = StoredKey
+-- the proof meets the stored key
 abbrev pub Meets : Server → ClientFinal → Type 0
-Meets server final = digest server.version (recovered_key server final) ≡ server.stored_key
+Meets server final = MeetsStoredKey server.version server.stored_key final.proof
+    (auth_message server.bare server.first final.without)
 
 -- the message names these values, and its proof meets the stored key
 pub record NamesClientFinal (server : Server) (text : List ℕ) (final : ClientFinal) : Type 0 where

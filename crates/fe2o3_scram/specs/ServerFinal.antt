@@ -6,16 +6,15 @@ use Rattle.fe2o3_scram.specs.declared.scram_messages.error.ServerScramErrorKind.
 use Rattle.fe2o3_scram.specs.declared.scram_messages.error.ServerScramErrorKind.TheVariants.{AuthenticationFailed, OutOfMemory}
 use Rattle.fe2o3_scram.specs.Texts.{base64_text, Part}
 use Rattle.fe2o3_scram.specs.ClientFinal.{Server, ClientFinal, ReadsClientFinal}
-use Rattle.fe2o3_scram.specs.Hmac.{hmac_of}
-use Rattle.fe2o3_scram.specs.Keys.{auth_message}
+use Rattle.fe2o3_scram.specs.Keys.{auth_message, server_signature}
 use Rattle.fe2o3_scram.specs.Readings.{Reads}
 use Rattle.fe2o3_scram.specs.declared.scram_messages.error.ScramErrorKind.{ScramErrorKind}
 use Rattle.fe2o3_scram.specs.declared.scram_messages.error.ScramErrorKind.TheVariants.{Utf8Error, Base64DecodeError, ServerSignatureMismatch}
 
--- server-final-message: HMAC(ServerKey, AuthMessage)
+-- server-final-message: the ServerSignature
 abbrev pub server_final_of : Server → ClientFinal → List ℕ
 server_final_of server final = codes "v=" ++ base64_text
-    (hmac_of server.version server.server_key (auth_message server.bare server.first final.without))
+    (server_signature server.version server.server_key (auth_message server.bare server.first final.without))
 
 -- what the server answers to a client-final message: the first refusal, or the server-final message
 abbrev pub AnswersClientFinal : Server → List ℕ → Result (List ℕ) ServerScramErrorKind → Type 0

@@ -9,6 +9,7 @@ pub(crate) mod keyed;
 pub(crate) mod meter;
 
 use crate::OutOfMemory;
+pub use crate::hmac::hasher::DigestBytes;
 use crate::hmac::hasher::digest_of;
 use crate::hmac::keyed::HmacKey;
 pub use crate::hmac::meter::Meter;

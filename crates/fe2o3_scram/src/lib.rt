@@ -11,6 +11,7 @@
 
 pub mod credentials;
 pub mod hmac;
+pub mod keys;
 pub mod laws;
 pub mod pbkdf2_hi;
 pub mod saslprep_ascii;
@@ -22,7 +23,8 @@ mod texts;
 pub use crate::credentials::{
     DEFAULT_SCRAM_ITERATIONS, ScramCredentialProvider, SingleScramCredential, StoredPassword,
 };
-pub use crate::hmac::{Meter, ScramVersion, UnknownMechanism};
+pub use crate::hmac::{DigestBytes, Meter, ScramVersion, UnknownMechanism};
+pub use crate::keys::auth_message;
 pub use crate::pbkdf2_hi::KeyError;
 pub use crate::saslprep_ascii::{NormalizeError, saslprep};
 pub use crate::scram_client::ScramClient;

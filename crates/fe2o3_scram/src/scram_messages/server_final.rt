@@ -2,7 +2,7 @@
 
 ghost use Rattle.std.specs.Prelude.{◌≡◌, ◌≤◌, ◌<◌, ◌+◌, ◌++◌, ◌^◌, ◌↔◌, ℕ, List, IsTrue, IfOk, codes, vec_len};
 ghost use Rattle.fe2o3_scram.specs.Texts.{base64_text};
-ghost use Rattle.fe2o3_scram.specs.Hmac.{digest, digest_len, exclusive_or, hmac_of};
+ghost use Rattle.fe2o3_scram.specs.Keys.{server_signature};
 ghost use Rattle.fe2o3_scram.specs.Credentials.{kept};
 ghost use Rattle.fe2o3_scram.specs.Readings.{Gives};
 ghost use Rattle.fe2o3_scram.specs.ClientFinal.{server_of};
@@ -11,11 +11,9 @@ ghost use Rattle.fe2o3_scram.specs.private.Values.{client_final_values, AnswersP
 
 use crate::OutOfMemory;
 use crate::credentials::StoredPassword;
-use crate::hmac::hasher::{digest_of, xored};
-use crate::hmac::keyed::HmacKey;
 use crate::hmac::{Meter, ScramVersion};
+use crate::keys::auth_message;
 use crate::scram_messages::attributes::VERIFIER_KEY;
-use crate::scram_messages::client_final::auth_message;
 use crate::scram_messages::client_final_reading::{
     ClientFinalValues, read_proof, test_binding, test_nonce,
 };
@@ -99,6 +97,7 @@ impl ScramVersion {
             (kept stored_password.now)) (client_final_values values.entry) result }
         ensures cost { FinalCosts result meter.old meter.new }
     {
+        // Before memory is taken for the AuthMessage.
         if values.proof.len() != self.digest_len() {
             return Err(ServerScramErrorKind::XorLengthMismatch);
         }
@@ -109,36 +108,14 @@ impl ScramVersion {
             values.without_proof.as_bytes(),
         )?;
         if !self.verify_client_proof(
-            values.proof,
             stored_password.stored_key,
+            &values.proof,
             &auth_message,
             meter,
-        ) {
+        )? {
             return Err(ServerScramErrorKind::AuthenticationFailed);
         }
         Ok(self.server_final(alloc, stored_password.server_key, &auth_message, meter)?)
-    }
-
-    /// Whether the proof meets the stored key, which takes one HMAC value.
-    #[tactic(auto, using(crate::proofs::lemmas::hashes::DigestLemmas::sizes))]
-    fn verify_client_proof(
-        &self,
-        client_proof: Vec<u8>,
-        stored_key: &[u8],
-        auth_message: &[u8],
-        meter: &mut Meter,
-    ) -> bool
-        requires sized { vec_len client_proof ≡ digest_len self.now }
-        requires meter { meter.old + 1 < 2 ^ 64 }
-        ensures verdict { IsTrue result
-            ↔ (digest self.now (exclusive_or client_proof.items (hmac_of self.now stored_key.now auth_message.now))
-            ≡ stored_key.now) }
-        ensures counted { meter.new ≡ meter.old + 1 }
-    {
-        // ClientKey := ClientProof XOR HMAC(StoredKey, AuthMessage)
-        let client_signature = HmacKey::new(*self, stored_key).mac(auth_message, meter);
-        let client_key = xored(client_proof, client_signature.as_slice());
-        digest_of(*self, &client_key).as_slice() == stored_key
     }
 
     /// The server-final message, which takes one HMAC value.
@@ -151,10 +128,10 @@ impl ScramVersion {
     ) -> Result<Vec<u8>, OutOfMemory>
         requires { meter.old + 1 < 2 ^ 64 }
         ensures text { IfOk result (λ message. message.items ≡ codes "v="
-            ++ base64_text (hmac_of self.now server_key.now auth_message.now)) }
+            ++ base64_text (server_signature self.now server_key.now auth_message.now)) }
         ensures counted { meter.new ≡ meter.old + 1 }
     {
-        let server_signature = HmacKey::new(*self, server_key).mac(auth_message, meter);
+        let server_signature = self.compute_server_signature(server_key, auth_message, meter);
         let mut buf = VERIFIER_KEY.as_bytes().to_vec(alloc)?;
         buf.extend_from_slice(base64_of(alloc, server_signature.as_slice())?.as_bytes())?;
         Ok(buf)

@@ -2,8 +2,7 @@
 use Rattle.std.proofs.Common.{◌≡◌, ◌≢◌, ℕ, List, ◌++◌, length, Result, Ok, Err, refl, sym, ◌∙◌, ap, subst, codes, inl, inr}
 use Rattle.std.specs.Str.{IsUtf8}
 use Rattle.std.specs.declared.alloc.Global.{Global}
-use Rattle.std.specs.Prelude.{Vec, Bool, true, false, IsTrue, nat_eq}
-use Rattle.std.specs.Cmp.Lexicographic.{pointwise, told_text}
+use Rattle.std.specs.Prelude.{Vec}
 use Rattle.fe2o3_scram.specs.declared.scram_messages.error.ServerScramErrorKind.{ServerScramErrorKind}
 use Rattle.fe2o3_scram.specs.declared.scram_messages.error.ServerScramErrorKind.TheVariants.{Utf8Error, OutOfMemory}
 use Rattle.fe2o3_scram.specs.Texts.{base64_text, IsBase64, Part, LastPart, Begins}
@@ -188,13 +187,3 @@ unfolding ReadsClientFinal
 one_client_final server text answer other reads too =
     one_reading (client_final_tests server text) (NamesClientFinal server text)
     (λ final another names them. one_proof text final another names.proof them.proof) answer other reads too
-
--- what a test of two texts has told
-pub told : (equal : Bool) (text other : List ℕ) → equal ≡ pointwise nat_eq text other
-    → (IsTrue equal → text ≡ other) × (text ≡ other → IsTrue equal)
-told true text other is = (λ _. told_text text other true is, λ _. refl)
-told false text other is = (
-  λ wrong. let apart : false ≡ true = wrong in
-      absurd (cc),
-  λ same. absurd (told_text text other false is same),
-)

@@ -17,8 +17,8 @@ use Rattle.fe2o3_scram.specs.ClientFinal.{without_proof, client_final_of, Server
 use Rattle.fe2o3_scram.specs.ClientFirst.{client_first, client_first_bare, ReadsClientFirst}
 use Rattle.fe2o3_scram.specs.Escape.{escaped}
 use Rattle.fe2o3_scram.specs.Exchanges.{Exchange, IsSound, Succeeds, nonce_in, bare_in, first_in, named_in, server_in, final_in, answer_in}
-use Rattle.fe2o3_scram.specs.Hmac.{digest, digest_len, hmac_of, exclusive_or}
-use Rattle.fe2o3_scram.specs.Keys.{auth_message, client_key, stored_key, client_proof}
+use Rattle.fe2o3_scram.specs.Hmac.{digest, digest_len, exclusive_or}
+use Rattle.fe2o3_scram.specs.Keys.{auth_message, client_key, client_signature, stored_key, client_proof}
 use Rattle.fe2o3_scram.specs.Pbkdf2Hi.{salted_of}
 use Rattle.fe2o3_scram.specs.ServerFinal.{server_final_of, ReadsServerFinal}
 use Rattle.fe2o3_scram.specs.ServerFirst.{HasSalt, HasCount, ReadsServerFirst}
@@ -240,12 +240,12 @@ reads_client_final x sound =
     let salted = salted_of v x.password x.salt x.count in
     let auth = auth_message (bare_in x) (first_in x) (without_proof (nonce_in x)) in
     let key = client_key v salted in
-    let mac = hmac_of v (stored_key v salted) auth in
+    let mac = client_signature v (stored_key v key) auth in
     let key_long : length key ≡ digest_len v = length-hmac_of v salted (codes "Client Key") in
-    let mac_long : length mac ≡ digest_len v = length-hmac_of v (stored_key v salted) auth in
-    reads_final (server_in x) (client_proof v salted auth) (nonce_plain x sound) (nonce_text x sound)
+    let mac_long : length mac ≡ digest_len v = length-hmac_of v (stored_key v key) auth in
+    reads_final (server_in x) (client_proof v key auth) (nonce_plain x sound) (nonce_text x sound)
     (IsBytes-exclusive_or key mac (IsBytes-hmac_of v salted (codes "Client Key"))
-    (IsBytes-hmac_of v (stored_key v salted) auth))
+    (IsBytes-hmac_of v (stored_key v key) auth))
     (length-exclusive_or key mac (key_long ∙ sym mac_long) ∙ key_long)
     (ap (digest v) (exclusive_or-back key mac (key_long ∙ sym mac_long)))
 

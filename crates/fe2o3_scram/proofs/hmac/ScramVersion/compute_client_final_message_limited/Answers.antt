@@ -16,7 +16,7 @@ returns-in_err-answer-clause-cost c =
     let from = err_from_is_err_and c.from_residual-in_err-answer.result c.from_residual-in_err-answer.ensures.1 in
     costs_of_answer client c.args.server_first.now c.from_residual-in_err-answer.result
     (values_of c.in_ok-first.first) c.args.meter.now c.answer.new.meter
-    c.in_ok-first.ensures.reads c.in_ok-first.ensures.count.1 (rw from.1 tt) c.in_err-answer.ensures.memory
+    c.in_ok-first.ensures.reads c.in_ok-first.ensures.count.1 (rw from.1 tt) c.in_err-answer.ensures.at_most
 
 pub returns-clause-cost : goal.returns-clause-cost
 returns-clause-cost c =
