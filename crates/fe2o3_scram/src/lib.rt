@@ -29,8 +29,8 @@ pub use crate::pbkdf2_hi::KeyError;
 pub use crate::saslprep_ascii::{NormalizeError, saslprep};
 pub use crate::scram_client::ScramClient;
 pub use crate::scram_messages::{
-    ScramErrorKind, ServerFirstMessage, ServerScramErrorKind, UnescapeError, XorLengthMismatch,
-    escape_username, unescape_username,
+    ClientFinal, ClientFirst, ScramErrorKind, ServerFinal, ServerFirst, ServerFirstMessage,
+    ServerScramErrorKind, UnescapeError, XorLengthMismatch, escape_username, unescape_username,
 };
 pub use crate::scram_server::ScramAuthenticator;
 pub use std::alloc::AllocError as OutOfMemory;

@@ -4,14 +4,14 @@ ghost use Rattle.std.specs.Prelude.{◌≡◌, ◌≤◌, ◌<◌, ◌+◌, ◌^
 ghost use Rattle.fe2o3_scram.specs.ClientFinal.{AnswerCosts, without_proof, client_final_of, answer_of, AnswersServerFirst};
 ghost use Rattle.fe2o3_scram.specs.Hmac.{digest_bytes};
 ghost use Rattle.fe2o3_scram.specs.Readings.{Gives};
-ghost use Rattle.fe2o3_scram.specs.private.Values.{values_of};
+ghost use Rattle.fe2o3_scram.specs.ServerFirst.{server_first_values};
 
 use crate::OutOfMemory;
 use crate::hmac::{Meter, ScramVersion};
 use crate::keys::auth_message;
 use crate::scram_messages::attributes::{CHANNEL_BINDING_KEY, GS2_HEADER, NONCE_KEY, PROOF_KEY};
 use crate::scram_messages::error::ScramErrorKind;
-use crate::scram_messages::server_first_reading::{ServerFirstValues, read_server_first};
+use crate::scram_messages::server_first_reading::ServerFirst;
 use crate::texts::base64_of;
 use std::alloc::Global;
 
@@ -95,7 +95,7 @@ impl ScramVersion {
         ensures cost { AnswerCosts (record { nonce = client_nonce.now; password = password.now; limit = limit })
             server_first.now result meter.old meter.new }
     {
-        let first = read_server_first(alloc, client_nonce, password, limit, server_first)?;
+        let first = ServerFirst::parse(alloc, client_nonce, password, limit, server_first)?;
         let answer = self.answer(
             alloc,
             password,
@@ -114,13 +114,13 @@ impl ScramVersion {
         password: &str,
         client_first_message_bare: &[u8],
         server_first: &str,
-        first: &ServerFirstValues<'_>,
+        first: &ServerFirst<'_>,
         meter: &mut Meter,
     ) -> Result<(Vec<u8>, Vec<u8>), ScramErrorKind>
         requires some { 1 ≤ first.now.iterations }
         requires meter { meter.old ≤ 2 ^ 63 }
         ensures answer { IfOk result (λ answer. (answer.0.items, answer.1.items)
-            ≡ answer_of self.now password.now client_first_message_bare.now server_first.now (values_of first.now)) }
+            ≡ answer_of self.now password.now client_first_message_bare.now server_first.now (server_first_values first.now)) }
         ensures counted { OnOk result (meter.new ≡ meter.old + (first.now.iterations + 4)) }
         ensures memory { IfErr result (λ kind. kind ≡ ScramErrorKind.OutOfMemory) }
         ensures at_most { OnErr result (meter.new ≤ meter.old + (first.now.iterations + 4)) }

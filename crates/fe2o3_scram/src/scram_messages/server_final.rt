@@ -5,18 +5,16 @@ ghost use Rattle.fe2o3_scram.specs.Texts.{base64_text};
 ghost use Rattle.fe2o3_scram.specs.Keys.{server_signature};
 ghost use Rattle.fe2o3_scram.specs.Credentials.{kept};
 ghost use Rattle.fe2o3_scram.specs.Readings.{Gives};
-ghost use Rattle.fe2o3_scram.specs.ClientFinal.{server_of};
+ghost use Rattle.fe2o3_scram.specs.ClientFinal.{server_of, client_final_values};
 ghost use Rattle.fe2o3_scram.specs.ServerFinal.{AnswersClientFinal, FinalCosts};
-ghost use Rattle.fe2o3_scram.specs.private.Values.{client_final_values, AnswersProof};
+ghost use Rattle.fe2o3_scram.specs.private.Answers.{AnswersProof};
 
 use crate::OutOfMemory;
 use crate::credentials::StoredPassword;
 use crate::hmac::{Meter, ScramVersion};
 use crate::keys::auth_message;
 use crate::scram_messages::attributes::VERIFIER_KEY;
-use crate::scram_messages::client_final_reading::{
-    ClientFinalValues, read_proof, test_binding, test_nonce,
-};
+use crate::scram_messages::client_final_reading::ClientFinal;
 use crate::scram_messages::error::ServerScramErrorKind;
 use crate::texts::base64_of;
 use std::alloc::Global;
@@ -65,15 +63,10 @@ impl ScramVersion {
             client_server_nonce.now (kept stored_password.now)) client_final.now) }
         ensures cost { FinalCosts result meter.old meter.new }
     {
-        let Ok(text) = str::from_utf8(client_final) else {
-            return Err(ServerScramErrorKind::Utf8Error);
-        };
-        test_binding(alloc, text)?;
-        test_nonce(client_server_nonce, text)?;
-        let values = read_proof(alloc, text)?;
+        let client_final = ClientFinal::parse(alloc, client_server_nonce, client_final)?;
         self.answer_proof(
             alloc,
-            values,
+            &client_final,
             client_first_message_bare,
             server_first_message,
             stored_password,
@@ -85,31 +78,31 @@ impl ScramVersion {
     fn answer_proof(
         &self,
         alloc: Global,
-        values: ClientFinalValues<'_>,
+        client_final: &ClientFinal<'_>,
         client_first_message_bare: &[u8],
         server_first_message: &[u8],
         stored_password: &StoredPassword<'_>,
         meter: &mut Meter,
     ) -> Result<Vec<u8>, ServerScramErrorKind>
         requires { meter.old ≤ 2 ^ 63 }
-        ensures answer { (nonce : List ℕ)
-            → AnswersProof (server_of self.now client_first_message_bare.now server_first_message.now nonce
-            (kept stored_password.now)) (client_final_values values.entry) result }
+        ensures answer { (nonce : List ℕ) → Gives ServerScramErrorKind.OutOfMemory (λ message. message.items) result
+            (AnswersProof (server_of self.now client_first_message_bare.now server_first_message.now nonce
+            (kept stored_password.now)) (client_final_values client_final.now)) }
         ensures cost { FinalCosts result meter.old meter.new }
     {
         // Before memory is taken for the AuthMessage.
-        if values.proof.len() != self.digest_len() {
+        if client_final.proof.len() != self.digest_len() {
             return Err(ServerScramErrorKind::XorLengthMismatch);
         }
         let auth_message = auth_message(
             alloc,
             client_first_message_bare,
             server_first_message,
-            values.without_proof.as_bytes(),
+            client_final.without_proof.as_bytes(),
         )?;
         if !self.verify_client_proof(
             stored_password.stored_key,
-            &values.proof,
+            &client_final.proof,
             &auth_message,
             meter,
         )? {
