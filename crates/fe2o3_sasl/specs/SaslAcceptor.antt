@@ -23,6 +23,11 @@ acceptor_names (ScramAcceptor provider state) = mechanism_name provider.version 
 acceptor_names (PlainAcceptor user password) = codes "PLAIN" ∷ []
 acceptor_names AnonymousAcceptor = codes "ANONYMOUS" ∷ []
 
+-- the names that a server offers: ANONYMOUS where it has none (AMQP 1.0, part 5, section 5.3.3.1)
+abbrev pub offered : List (List ℕ) → List (List ℕ)
+offered [] = codes "ANONYMOUS" ∷ []
+offered names = names
+
 -- cut at its zero bytes, the text has this part at place k, counted from 0
 abbrev pub ZeroPart : List ℕ → ℕ → List ℕ → Type 0
 ZeroPart text k part = (parts : List (List ℕ)) × AllByRecursion (λ some. AllByRecursion (λ byte. byte ≢ 0) some) parts
