@@ -9,6 +9,7 @@ pub mod TwoSides
 pub mod Audit
 pub mod UnalteredRuns
 pub mod Laws
+pub mod MechanismLaws
 pub mod Headline
 pub mod Review
 pub mod examples

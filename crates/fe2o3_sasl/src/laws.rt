@@ -3,6 +3,7 @@
 
 ghost use Rattle.fe2o3_sasl.specs.Headline.{OkOnlyWhereAccepted, OkWhereverAccepted, ReportedOnlyWhereSigned, ReportedWhereverSigned, IssuedVerifiersAgree};
 ghost use Rattle.fe2o3_sasl.specs.Laws.{OneServerHistory, OneClientHistory, AcceptorRunsAreHistories, ProfileRunsAreHistories, OksWithinChallenges, RepeatedResponsesAreRefused, OneResponseOneNonce, RefusalsLeaveOpen, PositionsAreUsedOnce, EqualMessagesAgree, NoShortExtensions, TakenVerifiersAreJudged, ShownProofsAreJudged, OneVerdictEach, RepeatedClientPositions, RepeatedServerPositions, UnalteredRunsLogIn};
+ghost use Rattle.fe2o3_sasl.specs.MechanismLaws.{OneAcceptorReply, OneProfileReply, OffersAgree, PlainLetsIn, PlainRefuses, AnonymousLetsIn, SomethingIsOffered, NamesDiffer};
 ghost use Rattle.fe2o3_sasl.specs.examples.Examples.{GuestsEnter, WrongPasswordsFail, NamesAloneFail, EmptyInitsFail, ResponsesToPlainFail, ShiftedTextsPass, RefusalsHaveOneBody, ServersAnswer, ClientsAnswer, ShiftedHistoriesPass};
 
 pub use fe2o3_scram::laws::{
@@ -97,4 +98,20 @@ pub fn worked_examples()
     ensures servers_answer { ServersAnswer }
     ensures clients_answer { ClientsAnswer }
     ensures shifted_histories_pass { ShiftedHistoriesPass }
+{}
+
+/// What holds of every mechanism: each acceptor and each profile has one reply to a frame; a server
+/// offers what a profile asks for exactly where both are of one mechanism; PLAIN lets in the same
+/// user with the same password and refuses all others, in words without zero bytes (RFC 4616,
+/// section 2); ANONYMOUS lets in whoever asks for it; a server always offers something; and the six
+/// profiles have six names.
+pub fn mechanisms()
+    ensures one_acceptor_reply { OneAcceptorReply }
+    ensures one_profile_reply { OneProfileReply }
+    ensures offers_agree { OffersAgree }
+    ensures plain_lets_in { PlainLetsIn }
+    ensures plain_refuses { PlainRefuses }
+    ensures anonymous_lets_in { AnonymousLetsIn }
+    ensures something_is_offered { SomethingIsOffered }
+    ensures names_differ { NamesDiffer }
 {}
