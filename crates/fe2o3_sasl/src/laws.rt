@@ -4,7 +4,8 @@
 ghost use Rattle.fe2o3_sasl.specs.Headline.{OkOnlyWhereAccepted, OkWhereverAccepted, ReportedOnlyWhereSigned, ReportedWhereverSigned, IssuedVerifiersAgree};
 ghost use Rattle.fe2o3_sasl.specs.Laws.{OneServerHistory, OneClientHistory, AcceptorRunsAreHistories, ProfileRunsAreHistories, OksWithinChallenges, RepeatedResponsesAreRefused, OneResponseOneNonce, RefusalsLeaveOpen, PositionsAreUsedOnce, EqualMessagesAgree, NoShortExtensions, TakenVerifiersAreJudged, ShownProofsAreJudged, OneVerdictEach, RepeatedClientPositions, RepeatedServerPositions, UnalteredRunsLogIn};
 ghost use Rattle.fe2o3_sasl.specs.MechanismLaws.{OneAcceptorReply, OneProfileReply, OffersAgree, PlainLetsIn, PlainRefuses, AnonymousLetsIn, SomethingIsOffered, NamesDiffer};
-ghost use Rattle.fe2o3_sasl.specs.examples.Examples.{GuestsEnter, WrongPasswordsFail, NamesAloneFail, EmptyInitsFail, ResponsesToPlainFail, ShiftedTextsPass, RefusalsHaveOneBody, ServersAnswer, ClientsAnswer, ShiftedHistoriesPass};
+ghost use Rattle.fe2o3_sasl.specs.examples.Examples.{ShiftedTextsPass, RefusalsHaveOneBody, ServersAnswer, ClientsAnswer, ShiftedHistoriesPass};
+ghost use Rattle.fe2o3_sasl.specs.examples.PlainExamples.{GuestsEnter, SwappedWordsFail, WrongPasswordsFail, NamesAloneFail, EmptyInitsFail, ResponsesToPlainFail, GuestsStart, OthersAreNotImplemented, PlainReportsOutcomes, MechanismsAreNamed, NamesAreOffered};
 
 pub use fe2o3_scram::laws::{
     base64_texts, clone_of_version, digests, escaped_names, one_answer_each, parts,
@@ -114,4 +115,17 @@ pub fn mechanisms()
     ensures anonymous_lets_in { AnonymousLetsIn }
     ensures something_is_offered { SomethingIsOffered }
     ensures names_differ { NamesDiffer }
+{}
+
+/// More of what the definitions say of worked examples. Of PLAIN: a guest's two words in the other
+/// order end with Auth, a list with PLAIN among other names is answered by an init with the words and
+/// the hostname, a list without it by NotImplemented, and outcomes are reported as they are. Of the
+/// mechanisms: their six names, and what a server offers.
+pub fn more_examples()
+    ensures swapped_words_fail { SwappedWordsFail }
+    ensures guests_start { GuestsStart }
+    ensures others_are_not_implemented { OthersAreNotImplemented }
+    ensures plain_reports_outcomes { PlainReportsOutcomes }
+    ensures mechanisms_are_named { MechanismsAreNamed }
+    ensures names_are_offered { NamesAreOffered }
 {}

@@ -16,7 +16,7 @@ use Rattle.fe2o3_sasl.proofs.lemmas.machines.ZeroPartLemmas.{names_both, names_n
 -- ---- names
 
 -- two literals that are not the same
-differ : (text other : List ℕ) → pointwise nat_eq text other ≡ false → text ≢ other
+pub differ : (text other : List ℕ) → pointwise nat_eq text other ≡ false → text ≢ other
 differ text other apart same =
     true≢false (sym (nat_list_eq_equiv.refl text) ∙ (ap (pointwise nat_eq text) same ∙ apart))
 
