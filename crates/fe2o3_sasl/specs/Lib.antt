@@ -5,6 +5,7 @@ pub mod ClientHistory
 pub mod SaslAcceptor
 pub mod SaslProfile
 pub mod Runs
+pub mod Hex
 pub mod TwoSides
 pub mod Audit
 pub mod UnalteredRuns

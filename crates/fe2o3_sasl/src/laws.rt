@@ -3,6 +3,7 @@
 
 ghost use Rattle.fe2o3_sasl.specs.Headline.{OkOnlyWhereAccepted, OkWhereverAccepted, ReportedOnlyWhereSigned, ReportedWhereverSigned, IssuedVerifiersAgree};
 ghost use Rattle.fe2o3_sasl.specs.Laws.{OneServerHistory, OneClientHistory, AcceptorRunsAreHistories, ProfileRunsAreHistories, OksWithinChallenges, RepeatedResponsesAreRefused, OneResponseOneNonce, RefusalsLeaveOpen, PositionsAreUsedOnce, EqualMessagesAgree, NoShortExtensions, TakenVerifiersAreJudged, ShownProofsAreJudged, OneVerdictEach, RepeatedClientPositions, RepeatedServerPositions, UnalteredRunsLogIn};
+ghost use Rattle.fe2o3_sasl.specs.Hex.{OneBytesOfHex, HexIsReadAgain};
 ghost use Rattle.fe2o3_sasl.specs.MechanismLaws.{OneAcceptorReply, OneProfileReply, OffersAgree, PlainLetsIn, PlainRefuses, AnonymousLetsIn, SomethingIsOffered, NamesDiffer};
 ghost use Rattle.fe2o3_sasl.specs.examples.Examples.{ShiftedTextsPass, RefusalsHaveOneBody, ServersAnswer, ClientsAnswer, ShiftedHistoriesPass};
 ghost use Rattle.fe2o3_sasl.specs.examples.PlainExamples.{GuestsEnter, SwappedWordsFail, WrongPasswordsFail, NamesAloneFail, EmptyInitsFail, ResponsesToPlainFail, GuestsStart, OthersAreNotImplemented, PlainReportsOutcomes, MechanismsAreNamed, NamesAreOffered};
@@ -115,6 +116,13 @@ pub fn mechanisms()
     ensures anonymous_lets_in { AnonymousLetsIn }
     ensures something_is_offered { SomethingIsOffered }
     ensures names_differ { NamesDiffer }
+{}
+
+/// A hexadecimal text spells at most one list of bytes, and each list of bytes is spelled by one in
+/// digits of either case.
+pub fn hex_texts()
+    ensures one { OneBytesOfHex }
+    ensures again { HexIsReadAgain }
 {}
 
 /// More of what the definitions say of worked examples. Of PLAIN: a guest's two words in the other
