@@ -7,6 +7,8 @@ ghost use Rattle.fe2o3_sasl.specs.Hex.{OneBytesOfHex, HexIsReadAgain};
 ghost use Rattle.fe2o3_sasl.specs.MechanismLaws.{OneAcceptorReply, OneProfileReply, OffersAgree, PlainLetsIn, PlainRefuses, AnonymousLetsIn, SomethingIsOffered, NamesDiffer};
 ghost use Rattle.fe2o3_sasl.specs.examples.Examples.{ShiftedTextsPass, RefusalsHaveOneBody, ServersAnswer, ClientsAnswer, ShiftedHistoriesPass};
 ghost use Rattle.fe2o3_sasl.specs.examples.PlainExamples.{GuestsEnter, SwappedWordsFail, WrongPasswordsFail, NamesAloneFail, EmptyInitsFail, ResponsesToPlainFail, GuestsStart, OthersAreNotImplemented, PlainReportsOutcomes, MechanismsAreNamed, NamesAreOffered};
+ghost use Rattle.fe2o3_sasl.specs.examples.HexExamples.{DigitsOfBothCases, OtherTextsSpellNothing};
+ghost use Rattle.fe2o3_sasl.specs.examples.ReplyExamples.{OtherMechanismsFail, OtherTextsAreRefused};
 
 pub use fe2o3_scram::laws::{
     base64_texts, clone_of_version, digests, escaped_names, one_answer_each, parts,
@@ -136,4 +138,8 @@ pub fn more_examples()
     ensures plain_reports_outcomes { PlainReportsOutcomes }
     ensures mechanisms_are_named { MechanismsAreNamed }
     ensures names_are_offered { NamesAreOffered }
+    ensures digits_of_both_cases { DigitsOfBothCases }
+    ensures other_texts_spell_nothing { OtherTextsSpellNothing }
+    ensures other_mechanisms_fail { OtherMechanismsFail }
+    ensures other_texts_are_refused { OtherTextsAreRefused }
 {}

@@ -1,4 +1,6 @@
 use Rattle.fe2o3_sasl.proofs.lemmas.examples.PlainExampleLemmas.{swapped_words_fail, guests_start, others_are_not_implemented, plain_reports_outcomes, mechanisms_are_named, names_are_offered}
+use Rattle.fe2o3_sasl.proofs.lemmas.examples.HexExampleLemmas.{digits_of_both_cases, other_texts_spell_nothing}
+use Rattle.fe2o3_sasl.proofs.lemmas.examples.ReplyExampleLemmas.{other_mechanisms_fail, other_texts_are_refused}
 use Rattle.fe2o3_sasl.proofs.laws.more_examples.Goals as goal
 
 pub returns-clause-swapped_words_fail : goal.returns-clause-swapped_words_fail
@@ -18,3 +20,15 @@ returns-clause-mechanisms_are_named c = mechanisms_are_named
 
 pub returns-clause-names_are_offered : goal.returns-clause-names_are_offered
 returns-clause-names_are_offered c = names_are_offered
+
+pub returns-clause-digits_of_both_cases : goal.returns-clause-digits_of_both_cases
+returns-clause-digits_of_both_cases c = digits_of_both_cases
+
+pub returns-clause-other_texts_spell_nothing : goal.returns-clause-other_texts_spell_nothing
+returns-clause-other_texts_spell_nothing c = other_texts_spell_nothing
+
+pub returns-clause-other_mechanisms_fail : goal.returns-clause-other_mechanisms_fail
+returns-clause-other_mechanisms_fail c = other_mechanisms_fail
+
+pub returns-clause-other_texts_are_refused : goal.returns-clause-other_texts_are_refused
+returns-clause-other_texts_are_refused c = other_texts_are_refused
