@@ -8,7 +8,7 @@ ghost use Rattle.fe2o3_sasl.specs.MechanismLaws.{OneAcceptorReply, OneProfileRep
 ghost use Rattle.fe2o3_sasl.specs.examples.Examples.{ShiftedTextsPass, RefusalsHaveOneBody, ServersAnswer, ClientsAnswer, ShiftedHistoriesPass};
 ghost use Rattle.fe2o3_sasl.specs.examples.PlainExamples.{GuestsEnter, SwappedWordsFail, WrongPasswordsFail, NamesAloneFail, EmptyInitsFail, ResponsesToPlainFail, GuestsStart, OthersAreNotImplemented, PlainReportsOutcomes, MechanismsAreNamed, NamesAreOffered};
 ghost use Rattle.fe2o3_sasl.specs.examples.HexExamples.{DigitsOfBothCases, OtherTextsSpellNothing};
-ghost use Rattle.fe2o3_sasl.specs.examples.ReplyExamples.{OtherMechanismsFail, OtherTextsAreRefused};
+ghost use Rattle.fe2o3_sasl.specs.examples.ReplyExamples.{OtherMechanismsFail, OtherTextsAreRefused, FailuresAreReported, NamesAreFound, FindingsInOrder, UnsentChallenges, UnsentStarts};
 
 pub use fe2o3_scram::laws::{
     base64_texts, clone_of_version, digests, escaped_names, one_answer_each, parts,
@@ -142,4 +142,9 @@ pub fn more_examples()
     ensures other_texts_spell_nothing { OtherTextsSpellNothing }
     ensures other_mechanisms_fail { OtherMechanismsFail }
     ensures other_texts_are_refused { OtherTextsAreRefused }
+    ensures failures_are_reported { FailuresAreReported }
+    ensures names_are_found { NamesAreFound }
+    ensures findings_in_order { FindingsInOrder }
+    ensures unsent_challenges { UnsentChallenges }
+    ensures unsent_starts { UnsentStarts }
 {}

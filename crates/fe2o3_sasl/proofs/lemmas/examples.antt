@@ -10,3 +10,4 @@ pub mod ReplyExampleLemmas
 pub mod ServerExampleLemmas
 pub mod ShiftedHistoryLemmas
 pub mod ShiftedTextLemmas
+pub mod UnsentExampleLemmas

@@ -1,6 +1,7 @@
 use Rattle.fe2o3_sasl.proofs.lemmas.examples.PlainExampleLemmas.{swapped_words_fail, guests_start, others_are_not_implemented, plain_reports_outcomes, mechanisms_are_named, names_are_offered}
 use Rattle.fe2o3_sasl.proofs.lemmas.examples.HexExampleLemmas.{digits_of_both_cases, other_texts_spell_nothing}
-use Rattle.fe2o3_sasl.proofs.lemmas.examples.ReplyExampleLemmas.{other_mechanisms_fail, other_texts_are_refused}
+use Rattle.fe2o3_sasl.proofs.lemmas.examples.ReplyExampleLemmas.{other_mechanisms_fail, other_texts_are_refused, failures_are_reported, names_are_found, findings_in_order}
+use Rattle.fe2o3_sasl.proofs.lemmas.examples.UnsentExampleLemmas.{unsent_challenges, unsent_starts}
 use Rattle.fe2o3_sasl.proofs.laws.more_examples.Goals as goal
 
 pub returns-clause-swapped_words_fail : goal.returns-clause-swapped_words_fail
@@ -32,3 +33,18 @@ returns-clause-other_mechanisms_fail c = other_mechanisms_fail
 
 pub returns-clause-other_texts_are_refused : goal.returns-clause-other_texts_are_refused
 returns-clause-other_texts_are_refused c = other_texts_are_refused
+
+pub returns-clause-failures_are_reported : goal.returns-clause-failures_are_reported
+returns-clause-failures_are_reported c = failures_are_reported
+
+pub returns-clause-names_are_found : goal.returns-clause-names_are_found
+returns-clause-names_are_found c = names_are_found
+
+pub returns-clause-findings_in_order : goal.returns-clause-findings_in_order
+returns-clause-findings_in_order c = findings_in_order
+
+pub returns-clause-unsent_challenges : goal.returns-clause-unsent_challenges
+returns-clause-unsent_challenges c = unsent_challenges
+
+pub returns-clause-unsent_starts : goal.returns-clause-unsent_starts
+returns-clause-unsent_starts c = unsent_starts

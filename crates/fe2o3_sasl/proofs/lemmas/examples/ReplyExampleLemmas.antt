@@ -14,11 +14,12 @@ use Rattle.fe2o3_sasl_wire.specs.SaslFrames.{SaslFrame}
 use Rattle.fe2o3_scram.specs.declared.scram_messages.error.ScramErrorKind.TheVariants.{Utf8Error, IllegalClientState}
 use Rattle.fe2o3_scram.specs.Texts.{joined}
 use Rattle.fe2o3_scram.proofs.lemmas.texts.AsciiLemmas.{IsAscii-literal, IsUtf8-literal}
+use Rattle.fe2o3_sasl.specs.Audit.{Before}
 use Rattle.fe2o3_sasl.specs.ClientHistory.{ClientAllocates, ClientAnswers, ClientHistory, IsDue, OpenAnswer, is_start, is_answer}
 use Rattle.fe2o3_sasl.specs.Events.{Given, ServerSays, Concluded, Failed, ClientSays, Reported, Refused, Started, Scram, OutOfMemory}
 use Rattle.fe2o3_sasl.specs.ServerHistory.{Challenging, FitsAsInit, Open, ServerAllocates, ServerAnswers, ServerHistory, SpellsBody, says_auth}
 use Rattle.fe2o3_sasl.specs.examples.Examples.{client_bytes, server_bytes, login, provider, names, sends_init, auth_body, body_of, arrives, arrive, HaveBodies}
-use Rattle.fe2o3_sasl.specs.examples.ReplyExamples.{ServerSent, ClientSent, other_init, OtherMechanismsFail, OtherTextsAreRefused, FailuresAreReported, NamesAreFound}
+use Rattle.fe2o3_sasl.specs.examples.ReplyExamples.{ServerSent, ClientSent, other_init, OtherMechanismsFail, OtherTextsAreRefused, FailuresAreReported, NamesAreFound, FindingsInOrder}
 use Rattle.fe2o3_sasl.proofs.lemmas.examples.ClientExampleLemmas.{start_said}
 use Rattle.fe2o3_sasl.proofs.lemmas.examples.ExampleBodyLemmas.{bodied, short_items, short_variable, short_joined, short_names, refusals_have_one_body, auth_sent, spells_body, init_texts}
 use Rattle.fe2o3_sasl.proofs.lemmas.examples.ReplyByReplyLemmas.{server_history, client_history}
@@ -103,3 +104,114 @@ other_texts_are_refused =
         ),
       ),
     )
+
+auth_outcome_sent : canonical (frames.Outcome outcomes.Auth (Some (codes "v=AA==")))
+    ≡ Some (body_of (frames.Outcome outcomes.Auth (Some (codes "v=AA=="))))
+unfolding canonical
+auth_outcome_sent = refl
+
+sys_sent : canonical (frames.Outcome outcomes.Sys None) ≡ Some (body_of (frames.Outcome outcomes.Sys None))
+unfolding canonical
+sys_sent = refl
+
+perm_sent : canonical (frames.Outcome outcomes.SysPerm (Some (0xff ∷ [])))
+    ≡ Some (body_of (frames.Outcome outcomes.SysPerm (Some (0xff ∷ []))))
+unfolding canonical
+perm_sent = refl
+
+temp_sent : canonical (frames.Outcome outcomes.SysTemp None) ≡ Some (body_of (frames.Outcome outcomes.SysTemp None))
+unfolding canonical
+temp_sent = refl
+
+pub failures_are_reported : FailuresAreReported
+failures_are_reported =
+    let auth = frames.Outcome outcomes.Auth (Some (codes "v=AA==")) in
+    let sys = frames.Outcome outcomes.Sys None in
+    let perm = frames.Outcome outcomes.SysPerm (Some (0xff ∷ [])) in
+    let temp = frames.Outcome outcomes.SysTemp None in (
+      (auth_outcome_sent, (sys_sent, (perm_sent, (temp_sent, tt)))),
+      client_history login (arrive client_bytes (auth ∷ sys ∷ perm ∷ temp ∷ [])) _ refl (
+        (Ok auth, spells_body auth (tt, (tt, tt)) auth_outcome_sent, inr refl),
+        (
+          (Ok sys, spells_body sys (tt, (tt, tt)) sys_sent, inr refl),
+          (
+            (Ok perm, spells_body perm (tt, (tt, tt)) perm_sent, inr refl),
+            ((Ok temp, spells_body temp (tt, (tt, tt)) temp_sent, inr refl), tt),
+          ),
+        ),
+      ),
+    )
+
+-- ---- lists of several names
+
+-- with the name, and without it
+abbrev with_name : List (List ℕ)
+with_name = codes "PLAIN" ∷ codes "SCRAM-SHA-256" ∷ codes "SCRAM-SHA-1" ∷ []
+
+abbrev without_name : List (List ℕ)
+without_name = codes "PLAIN" ∷ codes "SCRAM-SHA-1" ∷ []
+
+with_name_sent : canonical (frames.Mechanisms with_name) ≡ Some (body_of (frames.Mechanisms with_name))
+unfolding canonical
+with_name_sent = refl
+
+without_name_sent : canonical (frames.Mechanisms without_name) ≡ Some (body_of (frames.Mechanisms without_name))
+unfolding canonical
+without_name_sent = refl
+
+not_named : ¬ Contains without_name (codes "SCRAM-SHA-256")
+not_named (zero, within, is) = differ (codes "PLAIN") (codes "SCRAM-SHA-256") refl is
+not_named (suc zero, within, is) = differ (codes "SCRAM-SHA-1") (codes "SCRAM-SHA-256") refl is
+not_named (suc (suc k), within, is) = absurd (omega (arith, within))
+
+pub names_are_found : NamesAreFound
+names_are_found =
+    let listed = frames.Mechanisms with_name in
+    let unlisted = frames.Mechanisms without_name in
+    let old = IsAscii-literal (codes "SCRAM-SHA-1") refl in
+    let plain = IsAscii-literal (codes "PLAIN") refl in
+    let own = IsAscii-literal (codes "SCRAM-SHA-256") refl in (
+      (with_name_sent, (without_name_sent, tt)),
+      client_history login (arrive client_bytes (listed ∷ unlisted ∷ [])) _ refl (
+        (
+          Ok listed,
+          spells_body listed ((plain, (own, (old, tt))), tt) with_name_sent,
+          inr (inl ((1, omega arith, refl), start_said)),
+        ),
+        (
+          (
+            Ok unlisted,
+            spells_body unlisted ((plain, (old, tt)), tt) without_name_sent,
+            inr (inr (not_named, refl)),
+          ),
+          tt,
+        ),
+      ),
+    )
+
+-- ---- the order of findings
+
+pub findings_in_order : FindingsInOrder
+findings_in_order = (
+  ((inr (refl, omega arith), (inl (omega arith), tt)), ((inl (omega arith), tt), (tt, tt))),
+  λ order. swapped order.0.0,
+  λ order. later order.0.0,
+  λ order. behind order.1.0.0,
+  λ order. twice order.0.0,
+)
+  where
+    swapped : ¬ Before (2, 3) (2, 1)
+    swapped (inl less) = absurd (omega (arith, less))
+    swapped (inr less) = absurd (omega (arith, less.1))
+
+    later : ¬ Before (3, 0) (2, 1)
+    later (inl less) = absurd (omega (arith, less))
+    later (inr less) = absurd (omega (arith, less.0))
+
+    behind : ¬ Before (3, 0) (2, 3)
+    behind (inl less) = absurd (omega (arith, less))
+    behind (inr less) = absurd (omega (arith, less.0))
+
+    twice : ¬ Before (2, 1) (2, 1)
+    twice (inl less) = absurd (omega (arith, less))
+    twice (inr less) = absurd (omega (arith, less.1))

@@ -21,10 +21,10 @@ differ text other apart same =
     true≢false (sym (nat_list_eq_equiv.refl text) ∙ (ap (pointwise nat_eq text) same ∙ apart))
 
 -- a list of one name
-contains_one : (name : List ℕ) → Contains (name ∷ []) name
+pub contains_one : (name : List ℕ) → Contains (name ∷ []) name
 contains_one name = (0, omega arith, refl)
 
-the_one : (name other : List ℕ) → Contains (name ∷ []) other → name ≡ other
+pub the_one : (name other : List ℕ) → Contains (name ∷ []) other → name ≡ other
 the_one name other (zero, within, is) = is
 the_one name other (suc k, within, is) = absurd (omega (arith, within))
 
