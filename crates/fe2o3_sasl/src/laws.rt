@@ -8,7 +8,7 @@ ghost use Rattle.fe2o3_sasl.specs.MechanismLaws.{OneAcceptorReply, OneProfileRep
 ghost use Rattle.fe2o3_sasl.specs.examples.Examples.{ShiftedTextsPass, RefusalsHaveOneBody, ServersAnswer, ClientsAnswer, ShiftedHistoriesPass};
 ghost use Rattle.fe2o3_sasl.specs.examples.PlainExamples.{GuestsEnter, SwappedWordsFail, WrongPasswordsFail, NamesAloneFail, EmptyInitsFail, ResponsesToPlainFail, GuestsStart, OthersAreNotImplemented, PlainReportsOutcomes, MechanismsAreNamed, NamesAreOffered};
 ghost use Rattle.fe2o3_sasl.specs.examples.HexExamples.{DigitsOfBothCases, OtherTextsSpellNothing};
-ghost use Rattle.fe2o3_sasl.specs.examples.ReplyExamples.{OtherMechanismsFail, OtherTextsAreRefused, FailuresAreReported, NamesAreFound, FindingsInOrder, UnsentChallenges, UnsentStarts};
+ghost use Rattle.fe2o3_sasl.specs.examples.ReplyExamples.{OtherMechanismsFail, OtherTextsAreRefused, ClientsWantMemory, LongTextsHaveNoBody, ServersWantMemory, FailuresAreReported, NamesAreFound, FindingsInOrder, UnsentChallenges, UnsentStarts};
 
 pub use fe2o3_scram::laws::{
     base64_texts, clone_of_version, digests, escaped_names, one_answer_each, parts,
@@ -147,4 +147,7 @@ pub fn more_examples()
     ensures findings_in_order { FindingsInOrder }
     ensures unsent_challenges { UnsentChallenges }
     ensures unsent_starts { UnsentStarts }
+    ensures long_texts_have_no_body { LongTextsHaveNoBody }
+    ensures servers_want_memory { ServersWantMemory }
+    ensures clients_want_memory { ClientsWantMemory }
 {}

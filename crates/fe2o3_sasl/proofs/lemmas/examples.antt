@@ -4,6 +4,7 @@ pub mod ExampleByteLemmas
 pub mod ExampleReadingLemmas
 pub mod ExampleTextLemmas
 pub mod HexExampleLemmas
+pub mod MemoryExampleLemmas
 pub mod PlainExampleLemmas
 pub mod ReplyByReplyLemmas
 pub mod ReplyExampleLemmas

@@ -1,7 +1,8 @@
 use Rattle.fe2o3_sasl.proofs.lemmas.examples.PlainExampleLemmas.{swapped_words_fail, guests_start, others_are_not_implemented, plain_reports_outcomes, mechanisms_are_named, names_are_offered}
 use Rattle.fe2o3_sasl.proofs.lemmas.examples.HexExampleLemmas.{digits_of_both_cases, other_texts_spell_nothing}
 use Rattle.fe2o3_sasl.proofs.lemmas.examples.ReplyExampleLemmas.{other_mechanisms_fail, other_texts_are_refused, failures_are_reported, names_are_found, findings_in_order}
-use Rattle.fe2o3_sasl.proofs.lemmas.examples.UnsentExampleLemmas.{unsent_challenges, unsent_starts}
+use Rattle.fe2o3_sasl.proofs.lemmas.examples.UnsentExampleLemmas.{long_texts_have_no_body, unsent_challenges, unsent_starts}
+use Rattle.fe2o3_sasl.proofs.lemmas.examples.MemoryExampleLemmas.{servers_want_memory, clients_want_memory}
 use Rattle.fe2o3_sasl.proofs.laws.more_examples.Goals as goal
 
 pub returns-clause-swapped_words_fail : goal.returns-clause-swapped_words_fail
@@ -48,3 +49,12 @@ returns-clause-unsent_challenges c = unsent_challenges
 
 pub returns-clause-unsent_starts : goal.returns-clause-unsent_starts
 returns-clause-unsent_starts c = unsent_starts
+
+pub returns-clause-long_texts_have_no_body : goal.returns-clause-long_texts_have_no_body
+returns-clause-long_texts_have_no_body c = long_texts_have_no_body
+
+pub returns-clause-servers_want_memory : goal.returns-clause-servers_want_memory
+returns-clause-servers_want_memory c = servers_want_memory
+
+pub returns-clause-clients_want_memory : goal.returns-clause-clients_want_memory
+returns-clause-clients_want_memory c = clients_want_memory

@@ -73,7 +73,7 @@ odd_sent : canonical (frames.Challenge (0xff ∷ [])) ≡ Some (body_of (frames.
 unfolding canonical
 odd_sent = refl
 
-text_sent : canonical (frames.Challenge (codes "r=")) ≡ Some (body_of (frames.Challenge (codes "r=")))
+pub text_sent : canonical (frames.Challenge (codes "r=")) ≡ Some (body_of (frames.Challenge (codes "r=")))
 unfolding canonical
 text_sent = refl
 

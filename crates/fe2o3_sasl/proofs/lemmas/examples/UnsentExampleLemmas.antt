@@ -8,6 +8,7 @@ use Rattle.fe2o3_sasl_wire.specs.Canonical.{canonical, canonical_variable, items
 use Rattle.fe2o3_sasl_wire.specs.SaslFrames as frames
 use Rattle.fe2o3_sasl_wire.specs.SaslFrames.{SaslFrame}
 use Rattle.fe2o3_sasl_wire.proofs.CanonicalLemmas.{length-content}
+use Rattle.fe2o3_sasl_wire.proofs.EncodingLemmas.{no_body}
 use Rattle.fe2o3_scram.specs.ClientFirst.{client_first}
 use Rattle.fe2o3_scram.specs.Credentials.{Provider}
 use Rattle.fe2o3_scram.specs.Hmac.{mechanism_name}
@@ -19,7 +20,7 @@ use Rattle.fe2o3_sasl.specs.Runs.{AcceptorAnswers, server_says}
 use Rattle.fe2o3_sasl.specs.SaslAcceptor.{Acceptor, ScramAcceptor, acceptor_machine}
 use Rattle.fe2o3_sasl.specs.SaslProfile.{Profile, after_init, scram_profile}
 use Rattle.fe2o3_sasl.specs.ServerHistory.{Challenging, FitsAsInit, carried, first_message}
-use Rattle.fe2o3_sasl.specs.examples.ReplyExamples.{UnsentChallenges, UnsentStarts}
+use Rattle.fe2o3_sasl.specs.examples.ReplyExamples.{LongTextsHaveNoBody, UnsentChallenges, UnsentStarts}
 use Rattle.fe2o3_sasl.proofs.lemmas.machines.MechanismLemmas.{contains_one}
 
 -- a reply without a body is the fault, and leaves the state
@@ -71,3 +72,12 @@ unsent_starts held nonce none =
       inl (contains_one (mechanism_name held.version), refl, refl),
       unsent (Refused (Frame faults.TooLarge)) (λ body. Started body) init (scram_profile held) moved none,
     )
+
+pub long_texts_have_no_body : LongTextsHaveNoBody
+long_texts_have_no_body text long =
+    no_body (frames.Challenge text) (length (items_of (frames.Challenge text))) refl (omega (
+      arith,
+      long,
+      length-append (canonical_variable 0xa0 0xb0 text) [],
+      length-content (shortest (length text)) text,
+    ))
