@@ -5,10 +5,12 @@ pub mod ClientHistory
 pub mod SaslAcceptor
 pub mod SaslProfile
 pub mod Runs
+pub mod Hex
 pub mod TwoSides
 pub mod Audit
 pub mod UnalteredRuns
 pub mod Laws
+pub mod MechanismLaws
 pub mod Headline
 pub mod Review
 pub mod examples

@@ -3,7 +3,12 @@
 
 ghost use Rattle.fe2o3_sasl.specs.Headline.{OkOnlyWhereAccepted, OkWhereverAccepted, ReportedOnlyWhereSigned, ReportedWhereverSigned, IssuedVerifiersAgree};
 ghost use Rattle.fe2o3_sasl.specs.Laws.{OneServerHistory, OneClientHistory, AcceptorRunsAreHistories, ProfileRunsAreHistories, OksWithinChallenges, RepeatedResponsesAreRefused, OneResponseOneNonce, RefusalsLeaveOpen, PositionsAreUsedOnce, EqualMessagesAgree, NoShortExtensions, TakenVerifiersAreJudged, ShownProofsAreJudged, OneVerdictEach, RepeatedClientPositions, RepeatedServerPositions, UnalteredRunsLogIn};
-ghost use Rattle.fe2o3_sasl.specs.examples.Examples.{GuestsEnter, WrongPasswordsFail, NamesAloneFail, EmptyInitsFail, ResponsesToPlainFail, ShiftedTextsPass, RefusalsHaveOneBody, ServersAnswer, ClientsAnswer, ShiftedHistoriesPass};
+ghost use Rattle.fe2o3_sasl.specs.Hex.{OneBytesOfHex, HexIsReadAgain};
+ghost use Rattle.fe2o3_sasl.specs.MechanismLaws.{OneAcceptorReply, OneProfileReply, OffersAgree, PlainLetsIn, PlainRefuses, AnonymousLetsIn, SomethingIsOffered, NamesDiffer};
+ghost use Rattle.fe2o3_sasl.specs.examples.Examples.{ShiftedTextsPass, RefusalsHaveOneBody, ServersAnswer, ClientsAnswer, ShiftedHistoriesPass};
+ghost use Rattle.fe2o3_sasl.specs.examples.PlainExamples.{GuestsEnter, SwappedWordsFail, WrongPasswordsFail, NamesAloneFail, EmptyInitsFail, ResponsesToPlainFail, GuestsStart, OthersAreNotImplemented, PlainReportsOutcomes, MechanismsAreNamed, NamesAreOffered};
+ghost use Rattle.fe2o3_sasl.specs.examples.HexExamples.{DigitsOfBothCases, OtherTextsSpellNothing};
+ghost use Rattle.fe2o3_sasl.specs.examples.ReplyExamples.{OtherMechanismsFail, OtherTextsAreRefused, ClientsWantMemory, LongTextsHaveNoBody, ServersWantMemory, FailuresAreReported, NamesAreFound, FindingsInOrder, UnsentChallenges, UnsentStarts};
 
 pub use fe2o3_scram::laws::{
     base64_texts, clone_of_version, digests, escaped_names, one_answer_each, parts,
@@ -97,4 +102,52 @@ pub fn worked_examples()
     ensures servers_answer { ServersAnswer }
     ensures clients_answer { ClientsAnswer }
     ensures shifted_histories_pass { ShiftedHistoriesPass }
+{}
+
+/// What holds of every mechanism: each acceptor and each profile has one reply to a frame; a server
+/// offers what a profile asks for exactly where both are of one mechanism; PLAIN lets in the same
+/// user with the same password and refuses all others, in words without zero bytes (RFC 4616,
+/// section 2); ANONYMOUS lets in whoever asks for it; a server always offers something; and the six
+/// profiles have six names.
+pub fn mechanisms()
+    ensures one_acceptor_reply { OneAcceptorReply }
+    ensures one_profile_reply { OneProfileReply }
+    ensures offers_agree { OffersAgree }
+    ensures plain_lets_in { PlainLetsIn }
+    ensures plain_refuses { PlainRefuses }
+    ensures anonymous_lets_in { AnonymousLetsIn }
+    ensures something_is_offered { SomethingIsOffered }
+    ensures names_differ { NamesDiffer }
+{}
+
+/// A hexadecimal text spells at most one list of bytes, and each list of bytes is spelled by one in
+/// digits of either case.
+pub fn hex_texts()
+    ensures one { OneBytesOfHex }
+    ensures again { HexIsReadAgain }
+{}
+
+/// More of what the definitions say of worked examples. Of PLAIN: a guest's two words in the other
+/// order end with Auth, a list with PLAIN among other names is answered by an init with the words and
+/// the hostname, a list without it by NotImplemented, and outcomes are reported as they are. Of the
+/// mechanisms: their six names, and what a server offers.
+pub fn more_examples()
+    ensures swapped_words_fail { SwappedWordsFail }
+    ensures guests_start { GuestsStart }
+    ensures others_are_not_implemented { OthersAreNotImplemented }
+    ensures plain_reports_outcomes { PlainReportsOutcomes }
+    ensures mechanisms_are_named { MechanismsAreNamed }
+    ensures names_are_offered { NamesAreOffered }
+    ensures digits_of_both_cases { DigitsOfBothCases }
+    ensures other_texts_spell_nothing { OtherTextsSpellNothing }
+    ensures other_mechanisms_fail { OtherMechanismsFail }
+    ensures other_texts_are_refused { OtherTextsAreRefused }
+    ensures failures_are_reported { FailuresAreReported }
+    ensures names_are_found { NamesAreFound }
+    ensures findings_in_order { FindingsInOrder }
+    ensures unsent_challenges { UnsentChallenges }
+    ensures unsent_starts { UnsentStarts }
+    ensures long_texts_have_no_body { LongTextsHaveNoBody }
+    ensures servers_want_memory { ServersWantMemory }
+    ensures clients_want_memory { ClientsWantMemory }
 {}

@@ -28,14 +28,14 @@ some_body : (body : Option (List ℕ)) → IsSome body → body ≡ Some (carrie
 some_body None is = absurd (true≢false (sym is))
 some_body (Some body) is = refl
 
-bodied : (frame : SaslFrame) → length (items_of frame) < 2 ^ 31 → canonical frame ≡ Some (body_of frame)
+pub bodied : (frame : SaslFrame) → length (items_of frame) < 2 ^ 31 → canonical frame ≡ Some (body_of frame)
 bodied frame short = some_body (canonical frame) (has_body frame (length (items_of frame)) refl (omega (arith, short)))
 
 most_width : (form : Form) → width form ≤ 4
 most_width Eight = omega arith
 most_width ThirtyTwo = omega arith
 
-short_variable : (short long : ℕ) (bytes : List ℕ) → length (canonical_variable short long bytes) ≤ length bytes + 5
+pub short_variable : (short long : ℕ) (bytes : List ℕ) → length (canonical_variable short long bytes) ≤ length bytes + 5
 short_variable short long bytes =
     omega (arith, length-content (shortest (length bytes)) bytes, most_width (shortest (length bytes)))
 
