@@ -6,8 +6,8 @@ ghost use Rattle.fe2o3_sasl.specs.Laws.{OneServerHistory, OneClientHistory, Acce
 ghost use Rattle.fe2o3_sasl.specs.examples.Examples.{GuestsEnter, WrongPasswordsFail, NamesAloneFail, EmptyInitsFail, ResponsesToPlainFail, ShiftedTextsPass, RefusalsHaveOneBody, ServersAnswer, ClientsAnswer, ShiftedHistoriesPass};
 
 pub use fe2o3_scram::laws::{
-    base64_texts, clone_of_version, digests, escaped_names, one_answer_each, parts,
-    unaltered_exchanges,
+    base64_texts, clone_of_version, digests, each_text_is_read, escaped_names, one_answer_each,
+    parts, unaltered_exchanges,
 };
 
 /// The headline theorem. Over every list of frame bodies, a SCRAM server answers Ok exactly when a

@@ -1,12 +1,12 @@
 -- What is asked of texts is decided: whether one has a part, and whether it spells bytes, a name or a count.
-use Rattle.std.proofs.Common.{◌≡◌, ◌≢◌, ◌⊎◌, ◌<◌, ◌≤◌, ◌^◌, ℕ, zero, suc, Bool, true, false, true≢false, List, [], ◌∷◌, ◌++◌, length, bytes_eq, Decides, Result, Ok, Err, Option, Some, None, refl, sym, ◌∙◌, ap, subst, inl, inr, arith, codes, append-nil}
+use Rattle.std.proofs.Common.{◌≡◌, ◌≢◌, ◌⊎◌, ◌<◌, ◌≤◌, ◌^◌, ℕ, zero, suc, Bool, true, false, true≢false, List, [], ◌∷◌, ◌++◌, length, bytes_eq, Decides, Result, Ok, Err, Option, Some, None, refl, sym, ◌∙◌, ap, subst, inl, inr, arith, codes}
 use Rattle.std.proofs.lemmas.Bool.{cases_lt, cases_eq}
 use Rattle.std.proofs.lemmas.List.{append_cancel_left}
 use Rattle.std.proofs.lemmas.List.Elements.{All-from_recursion, recursion_from_All}
 use Rattle.std.proofs.lemmas.Slice.Eq.{bytes_eq-Decides}
 use Rattle.std.proofs.lemmas.Str.{IsUtf8-from_is_utf8, is_utf8-from_IsUtf8}
 use Rattle.std.specs.Char.{digit_value}
-use Rattle.std.specs.List.{AllByRecursion, Contains}
+use Rattle.std.specs.List.{AllByRecursion}
 use Rattle.std.specs.Prelude.{slice_get, option_map, MatchOption}
 use Rattle.std.specs.Str.{IsUtf8, is_utf8}
 use Rattle.std.specs.Str.Parse.{AllDigits, IsNumeral, digits_value}
@@ -52,7 +52,11 @@ pub none_or : {X : Type 0} {P : X → Type 0} → Found P → Decided ((x : X) �
 none_or (inl found) = inr (λ none. none found.0 found.1)
 none_or (inr none) = inl none
 
-both_or : {P Q : Type 0} → Decided P → Decided Q → Decided (P × Q)
+pub some_or : {X : Type 0} {P : X → Type 0} → Found P → Decided ((x : X) × P x)
+some_or (inl found) = inl found
+some_or (inr none) = inr (λ found. none found.0 found.1)
+
+pub both_or : {P Q : Type 0} → Decided P → Decided Q → Decided (P × Q)
 both_or (inl left) (inl right) = inl (left, right)
 both_or (inl left) (inr fails) = inr (λ both. fails both.1)
 both_or (inr fails) right = inr (λ both. fails both.0)
@@ -147,6 +151,18 @@ part_or text k = go (slice_get (pieces text) k) (part_from_pieces (λ (part : Li
     go None none = inr none
     go (Some part) is = inl (part, is)
 
+-- whether this is the part
+pub part_is_or : (text : List ℕ) (k : ℕ) (part : List ℕ) → Decided (Part text k part)
+part_is_or text k part = go (part_or text k)
+  where
+    named : (other : List ℕ) → Part text k other → Decided (other ≡ part) → Decided (Part text k part)
+    named other is (inl same) = inl (subst (Part text k) same is)
+    named other is (inr apart) = inr (λ has. apart (one_part text k other part is has))
+
+    go : Found (Part text k) → Decided (Part text k part)
+    go (inl (other, is)) = named other is (same_or other part)
+    go (inr none) = inr (none part)
+
 -- what stands behind the key of a part, which says something or nothing
 pub attribute_or : {X : Type 0} (Good : X → Type 0) (write : X → List ℕ) (text : List ℕ) (k : ℕ) (key : List ℕ)
     → ((spelling : List ℕ) → Found (λ (x : X). Good x × (spelling ≡ write x)))
@@ -163,8 +179,14 @@ attribute_or {X} Good write text k key read =
         spelled : (rest : List ℕ) → part ≡ key ++ rest → Found (λ (x : X). Good x × Part text k (key ++ write x))
         spelled rest begins = found_with (read rest)
             (λ x says. inl (x, (says.0, subst (Part text k) (begins ∙ ap (λ spelt. key ++ spelt) says.1) is)))
-            (λ x has. (x, (has.0, append_cancel_left key rest (write x)
-            (sym begins ∙ one_part text k part (key ++ write x) is has.1))))
+            (λ x has. (
+              x,
+              (
+                has.0,
+                append_cancel_left key rest (write x)
+                    (sym begins ∙ one_part text k part (key ++ write x) is has.1),
+              ),
+            ))
 
 -- what stands behind the key of a part
 pub attribute_text_or : (text : List ℕ) (k : ℕ) (key : List ℕ) → Found (λ (rest : List ℕ). Part text k (key ++ rest))
