@@ -64,7 +64,8 @@ one_bare text bare other is too = append_cancel_left (codes "n,,") bare other (s
 
 -- what stands in a part behind the header
 bare_attribute_or : {X : Type 0} (write : X → List ℕ) (text : List ℕ) (k : ℕ) (key : List ℕ)
-    → ((spelling : List ℕ) → Found (λ (x : X). spelling ≡ write x)) → Found (λ (x : X). BarePart text k (key ++ write x))
+    → ((spelling : List ℕ) → Found (λ (x : X). spelling ≡ write x))
+    → Found (λ (x : X). BarePart text k (key ++ write x))
 bare_attribute_or {X} write text k key read = found_with (rest_or (codes "n,,") text) behind (λ x has. (has.0, has.1))
   where
     behind : (bare : List ℕ) → text ≡ codes "n,," ++ bare → Found (λ (x : X). BarePart text k (key ++ write x))
@@ -72,9 +73,17 @@ bare_attribute_or {X} write text k key read = found_with (rest_or (codes "n,,") 
         found_with (attribute_or (λ _. Unit {0}) write bare k key
         (λ spelling. found_with (read spelling) (λ x is. inl (x, (tt, is))) (λ x is. (x, is.1))))
         (λ x has. inl (x, (bare, header, has.1)))
-        (λ x has. (x, (tt, subst (λ (behind : List ℕ). Part behind k (key ++ write x)) (one_bare text has.0 bare has.1 header) has.2)))
+        (λ x has. (
+          x,
+          (
+            tt,
+            subst (λ (behind : List ℕ). Part behind k (key ++ write x))
+                (one_bare text has.0 bare has.1 header) has.2,
+          ),
+        ))
 
-pub some_client_first : (text : List ℕ) → (answer : Result ClientFirst ServerScramErrorKind) × ReadsClientFirst text answer
+pub some_client_first : (text : List ℕ) → (answer : Result ClientFirst ServerScramErrorKind)
+    × ReadsClientFirst text answer
 unfolding ReadsClientFirst
 some_client_first text =
     some_reading (client_first_tests text) (NamesClientFirst text)
@@ -94,7 +103,8 @@ some_client_first text =
       record {
         bare = header;
         user = part;
-        nonce = subst (λ (behind : List ℕ). Part behind 1 (codes "r=" ++ nonce)) (one_bare text other bare too header) next;
+        nonce = subst (λ (behind : List ℕ). Part behind 1 (codes "r=" ++ nonce))
+            (one_bare text other bare too header) next;
       },
     )
 

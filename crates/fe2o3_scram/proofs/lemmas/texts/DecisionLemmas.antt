@@ -112,7 +112,11 @@ pub printable_or : (text : List ℕ) → Decided (IsPrintable text)
 printable_or text = go (each_or (λ byte. both_or (at_most 0x20 byte) (at_most byte 0x7e)) text)
   where
     at_most : (n m : ℕ) → Decided (n ≤ m)
-    at_most n m = elim (cases_lt m n) [ inl less ↦ inr (λ most. absurd (omega (arith, less, most))) | inr most ↦ inl most ]
+    at_most n m = elim (cases_lt m n) [
+      | inl less ↦ inr (λ most. absurd (omega (arith, less, most)))
+      | inr most ↦ inl
+          most
+    ]
 
     go : Decided (AllByRecursion (λ byte. (0x20 ≤ byte) × (byte ≤ 0x7e)) text) → Decided (IsPrintable text)
     go (inl each) = inl (All-from_recursion _ text each)
@@ -308,11 +312,13 @@ plain_back b rest (c ∷ others) plain is =
 
 -- an equals sign begins an escape
 escape_back : (rest name : List ℕ) → 61 ∷ rest ≡ escaped name
-    → ((others : List ℕ) × (rest ≡ codes "2C" ++ escaped others)) ⊎ ((others : List ℕ) × (rest ≡ codes "3D" ++ escaped others))
+    → ((others : List ℕ) × (rest ≡ codes "2C" ++ escaped others))
+    ⊎ ((others : List ℕ) × (rest ≡ codes "3D" ++ escaped others))
 escape_back rest [] is = let wrong : 61 ∷ rest ≡ [] = is ∙ escaped-nil in absurd (cc)
 escape_back rest (c ∷ others) is =
     by_cases c (λ (sent : List ℕ). 61 ∷ rest ≡ sent ++ escaped others
-    → ((others : List ℕ) × (rest ≡ codes "2C" ++ escaped others)) ⊎ ((others : List ℕ) × (rest ≡ codes "3D" ++ escaped others)))
+    → ((others : List ℕ) × (rest ≡ codes "2C" ++ escaped others))
+    ⊎ ((others : List ℕ) × (rest ≡ codes "3D" ++ escaped others)))
     (λ _ same. inl (others, (let tail : rest ≡ codes "2C" ++ escaped others = cc in tail)))
     (λ _ same. inr (others, (let tail : rest ≡ codes "3D" ++ escaped others = cc in tail)))
     (λ _ plain same. absurd (plain (sym (byte_first 61 c _ _ same)))) (is ∙ escaped-cons c others)
@@ -360,7 +366,8 @@ name_step b rest found behind = go (same_number_or b 44) (same_number_or b 61)
   where
     go : Decided (b ≡ 44) → Decided (b ≡ 61) → Found (λ (name : List ℕ). b ∷ rest ≡ escaped name)
     go (inl comma) equals = inr (λ name is. (subst NoComma (sym is) (no_comma-escaped name)).0 comma)
-    go (inr no_comma) (inl equals) = subst (λ (c : ℕ). Found (Spells (c ∷ rest))) (sym equals) (after_equals rest behind)
+    go (inr no_comma) (inl equals) = subst (λ (c : ℕ). Found (Spells (c ∷ rest))) (sym equals)
+        (after_equals rest behind)
     go (inr no_comma) (inr no_equals) = found_with found
         (λ name spelt. inl (
           b ∷ name,
