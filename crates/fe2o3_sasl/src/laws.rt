@@ -3,6 +3,7 @@
 
 ghost use Rattle.fe2o3_sasl.specs.Headline.{OkOnlyWhereAccepted, OkWhereverAccepted, ReportedOnlyWhereSigned, ReportedWhereverSigned, IssuedVerifiersAgree};
 ghost use Rattle.fe2o3_sasl.specs.Laws.{OneServerHistory, OneClientHistory, AcceptorRunsAreHistories, ProfileRunsAreHistories, OksWithinChallenges, RepeatedResponsesAreRefused, OneResponseOneNonce, RefusalsLeaveOpen, PositionsAreUsedOnce, EqualMessagesAgree, NoShortExtensions, TakenVerifiersAreJudged, ShownProofsAreJudged, OneVerdictEach, RepeatedClientPositions, RepeatedServerPositions, UnalteredRunsLogIn};
+ghost use Rattle.fe2o3_sasl.specs.Laws.{SomeServerHistory, SomeClientHistory};
 ghost use Rattle.fe2o3_sasl.specs.examples.Examples.{GuestsEnter, WrongPasswordsFail, NamesAloneFail, EmptyInitsFail, ResponsesToPlainFail, ShiftedTextsPass, RefusalsHaveOneBody, ServersAnswer, ClientsAnswer, ShiftedHistoriesPass};
 
 pub use fe2o3_scram::laws::{
@@ -97,4 +98,11 @@ pub fn worked_examples()
     ensures servers_answer { ServersAnswer }
     ensures clients_answer { ClientsAnswer }
     ensures shifted_histories_pass { ShiftedHistoriesPass }
+{}
+
+/// Over every list of events whose bodies are bytes, each server and each client has a history in which
+/// memory is not wanting: with `one_history_each` it has exactly one.
+pub fn histories_exist()
+    ensures server { SomeServerHistory }
+    ensures client { SomeClientHistory }
 {}

@@ -1,2 +1,3 @@
 pub mod ClientMachineLemmas
 pub mod ServerMachineLemmas
+pub mod SomeRunLemmas
