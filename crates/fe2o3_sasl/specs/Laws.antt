@@ -3,6 +3,7 @@ use Rattle.std.specs.Prelude.{◌≡◌, ◌≢◌, ◌⊎◌, ℕ, suc, ◌<◌
 use Rattle.std.specs.List.{filter}
 use Rattle.fe2o3_sasl_wire.specs.declared.amqp_types.SaslCode.TheVariants as outcomes
 use Rattle.fe2o3_sasl_wire.specs.declared.sasl_frames.error.Error.TheVariants as faults
+use Rattle.fe2o3_sasl_wire.specs.Bytes.{IsBytes}
 use Rattle.fe2o3_sasl_wire.specs.SaslFrames as frames
 use Rattle.fe2o3_sasl.specs.ClientHistory.{Answering, AnswersAt, OpenAnswer, ClientHistory, ClientComplete, Start, is_start, is_answer, ends_answer}
 use Rattle.fe2o3_scram.specs.Credentials.{Provider}
@@ -172,3 +173,17 @@ abbrev pub UnalteredRunsLogIn : Type 0
 UnalteredRunsLogIn = (sides : Sides) (salt : List ℕ) (count : ℕ) (run : UnalteredRun sides) → Histories sides
     → IsLogin sides.login → HoldsLogin sides salt count
     → ClientComplete sides.client_replies → LogsIn sides (agreed run salt count)
+
+-- the bodies of the events are bytes
+abbrev pub BodiesAreBytes : List Given → Type 0
+BodiesAreBytes events = (k : ℕ) (event : Given) → slice_get events k ≡ Some event → IsBytes event.body
+
+-- events whose bodies are bytes have a server history without want of memory
+abbrev pub SomeServerHistory : Type 0
+SomeServerHistory = (provider : Provider) (events : List Given) → BodiesAreBytes events
+    → (replies : List ServerSays) × ServerHistory provider events replies × ServerComplete replies
+
+-- likewise a client history
+abbrev pub SomeClientHistory : Type 0
+SomeClientHistory = (login : Login) (events : List Given) → BodiesAreBytes events
+    → (replies : List ClientSays) × ClientHistory login events replies × ClientComplete replies

@@ -9,10 +9,11 @@ ghost use Rattle.fe2o3_sasl.specs.examples.Examples.{ShiftedTextsPass, RefusalsH
 ghost use Rattle.fe2o3_sasl.specs.examples.PlainExamples.{GuestsEnter, SwappedWordsFail, WrongPasswordsFail, NamesAloneFail, EmptyInitsFail, ResponsesToPlainFail, GuestsStart, OthersAreNotImplemented, PlainReportsOutcomes, MechanismsAreNamed, NamesAreOffered};
 ghost use Rattle.fe2o3_sasl.specs.examples.HexExamples.{DigitsOfBothCases, OtherTextsSpellNothing};
 ghost use Rattle.fe2o3_sasl.specs.examples.ReplyExamples.{OtherMechanismsFail, OtherTextsAreRefused, ClientsWantMemory, LongTextsHaveNoBody, ServersWantMemory, FailuresAreReported, NamesAreFound, FindingsInOrder, UnsentChallenges, UnsentStarts};
+ghost use Rattle.fe2o3_sasl.specs.Laws.{SomeServerHistory, SomeClientHistory};
 
 pub use fe2o3_scram::laws::{
-    base64_texts, clone_of_version, digests, escaped_names, one_answer_each, parts,
-    unaltered_exchanges,
+    base64_texts, clone_of_version, digests, each_text_is_read, escaped_names, one_answer_each,
+    parts, unaltered_exchanges,
 };
 
 /// The headline theorem. Over every list of frame bodies, a SCRAM server answers Ok exactly when a
@@ -150,4 +151,9 @@ pub fn more_examples()
     ensures long_texts_have_no_body { LongTextsHaveNoBody }
     ensures servers_want_memory { ServersWantMemory }
     ensures clients_want_memory { ClientsWantMemory }
+/// Over every list of events whose bodies are bytes, each server and each client has a history in which
+/// memory is not wanting: with `one_history_each` it has exactly one.
+pub fn histories_exist()
+    ensures server { SomeServerHistory }
+    ensures client { SomeClientHistory }
 {}

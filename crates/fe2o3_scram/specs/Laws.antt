@@ -75,3 +75,22 @@ OneServerFinal = (signature text : List ℕ) (answer other : Result (Unit {0}) S
 -- in an exchange whose messages arrive as they were sent, each side accepts what the other wrote
 abbrev pub UnalteredExchangesSucceed : Type 0
 UnalteredExchangesSucceed = (x : Exchange) → IsSound x → Succeeds x
+
+-- a client-first message has an answer, whatever the text
+abbrev pub SomeClientFirst : Type 0
+SomeClientFirst = (text : List ℕ) → (answer : Result ClientFirst ServerScramErrorKind) × ReadsClientFirst text answer
+
+-- a server-first message has an answer
+abbrev pub SomeServerFirst : Type 0
+SomeServerFirst = (client : Client) (text : List ℕ)
+    → (answer : Result ServerFirst ScramErrorKind) × ReadsServerFirst client text answer
+
+-- a client-final message has an answer
+abbrev pub SomeClientFinal : Type 0
+SomeClientFinal = (server : Server) (text : List ℕ)
+    → (answer : Result ClientFinal ServerScramErrorKind) × ReadsClientFinal server text answer
+
+-- a server-final message has an answer
+abbrev pub SomeServerFinal : Type 0
+SomeServerFinal = (signature text : List ℕ)
+    → (answer : Result (Unit {0}) ScramErrorKind) × ReadsServerFinal signature text answer

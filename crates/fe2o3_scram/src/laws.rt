@@ -3,6 +3,7 @@
 
 ghost use Rattle.std.specs.Prelude.{◌≡◌};
 ghost use Rattle.fe2o3_scram.specs.Laws.{DigestsAreSized, MacsAreSized, OneBytesOfBase64, Base64IsReadAgain, NoCommaInBase64, PartsExist, OneListOfParts, OneEscapedName, NoCommaInEscapedNames, OneClientFirst, OneServerFirst, OneClientFinal, OneServerFinal, UnalteredExchangesSucceed};
+ghost use Rattle.fe2o3_scram.specs.Laws.{SomeClientFirst, SomeServerFirst, SomeClientFinal, SomeServerFinal};
 
 use crate::hmac::ScramVersion;
 
@@ -49,4 +50,12 @@ pub fn one_answer_each()
 /// A client and a server that hold the same password log in where nothing is altered on the way.
 pub fn unaltered_exchanges()
     ensures { UnalteredExchangesSucceed }
+{}
+
+/// Each of the four messages has an answer, whatever numbers its text is.
+pub fn each_text_is_read()
+    ensures client_first { SomeClientFirst }
+    ensures server_first { SomeServerFirst }
+    ensures client_final { SomeClientFinal }
+    ensures server_final { SomeServerFinal }
 {}
