@@ -14,7 +14,7 @@ use Rattle.fe2o3_sasl.specs.Positions.{test_at, IsLastOpen}
 use Rattle.fe2o3_sasl.specs.ServerHistory.{Challenging, Accepted, AcceptsAt, Open, ServerHistory, ServerComplete, SpellsBody, is_challenge, is_ok, full_nonce, says_auth}
 use Rattle.fe2o3_scram.specs.ScramServer as server_states
 use Rattle.fe2o3_sasl.specs.TwoSides.{Sides, Histories, Takes, Shows, Agree, HasParts, IsPlainInit, client_message, server_message}
-use Rattle.fe2o3_sasl.specs.UnalteredRuns.{UnalteredRun, HoldsLogin, LogsIn, agreed}
+use Rattle.fe2o3_sasl.specs.UnalteredRuns.{LogsInUnaltered}
 use Rattle.fe2o3_sasl.specs.Audit.{Verdict, JudgesVerifier, JudgesProof}
 
 -- a history without want of memory is a function of the events
@@ -166,9 +166,6 @@ RepeatedServerPositions = (sides : Sides) (k n o : ℕ) (accepted other : Accept
     → ((m l : ℕ) → TakesAgreed sides m k n accepted → TakesAgreed sides m l o other → FromTwoChallenges sides n o)
     × (ShowsAgreed sides k n accepted → ShowsAgreed sides k o other → FromTwoChallenges sides n o)
 
--- an unaltered run against the record of the login's own password, which the client can use, logs in, whatever
--- the nonces, where memory was not wanting
+-- unaltered runs log in
 abbrev pub UnalteredRunsLogIn : Type 0
-UnalteredRunsLogIn = (sides : Sides) (salt : List ℕ) (count : ℕ) (run : UnalteredRun sides) → Histories sides
-    → IsLogin sides.login → HoldsLogin sides salt count
-    → ClientComplete sides.client_replies → LogsIn sides (agreed run salt count)
+UnalteredRunsLogIn = (sides : Sides) → Histories sides → IsLogin sides.login → LogsInUnaltered sides

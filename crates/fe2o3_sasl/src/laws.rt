@@ -3,6 +3,7 @@
 
 ghost use Rattle.fe2o3_sasl.specs.Headline.{OkOnlyWhereAccepted, OkWhereverAccepted, ReportedOnlyWhereSigned, ReportedWhereverSigned, IssuedVerifiersAgree};
 ghost use Rattle.fe2o3_sasl.specs.Laws.{OneServerHistory, OneClientHistory, AcceptorRunsAreHistories, ProfileRunsAreHistories, OksWithinChallenges, RepeatedResponsesAreRefused, OneResponseOneNonce, RefusalsLeaveOpen, PositionsAreUsedOnce, EqualMessagesAgree, NoShortExtensions, TakenVerifiersAreJudged, ShownProofsAreJudged, OneVerdictEach, RepeatedClientPositions, RepeatedServerPositions, UnalteredRunsLogIn};
+ghost use Rattle.fe2o3_sasl.specs.examples.UnalteredExample.{PremisesCanBeMet};
 ghost use Rattle.fe2o3_sasl.specs.examples.Examples.{GuestsEnter, WrongPasswordsFail, NamesAloneFail, EmptyInitsFail, ResponsesToPlainFail, ShiftedTextsPass, RefusalsHaveOneBody, ServersAnswer, ClientsAnswer, ShiftedHistoriesPass};
 
 pub use fe2o3_scram::laws::{
@@ -77,7 +78,8 @@ pub fn repeated_nonces()
 {}
 
 /// A client logs in where no body is altered on the way, the server holds the record of its password,
-/// that password is printable ASCII, the count is from 1 to the client's limit, and memory suffices.
+/// that password is printable ASCII, the count is from 1 to the client's limit, memory suffices on both
+/// sides, and no frame is too large; an audit of it has exactly two findings, and in both the sides agree.
 pub fn unaltered_runs()
     ensures { UnalteredRunsLogIn }
 {}
@@ -85,7 +87,8 @@ pub fn unaltered_runs()
 /// What the definitions say of worked examples: the acceptor of PLAIN; a server (if its wrong proof
 /// does not happen to meet the stored key) and a client over lists of events; and a text that is
 /// shifted between two messages, on which both sides agree although they mean two nonces, so that no
-/// more than user name and client nonce can be had there.
+/// more than user name and client nonce can be had there; and an unaltered run that meets each premise
+/// of the law of unaltered runs.
 pub fn worked_examples()
     ensures guests_enter { GuestsEnter }
     ensures wrong_passwords_fail { WrongPasswordsFail }
@@ -97,4 +100,5 @@ pub fn worked_examples()
     ensures servers_answer { ServersAnswer }
     ensures clients_answer { ClientsAnswer }
     ensures shifted_histories_pass { ShiftedHistoriesPass }
+    ensures premises_can_be_met { PremisesCanBeMet }
 {}

@@ -8,3 +8,4 @@ pub mod ReplyByReplyLemmas
 pub mod ServerExampleLemmas
 pub mod ShiftedHistoryLemmas
 pub mod ShiftedTextLemmas
+pub mod UnalteredExampleLemmas

@@ -1,4 +1,3 @@
-pub mod ForwardedRunLemmas
 pub mod ReviewLemmas
 pub mod UnalteredReplyLemmas
 pub mod UnalteredRunLemmas

@@ -1,5 +1,5 @@
 -- Review: an audit has one answer.
-use Rattle.std.proofs.Common.{◌≡◌, ◌⊎◌, ℕ, ◌<◌, List, [], ◌∷◌, ◌++◌, map, refl, sym, ap, ◌∙◌, subst, arith, inl, inr}
+use Rattle.std.proofs.Common.{◌≡◌, ℕ, List, [], ◌∷◌, ◌++◌, map, refl, sym, ap, ◌∙◌, subst, arith, inl, inr}
 use Rattle.std.specs.List.{AllByRecursion}
 use Rattle.fe2o3_sasl.specs.ClientHistory.{Answering, OpenAnswer, AnswersAt}
 use Rattle.fe2o3_sasl.specs.Events.{ClientSays, ServerSays}
