@@ -1,11 +1,13 @@
 -- What is found on two lists of frame bodies, and how each finding is judged: the project's own words, over the
 -- keys of RFC 5802, section 3.
 use Rattle.std.specs.Prelude.{◌≡◌, ◌≢◌, ◌⊎◌, ℕ, ◌<◌, Option, Some, None, List, [], ◌∷◌, ◌++◌, map}
-use Rattle.std.specs.List.{AllByRecursion}
+use Rattle.std.specs.List.{AllByRecursion, Contains}
 use Rattle.fe2o3_sasl.specs.ClientHistory.{Answering, ClientComplete, OpenAnswer}
+use Rattle.fe2o3_sasl.specs.Events.{Given, Login, ClientSays, ServerSays}
+use Rattle.fe2o3_scram.specs.Credentials.{Provider}
 use Rattle.fe2o3_scram.specs.Hmac.{digest}
 use Rattle.fe2o3_sasl.specs.ServerHistory.{Accepted, full_nonce, ServerComplete}
-use Rattle.fe2o3_sasl.specs.TwoSides.{Sides, Histories, Takes, Shows, Agree, IsPlainInit, MacCollision, HashCollision, client_message, server_message, client_key_at, server_key_at, recovered_at}
+use Rattle.fe2o3_sasl.specs.TwoSides.{Sides, sides_of, Histories, Takes, Shows, Agree, IsPlainInit, MacCollision, HashCollision, client_message, server_message, client_key_at, server_key_at, recovered_at}
 
 -- the nonce of both sides, the salt and the iteration count
 pub record Parameters : Type 0 where
@@ -98,15 +100,10 @@ abbrev pub Ascending : List (ℕ × ℕ) → Type 0
 Ascending [] = Unit {0}
 Ascending (place ∷ places) = AllByRecursion (Before place) places × Ascending places
 
--- the pair is in the list
-abbrev pub Among : ℕ × ℕ → List (ℕ × ℕ) → Type 0
-Among place [] = ⊥
-Among place (first ∷ places) = (first ≡ place) ⊎ Among place places
-
 -- exactly the pairs of the relation, each once, in order
 pub record Lists (R : ℕ → ℕ → Type 0) (places : List (ℕ × ℕ)) : Type 0 where
   pub each : AllByRecursion (λ place. R place.0 place.1) places
-  pub every : (m n : ℕ) → R m n → Among (m, n) places
+  pub every : (m n : ℕ) → R m n → Contains places (m, n)
   pub ordered : Ascending places
 
 -- a verifier that the client took, with its verdict
@@ -137,3 +134,9 @@ pub record Audits (sides : Sides) (findings : List Finding) : Type 0 where
       (map place_of proofs)
   pub verifier_verdicts : AllByRecursion (IsVerifierFinding sides) verifiers
   pub proof_verdicts : AllByRecursion (IsProofFinding sides) proofs
+
+-- what an audit lists of these events: what it lists of two histories of them
+abbrev pub AuditsEvents : Login → List Given → Provider → List Given → List Finding → Type 0
+AuditsEvents login client_events provider server_events findings =
+    (client_replies : List ClientSays) × (server_replies : List ServerSays)
+    × Audits (sides_of login client_events client_replies provider server_events server_replies) findings

@@ -15,7 +15,7 @@ use Rattle.fe2o3_sasl.specs.ServerHistory.{Challenging, Accepted, AcceptsAt, Ope
 use Rattle.fe2o3_scram.specs.ScramServer as server_states
 use Rattle.fe2o3_sasl.specs.TwoSides.{Sides, Histories, Takes, Shows, Agree, HasParts, IsPlainInit, client_message, server_message}
 use Rattle.fe2o3_sasl.specs.UnalteredRuns.{LogsInUnaltered}
-use Rattle.fe2o3_sasl.specs.Audit.{Verdict, JudgesVerifier, JudgesProof}
+use Rattle.fe2o3_sasl.specs.Audit.{Verdict, JudgesVerifier, JudgesProof, Finding, AuditsEvents}
 
 -- a history without want of memory is a function of the events
 abbrev pub OneServerHistory : Type 0
@@ -121,6 +121,12 @@ abbrev pub OneVerdictEach : Type 0
 OneVerdictEach = (sides : Sides) (answer : Answering) (accepted : Accepted) (verdict other : Verdict)
     → (JudgesVerifier sides answer accepted verdict → JudgesVerifier sides answer accepted other → verdict ≡ other)
     × (JudgesProof sides answer accepted verdict → JudgesProof sides answer accepted other → verdict ≡ other)
+
+-- an audit has one answer, whatever replies it speaks of
+abbrev pub OneAuditEach : Type 0
+OneAuditEach = (login : Login) (client_events : List Given) (provider : Provider) (server_events : List Given)
+    (findings others : List Finding) → AuditsEvents login client_events provider server_events findings
+    → AuditsEvents login client_events provider server_events others → findings ≡ others
 
 -- two positions whose events carry one nonce
 abbrev pub RepeatsNonce : List Given → ℕ → ℕ → Type 0

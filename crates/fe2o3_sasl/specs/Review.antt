@@ -5,12 +5,10 @@ use Rattle.fe2o3_sasl_wire.specs.declared.sasl_frames.error.Error.TheVariants as
 use Rattle.fe2o3_sasl.specs.ClientHistory.{Answering, OpenAnswer, ClientHistory}
 use Rattle.fe2o3_scram.specs.Credentials.{Provider}
 use Rattle.fe2o3_sasl.specs.Events.{Given, Login, IsRecord, ServerSays, Concluded, Failed, ClientSays, Reported, Refused, OutOfMemory}
-use Rattle.fe2o3_sasl.specs.examples.Examples.{login, provider}
 use Rattle.fe2o3_sasl.specs.Headline.{IsOkBody, SignedAt}
 use Rattle.fe2o3_sasl.specs.Positions.{IsLastOpen}
 use Rattle.fe2o3_sasl.specs.ServerHistory.{Accepted, AcceptsAt, ServerHistory, is_challenge, is_ok}
 use Rattle.fe2o3_sasl.specs.TwoSides.{Sides, Histories, Takes, Agree, MacCollision, client_message, server_message, server_key_at}
-use Rattle.fe2o3_sasl.specs.Audit.{Finding, Audits}
 
 -- the first clause of the headline, of one history
 pub record AnswersOkExactly (provider : Provider) (events : List Given) (replies : List ServerSays) : Type 0 where
@@ -52,24 +50,3 @@ ClientsReportExactly = (login : Login) (events : List Given) (replies : List Cli
 abbrev pub VerifiersAgree : Type 0
 VerifiersAgree = (sides : Sides) (m n : ℕ) (accepted : Accepted) → Histories sides → IsRecord accepted.challenge.stored
     → Takes sides m n accepted → VerifierAgrees sides m accepted
-
--- a login, a provider and two lists of events, with replies
-abbrev pub sides_of : Login → List Given → Provider → List Given → List ClientSays → List ServerSays → Sides
-sides_of login client_events provider server_events client_replies server_replies =
-    record {
-      login = login;
-      client_events = client_events;
-      client_replies = client_replies;
-      provider =
-          provider;
-      server_events = server_events;
-      server_replies = server_replies;
-    }
-
--- an audit has one answer
-abbrev pub OneAudit : Type 0
-OneAudit = (login : Login) (client_events : List Given) (provider : Provider) (server_events : List Given)
-    (client_replies other_client : List ClientSays) (server_replies other_server : List ServerSays)
-    (findings others : List Finding)
-    → Audits (sides_of login client_events provider server_events client_replies server_replies) findings
-    → Audits (sides_of login client_events provider server_events other_client other_server) others → findings ≡ others

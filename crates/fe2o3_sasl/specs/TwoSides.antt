@@ -53,6 +53,17 @@ pub record Sides : Type 0 where
   pub server_events : List Given
   pub server_replies : List ServerSays
 
+-- the same, of what either side has
+abbrev pub sides_of : Login → List Given → List ClientSays → Provider → List Given → List ServerSays → Sides
+sides_of login client_events client_replies provider server_events server_replies = record {
+  login = login;
+  client_events = client_events;
+  client_replies = client_replies;
+  provider = provider;
+  server_events = server_events;
+  server_replies = server_replies;
+}
+
 -- what either side said is a history
 pub record Histories (sides : Sides) : Type 0 where
   pub client : ClientHistory sides.login sides.client_events sides.client_replies

@@ -2,7 +2,7 @@
 //! statement about every list of bytes, which the check has proved.
 
 ghost use Rattle.fe2o3_sasl.specs.Headline.{OkOnlyWhereAccepted, OkWhereverAccepted, ReportedOnlyWhereSigned, ReportedWhereverSigned, IssuedVerifiersAgree};
-ghost use Rattle.fe2o3_sasl.specs.Laws.{OneServerHistory, OneClientHistory, AcceptorRunsAreHistories, ProfileRunsAreHistories, OksWithinChallenges, RepeatedResponsesAreRefused, OneResponseOneNonce, RefusalsLeaveOpen, PositionsAreUsedOnce, EqualMessagesAgree, NoShortExtensions, TakenVerifiersAreJudged, ShownProofsAreJudged, OneVerdictEach, RepeatedClientPositions, RepeatedServerPositions, UnalteredRunsLogIn};
+ghost use Rattle.fe2o3_sasl.specs.Laws.{OneServerHistory, OneClientHistory, AcceptorRunsAreHistories, ProfileRunsAreHistories, OksWithinChallenges, RepeatedResponsesAreRefused, OneResponseOneNonce, RefusalsLeaveOpen, PositionsAreUsedOnce, EqualMessagesAgree, NoShortExtensions, TakenVerifiersAreJudged, ShownProofsAreJudged, OneVerdictEach, OneAuditEach, RepeatedClientPositions, RepeatedServerPositions, UnalteredRunsLogIn};
 ghost use Rattle.fe2o3_sasl.specs.examples.UnalteredExample.{PremisesCanBeMet};
 ghost use Rattle.fe2o3_sasl.specs.examples.Examples.{GuestsEnter, WrongPasswordsFail, NamesAloneFail, EmptyInitsFail, ResponsesToPlainFail, ShiftedTextsPass, RefusalsHaveOneBody, ServersAnswer, ClientsAnswer, ShiftedHistoriesPass};
 
@@ -67,6 +67,12 @@ pub fn verdicts()
     ensures taken { TakenVerifiersAreJudged }
     ensures shown { ShownProofsAreJudged }
     ensures one { OneVerdictEach }
+{}
+
+/// An audit lists the same findings of the same login, provider and lists of events, whatever replies
+/// it speaks of.
+pub fn one_audit_each()
+    ensures { OneAuditEach }
 {}
 
 /// Among agreed findings of one kind, an Ok of a server is matched with two positions of a client only

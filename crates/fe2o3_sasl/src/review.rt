@@ -1,14 +1,9 @@
 //! Review.
 
-ghost use Rattle.fe2o3_sasl.specs.Review.{ServersAnswerExactly, ClientsReportExactly, OneAudit};
+ghost use Rattle.fe2o3_sasl.specs.Review.{ServersAnswerExactly, ClientsReportExactly};
 
 /// Exactly.
 pub fn exactly()
     ensures server { ServersAnswerExactly }
     ensures client { ClientsReportExactly }
-{}
-
-/// One audit.
-pub fn one_audit()
-    ensures { OneAudit }
 {}

@@ -1,5 +1,5 @@
 -- An unaltered run logs in.
-use Rattle.std.proofs.Common.{◌≡◌, ◌≤◌, ◌<◌, ◌^◌, ℕ, zero, suc, List, [], ◌∷◌, ◌++◌, codes, Some, None, length, refl, sym, ap, ◌∙◌, subst, arith, Result, Ok, inl}
+use Rattle.std.proofs.Common.{◌≡◌, ◌≤◌, ◌<◌, ◌^◌, ℕ, zero, suc, List, [], ◌∷◌, ◌++◌, codes, Some, None, length, refl, sym, ap, ◌∙◌, subst, arith, Result, Ok}
 use Rattle.std.specs.Prelude.{slice_get}
 use Rattle.std.specs.Fmt.{decimal}
 use Rattle.std.specs.Str.{IsUtf8}
@@ -155,7 +155,7 @@ only_ok challenge outcome body (suc (suc n)) at = absurd (cc)
 one_pair : (R : ℕ → ℕ → Type 0) (i j : ℕ) → R i j → ((m n : ℕ) → R m n → (m ≡ i) × (n ≡ j)) → Lists R ((i, j) ∷ [])
 one_pair R i j is only = record {
   each = (is, tt);
-  every = λ m n has. inl (same i j m n (only m n has));
+  every = λ m n has. (0, omega arith, same i j m n (only m n has));
   ordered =
       (tt, tt);
 }
