@@ -7,7 +7,7 @@ use Rattle.fe2o3_sasl.specs.Events.{Given, Login, ClientSays, ServerSays}
 use Rattle.fe2o3_scram.specs.Credentials.{Provider}
 use Rattle.fe2o3_scram.specs.Hmac.{digest}
 use Rattle.fe2o3_sasl.specs.ServerHistory.{Accepted, full_nonce, ServerComplete}
-use Rattle.fe2o3_sasl.specs.TwoSides.{Sides, sides_of, Histories, Takes, Shows, Agree, IsPlainInit, MacCollision, HashCollision, client_message, server_message, client_key_at, server_key_at, recovered_at}
+use Rattle.fe2o3_sasl.specs.TwoSides.{Sides, sides_of, Histories, Takes, Shows, Agree, IsPlainInit, MessagesCollide, HashCollision, client_message, server_message, client_key_at, server_key_at, recovered_at}
 
 -- the nonce of both sides, the salt and the iteration count
 pub record Parameters : Type 0 where
@@ -36,12 +36,6 @@ AreAgreed sides answer accepted user nonce parameters =
     (client_message sides.login answer ≡ server_message accepted) × Agree sides.login sides.provider answer accepted
     × (user ≡ accepted.challenge.client.user) × (nonce ≡ accepted.challenge.client.nonce)
     × AreParameters accepted parameters
-
--- the AuthMessages differ, and their HMAC values under these keys are one
-abbrev pub MessagesCollide : Sides → Answering → Accepted → List ℕ → List ℕ → Type 0
-MessagesCollide sides answer accepted client_key server_key =
-    (sides.login.version ≡ sides.provider.version) × MacCollision sides.login.version client_key
-    (client_message sides.login answer) server_key (server_message accepted)
 
 -- the verdict on a verifier that the client took: both agree, or the AuthMessages collide under the server keys
 -- of the two sides

@@ -14,7 +14,8 @@ use Rattle.fe2o3_sasl.specs.Positions.{test_at, IsLastOpen}
 use Rattle.fe2o3_sasl.specs.ServerHistory.{Challenging, Accepted, AcceptsAt, Open, ServerHistory, ServerComplete, SpellsBody, is_challenge, is_ok, full_nonce, says_auth}
 use Rattle.fe2o3_scram.specs.ScramServer as server_states
 use Rattle.fe2o3_sasl.specs.TwoSides.{Sides, Histories, Takes, Shows, Agree, HasParts, IsPlainInit, client_message, server_message}
-use Rattle.fe2o3_sasl.specs.UnalteredRuns.{LogsInUnaltered}
+use Rattle.fe2o3_sasl.specs.Headline.{VerifierAgrees, EveryServer, EveryClient}
+use Rattle.fe2o3_sasl.specs.UnalteredRuns.{ClientLogsIn, ServerLogsIn}
 use Rattle.fe2o3_sasl.specs.Audit.{Verdict, JudgesVerifier, JudgesProof, Finding, AuditsEvents}
 
 -- a history without want of memory is a function of the events
@@ -88,27 +89,29 @@ AreMatched sides answer accepted =
     ((m n : ℕ) × Takes sides m n accepted × OpenAnswer sides.login sides.client_events sides.client_replies m answer)
     ⊎ ((k n : ℕ) × Shows sides k n answer accepted)
 
+-- so do two histories, with equal AuthMessages
+pub record MatchEqually (sides : Sides) (answer : Answering) (accepted : Accepted) : Type 0 where
+  pub histories : Histories sides
+  pub held : IsRecord accepted.challenge.stored
+  pub matched : AreMatched sides answer accepted
+  pub same : client_message sides.login answer ≡ server_message accepted
+
 -- equal AuthMessages: both sides mean one login
 abbrev pub EqualMessagesAgree : Type 0
-EqualMessagesAgree = (sides : Sides) (answer : Answering) (accepted : Accepted) → Histories sides
-    → IsRecord accepted.challenge.stored
-    → AreMatched sides answer accepted → client_message sides.login answer ≡ server_message accepted
+EqualMessagesAgree = (sides : Sides) (answer : Answering) (accepted : Accepted) → MatchEqually sides answer accepted
     → Agree sides.login sides.provider answer accepted
 
 -- and the init had not three parts, and not four
 abbrev pub NoShortExtensions : Type 0
-NoShortExtensions = (sides : Sides) (answer : Answering) (accepted : Accepted) → Histories sides
-    → IsRecord accepted.challenge.stored
-    → AreMatched sides answer accepted → client_message sides.login answer ≡ server_message accepted
+NoShortExtensions = (sides : Sides) (answer : Answering) (accepted : Accepted) → MatchEqually sides answer accepted
     → ¬ HasParts accepted.challenge.client.bare 3 × ¬ HasParts accepted.challenge.client.bare 4
 
--- each verifier that the client took and the server issued has its verdict: both agree, or the sides' own
--- AuthMessages share one HMAC value
+-- each verifier that the client took and the server issued has its verdict
 abbrev pub TakenVerifiersAreJudged : Type 0
 TakenVerifiersAreJudged = (sides : Sides) (m n : ℕ) (accepted : Accepted) → Histories sides
     → IsRecord accepted.challenge.stored → Takes sides m n accepted
-    → (answer : Answering) × (verdict : Verdict) × OpenAnswer sides.login sides.client_events sides.client_replies m
-    answer × JudgesVerifier sides answer accepted verdict
+    → (agrees : VerifierAgrees sides m accepted) × (verdict : Verdict)
+    × JudgesVerifier sides agrees.answer accepted verdict
 
 -- each proof that the client showed and the server accepted has its verdict
 abbrev pub ShownProofsAreJudged : Type 0
@@ -172,6 +175,10 @@ RepeatedServerPositions = (sides : Sides) (k n o : ℕ) (accepted other : Accept
     → ((m l : ℕ) → TakesAgreed sides m k n accepted → TakesAgreed sides m l o other → FromTwoChallenges sides n o)
     × (ShowsAgreed sides k n accepted → ShowsAgreed sides k o other → FromTwoChallenges sides n o)
 
--- unaltered runs log in
-abbrev pub UnalteredRunsLogIn : Type 0
-UnalteredRunsLogIn = (sides : Sides) → Histories sides → IsLogin sides.login → LogsInUnaltered sides
+-- unaltered runs log in: what that gives every history of a client whose login the code holds
+abbrev pub ClientsLogIn : Type 0
+ClientsLogIn = EveryClient (λ login events replies. IsLogin login → ClientLogsIn login events replies)
+
+-- and what it gives every history of a server
+abbrev pub ServersLogIn : Type 0
+ServersLogIn = EveryServer ServerLogsIn

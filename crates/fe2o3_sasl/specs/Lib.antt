@@ -10,7 +10,6 @@ pub mod Audit
 pub mod UnalteredRuns
 pub mod Laws
 pub mod Headline
-pub mod Review
 pub mod examples
 pub use Rattle.fe2o3_scram.specs.Texts
 pub use Rattle.fe2o3_scram.specs.Escape

@@ -113,6 +113,12 @@ pub record MacCollision (version : ScramVersion) (key text other_key other_text 
   pub differ : text ≢ other_text
   pub one : hmac_of version key text ≡ hmac_of version other_key other_text
 
+-- the AuthMessages differ, and their HMAC values under these keys are one
+abbrev pub MessagesCollide : Sides → Answering → Accepted → List ℕ → List ℕ → Type 0
+MessagesCollide sides answer accepted client_key server_key =
+    (sides.login.version ≡ sides.provider.version) × MacCollision sides.login.version client_key
+    (client_message sides.login answer) server_key (server_message accepted)
+
 -- two keys that differ have one digest: a collision
 pub record HashCollision (version : ScramVersion) (key other_key : List ℕ) : Type 0 where
   pub differ : key ≢ other_key

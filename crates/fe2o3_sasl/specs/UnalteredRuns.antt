@@ -6,13 +6,13 @@ use Rattle.fe2o3_sasl_wire.specs.Bytes.{IsBytes}
 use Rattle.fe2o3_sasl_wire.specs.Canonical.{canonical}
 use Rattle.fe2o3_sasl_wire.specs.SaslFrames as frames
 use Rattle.fe2o3_scram.specs.Texts.{base64_text}
-use Rattle.fe2o3_sasl.specs.ClientHistory.{ClientComplete}
-use Rattle.fe2o3_scram.specs.Credentials.{record_at, record_of}
-use Rattle.fe2o3_sasl.specs.Events.{Given, ServerSays, Challenged, Concluded, Failed, ClientSays, Started, Answered, Reported, Refused, Frame}
+use Rattle.fe2o3_sasl.specs.ClientHistory.{ClientHistory, ClientComplete}
+use Rattle.fe2o3_scram.specs.Credentials.{Provider, record_at, record_of}
+use Rattle.fe2o3_sasl.specs.Events.{Given, Login, IsLogin, ServerSays, Challenged, Concluded, Failed, ClientSays, Started, Answered, Reported, Refused, Frame}
 use Rattle.fe2o3_scram.specs.Hmac.{mechanism_name}
 use Rattle.fe2o3_scram.specs.SaslprepAscii.{IsPrintable}
-use Rattle.fe2o3_sasl.specs.ServerHistory.{ServerComplete}
-use Rattle.fe2o3_sasl.specs.TwoSides.{Sides}
+use Rattle.fe2o3_sasl.specs.ServerHistory.{ServerHistory, ServerComplete}
+use Rattle.fe2o3_sasl.specs.TwoSides.{Sides, sides_of}
 use Rattle.fe2o3_sasl.specs.Audit.{Verdict, Agreed, Finding, OfVerifier, OfProof, Audits}
 
 -- the body that a reply sends
@@ -94,3 +94,15 @@ pub record LogsIn {sides : Sides} (run : UnalteredRun sides) (salt : List ℕ) (
 abbrev pub LogsInUnaltered : Sides → Type 0
 LogsInUnaltered sides = (salt : List ℕ) (count : ℕ) (run : UnalteredRun sides) → HoldsLogin sides salt count
     → Suffices sides → LogsIn run salt count
+
+-- what that gives a client's history: it logs in with every server
+abbrev pub ClientLogsIn : Login → List Given → List ClientSays → Type 0
+ClientLogsIn login events replies = (provider : Provider) (server_events : List Given)
+    (server_replies : List ServerSays) → ServerHistory provider server_events server_replies
+    → LogsInUnaltered (sides_of login events replies provider server_events server_replies)
+
+-- what it gives a server's history: every client logs in
+abbrev pub ServerLogsIn : Provider → List Given → List ServerSays → Type 0
+ServerLogsIn provider events replies = (login : Login) (client_events : List Given)
+    (client_replies : List ClientSays) → IsLogin login → ClientHistory login client_events client_replies
+    → LogsInUnaltered (sides_of login client_events client_replies provider events replies)

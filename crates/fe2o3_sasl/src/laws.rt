@@ -1,8 +1,8 @@
 //! Laws of the definitions. A function with an empty body says nothing but its contract: a
 //! statement about every list of bytes, which the check has proved.
 
-ghost use Rattle.fe2o3_sasl.specs.Headline.{OkOnlyWhereAccepted, OkWhereverAccepted, ReportedOnlyWhereSigned, ReportedWhereverSigned, IssuedVerifiersAgree};
-ghost use Rattle.fe2o3_sasl.specs.Laws.{OneServerHistory, OneClientHistory, AcceptorRunsAreHistories, ProfileRunsAreHistories, OksWithinChallenges, RepeatedResponsesAreRefused, OneResponseOneNonce, RefusalsLeaveOpen, PositionsAreUsedOnce, EqualMessagesAgree, NoShortExtensions, TakenVerifiersAreJudged, ShownProofsAreJudged, OneVerdictEach, OneAuditEach, RepeatedClientPositions, RepeatedServerPositions, UnalteredRunsLogIn};
+ghost use Rattle.fe2o3_sasl.specs.Headline.{EveryServer, EveryClient, AnswersOkExactly, ReportsOkExactly, TakenVerifiersAgree};
+ghost use Rattle.fe2o3_sasl.specs.Laws.{OneServerHistory, OneClientHistory, AcceptorRunsAreHistories, ProfileRunsAreHistories, OksWithinChallenges, RepeatedResponsesAreRefused, OneResponseOneNonce, RefusalsLeaveOpen, PositionsAreUsedOnce, EqualMessagesAgree, NoShortExtensions, TakenVerifiersAreJudged, ShownProofsAreJudged, OneVerdictEach, OneAuditEach, RepeatedClientPositions, RepeatedServerPositions, ClientsLogIn, ServersLogIn};
 ghost use Rattle.fe2o3_sasl.specs.examples.UnalteredExample.{PremisesCanBeMet};
 ghost use Rattle.fe2o3_sasl.specs.examples.Examples.{GuestsEnter, WrongPasswordsFail, NamesAloneFail, EmptyInitsFail, ResponsesToPlainFail, ShiftedTextsPass, RefusalsHaveOneBody, ServersAnswer, ClientsAnswer, ShiftedHistoriesPass};
 
@@ -17,11 +17,9 @@ pub use fe2o3_scram::laws::{
 /// verifier is one this server issued, both agree on user name and client nonce, or their own
 /// differing AuthMessages share one HMAC value.
 pub fn headline()
-    ensures server_only { OkOnlyWhereAccepted }
-    ensures server_always { OkWhereverAccepted }
-    ensures client_only { ReportedOnlyWhereSigned }
-    ensures client_always { ReportedWhereverSigned }
-    ensures agreement { IssuedVerifiersAgree }
+    ensures server { EveryServer AnswersOkExactly }
+    ensures client { EveryClient ReportsOkExactly }
+    ensures agreement { EveryClient TakenVerifiersAgree }
 {}
 
 /// Where memory is not wanting, a history is a function of its events, on either side.
@@ -87,7 +85,8 @@ pub fn repeated_nonces()
 /// that password is printable ASCII, the count is from 1 to the client's limit, memory suffices on both
 /// sides, and no frame is too large; an audit of it has exactly two findings, and in both the sides agree.
 pub fn unaltered_runs()
-    ensures { UnalteredRunsLogIn }
+    ensures client { ClientsLogIn }
+    ensures server { ServersLogIn }
 {}
 
 /// What the definitions say of worked examples: the acceptor of PLAIN; a server (if its wrong proof

@@ -1,3 +1,2 @@
-pub mod ReviewLemmas
 pub mod UnalteredReplyLemmas
 pub mod UnalteredRunLemmas

@@ -9,14 +9,14 @@ use Rattle.fe2o3_sasl_wire.specs.Canonical.{canonical}
 use Rattle.fe2o3_sasl_wire.specs.SaslFrames as frames
 use Rattle.fe2o3_sasl_wire.specs.SaslFrames.{SaslFrame}
 use Rattle.fe2o3_scram.specs.declared.scram_messages.error.ScramErrorKind.{ScramErrorKind}
-use Rattle.fe2o3_sasl.specs.ClientHistory.{OpenAnswer, IsDue, ClientAnswers, ClientAllocates, ReadsOutcome}
+use Rattle.fe2o3_sasl.specs.ClientHistory.{ClientHistory, OpenAnswer, IsDue, ClientAnswers, ClientAllocates, ReadsOutcome}
 use Rattle.fe2o3_scram.specs.Credentials.{Provider}
-use Rattle.fe2o3_sasl.specs.Events.{Given, Login, ServerSays, Concluded, Failed, ClientSays, Reported, Refused, Scram, OutOfMemory}
-use Rattle.fe2o3_sasl.specs.Headline.{IsOkBody, OkOnlyWhereAccepted, OkWhereverAccepted, SignedAt, ReportedOnlyWhereSigned, ReportedWhereverSigned, IssuedVerifiersAgree}
+use Rattle.fe2o3_sasl.specs.Events.{Given, Login, IsRecord, ServerSays, Concluded, Failed, ClientSays, Reported, Refused, Scram, OutOfMemory}
+use Rattle.fe2o3_sasl.specs.Headline.{IsOkBody, AnswersOkExactly, SignedAt, ReportsOkExactly, VerifierAgrees, TakenVerifiersAgree, EveryServer, EveryClient}
 use Rattle.fe2o3_scram.specs.Hmac.{hmac_of}
 use Rattle.fe2o3_sasl.specs.Positions.{test_at}
 use Rattle.fe2o3_sasl.specs.ServerHistory.{Challenging, Accepted, FitsAsResponse, AcceptsAt, Open, ServerAnswers, ServerAllocates, ServerHistory, SpellsBody, carried, final_message, is_ok}
-use Rattle.fe2o3_sasl.specs.TwoSides.{server_message}
+use Rattle.fe2o3_sasl.specs.TwoSides.{Sides, sides_of, Histories, Takes, server_message}
 use Rattle.fe2o3_sasl.proofs.lemmas.histories.OneClientHistoryLemmas.{one_open_answer, one_reading_of_outcome}
 use Rattle.fe2o3_sasl.proofs.lemmas.histories.ReportedOkLemmas.{reported}
 use Rattle.fe2o3_sasl.proofs.lemmas.two_sides.MeetingSidesLemmas.{met, agree, taken_signature}
@@ -65,8 +65,11 @@ accepted_row provider events replies n accepted says history accepts at =
     (subst (λ (s : Result SaslFrame Error). ServerAnswers provider
     (Open provider events replies n) accepts.0 s says) spelled told)) row.2
 
-pub ok_only_where_accepted : OkOnlyWhereAccepted
-ok_only_where_accepted provider events replies n body history at =
+-- a server answers Ok only where a response fits
+only_where_accepted : (provider : Provider) (events : List Given) (replies : List ServerSays) (n : ℕ) (body : List ℕ)
+    → ServerHistory provider events replies → slice_get replies n ≡ Some (Concluded outcomes.Ok body)
+    → (accepted : Accepted) × AcceptsAt provider events replies n accepted × IsOkBody provider accepted body
+only_where_accepted provider events replies n body history at =
     let is = ok_accepts provider events replies n body history at in
     let accepts = is.1 in
     let one = one_response provider (Open provider events replies n) (Open provider events replies n)
@@ -75,11 +78,8 @@ ok_only_where_accepted provider events replies n body history at =
     (λ (told : ServerAnswers provider (Open provider events replies n) accepts.0 (Ok accepts.1)
     (Concluded outcomes.Ok body)). ok_told provider (Open provider events replies n) accepts.0 accepts.1 is.0 body
     accepts.4 one told)
-    (accepted_row provider events replies n is.0 (Concluded outcomes.Ok body) history accepts at) in (
-      (is.0, accepts, told),
-      λ j k opened later also. true≢false
-          (sym (ap (test_at is_ok) at) ∙ also.kept n opened.before later),
-    )
+    (accepted_row provider events replies n is.0 (Concluded outcomes.Ok body) history accepts at) in
+    (is.0, accepts, told)
 
 -- an outcome that is not too large is sent
 sent_ok : (outcome : Option (List ℕ)) (says : ServerSays)
@@ -100,8 +100,13 @@ ok_row provider IsOpen event (frames.Response text) accepted says fits (inl row)
     sent_ok (canonical (frames.Outcome outcomes.Ok (Some (final_message provider row.0)))) says row.2 small
 ok_row provider IsOpen event (frames.Response text) accepted says fits (inr row) small = absurd (row.0 accepted fits)
 
-pub ok_wherever_accepted : OkWhereverAccepted
-ok_wherever_accepted provider events replies n accepted says history accepts at memory small =
+-- and wherever one does
+wherever_accepted : (provider : Provider) (events : List Given) (replies : List ServerSays) (n : ℕ)
+    (accepted : Accepted) (says : ServerSays)
+    → ServerHistory provider events replies → AcceptsAt provider events replies n accepted
+    → slice_get replies n ≡ Some says → says ≢ Failed faults.OutOfMemory → says ≢ Failed faults.TooLarge
+    → (body : List ℕ) × (says ≡ Concluded outcomes.Ok body) × IsOkBody provider accepted body
+wherever_accepted provider events replies n accepted says history accepts at memory small =
     ⊎_elim (λ (none : says ≡ Failed faults.OutOfMemory). absurd (memory none))
     (λ (told : ServerAnswers provider (Open provider events replies n) accepts.0 (Ok accepts.1) says).
     let sent = ok_row provider (Open provider events replies n) accepts.0 accepts.1 accepted says accepts.4 told
@@ -116,6 +121,14 @@ ok_wherever_accepted provider events replies n accepted says history accepts at 
     ))
     (accepted_row provider events replies n accepted says history accepts at)
 
+pub answers_ok_exactly : EveryServer AnswersOkExactly
+answers_ok_exactly provider events replies history = record {
+  only = λ n body. only_where_accepted provider events replies n body history;
+  closes = λ n j k body is opened later also. true≢false
+      (sym (ap (test_at is_ok) is) ∙ also.kept n opened.before later);
+  wherever = λ n accepted says. wherever_accepted provider events replies n accepted says history;
+}
+
 -- ---- the client
 
 signed : (login : Login) (events : List Given) (replies : List ClientSays) (m : ℕ) (event : Given)
@@ -127,8 +140,11 @@ signed login events replies m event None at spells reads = absurd reads
 signed login events replies m event (Some text) at spells reads =
     (text, refl, (event, reads.0, at, spells, reads.1, reads.2))
 
-pub reported_only_where_signed : ReportedOnlyWhereSigned
-reported_only_where_signed login events replies m more history at =
+-- a client reports Ok only where the signature is given
+only_where_signed : (login : Login) (events : List Given) (replies : List ClientSays) (m : ℕ) (more : Option (List ℕ))
+    → ClientHistory login events replies → slice_get replies m ≡ Some (Reported outcomes.Ok more)
+    → (text : List ℕ) × (more ≡ Some text) × SignedAt login events replies m text
+only_where_signed login events replies m more history at =
     let event = some_at events m (omega (
       arith,
       history.count,
@@ -144,8 +160,11 @@ reported_only_where_signed login events replies m more history at =
     (λ (s : Result SaslFrame Error). SpellsBody event.0.body s) is.0 row.1) is.1)
     row.2
 
-pub reported_wherever_signed : ReportedWhereverSigned
-reported_wherever_signed login events replies m text says history is at memory =
+-- and wherever it is
+wherever_signed : (login : Login) (events : List Given) (replies : List ClientSays) (m : ℕ) (text : List ℕ)
+    (says : ClientSays) → ClientHistory login events replies → SignedAt login events replies m text
+    → slice_get replies m ≡ Some says → says ≢ Refused OutOfMemory → says ≡ Reported outcomes.Ok (Some text)
+wherever_signed login events replies m text says history is at memory =
     let event = is.0 in
     let row = history.each m event says is.2 at in
     let spelled = one_spelling event.body row.0 (Ok (frames.Outcome outcomes.Ok (Some text))) row.1 is.3 in
@@ -166,18 +185,32 @@ reported_wherever_signed login events replies m text says history is at memory =
     go reads (inr told) = let same = one_reading_of_outcome login (OpenAnswer login events replies m)
         (one_open_answer login events replies m) (Some text) (Ok tt) (Err told.0) reads told.1 in absurd (cc)
 
+pub reports_ok_exactly : EveryClient ReportsOkExactly
+reports_ok_exactly login events replies history = record {
+  only = λ m more. only_where_signed login events replies m more history;
+  wherever = λ m text says. wherever_signed login events replies m text says history;
+}
+
 -- ---- both
 
-pub issued_verifiers_agree : IssuedVerifiersAgree
-issued_verifiers_agree sides m n accepted histories kept takes =
+-- a verifier that the client took and the server issued
+pub verifier_agrees : (sides : Sides) (m n : ℕ) (accepted : Accepted) → Histories sides
+    → IsRecord accepted.challenge.stored → Takes sides m n accepted → VerifierAgrees sides m accepted
+verifier_agrees sides m n accepted histories kept takes =
     let taken = taken_signature sides m n accepted histories takes in
     let meets = met sides taken.0 accepted histories kept (inl (m, n, takes, taken.1)) in
     let signature = taken.2 in
     let its_key = accepted.challenge.stored.server_key in
     let one = signature.one ∙ ap (λ version. hmac_of version its_key (server_message accepted))
-    (sym signature.version) in (
-      taken.0,
-      taken.1,
-      (λ same. agree sides taken.0 accepted meets same),
-      λ differ. (signature.version, record { differ = differ; one = one }),
-    )
+    (sym signature.version) in
+    record {
+      answer = taken.0;
+      opened = taken.1;
+      agrees = λ same. agree sides taken.0 accepted meets same;
+      collides = λ differ. (signature.version, record { differ = differ; one = one });
+    }
+
+pub taken_verifiers_agree : EveryClient TakenVerifiersAgree
+taken_verifiers_agree login events replies history provider server_events server_replies m n accepted server kept takes =
+    verifier_agrees (sides_of login events replies provider server_events server_replies) m n accepted
+    (record { client = history; server = server }) kept takes

@@ -126,9 +126,10 @@ agree sides answer accepted is same =
     }
 
 pub equal_messages_agree : EqualMessagesAgree
-equal_messages_agree sides answer accepted histories kept meet same =
-    agree sides answer accepted (met sides answer accepted histories kept meet) same
+equal_messages_agree sides answer accepted is =
+    agree sides answer accepted (met sides answer accepted is.histories is.held is.matched) is.same
 
 pub no_short_extensions : NoShortExtensions
-no_short_extensions sides answer accepted histories kept meet same = let messages =
-    (met sides answer accepted histories kept meet).same same in (messages.not_three, messages.not_four)
+no_short_extensions sides answer accepted is =
+    let messages = (met sides answer accepted is.histories is.held is.matched).same is.same in
+    (messages.not_three, messages.not_four)

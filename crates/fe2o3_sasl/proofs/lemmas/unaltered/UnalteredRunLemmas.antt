@@ -20,13 +20,13 @@ use Rattle.fe2o3_scram.specs.Escape.{escaped}
 use Rattle.fe2o3_sasl.specs.Events.{Given, Login, IsLogin, ServerSays, Challenged, Concluded, ClientSays, Started, Answered, Reported}
 use Rattle.fe2o3_scram.specs.Exchanges.{Exchange, IsSound, Succeeds, nonce_in, bare_in, record_in, first_in, named_in, answer_in, final_in}
 use Rattle.fe2o3_scram.specs.Hmac.{mechanism_name}
-use Rattle.fe2o3_sasl.specs.Laws.{UnalteredRunsLogIn}
+use Rattle.fe2o3_sasl.specs.Laws.{ClientsLogIn, ServersLogIn}
 use Rattle.fe2o3_sasl.specs.Positions.{test_at, IsLastOpen}
 use Rattle.fe2o3_scram.specs.ClientFinal.{ReadsClientFinal, server_of}
 use Rattle.fe2o3_scram.specs.ServerFinal.{server_final_of, ReadsServerFinal}
 use Rattle.fe2o3_scram.specs.SaslprepAscii.{IsPrintable}
 use Rattle.fe2o3_sasl.specs.ServerHistory.{Challenging, Accepted, FitsAsInit, FitsAsResponse, FitsAt, Open, SpellsBody, final_message, is_challenge, is_ok}
-use Rattle.fe2o3_sasl.specs.TwoSides.{Sides, Histories, IsPlainInit, OkAt, Takes, Shows}
+use Rattle.fe2o3_sasl.specs.TwoSides.{Sides, sides_of, Histories, IsPlainInit, OkAt, Takes, Shows}
 use Rattle.fe2o3_sasl.specs.UnalteredRuns.{UnalteredRun, Suffices, HoldsLogin, LogsIn, agreed_findings}
 use Rattle.fe2o3_sasl.specs.Audit.{AreAgreed, Lists, Audits}
 use Rattle.fe2o3_scram.proofs.lemmas.texts.AsciiLemmas.{IsUtf8-base64_text, IsUtf8-literal}
@@ -418,6 +418,12 @@ module _ (sides : Sides) (salt : List ℕ) (count : ℕ) (run : UnalteredRun sid
     audit = audit;
   }
 
-pub unaltered_runs_log_in : UnalteredRunsLogIn
-unaltered_runs_log_in sides histories login salt count run holds fits =
-    logs_in sides salt count run histories login holds fits
+pub clients_log_in : ClientsLogIn
+clients_log_in login events replies history is provider server_events server_replies server salt count run holds fits =
+    logs_in (sides_of login events replies provider server_events server_replies) salt count run
+    (record { client = history; server = server }) is holds fits
+
+pub servers_log_in : ServersLogIn
+servers_log_in provider events replies history login client_events client_replies is client salt count run holds fits =
+    logs_in (sides_of login client_events client_replies provider events replies) salt count run
+    (record { client = client; server = history }) is holds fits
