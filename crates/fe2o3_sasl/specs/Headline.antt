@@ -23,7 +23,7 @@ pub record AnswersOkExactly (provider : Provider) (events : List Given) (replies
   -- only a response that fits its open challenge, and whose proof meets the stored key
   pub only : (n : ℕ) (body : List ℕ) → slice_get replies n ≡ Some (Concluded outcomes.Ok body)
       → (accepted : Accepted) × AcceptsAt provider events replies n accepted × IsOkBody provider accepted body
-  -- that closes the challenge: no later position finds it open
+  -- that closes the challenge: no later position finds it open, by the definition of what is open
   pub closes : (n j k : ℕ) (body : List ℕ) → slice_get replies n ≡ Some (Concluded outcomes.Ok body)
       → IsLastOpen is_challenge is_ok replies n j → n < k → ¬ IsLastOpen is_challenge is_ok replies k j
   -- and every such response, but for want of memory and an outcome that is too large

@@ -14,8 +14,9 @@ pub use fe2o3_scram::laws::{
 /// The headline theorem. Over every list of frame bodies, a SCRAM server answers Ok exactly when a
 /// response fits its open challenge and its proof meets the stored key, which closes the challenge;
 /// a SCRAM client reports Ok exactly on the signature of its open answered challenge; and if that
-/// verifier is one this server issued, both agree on user name and client nonce, or their own
-/// differing AuthMessages share one HMAC value.
+/// verifier is one that a server issued, both agree on user name and client nonce (and, where the init
+/// had two parts, on full nonce, salt and count), or their own differing AuthMessages share one HMAC
+/// value.
 pub fn headline()
     ensures server { EveryServer AnswersOkExactly }
     ensures client { EveryClient ReportsOkExactly }
@@ -36,19 +37,20 @@ pub fn runs_are_histories()
 {}
 
 /// What users of a server rely on, whatever it is given: it never accepts more often than it
-/// challenges, an accepted response that comes again before a new challenge is refused, one response
-/// text under two challenges means one full nonce, and a refusal leaves open what was open.
+/// challenges, an accepted response that comes again before a new challenge is refused, and one
+/// response text under two challenges means one full nonce.
 pub fn servers()
     ensures oks { OksWithinChallenges }
     ensures repeated { RepeatedResponsesAreRefused }
     ensures one_nonce { OneResponseOneNonce }
-    ensures refusals { RefusalsLeaveOpen }
 {}
 
-/// Two Oks of a server never have one open challenge, two reported Oks of a client never one answer,
-/// and two answers never one start.
-pub fn positions_are_used_once()
-    ensures { PositionsAreUsedOnce }
+/// What holds of any list of replies by the definition of "last open", and so says nothing of servers
+/// or clients in particular: two Oks of a server never have one open challenge, two reported Oks of a
+/// client never one answer, two answers never one start; and a refusal leaves open what was open.
+pub fn positions()
+    ensures used_once { PositionsAreUsedOnce }
+    ensures left_open { RefusalsLeaveOpen }
 {}
 
 /// Where a client and a server meet and their AuthMessages are equal, they mean one login, and the

@@ -211,6 +211,7 @@ verifier_agrees sides m n accepted histories kept takes =
     }
 
 pub taken_verifiers_agree : EveryClient TakenVerifiersAgree
-taken_verifiers_agree login events replies history provider server_events server_replies m n accepted server kept takes =
+taken_verifiers_agree login events replies history provider server_events server_replies m n accepted server kept
+    takes =
     verifier_agrees (sides_of login events replies provider server_events server_replies) m n accepted
     (record { client = history; server = server }) kept takes

@@ -63,7 +63,8 @@ one_list [] (y ∷ ys) a b to from = absurd (contains_none y (from y (contains_f
 one_list (x ∷ xs) [] a b to from = absurd (contains_none x (to x (contains_first x xs)))
 one_list (x ∷ xs) (y ∷ ys) a b to from =
     let at : (p : ℕ × ℕ) → Contains (x ∷ xs) p → (y ≡ p) ⊎ Contains ys p = λ p is. contains_cases y p ys (to p is) in
-    let back : (p : ℕ × ℕ) → Contains (y ∷ ys) p → (x ≡ p) ⊎ Contains xs p = λ p is. contains_cases x p xs (from p is) in
+    let back : (p : ℕ × ℕ) → Contains (y ∷ ys) p → (x ≡ p) ⊎ Contains xs p =
+    λ p is. contains_cases x p xs (from p is) in
     let e = same_head x y xs ys a.0 b.0 (at x (contains_first x xs)) (back y (contains_first y ys)) in
     let rest = one_list xs ys a.1 b.1 (λ p is. behind x y p xs ys e a.0 is (at p (contains_more x p xs is)))
     (λ p is. behind y x p ys xs (sym e) b.0 is (back p (contains_more y p ys is))) in

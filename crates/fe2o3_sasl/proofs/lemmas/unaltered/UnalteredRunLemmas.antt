@@ -199,7 +199,8 @@ module _ (sides : Sides) (salt : List ℕ) (count : ℕ) (run : UnalteredRun sid
   starts : (slice_get sides.client_replies 0 ≡ Some (Started run.init.body))
       × (canonical (init_in exchange) ≡ Some run.init.body)
   starts = client_starts sides.login sides.client_events sides.client_replies 0 run.offer run.init.body histories.client
-      offer_at (spells_mechanisms sides.login.version run.offer.body run.offered) fits.client fits.client_small run.started
+      offer_at (spells_mechanisms sides.login.version run.offer.body run.offered) fits.client fits.client_small
+      run.started
 
   init_spelled : SpellsBody run.init.body (Ok (init_in exchange))
   init_spelled = spells_init sides.login.version (client_first sides.login.user exchange.client_nonce) run.init.body
