@@ -2,12 +2,16 @@
 -- keys of RFC 5802, section 3.
 use Rattle.std.specs.Prelude.{◌≡◌, ◌≢◌, ◌⊎◌, ℕ, ◌<◌, Option, Some, None, List, [], ◌∷◌, ◌++◌, map}
 use Rattle.std.specs.List.{AllByRecursion, Contains}
-use Rattle.fe2o3_sasl.specs.ClientHistory.{Answering, ClientComplete, OpenAnswer}
+use Rattle.fe2o3_sasl.specs.ClientHistory.{Answering, OpenAnswer}
 use Rattle.fe2o3_sasl.specs.Events.{Given, Login, ClientSays, ServerSays}
 use Rattle.fe2o3_scram.specs.Credentials.{Provider}
+use Rattle.fe2o3_scram.specs.declared.hmac.ScramVersion.{ScramVersion}
+use Rattle.fe2o3_scram.specs.ClientFinal.{recovered_key}
 use Rattle.fe2o3_scram.specs.Hmac.{digest}
-use Rattle.fe2o3_sasl.specs.ServerHistory.{Accepted, full_nonce, ServerComplete}
-use Rattle.fe2o3_sasl.specs.TwoSides.{Sides, sides_of, Histories, Takes, Shows, Agree, IsPlainInit, MessagesCollide, HashCollision, client_message, server_message, client_key_at, server_key_at, recovered_at}
+use Rattle.fe2o3_scram.specs.Keys.{client_key}
+use Rattle.fe2o3_sasl.specs.Complete.{ServerComplete, ClientComplete}
+use Rattle.fe2o3_sasl.specs.ServerHistory.{Accepted, full_nonce, server_at}
+use Rattle.fe2o3_sasl.specs.TwoSides.{Sides, sides_of, Histories, Takes, Shows, Agree, IsPlainInit, MessagesCollide, client_message, server_message, salted_at, server_key_at}
 
 -- the nonce of both sides, the salt and the iteration count
 pub record Parameters : Type 0 where
@@ -47,6 +51,19 @@ JudgesVerifier sides answer accepted (SameMac client_key client_text server_key 
     × (server_key ≡ accepted.challenge.stored.server_key) × (server_text ≡ server_message accepted)
     × MessagesCollide sides answer accepted client_key server_key
 JudgesVerifier sides answer accepted verdict = ⊥
+
+-- the client's ClientKey
+abbrev pub client_key_at : Login → Answering → List ℕ
+client_key_at login answer = client_key login.version (salted_at login answer)
+
+-- the key that the server recovered from the proof
+abbrev pub recovered_at : Provider → Accepted → List ℕ
+recovered_at provider accepted = recovered_key (server_at provider accepted.challenge) accepted.final
+
+-- two keys that differ have one digest: a collision
+pub record HashCollision (version : ScramVersion) (key other_key : List ℕ) : Type 0 where
+  pub differ : key ≢ other_key
+  pub one : digest version key ≡ digest version other_key
 
 -- the client's key is the one whose digest the server stores
 abbrev pub IsStoredKey : Sides → Answering → Accepted → Type 0

@@ -3,33 +3,27 @@
 use Rattle.std.specs.Prelude.{◌≡◌, ◌≢◌, ℕ, ◌<◌, Option, Some, List, slice_get, Ok}
 use Rattle.fe2o3_sasl_wire.specs.declared.amqp_types.SaslCode.TheVariants as outcomes
 use Rattle.fe2o3_sasl_wire.specs.declared.sasl_frames.error.Error.TheVariants as faults
-use Rattle.fe2o3_sasl_wire.specs.Canonical.{canonical}
 use Rattle.fe2o3_sasl_wire.specs.SaslFrames as frames
 use Rattle.fe2o3_sasl.specs.ClientHistory.{Answering, answer_at, OpenAnswer, ClientHistory}
 use Rattle.fe2o3_scram.specs.Credentials.{Provider}
 use Rattle.fe2o3_sasl.specs.Events.{Given, Login, IsRecord, ServerSays, Concluded, Failed, ClientSays, Reported, Refused, OutOfMemory}
 use Rattle.fe2o3_sasl.specs.Positions.{IsLastOpen}
 use Rattle.fe2o3_scram.specs.ServerFinal.{ReadsServerFinal}
-use Rattle.fe2o3_sasl.specs.ServerHistory.{Accepted, AcceptsAt, ServerHistory, SpellsBody, is_challenge, is_ok, final_message}
+use Rattle.fe2o3_sasl.specs.ServerHistory.{Accepted, AcceptsAt, ServerHistory, SpellsBody, is_challenge, is_ok, says_ok}
 use Rattle.fe2o3_sasl.specs.TwoSides.{Sides, sides_of, Takes, Agree, MessagesCollide, client_message, server_message, server_key_at}
-
--- the outcome Ok with the server-final message has this body
-abbrev pub IsOkBody : Provider → Accepted → List ℕ → Type 0
-IsOkBody provider accepted body = canonical (frames.Outcome outcomes.Ok (Some (final_message provider accepted)))
-    ≡ Some body
 
 -- what a server answers Ok to, exactly
 pub record AnswersOkExactly (provider : Provider) (events : List Given) (replies : List ServerSays) : Type 0 where
   -- only a response that fits its open challenge, and whose proof meets the stored key
   pub only : (n : ℕ) (body : List ℕ) → slice_get replies n ≡ Some (Concluded outcomes.Ok body)
-      → (accepted : Accepted) × AcceptsAt provider events replies n accepted × IsOkBody provider accepted body
+      → (accepted : Accepted) × AcceptsAt provider events replies n accepted
+      × (Concluded outcomes.Ok body ≡ says_ok provider accepted)
   -- that closes the challenge: no later position finds it open, by the definition of what is open
   pub closes : (n j k : ℕ) (body : List ℕ) → slice_get replies n ≡ Some (Concluded outcomes.Ok body)
       → IsLastOpen is_challenge is_ok replies n j → n < k → ¬ IsLastOpen is_challenge is_ok replies k j
-  -- and every such response, but for want of memory and an outcome that is too large
+  -- and every such response, but for want of memory and an outcome that is too large, as `says_ok` says
   pub wherever : (n : ℕ) (accepted : Accepted) (says : ServerSays) → AcceptsAt provider events replies n accepted
-      → slice_get replies n ≡ Some says → says ≢ Failed faults.OutOfMemory → says ≢ Failed faults.TooLarge
-      → (body : List ℕ) × (says ≡ Concluded outcomes.Ok body) × IsOkBody provider accepted body
+      → slice_get replies n ≡ Some says → says ≢ Failed faults.OutOfMemory → says ≡ says_ok provider accepted
 
 -- the event at m is an outcome Ok with this data, which is the signature that the open answer waits for
 abbrev pub SignedAt : Login → List Given → List ClientSays → ℕ → List ℕ → Type 0

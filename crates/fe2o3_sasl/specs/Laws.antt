@@ -4,19 +4,20 @@ use Rattle.std.specs.List.{filter}
 use Rattle.fe2o3_sasl_wire.specs.declared.amqp_types.SaslCode.TheVariants as outcomes
 use Rattle.fe2o3_sasl_wire.specs.declared.sasl_frames.error.Error.TheVariants as faults
 use Rattle.fe2o3_sasl_wire.specs.SaslFrames as frames
-use Rattle.fe2o3_sasl.specs.ClientHistory.{Answering, AnswersAt, OpenAnswer, ClientHistory, ClientComplete, Start, is_start, is_answer, ends_answer}
+use Rattle.fe2o3_sasl.specs.ClientHistory.{Answering, AnswersAt, OpenAnswer, ClientHistory, is_start, is_answer, ends_answer}
 use Rattle.fe2o3_scram.specs.Credentials.{Provider}
 use Rattle.fe2o3_sasl.specs.Events.{Given, AreGiven, Login, IsLogin, IsRecord, ServerSays, Concluded, Failed, ClientSays}
 use Rattle.fe2o3_sasl.specs.Runs.{Runs, AcceptorSteps, ProfileSteps}
 use Rattle.fe2o3_sasl.specs.SaslAcceptor.{acceptor_machine, Acceptor, ScramAcceptor}
 use Rattle.fe2o3_sasl.specs.SaslProfile.{scram_profile, Profile}
 use Rattle.fe2o3_sasl.specs.Positions.{test_at, IsLastOpen}
-use Rattle.fe2o3_sasl.specs.ServerHistory.{Challenging, Accepted, AcceptsAt, Open, ServerHistory, ServerComplete, SpellsBody, is_challenge, is_ok, full_nonce, says_auth}
+use Rattle.fe2o3_sasl.specs.ServerHistory.{Challenging, Accepted, AcceptsAt, Open, ServerHistory, SpellsBody, is_challenge, is_ok, full_nonce, says_auth}
 use Rattle.fe2o3_scram.specs.ScramServer as server_states
 use Rattle.fe2o3_sasl.specs.TwoSides.{Sides, Histories, Takes, Shows, Agree, HasParts, IsPlainInit, client_message, server_message}
 use Rattle.fe2o3_sasl.specs.Headline.{VerifierAgrees, EveryServer, EveryClient}
 use Rattle.fe2o3_sasl.specs.UnalteredRuns.{ClientLogsIn, ServerLogsIn}
 use Rattle.fe2o3_sasl.specs.Audit.{Verdict, JudgesVerifier, JudgesProof, Finding, AuditsEvents}
+use Rattle.fe2o3_sasl.specs.Complete.{ClientComplete, ServerComplete}
 
 -- a history without want of memory is a function of the events
 abbrev pub OneServerHistory : Type 0
@@ -135,6 +136,14 @@ OneAuditEach = (login : Login) (client_events : List Given) (provider : Provider
 abbrev pub RepeatsNonce : List Given → ℕ → ℕ → Type 0
 RepeatsNonce events i j = (i ≢ j) × ((event again : Given) × (slice_get events i ≡ Some event)
     × (slice_get events j ≡ Some again) × (event.nonce ≡ again.nonce))
+
+-- a test that no reply passes
+abbrev pub closes_nothing : ClientSays → Bool
+closes_nothing says = false
+
+-- s is the last start before k
+abbrev pub Start : List ClientSays → ℕ → ℕ → Type 0
+Start replies k s = IsLastOpen is_start closes_nothing replies k s
 
 -- the answers at these two positions come from two starts with one nonce
 abbrev pub FromTwoStarts : Sides → ℕ → ℕ → Type 0

@@ -2,6 +2,7 @@ pub mod Events
 pub mod Positions
 pub mod ServerHistory
 pub mod ClientHistory
+pub mod Complete
 pub mod SaslAcceptor
 pub mod SaslProfile
 pub mod Runs

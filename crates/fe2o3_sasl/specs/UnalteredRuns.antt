@@ -6,14 +6,15 @@ use Rattle.fe2o3_sasl_wire.specs.Bytes.{IsBytes}
 use Rattle.fe2o3_sasl_wire.specs.Canonical.{canonical}
 use Rattle.fe2o3_sasl_wire.specs.SaslFrames as frames
 use Rattle.fe2o3_scram.specs.Texts.{base64_text}
-use Rattle.fe2o3_sasl.specs.ClientHistory.{ClientHistory, ClientComplete}
+use Rattle.fe2o3_sasl.specs.ClientHistory.{ClientHistory}
 use Rattle.fe2o3_scram.specs.Credentials.{Provider, record_at, record_of}
 use Rattle.fe2o3_sasl.specs.Events.{Given, Login, IsLogin, ServerSays, Challenged, Concluded, Failed, ClientSays, Started, Answered, Reported, Refused, Frame}
 use Rattle.fe2o3_scram.specs.Hmac.{mechanism_name}
 use Rattle.fe2o3_scram.specs.SaslprepAscii.{IsPrintable}
-use Rattle.fe2o3_sasl.specs.ServerHistory.{ServerHistory, ServerComplete}
+use Rattle.fe2o3_sasl.specs.ServerHistory.{ServerHistory}
 use Rattle.fe2o3_sasl.specs.TwoSides.{Sides, sides_of}
 use Rattle.fe2o3_sasl.specs.Audit.{Verdict, Agreed, Finding, OfVerifier, OfProof, Audits}
+use Rattle.fe2o3_sasl.specs.Complete.{ClientComplete, ServerComplete}
 
 -- the body that a reply sends
 abbrev pub client_body : Option ClientSays → Option (List ℕ)

@@ -5,8 +5,8 @@ use Rattle.fe2o3_scram.specs.Hmac.{digest, digest_len, hmac_of, exclusive_or}
 use Rattle.fe2o3_sasl.specs.Laws.{TakenVerifiersAreJudged, ShownProofsAreJudged, OneVerdictEach}
 use Rattle.fe2o3_sasl.specs.ServerHistory.{Accepted, full_nonce}
 use Rattle.fe2o3_scram.specs.Texts.{Parts}
-use Rattle.fe2o3_sasl.specs.TwoSides.{Sides, Agree, IsPlainInit, client_message, server_message, salted_at, client_key_at, server_key_at, proof_at, recovered_at}
-use Rattle.fe2o3_sasl.specs.Audit.{Parameters, Verdict, Agreed, SameMac, SameHash, OtherKey, AreParameters, AreAgreed, JudgesVerifier, JudgesProof, IsStoredKey}
+use Rattle.fe2o3_sasl.specs.TwoSides.{Sides, Agree, IsPlainInit, client_message, server_message, salted_at, server_key_at, proof_at}
+use Rattle.fe2o3_sasl.specs.Audit.{Parameters, Verdict, Agreed, SameMac, SameHash, OtherKey, AreParameters, AreAgreed, JudgesVerifier, JudgesProof, IsStoredKey, client_key_at, recovered_at}
 use Rattle.fe2o3_scram.proofs.lemmas.hashes.DigestLemmas.{length-hmac_of}
 use Rattle.fe2o3_scram.proofs.lemmas.hashes.OnePadLemmas.{one_pad}
 use Rattle.fe2o3_sasl.proofs.lemmas.two_sides.MeetingSidesLemmas.{Met, met, agree}

@@ -11,7 +11,7 @@ use Rattle.fe2o3_sasl_wire.specs.SaslFrames.{SaslFrame}
 use Rattle.fe2o3_scram.specs.declared.scram_messages.error.ScramErrorKind.{ScramErrorKind}
 use Rattle.fe2o3_scram.specs.Texts.{base64_text}
 use Rattle.fe2o3_scram.specs.ClientFirst.{client_first}
-use Rattle.fe2o3_sasl.specs.ClientHistory.{Answering, answer_at, client_at, ReadsChallenge, ClientAnswers, ClientAllocates, ClientHistory, ClientComplete, IsDue, OpenAnswer}
+use Rattle.fe2o3_sasl.specs.ClientHistory.{Answering, answer_at, client_at, ReadsChallenge, ClientAnswers, ClientAllocates, ClientHistory, IsDue, OpenAnswer}
 use Rattle.fe2o3_scram.specs.Credentials.{Provider}
 use Rattle.fe2o3_sasl.specs.Events.{Given, Login, ServerSays, Challenged, Concluded, Failed, ClientSays, Started, Answered, Reported, Refused, Frame, OutOfMemory}
 use Rattle.fe2o3_scram.specs.Hmac.{mechanism_name}
@@ -19,8 +19,9 @@ use Rattle.fe2o3_sasl.specs.Positions.{IsLastOpen, OpenBy}
 use Rattle.fe2o3_scram.specs.ClientFinal.{ClientFinal, ReadsClientFinal}
 use Rattle.fe2o3_scram.specs.ServerFinal.{ReadsServerFinal}
 use Rattle.fe2o3_scram.specs.ServerFirst.{ServerFirst, ReadsServerFirst}
-use Rattle.fe2o3_sasl.specs.ServerHistory.{Challenging, Accepted, FitsAsInit, FitsAsResponse, Open, ServerAnswers, ServerAllocates, ServerHistory, ServerComplete, SpellsBody, carried, first_message, final_message, server_at}
+use Rattle.fe2o3_sasl.specs.ServerHistory.{Challenging, Accepted, FitsAsInit, FitsAsResponse, Open, ServerAnswers, ServerAllocates, ServerHistory, SpellsBody, carried, first_message, final_message, server_at}
 use Rattle.fe2o3_sasl.specs.UnalteredRuns.{client_body, server_body, Arrives}
+use Rattle.fe2o3_sasl.specs.Complete.{ClientComplete, ServerComplete}
 use Rattle.fe2o3_scram.proofs.lemmas.messages.OneValueLemmas.{one_server_first_value, one_client_final_value}
 use Rattle.fe2o3_sasl.proofs.lemmas.positions.PositionLemmas.{some_at, one_open}
 use Rattle.fe2o3_scram.proofs.lemmas.messages.ServerFinalLemmas.{one_server_final}
