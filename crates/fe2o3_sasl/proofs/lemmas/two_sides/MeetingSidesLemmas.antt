@@ -9,7 +9,8 @@ use Rattle.fe2o3_scram.specs.Hmac.{digest_len, hmac_of}
 use Rattle.fe2o3_sasl.specs.Laws.{AreMatched, EqualMessagesAgree, NoShortExtensions}
 use Rattle.fe2o3_scram.specs.Keys.{stored_key}
 use Rattle.fe2o3_sasl.specs.ServerHistory.{Accepted, AcceptsAt, final_message}
-use Rattle.fe2o3_sasl.specs.TwoSides.{Sides, Histories, Takes, Shows, Agree, client_message, server_message, salted_at, client_key_at, server_key_at}
+use Rattle.fe2o3_sasl.specs.TwoSides.{Sides, Histories, Takes, Shows, Agree, client_message, server_message, salted_at, server_key_at}
+use Rattle.fe2o3_sasl.specs.Audit.{client_key_at}
 use Rattle.fe2o3_scram.proofs.lemmas.texts.Base64Lemmas.{one_spelled}
 use Rattle.fe2o3_scram.proofs.lemmas.hashes.DigestLemmas.{length-hmac_of, IsBytes-hmac_of}
 use Rattle.fe2o3_scram.proofs.lemmas.messages.ExchangeLemmas.{length-exclusive_or}
@@ -126,9 +127,10 @@ agree sides answer accepted is same =
     }
 
 pub equal_messages_agree : EqualMessagesAgree
-equal_messages_agree sides answer accepted histories kept meet same =
-    agree sides answer accepted (met sides answer accepted histories kept meet) same
+equal_messages_agree sides answer accepted is =
+    agree sides answer accepted (met sides answer accepted is.histories is.held is.matched) is.same
 
 pub no_short_extensions : NoShortExtensions
-no_short_extensions sides answer accepted histories kept meet same = let messages =
-    (met sides answer accepted histories kept meet).same same in (messages.not_three, messages.not_four)
+no_short_extensions sides answer accepted is =
+    let messages = (met sides answer accepted is.histories is.held is.matched).same is.same in
+    (messages.not_three, messages.not_four)

@@ -1,15 +1,30 @@
--- Review: an audit has one answer.
-use Rattle.std.proofs.Common.{◌≡◌, ◌⊎◌, ℕ, ◌<◌, List, [], ◌∷◌, ◌++◌, map, refl, sym, ap, ◌∙◌, subst, arith, inl, inr}
-use Rattle.std.specs.List.{AllByRecursion}
+-- An audit has one answer.
+use Rattle.std.proofs.Common.{◌≡◌, ◌⊎◌, ⊎_elim, ℕ, zero, suc, List, [], ◌∷◌, ◌++◌, map, refl, sym, ap, ◌∙◌, subst, arith, inl, inr}
+use Rattle.std.specs.List.{AllByRecursion, Contains}
 use Rattle.fe2o3_sasl.specs.ClientHistory.{Answering, OpenAnswer, AnswersAt}
 use Rattle.fe2o3_sasl.specs.Events.{ClientSays, ServerSays}
-use Rattle.fe2o3_sasl.specs.Review.{OneAudit, sides_of}
+use Rattle.fe2o3_sasl.specs.Laws.{OneAuditEach}
 use Rattle.fe2o3_sasl.specs.ServerHistory.{Accepted, AcceptsAt}
-use Rattle.fe2o3_sasl.specs.TwoSides.{Sides, Takes, Shows}
-use Rattle.fe2o3_sasl.specs.Audit.{Verdict, Finding, FindingKind, place_of, Before, Ascending, Among, Lists, IsVerifierFinding, IsProofFinding, Audits, JudgesVerifier, JudgesProof}
+use Rattle.fe2o3_sasl.specs.TwoSides.{Sides, sides_of, Takes, Shows}
+use Rattle.fe2o3_sasl.specs.Audit.{Verdict, Finding, FindingKind, place_of, Before, Ascending, Lists, IsVerifierFinding, IsProofFinding, Audits, JudgesVerifier, JudgesProof}
 use Rattle.fe2o3_sasl.proofs.lemmas.histories.OneClientHistoryLemmas.{one_open_answer, one_answers_at, one_client_history}
 use Rattle.fe2o3_sasl.proofs.lemmas.histories.OneServerHistoryLemmas.{one_accepted, one_server_history}
 use Rattle.fe2o3_sasl.proofs.lemmas.two_sides.VerdictLemmas.{one_verdict_each}
+
+-- ---- what a list contains
+
+contains_none : {X : Type 0} (p : X) → Contains [] p → ⊥
+contains_none p (k, within, at) = absurd (omega (arith, within))
+
+pub contains_first : {X : Type 0} (x : X) (xs : List X) → Contains (x ∷ xs) x
+contains_first x xs = (0, omega arith, refl)
+
+contains_more : {X : Type 0} (x p : X) (xs : List X) → Contains xs p → Contains (x ∷ xs) p
+contains_more x p xs (k, within, at) = (suc k, omega (arith, within), at)
+
+contains_cases : {X : Type 0} (x p : X) (xs : List X) → Contains (x ∷ xs) p → (x ≡ p) ⊎ Contains xs p
+contains_cases x p xs (zero, within, at) = inl at
+contains_cases x p xs (suc k, within, at) = inr (k, omega (arith, within), at)
 
 -- ---- ascending lists
 
@@ -23,39 +38,43 @@ not_both p q (inl a) (inr b) = absurd (omega (arith, a, b.0))
 not_both p q (inr a) (inl b) = absurd (omega (arith, a.0, b))
 not_both p q (inr a) (inr b) = absurd (omega (arith, a.1, b.1))
 
-among_all : (P : ℕ × ℕ → Type 0) (xs : List (ℕ × ℕ)) (p : ℕ × ℕ) → AllByRecursion P xs → Among p xs → P p
-among_all P [] p all is = absurd is
-among_all P (x ∷ xs) p all (inl e) = subst P e all.0
-among_all P (x ∷ xs) p all (inr is) = among_all P xs p all.1 is
+all_of : (P : ℕ × ℕ → Type 0) (xs : List (ℕ × ℕ)) (p : ℕ × ℕ) → AllByRecursion P xs → Contains xs p → P p
+all_of P [] p all is = absurd (contains_none p is)
+all_of P (x ∷ xs) p all is = ⊎_elim (λ (same : x ≡ p). subst P same all.0)
+    (λ (further : Contains xs p). all_of P xs p all.1 further) (contains_cases x p xs is)
 
 same_head : (x y : ℕ × ℕ) (xs ys : List (ℕ × ℕ)) → AllByRecursion (Before x) xs → AllByRecursion (Before y) ys
-    → Among x (y ∷ ys) → Among y (x ∷ xs) → x ≡ y
+    → (y ≡ x) ⊎ Contains ys x → (x ≡ y) ⊎ Contains xs y → x ≡ y
 same_head x y xs ys a b (inl e) also = sym e
 same_head x y xs ys a b (inr is) (inl e) = e
 same_head x y xs ys a b (inr is) (inr too) =
-    absurd (not_both x y (among_all (Before x) xs y a too) (among_all (Before y) ys x b is))
+    absurd (not_both x y (all_of (Before x) xs y a too) (all_of (Before y) ys x b is))
 
-behind : (x y p : ℕ × ℕ) (xs ys : List (ℕ × ℕ)) → x ≡ y → AllByRecursion (Before x) xs → Among p xs → Among p (y ∷ ys)
-    → Among p ys
+behind : (x y p : ℕ × ℕ) (xs ys : List (ℕ × ℕ)) → x ≡ y → AllByRecursion (Before x) xs → Contains xs p
+    → (y ≡ p) ⊎ Contains ys p → Contains ys p
 behind x y p xs ys e all is (inl f) =
-    absurd (not_before p (subst (λ (q : ℕ × ℕ). Before q p) (e ∙ f) (among_all (Before x) xs p all is)))
+    absurd (not_before p (subst (λ (q : ℕ × ℕ). Before q p) (e ∙ f) (all_of (Before x) xs p all is)))
 behind x y p xs ys e all is (inr too) = too
 
-one_list : (xs ys : List (ℕ × ℕ)) → Ascending xs → Ascending ys → ((p : ℕ × ℕ) → Among p xs → Among p ys)
-    → ((p : ℕ × ℕ) → Among p ys → Among p xs) → xs ≡ ys
+one_list : (xs ys : List (ℕ × ℕ)) → Ascending xs → Ascending ys → ((p : ℕ × ℕ) → Contains xs p → Contains ys p)
+    → ((p : ℕ × ℕ) → Contains ys p → Contains xs p) → xs ≡ ys
 one_list [] [] a b to from = refl
-one_list [] (y ∷ ys) a b to from = absurd (from y (inl refl))
-one_list (x ∷ xs) [] a b to from = absurd (to x (inl refl))
+one_list [] (y ∷ ys) a b to from = absurd (contains_none y (from y (contains_first y ys)))
+one_list (x ∷ xs) [] a b to from = absurd (contains_none x (to x (contains_first x xs)))
 one_list (x ∷ xs) (y ∷ ys) a b to from =
-    let e = same_head x y xs ys a.0 b.0 (to x (inl refl)) (from y (inl refl)) in
-    let rest = one_list xs ys a.1 b.1 (λ p is. behind x y p xs ys e a.0 is (to p (inr is)))
-    (λ p is. behind y x p ys xs (sym e) b.0 is (from p (inr is))) in
+    let at : (p : ℕ × ℕ) → Contains (x ∷ xs) p → (y ≡ p) ⊎ Contains ys p = λ p is. contains_cases y p ys (to p is) in
+    let back : (p : ℕ × ℕ) → Contains (y ∷ ys) p → (x ≡ p) ⊎ Contains xs p =
+    λ p is. contains_cases x p xs (from p is) in
+    let e = same_head x y xs ys a.0 b.0 (at x (contains_first x xs)) (back y (contains_first y ys)) in
+    let rest = one_list xs ys a.1 b.1 (λ p is. behind x y p xs ys e a.0 is (at p (contains_more x p xs is)))
+    (λ p is. behind y x p ys xs (sym e) b.0 is (back p (contains_more y p ys is))) in
     λ i. e i ∷ rest i
 
+-- two listings of one relation are one list
 one_listing : (R : ℕ → ℕ → Type 0) (xs ys : List (ℕ × ℕ)) → Lists R xs → Lists R ys → xs ≡ ys
 one_listing R xs ys a b =
-    one_list xs ys a.ordered b.ordered (λ p is. b.every p.0 p.1 (among_all (λ (q : ℕ × ℕ). R q.0 q.1) xs p a.each is))
-    (λ p is. a.every p.0 p.1 (among_all (λ (q : ℕ × ℕ). R q.0 q.1) ys p b.each is))
+    one_list xs ys a.ordered b.ordered (λ p is. b.every p.0 p.1 (all_of (λ (q : ℕ × ℕ). R q.0 q.1) xs p a.each is))
+    (λ p is. a.every p.0 p.1 (all_of (λ (q : ℕ × ℕ). R q.0 q.1) ys p b.each is))
 
 -- ---- findings
 
@@ -130,16 +149,16 @@ one_of_sides sides findings others a b =
     (map place_of a.proofs) (map place_of b.proofs) a.shows b.shows) a.proof_verdicts b.proof_verdicts in
     a.whole ∙ ((λ i. verifiers i ++ proofs i) ∙ sym b.whole)
 
-pub one_audit : OneAudit
-one_audit login client_events provider server_events client_replies other_client server_replies other_server findings
-    others a b =
-    let client = one_client_history login client_events other_client client_replies b.histories.client
-    a.histories.client b.client_complete a.client_complete in
-    let server = one_server_history provider server_events other_server server_replies b.histories.server
-    a.histories.server b.server_complete a.server_complete in
+pub one_audit_each : OneAuditEach
+one_audit_each login client_events provider server_events findings others first again =
+    let a = first.2 in
+    let b = again.2 in
+    let client = one_client_history login client_events again.0 first.0 b.histories.client a.histories.client
+    b.client_complete a.client_complete in
+    let server = one_server_history provider server_events again.1 first.1 b.histories.server a.histories.server
+    b.server_complete a.server_complete in
     let moved = subst (λ (replies : List ClientSays). Audits
-    (sides_of login client_events provider server_events replies server_replies) others) client
+    (sides_of login client_events replies provider server_events first.1) others) client
     (subst (λ (replies : List ServerSays). Audits
-    (sides_of login client_events provider server_events other_client replies) others) server b) in
-    one_of_sides (sides_of login client_events provider server_events client_replies server_replies) findings others a
-    moved
+    (sides_of login client_events again.0 provider server_events replies) others) server b) in
+    one_of_sides (sides_of login client_events first.0 provider server_events first.1) findings others a moved

@@ -2,14 +2,16 @@
 use Rattle.std.proofs.Common.{◌≡◌, ◌⊎◌, ℕ, ◌<◌, List, [], ◌∷◌, ◌++◌, length, Result, Ok, Err, refl, sym, ◌∙◌, subst, inl, inr, codes}
 use Rattle.std.proofs.lemmas.List.{append_cancel_left}
 use Rattle.fe2o3_scram.specs.declared.scram_messages.error.ScramErrorKind.{ScramErrorKind}
+use Rattle.fe2o3_scram.specs.declared.scram_messages.error.ScramErrorKind.TheVariants.{ServerSignatureMismatch}
 use Rattle.fe2o3_scram.specs.declared.scram_messages.error.ServerScramErrorKind.{ServerScramErrorKind}
+use Rattle.fe2o3_scram.specs.declared.scram_messages.error.ServerScramErrorKind.TheVariants.{XorLengthMismatch, AuthenticationFailed}
 use Rattle.fe2o3_scram.specs.ClientFinal as client_final
-use Rattle.fe2o3_scram.specs.ClientFinal.{Server, ClientFinal, HasBinding, HasProof, Meets, recovered_key, NamesClientFinal, ReadsClientFinal, client_final_tests, binding_tests, spelling_tests, proof_tests}
+use Rattle.fe2o3_scram.specs.ClientFinal.{Server, ClientFinal, HasBinding, HasProof, Meets, recovered_key, NamesClientFinal, ReadsFinalText, ReadsClientFinal, final_text_tests, binding_tests, spelling_tests}
 use Rattle.fe2o3_scram.specs.ClientFirst.{ClientFirst, BarePart, NamesClientFirst, ReadsClientFirst, client_first_tests}
 use Rattle.fe2o3_scram.specs.Escape.{escaped}
 use Rattle.fe2o3_scram.specs.Hmac.{digest, digest_len}
 use Rattle.fe2o3_scram.specs.Readings.{IsFirst, NoneHolds, Reads}
-use Rattle.fe2o3_scram.specs.ServerFinal.{HasSignature, ReadsServerFinal, server_final_tests}
+use Rattle.fe2o3_scram.specs.ServerFinal.{HasSignature, ReadsSignature, ReadsServerFinal, server_final_tests}
 use Rattle.fe2o3_scram.specs.ServerFirst as server_first
 use Rattle.fe2o3_scram.specs.ServerFirst.{Client, ServerFirst, HasSalt, HasCount, NamesServerFirst, ReadsServerFirst, server_first_tests, salt_tests, count_tests, password_tests}
 use Rattle.fe2o3_scram.specs.Texts.{base64_text, IsBase64, IsCount, Part, LastPart}
@@ -244,66 +246,70 @@ final_nonce_decided nonce text = (
 spelling_decided : (text : List ℕ) → AllDecided (spelling_tests text)
 spelling_decided text = (proof_part_or text, (none_or (proof_or text), tt))
 
-proof_decided : (server : Server) (text : List ℕ) → AllDecided (proof_tests server text)
-proof_decided server text = (
-  of_one_or (one_proof text) (proof_or text) (sized_or server),
-  (of_one_or (one_proof text) (proof_or text) (meets_or server), tt),
-)
-
--- what the one proof is asked, it has where nothing is against it
-asked_of_proof : (text : List ℕ) (P : ClientFinal → Type 0) (final : ClientFinal) → HasProof text final
-    → Decided (P final) → ¬ ((other : ClientFinal) → HasProof text other → ¬ P other) → P final
-asked_of_proof text P final has (inl holds) unrefuted = holds
-asked_of_proof text P final has (inr fails) unrefuted = absurd (unrefuted
-    (λ other too holds. fails (subst P (one_proof text other final too has) holds)))
+-- a text has an answer before the keys are looked at
+some_final_text : (nonce text : List ℕ)
+    → (answer : Result ClientFinal ServerScramErrorKind) × ReadsFinalText nonce text answer
+unfolding ReadsFinalText
+some_final_text nonce text =
+    let after_binding = client_final.nonce_tests nonce text ++ spelling_tests text in
+    some_reading (final_text_tests nonce text) (NamesClientFinal nonce text) (
+      not_or (utf8_or text),
+      decided-append (binding_tests text) after_binding (binding_decided text)
+          (decided-append (client_final.nonce_tests nonce text) (spelling_tests text) (final_nonce_decided nonce text)
+          (spelling_decided text)),
+    )
+    (λ none.
+    let binding_parts = none-split (binding_tests text) after_binding none.1 in
+    let nonce_parts = none-split (client_final.nonce_tests nonce text) (spelling_tests text) binding_parts.1 in
+    let final = found_one (proof_or text) nonce_parts.1.1.0 in (
+      final.0,
+      record {
+        binding = held (this_binding_or text (codes "n,,")) binding_parts.0.1.1.0;
+        nonce = held (part_is_or text 1 (codes "r=" ++ nonce)) nonce_parts.0.1.0;
+        proof = final.1;
+      },
+    ))
 
 pub some_client_final : (server : Server) (text : List ℕ)
     → (answer : Result ClientFinal ServerScramErrorKind) × ReadsClientFinal server text answer
 unfolding ReadsClientFinal
-some_client_final server text =
-    let proof = proof_tests server text in
-    let spelling = spelling_tests text ++ proof in
-    let nonce = client_final.nonce_tests server.nonce text ++ spelling in
-    some_reading (client_final_tests server text) (NamesClientFinal server text) (
-      not_or (utf8_or text),
-      decided-append (binding_tests text) nonce (binding_decided text)
-          (decided-append (client_final.nonce_tests server.nonce text) spelling (final_nonce_decided server.nonce text)
-          (decided-append (spelling_tests text) proof (spelling_decided text) (proof_decided server text))),
-    )
-    (λ none.
-    let binding_parts = none-split (binding_tests text) nonce none.1 in
-    let nonce_parts = none-split (client_final.nonce_tests server.nonce text) spelling binding_parts.1 in
-    let spelling_parts = none-split (spelling_tests text) proof nonce_parts.1 in
-    let final = found_one (proof_or text) spelling_parts.0.1.0 in (
-      final.0,
-      record {
-        binding = held (this_binding_or text (codes "n,,")) binding_parts.0.1.1.0;
-        nonce = held (part_is_or text 1 (codes "r=" ++ server.nonce)) nonce_parts.0.1.0;
-        proof = final.1;
-        sized = asked_of_proof text (λ read. length read.proof ≡ digest_len server.version) final.0 final.1
-            (sized_or server final.0) spelling_parts.1.0;
-        meets = asked_of_proof text (Meets server) final.0 final.1 (meets_or server final.0) spelling_parts.1.1.0;
-      },
-    ))
+some_client_final server text = go (some_final_text server.nonce text)
+  where
+    tested : (final : ClientFinal) → ReadsFinalText server.nonce text (Ok final)
+        → Decided (length final.proof ≡ digest_len server.version) → Decided (Meets server final)
+        → (answer : Result ClientFinal ServerScramErrorKind) × ReadsClientFinal server text answer
+    tested final reads (inr other) meets = (Err XorLengthMismatch, inr (final, reads, inl (other, refl)))
+    tested final reads (inl sized) (inl meets) = (Ok final, (reads, sized, meets))
+    tested final reads (inl sized) (inr fails) =
+        (Err AuthenticationFailed, inr (final, reads, inr ((λ other. other sized), inl (fails, refl))))
+
+    go : (answer : Result ClientFinal ServerScramErrorKind) × ReadsFinalText server.nonce text answer
+        → (answer : Result ClientFinal ServerScramErrorKind) × ReadsClientFinal server text answer
+    go (Err fault, reads) = (Err fault, inl reads)
+    go (Ok final, reads) = tested final reads (sized_or server final) (meets_or server final)
 
 -- ---- the server-final message
 
 signature_or : (text : List ℕ) → Found (HasSignature text)
 signature_or text = attribute_or IsBytes base64_text text 0 (codes "v=") base64_or
 
-this_signature_or : (text signature : List ℕ) → Decided (HasSignature text signature)
-this_signature_or text signature =
-    both_or (bytes_or signature) (part_is_or text 0 (codes "v=" ++ base64_text signature))
+some_signature : (text : List ℕ) → (answer : Result (List ℕ) ScramErrorKind) × ReadsSignature text answer
+unfolding ReadsSignature
+some_signature text = some_reading (server_final_tests text) (HasSignature text)
+    (not_or (utf8_or text), (none_or (attribute_text_or text 0 (codes "v=")), (none_or (signature_or text), tt)))
+    (λ none. found_one (signature_or text) none.1.1.0)
 
 pub some_server_final : (signature text : List ℕ)
     → (answer : Result (Unit {0}) ScramErrorKind) × ReadsServerFinal signature text answer
 unfolding ReadsServerFinal
-some_server_final signature text =
-    some_reading (server_final_tests signature text) (λ (believed : Unit {0}). HasSignature text signature) (
-      not_or (utf8_or text),
-      (
-        none_or (attribute_text_or text 0 (codes "v=")),
-        (none_or (signature_or text), (not_or (this_signature_or text signature), tt)),
-      ),
-    )
-    (λ none. (tt, held (this_signature_or text signature) none.1.1.1.0))
+some_server_final signature text = go (some_signature text)
+  where
+    tested : (other : List ℕ) → ReadsSignature text (Ok other) → Decided (other ≡ signature)
+        → (answer : Result (Unit {0}) ScramErrorKind) × ReadsServerFinal signature text answer
+    tested other reads (inl same) = (Ok tt, subst (λ (named : List ℕ). ReadsSignature text (Ok named)) same reads)
+    tested other reads (inr differ) = (Err ServerSignatureMismatch, inr (other, reads, differ, refl))
+
+    go : (answer : Result (List ℕ) ScramErrorKind) × ReadsSignature text answer
+        → (answer : Result (Unit {0}) ScramErrorKind) × ReadsServerFinal signature text answer
+    go (Err fault, reads) = (Err fault, inl reads)
+    go (Ok other, reads) = tested other reads (same_or other signature)

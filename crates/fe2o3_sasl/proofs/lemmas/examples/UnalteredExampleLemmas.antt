@@ -1,33 +1,32 @@
--- Review.
-use Rattle.std.proofs.Common.{◌≡◌, ◌≢◌, ◌≤◌, ℕ, zero, suc, List, [], ◌∷◌, ◌++◌, Ok, refl, sym, ◌∙◌, ap, arith, codes, inl, inr, Option}
-use Rattle.std.specs.Prelude.{Some, None, slice_get}
+-- The worked example of an unaltered run.
+use Rattle.std.proofs.Common.{◌≡◌, ◌≢◌, ◌≤◌, ℕ, zero, suc, List, [], Ok, refl, sym, ◌∙◌, arith, codes, inl, inr}
+use Rattle.std.specs.Prelude.{Some, slice_get}
 use Rattle.std.specs.List.{AllByRecursion}
 use Rattle.std.proofs.lemmas.List.Elements.{All-from_recursion}
-use Rattle.std.proofs.lemmas.Option.{none-some}
-use Rattle.fe2o3_sasl_wire.specs.declared.amqp_types.SaslCode.TheVariants as outcomes
+use Rattle.fe2o3_sasl_wire.specs.declared.sasl_frames.error.Error.{Error}
 use Rattle.fe2o3_sasl_wire.specs.declared.sasl_frames.error.Error.TheVariants as faults
 use Rattle.fe2o3_sasl_wire.specs.Canonical.{canonical}
 use Rattle.fe2o3_sasl_wire.specs.SaslFrames as frames
 use Rattle.fe2o3_sasl_wire.specs.SaslFrames.{SaslFrame}
 use Rattle.fe2o3_sasl.specs.ClientHistory.{AnswersAt, IsDue, OpenAnswer, ClientHistory, is_start, is_answer, ends_answer}
-use Rattle.fe2o3_sasl.specs.Events.{Given, ServerSays, ClientSays, Refused, OutOfMemory, Failed}
+use Rattle.fe2o3_sasl.specs.Events.{Given, ServerSays, ClientSays, ClientFault, Refused, Frame, OutOfMemory, Failed}
 use Rattle.fe2o3_sasl.specs.examples.Examples.{client_bytes, server_bytes, client_nonce, server_nonce, both, salt, login, provider, names, values, binds, answer, challenging, sends_init, sends_response, sends_ok, body_of, arrives}
-use Rattle.fe2o3_sasl.specs.Review.{plain_sides, PremisesCanBeMet, RefusersHaveNoRun, UnalteredRunsAreAudited, AnswersOkExactly, ReportsOkExactly, VerifierAgrees, ServersAnswerExactly, ClientsReportExactly, VerifiersAgree}
+use Rattle.fe2o3_sasl.specs.examples.UnalteredExample.{plain_sides, PremisesCanBeMet}
 use Rattle.fe2o3_scram.specs.SaslprepAscii.{IsPrintable}
-use Rattle.fe2o3_sasl.specs.ServerHistory.{Accepted, FitsAt, Open, ServerHistory, ServerComplete, is_challenge, is_ok}
+use Rattle.fe2o3_sasl.specs.ServerHistory.{Accepted, FitsAt, Open, ServerHistory, is_challenge, is_ok}
 use Rattle.fe2o3_scram.specs.Texts.{joined}
-use Rattle.fe2o3_sasl.specs.TwoSides.{Histories, proof_at, client_message, server_message}
-use Rattle.fe2o3_sasl.specs.UnalteredRuns.{UnalteredRun, HoldsLogin, client_body}
+use Rattle.fe2o3_sasl.specs.TwoSides.{proof_at, client_message, server_message}
+use Rattle.fe2o3_sasl.specs.UnalteredRuns.{UnalteredRun, HoldsLogin, Suffices}
 use Rattle.fe2o3_sasl.proofs.lemmas.examples.ClientExampleLemmas.{offer, offered, start_sent, start_said, challenge_read, answer_sent, answer_said, outcome_read}
-use Rattle.fe2o3_sasl.proofs.lemmas.examples.ExampleBodyLemmas.{challenge_bodied, short_joined, short_values, short_names, init_bodied, length-both, ok_sent, mechanisms_sent, spells_body, init_texts, mechanisms_texts}
+use Rattle.fe2o3_sasl.proofs.lemmas.examples.ExampleBodyLemmas.{challenge_bodied, short_joined, short_values, length-both, ok_sent, mechanisms_sent, spells_body, init_texts, mechanisms_texts}
 use Rattle.fe2o3_sasl.proofs.lemmas.examples.ExampleByteLemmas.{is_login}
 use Rattle.fe2o3_sasl.proofs.lemmas.examples.ReplyByReplyLemmas.{server_history, client_history}
 use Rattle.fe2o3_sasl.proofs.lemmas.examples.ExampleTextLemmas.{IsBytes-replicate}
 use Rattle.fe2o3_sasl.proofs.lemmas.examples.ExampleReadingLemmas.{plain_both, client_joined, server_joined}
-use Rattle.fe2o3_sasl.proofs.lemmas.two_sides.HeadlineLemmas.{ok_only_where_accepted, ok_wherever_accepted, reported_only_where_signed, reported_wherever_signed, issued_verifiers_agree}
 use Rattle.fe2o3_sasl.proofs.lemmas.positions.PositionLemmas.{opens_here}
 use Rattle.fe2o3_sasl.proofs.lemmas.examples.ServerExampleLemmas.{init_fits, challenge_said, response_fits, ok_said}
-use Rattle.fe2o3_sasl.proofs.lemmas.unaltered.UnalteredRunLemmas.{unaltered_runs}
+
+-- ---- the frames
 
 abbrev bare : List ℕ
 bare = joined (names (codes "user"))
@@ -41,6 +40,7 @@ asked = frames.Challenge (joined (values both))
 abbrev response : SaslFrame
 response = sends_response (joined (binds both)) (proof_at login answer)
 
+-- what the server accepts
 abbrev right : Accepted
 right = record {
   challenge = challenging bare;
@@ -58,6 +58,8 @@ response_is_sent = answer_sent both server_nonce [] refl plain_both tt (omega (a
 one_message : client_message login answer ≡ server_message right
 one_message = client_joined both [] ∙ sym (server_joined [] [])
 
+-- ---- the run
+
 run : UnalteredRun plain_sides
 run = record {
   offer = arrives client_bytes offer;
@@ -73,6 +75,8 @@ run = record {
   answered = refl;
   concluded = refl;
 }
+
+-- ---- the server's history
 
 abbrev events : List Given
 events = plain_sides.server_events
@@ -115,6 +119,8 @@ servers_history =
         tt,
       ),
     )
+
+-- ---- the client's history
 
 abbrev given : List Given
 given = plain_sides.client_events
@@ -165,6 +171,8 @@ clients_history =
       ),
     )
 
+-- ---- the other premises
+
 printable : IsPrintable (codes "pencil")
 printable =
     let each : AllByRecursion (λ byte. (0x20 ≤ byte) × (byte ≤ 0x7e)) (codes "pencil") = (
@@ -193,50 +201,25 @@ holds = record {
   within = omega arith;
 }
 
-complete : (k : ℕ) → slice_get said k ≢ Some (Refused OutOfMemory)
-complete zero e = absurd (cc)
-complete (suc zero) e = absurd (cc)
-complete (suc (suc zero)) e = absurd (cc)
-complete (suc (suc (suc k))) e = absurd (cc)
+-- no reply is a fault
+no_client_fault : (kind : ClientFault) (k : ℕ) → slice_get said k ≢ Some (Refused kind)
+no_client_fault kind zero e = absurd (cc)
+no_client_fault kind (suc zero) e = absurd (cc)
+no_client_fault kind (suc (suc zero)) e = absurd (cc)
+no_client_fault kind (suc (suc (suc k))) e = absurd (cc)
+
+no_server_fault : (fault : Error) (k : ℕ) → slice_get replies k ≢ Some (Failed fault)
+no_server_fault fault zero e = absurd (cc)
+no_server_fault fault (suc zero) e = absurd (cc)
+no_server_fault fault (suc (suc k)) e = absurd (cc)
+
+suffices : Suffices plain_sides
+suffices = record {
+  client = no_client_fault OutOfMemory;
+  server = no_server_fault faults.OutOfMemory;
+  client_small = no_client_fault (Frame faults.TooLarge);
+  server_small = no_server_fault faults.TooLarge;
+}
 
 pub premises_can_be_met : PremisesCanBeMet
-premises_can_be_met = (run, record { client = clients_history; server = servers_history }, is_login, holds, complete)
-
-pub refusers_have_no_run : RefusersHaveNoRun
-refusers_have_no_run sides fault is run = none-some run.response.body (ap client_body (sym is) ∙ run.answered)
-
-pub unaltered_runs_are_audited : UnalteredRunsAreAudited
-unaltered_runs_are_audited sides salt count run histories login holds done =
-    let logs = unaltered_runs sides salt count run histories login holds done in
-    record {
-      verifiers = _ ∷ [];
-      proofs = _ ∷ [];
-      whole = refl;
-      histories = histories;
-      client_complete = done;
-      server_complete = two_complete sides.server_replies logs.challenge logs.outcome logs.server;
-      takes = logs.takes;
-      shows = logs.shows;
-      verifier_verdicts = (logs.verifier, tt);
-      proof_verdicts = (logs.proof, tt);
-    }
-  where
-    two_complete : (replies : List ServerSays) (challenge outcome : List ℕ)
-        → replies ≡ Rattle.fe2o3_sasl.specs.Events.Challenged challenge
-        ∷ Rattle.fe2o3_sasl.specs.Events.Concluded outcomes.Ok outcome ∷ [] → ServerComplete replies
-    two_complete replies challenge outcome is zero e = absurd (cc)
-    two_complete replies challenge outcome is (suc zero) e = absurd (cc)
-    two_complete replies challenge outcome is (suc (suc k)) e = absurd (cc)
-
-pub servers_answer_exactly : ServersAnswerExactly
-servers_answer_exactly provider events replies history = record {
-  only = λ n body is. (ok_only_where_accepted provider events replies n body history is).0;
-  closes = λ n body is. (ok_only_where_accepted provider events replies n body history is).1;
-  wherever = λ n accepted says. ok_wherever_accepted provider events replies n accepted says history;
-}
-
-pub clients_report_exactly : ClientsReportExactly
-clients_report_exactly login events replies history = record {
-  only = λ m more. reported_only_where_signed login events replies m more history;
-  wherever = λ m text says. reported_wherever_signed login events replies m text says history;
-}
+premises_can_be_met = (run, record { client = clients_history; server = servers_history }, is_login, holds, suffices)
