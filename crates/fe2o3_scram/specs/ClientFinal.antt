@@ -1,5 +1,6 @@
 -- The client-final message (RFC 5802, section 7), as the client writes it and as the server reads it.
-use Rattle.std.specs.Prelude.{ℕ, List, [], ◌∷◌, ◌++◌, ◌≡◌, codes, Result, Ok, Err, ◌+◌, ◌≤◌, OnOk, ◌≢◌, ◌⊎◌, length}
+use Rattle.std.specs.Prelude.{ℕ, List, [], ◌∷◌, ◌++◌, ◌≡◌, codes, Result, Ok, Err, ◌+◌, ◌≤◌, OnOk, ◌≢◌, ◌⊎◌, length, Vec}
+use Rattle.std.specs.declared.alloc.Global.{Global}
 use Rattle.fe2o3_scram.specs.declared.hmac.ScramVersion.{ScramVersion}
 use Rattle.fe2o3_scram.specs.declared.scram_messages.error.ScramErrorKind.{ScramErrorKind}
 use Rattle.fe2o3_scram.specs.Texts.{base64_text, joined, Part, LastPart}
@@ -15,17 +16,21 @@ use Rattle.fe2o3_scram.specs.Credentials.{Record}
 use Rattle.fe2o3_scram.specs.Hmac.{digest_len}
 use Rattle.fe2o3_scram.specs.Readings.{IsFirst, Reads}
 
--- client-final-message-without-proof: the GS2 header in base64 and the nonce of both sides
+-- client-final-message-without-proof (RFC 5802, section 7): the GS2 header in base64 and the nonce of both sides
 abbrev pub without_proof : List ℕ → List ℕ
 without_proof nonce = joined ((codes "c=" ++ base64_text (codes "n,,")) ∷ (codes "r=" ++ nonce) ∷ [])
 
--- client-final-message: what stands before the proof, and the proof
+-- client-final-message (RFC 5802, section 7): what stands before the proof, and the proof
 abbrev pub client_final_of : List ℕ → List ℕ → List ℕ
 client_final_of without proof = joined (without ∷ (codes "p=" ++ base64_text proof) ∷ [])
 
--- an answer of the client: the client-final message, and the signature that it waits for
+-- an answer of the client (RFC 5802, section 5): the client-final message, and the signature that it waits for
 abbrev pub Answer : Type 0
 Answer = List ℕ × List ℕ
+
+-- the answer that the code's pair is
+abbrev pub answer_values : Vec ℕ Global × Vec ℕ Global → Answer
+answer_values pair = (pair.0.items, pair.1.items)
 
 -- the answer to a server-first message that names these values; the messages stand in the proof as they were sent
 abbrev pub answer_of : ScramVersion → List ℕ → List ℕ → List ℕ → ServerFirst → Answer
@@ -36,15 +41,16 @@ answer_of version password bare text first =
       server_signature version (server_key version salted) auth,
     )
 
--- what the client answers to a server-first message: the first refusal that holds, or the answer to what it names
+-- what the client answers to a server-first message (RFC 5802, section 5): the first refusal that holds, or the
+-- answer to what it names
 abbrev pub AnswersServerFirst : ScramVersion → Client → List ℕ → List ℕ → Result Answer ScramErrorKind → Type 0
 AnswersServerFirst version client bare text (Ok answer) =
     (first : ServerFirst) × ReadsServerFirst client text (Ok first)
     × (answer ≡ answer_of version client.password bare text first)
 AnswersServerFirst version client bare text (Err fault) = ReadsServerFirst client text (Err fault)
 
--- what a meter showed before and after the call: none for a message that is refused, the count and 4 for one
--- that is answered, and no more than that where memory ran out
+-- the HMAC values of the keys (RFC 5802, section 3), as a meter shows them before and after the call: none for a
+-- message that is refused, the count and 4 for one that is answered, and no more than that where memory ran out
 pub record AnswerCosts {A : Type 0} (client : Client) (text : List ℕ) (result : Result A ScramErrorKind)
     (before after : ℕ) : Type 0 where
   pub refused : (fault : ScramErrorKind) → ReadsServerFirst client text (Err fault) → after ≡ before
@@ -53,7 +59,7 @@ pub record AnswerCosts {A : Type 0} (client : Client) (text : List ℕ) (result 
   pub at_most : (first : ServerFirst) → ReadsServerFirst client text (Ok first) → after ≤ before + (first.count + 4)
   pub limited : after ≤ before + (client.limit + 4)
 
--- what a client-final message names: the proof, and what stands before it
+-- what a client-final message names (RFC 5802, section 7): the proof, and what stands before it
 pub record ClientFinal : Type 0 where
   pub without : List ℕ
   pub proof : List ℕ
@@ -62,8 +68,8 @@ pub record ClientFinal : Type 0 where
 abbrev pub client_final_values : CodeClientFinal → ClientFinal
 client_final_values final = record { without = final.without_proof.now; proof = final.proof.items }
 
--- what a server holds against a client-final message: its version, the two messages before, the nonce of both
--- sides, and the keys of the record
+-- what a server holds against a client-final message (RFC 5802, section 5): its version, the two messages before,
+-- the nonce of both sides, and the keys of the record
 pub record Server : Type 0 where
   pub version : ScramVersion
   pub bare : List ℕ
@@ -102,7 +108,7 @@ abbrev pub Meets : Server → ClientFinal → Type 0
 Meets server final = MeetsStoredKey server.version server.stored_key final.proof
     (auth_message server.bare server.first final.without)
 
--- the message binds no channel, and names the nonce of both sides and these values
+-- the message binds no channel, and names the nonce of both sides and these values (RFC 5802, section 5.1)
 pub record NamesClientFinal (both text : List ℕ) (final : ClientFinal) : Type 0 where
   pub binding : HasBinding text (codes "n,,")
   pub nonce : Part text 1 (codes "r=" ++ both)
@@ -135,8 +141,8 @@ abbrev pub final_text_tests : List ℕ → List ℕ → List (ServerScramErrorKi
 final_text_tests nonce text = (Utf8Error, ¬ IsUtf8 text)
     ∷ (binding_tests text ++ (nonce_tests nonce text ++ spelling_tests text))
 
--- what the server reads before it looks at its keys: the first refusal that holds, or the values that are named;
--- parts between the nonce and the proof stay in what stands before the proof
+-- what the server reads before it looks at its keys (RFC 5802, section 5.1): the first refusal that holds, or the
+-- values that are named; parts between the nonce and the proof stay in what stands before the proof
 unfoldable pub ReadsFinalText : List ℕ → List ℕ → Result ClientFinal ServerScramErrorKind → Type 0
 ReadsFinalText nonce text answer = Reads (final_text_tests nonce text) (NamesClientFinal nonce text) answer
 
@@ -147,8 +153,8 @@ proof_tests server final =
     ∷ (AuthenticationFailed, ¬ Meets server final)
     ∷ []
 
--- what the server reads: the first refusal of the text or else of its proof, or the values of a text whose proof
--- meets the stored key
+-- what the server reads (RFC 5802, section 5): the first refusal of the text or else of its proof, or the values of a
+-- text whose proof meets the stored key
 unfoldable pub ReadsClientFinal : Server → List ℕ → Result ClientFinal ServerScramErrorKind → Type 0
 ReadsClientFinal server text (Ok final) = ReadsFinalText server.nonce text (Ok final)
     × (length final.proof ≡ digest_len server.version) × Meets server final

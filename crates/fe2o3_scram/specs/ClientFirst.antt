@@ -9,15 +9,16 @@ use Rattle.fe2o3_scram.specs.Escape.{escaped}
 use Rattle.fe2o3_scram.specs.Readings.{Reads}
 use Rattle.fe2o3_scram.specs.Texts.{joined, Part, Begins}
 
--- client-first-message-bare: the user name and the client's nonce
+-- client-first-message-bare (RFC 5802, section 7): the user name and the client's nonce
 abbrev pub client_first_bare : List ℕ → List ℕ → List ℕ
 client_first_bare username nonce = joined ((codes "n=" ++ escaped username) ∷ (codes "r=" ++ nonce) ∷ [])
 
--- client-first-message, behind the GS2 header of a client that binds no channel
+-- client-first-message (RFC 5802, section 7), behind the GS2 header of a client that binds no channel
 abbrev pub client_first : List ℕ → List ℕ → List ℕ
 client_first username nonce = codes "n,," ++ client_first_bare username nonce
 
--- what a client-first message names: the user, the client's nonce, and the message without its GS2 header
+-- what a client-first message names (RFC 5802, section 7): the user, the client's nonce, and the message without
+-- its GS2 header
 pub record ClientFirst : Type 0 where
   pub user : List ℕ
   pub nonce : List ℕ
@@ -36,7 +37,7 @@ client_first_values first = record {
 abbrev pub BarePart : List ℕ → ℕ → List ℕ → Type 0
 BarePart text k part = (bare : List ℕ) × (text ≡ codes "n,," ++ bare) × Part bare k part
 
--- the message names these values
+-- the message names these values (RFC 5802, section 5.1)
 pub record NamesClientFirst (text : List ℕ) (first : ClientFirst) : Type 0 where
   pub bare : text ≡ codes "n,," ++ first.bare
   pub user : Part first.bare 0 (codes "n=" ++ escaped first.user)
@@ -51,6 +52,7 @@ client_first_tests text =
     ∷ (CannotParseClientNonce, (nonce : List ℕ) → ¬ BarePart text 1 (codes "r=" ++ nonce))
     ∷ []
 
--- what the server reads: the first refusal that holds, or the values that are named; further parts say nothing
+-- what the server reads (RFC 5802, section 5.1): the first refusal that holds, or the values that are named; further
+-- parts say nothing
 unfoldable pub ReadsClientFirst : List ℕ → Result ClientFirst ServerScramErrorKind → Type 0
 ReadsClientFirst text answer = Reads (client_first_tests text) (NamesClientFirst text) answer

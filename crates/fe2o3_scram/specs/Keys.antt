@@ -1,7 +1,7 @@
 -- The keys, the proof and the signature of SCRAM, under the names of RFC 5802, section 3.
-use Rattle.std.specs.Prelude.{ℕ, List, [], ◌∷◌, ◌≡◌, codes}
+use Rattle.std.specs.Prelude.{ℕ, List, [], ◌∷◌, ◌≡◌, ◌≢◌, ◌+◌, codes, length, Result, MatchResult}
 use Rattle.fe2o3_scram.specs.declared.hmac.ScramVersion.{ScramVersion}
-use Rattle.fe2o3_scram.specs.Hmac.{digest, hmac_of, exclusive_or}
+use Rattle.fe2o3_scram.specs.Hmac.{digest, digest_len, hmac_of, exclusive_or}
 use Rattle.fe2o3_scram.specs.Texts.{joined}
 
 -- ClientKey := HMAC(SaltedPassword, "Client Key")
@@ -33,6 +33,15 @@ client_proof version key auth = exclusive_or key (client_signature version (stor
 -- ClientProof and the AuthMessage
 abbrev pub recovered_client_key : ScramVersion → List ℕ → List ℕ → List ℕ → List ℕ
 recovered_client_key version stored proof auth = exclusive_or proof (client_signature version stored auth)
+
+-- the call gives a value, and this fact of it, exactly where the text of its exclusive or is as long as a digest
+abbrev pub OkWhereSized : {X F : Type 0} → ScramVersion → List ℕ → Result X F → (X → Type 0) → Type 0
+OkWhereSized version text result P = MatchResult result (λ value. (length text ≡ digest_len version) × P value)
+    (λ _. length text ≢ digest_len version)
+
+-- a meter before and after the call: one HMAC value where it gives a value, and none where it is refused
+abbrev pub CostsOne : {X F : Type 0} → Result X F → ℕ → ℕ → Type 0
+CostsOne result before after = MatchResult result (λ _. after ≡ before + 1) (λ _. after ≡ before)
 
 -- the proof meets the StoredKey: H(ClientKey) = StoredKey of the ClientKey that is recovered from it
 abbrev pub MeetsStoredKey : ScramVersion → List ℕ → List ℕ → List ℕ → Type 0

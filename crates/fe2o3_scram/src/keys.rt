@@ -4,9 +4,9 @@
 //! a server tests it against the StoredKey and signs by the ServerKey. None of the methods takes
 //! memory, and the meter counts the HMAC values that each makes.
 
-ghost use Rattle.std.specs.Prelude.{◌≡◌, ◌≢◌, ◌<◌, ◌+◌, ◌^◌, ◌↔◌, IsTrue, IfOk, OnOk, OnErr, MatchResult, length};
-ghost use Rattle.fe2o3_scram.specs.Hmac.{digest_bytes, digest_len, exclusive_or};
-ghost use Rattle.fe2o3_scram.specs.Keys.{MeetsStoredKey, auth_message, client_key, client_proof, client_signature, recovered_client_key, server_key, server_signature, stored_key};
+ghost use Rattle.std.specs.Prelude.{◌≡◌, ◌<◌, ◌+◌, ◌^◌, ◌↔◌, IsTrue, IfOk};
+ghost use Rattle.fe2o3_scram.specs.Hmac.{digest_bytes, exclusive_or};
+ghost use Rattle.fe2o3_scram.specs.Keys.{CostsOne, MeetsStoredKey, OkWhereSized, auth_message, client_key, client_proof, client_signature, recovered_client_key, server_key, server_signature, stored_key};
 
 use crate::OutOfMemory;
 use crate::hmac::hasher::digest_of;
@@ -77,11 +77,9 @@ impl ScramVersion {
         meter: &mut Meter,
     ) -> Result<DigestBytes, XorLengthMismatch>
         requires { meter.old + 1 < 2 ^ 64 }
-        ensures proof { MatchResult result (λ proof. (length client_key.now ≡ digest_len self.now)
-            × (digest_bytes proof ≡ client_proof self.now client_key.now auth_message.now))
-            (λ _. length client_key.now ≢ digest_len self.now) }
-        ensures counted { OnOk result (meter.new ≡ meter.old + 1) }
-        ensures uncounted { OnErr result (meter.new ≡ meter.old) }
+        ensures proof { OkWhereSized self.now client_key.now result
+            (λ proof. digest_bytes proof ≡ client_proof self.now client_key.now auth_message.now) }
+        ensures cost { CostsOne result meter.old meter.new }
     {
         let stored_key = self.stored_key(client_key);
         self.signed(client_key, stored_key.as_slice(), auth_message, meter)
@@ -100,11 +98,9 @@ impl ScramVersion {
         meter: &mut Meter,
     ) -> Result<DigestBytes, XorLengthMismatch>
         requires { meter.old + 1 < 2 ^ 64 }
-        ensures key { MatchResult result (λ key. (length client_proof.now ≡ digest_len self.now)
-            × (digest_bytes key ≡ recovered_client_key self.now stored_key.now client_proof.now auth_message.now))
-            (λ _. length client_proof.now ≢ digest_len self.now) }
-        ensures counted { OnOk result (meter.new ≡ meter.old + 1) }
-        ensures uncounted { OnErr result (meter.new ≡ meter.old) }
+        ensures key { OkWhereSized self.now client_proof.now result (λ key. digest_bytes key
+            ≡ recovered_client_key self.now stored_key.now client_proof.now auth_message.now) }
+        ensures cost { CostsOne result meter.old meter.new }
     {
         self.signed(client_proof, stored_key, auth_message, meter)
     }
@@ -121,11 +117,9 @@ impl ScramVersion {
         meter: &mut Meter,
     ) -> Result<bool, XorLengthMismatch>
         requires { meter.old + 1 < 2 ^ 64 }
-        ensures verdict { MatchResult result (λ meets. (length client_proof.now ≡ digest_len self.now)
-            × (IsTrue meets ↔ MeetsStoredKey self.now stored_key.now client_proof.now auth_message.now))
-            (λ _. length client_proof.now ≢ digest_len self.now) }
-        ensures counted { OnOk result (meter.new ≡ meter.old + 1) }
-        ensures uncounted { OnErr result (meter.new ≡ meter.old) }
+        ensures verdict { OkWhereSized self.now client_proof.now result (λ meets. IsTrue meets
+            ↔ MeetsStoredKey self.now stored_key.now client_proof.now auth_message.now) }
+        ensures cost { CostsOne result meter.old meter.new }
     {
         let client_key = self.recovered_client_key(stored_key, client_proof, auth_message, meter)?;
         Ok(self.stored_key(client_key.as_slice()).as_slice() == stored_key)
@@ -155,11 +149,9 @@ impl ScramVersion {
         meter: &mut Meter,
     ) -> Result<DigestBytes, XorLengthMismatch>
         requires { meter.old + 1 < 2 ^ 64 }
-        ensures sum { MatchResult result (λ sum. (length text.now ≡ digest_len self.now)
-            × (digest_bytes sum ≡ exclusive_or text.now (client_signature self.now stored_key.now auth_message.now)))
-            (λ _. length text.now ≢ digest_len self.now) }
-        ensures counted { OnOk result (meter.new ≡ meter.old + 1) }
-        ensures uncounted { OnErr result (meter.new ≡ meter.old) }
+        ensures sum { OkWhereSized self.now text.now result (λ sum. digest_bytes sum
+            ≡ exclusive_or text.now (client_signature self.now stored_key.now auth_message.now)) }
+        ensures cost { CostsOne result meter.old meter.new }
     {
         let mut sum = DigestBytes::from_slice(*self, text)?;
         let client_signature = HmacKey::new(*self, stored_key).mac(auth_message, meter);

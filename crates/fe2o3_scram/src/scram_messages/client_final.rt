@@ -1,10 +1,10 @@
 //! The client-final message, which answers a server-first message.
 
 ghost use Rattle.std.specs.Prelude.{◌≡◌, ◌≤◌, ◌<◌, ◌+◌, ◌^◌, IfOk, IfErr, OnOk, OnErr};
-ghost use Rattle.fe2o3_scram.specs.ClientFinal.{AnswerCosts, without_proof, client_final_of, answer_of, AnswersServerFirst};
+ghost use Rattle.fe2o3_scram.specs.ClientFinal.{AnswerCosts, answer_values, without_proof, client_final_of, answer_of, AnswersServerFirst};
 ghost use Rattle.fe2o3_scram.specs.Hmac.{digest_bytes};
 ghost use Rattle.fe2o3_scram.specs.Readings.{Gives};
-ghost use Rattle.fe2o3_scram.specs.ServerFirst.{server_first_values};
+ghost use Rattle.fe2o3_scram.specs.ServerFirst.{client_of, no_limit, server_first_values};
 
 use crate::OutOfMemory;
 use crate::hmac::{Meter, ScramVersion};
@@ -26,13 +26,8 @@ impl ScramVersion {
         server_first: &str,
         client_first_message_bare: &[u8],
     ) -> Result<(Vec<u8>, Vec<u8>), ScramErrorKind>
-        ensures { Gives ScramErrorKind.OutOfMemory (λ answer. (answer.0.items, answer.1.items)) result
-            (AnswersServerFirst self.now (record {
-              nonce = client_nonce.now;
-              password = password.now;
-              limit =
-                  4294967295;
-            }) client_first_message_bare.now server_first.now) }
+        ensures { Gives ScramErrorKind.OutOfMemory answer_values result
+            (AnswersServerFirst self.now (client_of client_nonce.now password.now no_limit) client_first_message_bare.now server_first.now) }
     {
         self.compute_client_final_message_metered(
             alloc,
@@ -55,14 +50,9 @@ impl ScramVersion {
         meter: &mut Meter,
     ) -> Result<(Vec<u8>, Vec<u8>), ScramErrorKind>
         requires { meter.old ≤ 2 ^ 63 }
-        ensures answer { Gives ScramErrorKind.OutOfMemory (λ answer. (answer.0.items, answer.1.items)) result
-            (AnswersServerFirst self.now (record {
-              nonce = client_nonce.now;
-              password = password.now;
-              limit =
-                  4294967295;
-            }) client_first_message_bare.now server_first.now) }
-        ensures cost { AnswerCosts (record { nonce = client_nonce.now; password = password.now; limit = 4294967295 })
+        ensures answer { Gives ScramErrorKind.OutOfMemory answer_values result
+            (AnswersServerFirst self.now (client_of client_nonce.now password.now no_limit) client_first_message_bare.now server_first.now) }
+        ensures cost { AnswerCosts (client_of client_nonce.now password.now no_limit)
             server_first.now result meter.old meter.new }
     {
         self.compute_client_final_message_limited(
@@ -89,10 +79,10 @@ impl ScramVersion {
         meter: &mut Meter,
     ) -> Result<(Vec<u8>, Vec<u8>), ScramErrorKind>
         requires { meter.old ≤ 2 ^ 63 }
-        ensures answer { Gives ScramErrorKind.OutOfMemory (λ answer. (answer.0.items, answer.1.items)) result
-            (AnswersServerFirst self.now (record { nonce = client_nonce.now; password = password.now; limit = limit })
+        ensures answer { Gives ScramErrorKind.OutOfMemory answer_values result
+            (AnswersServerFirst self.now (client_of client_nonce.now password.now limit)
             client_first_message_bare.now server_first.now) }
-        ensures cost { AnswerCosts (record { nonce = client_nonce.now; password = password.now; limit = limit })
+        ensures cost { AnswerCosts (client_of client_nonce.now password.now limit)
             server_first.now result meter.old meter.new }
     {
         let first = ServerFirst::parse(alloc, client_nonce, password, limit, server_first)?;
@@ -119,7 +109,7 @@ impl ScramVersion {
     ) -> Result<(Vec<u8>, Vec<u8>), ScramErrorKind>
         requires some { 1 ≤ first.now.iterations }
         requires meter { meter.old ≤ 2 ^ 63 }
-        ensures answer { IfOk result (λ answer. (answer.0.items, answer.1.items)
+        ensures answer { IfOk result (λ answer. answer_values answer
             ≡ answer_of self.now password.now client_first_message_bare.now server_first.now (server_first_values first.now)) }
         ensures counted { OnOk result (meter.new ≡ meter.old + (first.now.iterations + 4)) }
         ensures memory { IfErr result (λ kind. kind ≡ ScramErrorKind.OutOfMemory) }

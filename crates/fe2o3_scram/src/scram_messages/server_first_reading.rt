@@ -2,7 +2,7 @@
 
 ghost use Rattle.std.specs.Prelude.{◌≢◌, ◌≤◌, ◌++◌, IfOk, IfErr, codes};
 ghost use Rattle.fe2o3_scram.specs.Readings.{Gives, IsFirst, NoneHolds};
-ghost use Rattle.fe2o3_scram.specs.ServerFirst.{ReadsServerFirst, server_first_values, HasSalt, HasCount, nonce_tests, salt_tests, count_tests};
+ghost use Rattle.fe2o3_scram.specs.ServerFirst.{ReadsServerFirst, client_of, server_first_values, HasSalt, HasCount, nonce_tests, salt_tests, count_tests};
 ghost use Rattle.fe2o3_scram.specs.Texts.{Part};
 
 use crate::saslprep_ascii::saslprep;
@@ -40,7 +40,7 @@ impl<'a> ServerFirst<'a> {
         text: &'a str,
     ) -> Result<Self, ScramErrorKind>
         ensures reads { Gives ScramErrorKind.OutOfMemory server_first_values result
-            (ReadsServerFirst (record { nonce = client_nonce.now; password = password.now; limit = limit }) text.now) }
+            (ReadsServerFirst (client_of client_nonce.now password.now limit) text.now) }
         ensures count { IfOk result (λ first. (1 ≤ first.iterations) × (first.iterations ≤ limit)) }
     {
         let nonce = read_nonce(client_nonce, text)?;

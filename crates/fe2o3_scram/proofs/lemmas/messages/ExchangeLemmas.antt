@@ -21,7 +21,7 @@ use Rattle.fe2o3_scram.specs.Hmac.{digest, digest_len, exclusive_or}
 use Rattle.fe2o3_scram.specs.Keys.{auth_message, client_key, client_signature, stored_key, client_proof}
 use Rattle.fe2o3_scram.specs.Pbkdf2Hi.{salted_of}
 use Rattle.fe2o3_scram.specs.ServerFinal.{server_final_of, ReadsServerFinal}
-use Rattle.fe2o3_scram.specs.ServerFirst.{HasSalt, HasCount, ReadsServerFirst}
+use Rattle.fe2o3_scram.specs.ServerFirst.{client_of, HasSalt, HasCount, ReadsServerFirst}
 use Rattle.fe2o3_scram.proofs.lemmas.texts.AsciiLemmas.{IsUtf8-base64_text, IsUtf8-literal, IsUtf8-escaped}
 use Rattle.fe2o3_scram.proofs.lemmas.texts.Base64Lemmas.{no_comma-append, no_comma-test, no_comma-base64_text}
 use Rattle.fe2o3_scram.proofs.lemmas.messages.ClientFinalLemmas.{NamesAcceptedFinal, text_read}
@@ -135,7 +135,7 @@ not_extended text nonce is has =
     omega (arith, letter)
 
 reads_server_first : (x : Exchange) → IsSound x → ReadsServerFirst
-    (record { nonce = x.client_nonce; password = x.password; limit = x.limit }) (first_in x) (Ok (named_in x))
+    (client_of x.client_nonce x.password x.limit) (first_in x) (Ok (named_in x))
 reads_server_first x sound =
     let wide : x.count < 2 ^ 64 = omega (arith, sound.within, sound.limit) in
     let small : x.count < 2 ^ 32 = omega (arith, sound.within, sound.limit) in
@@ -148,7 +148,7 @@ reads_server_first x sound =
     let salt : HasSalt (first_in x) x.salt = (sound.salt, (_, parts, refl)) in
     let digits : Part (first_in x) 2 (codes "i=" ++ decimal x.count) = (_, parts, refl) in
     let count : HasCount (first_in x) x.count = (decimal x.count, digits, IsCount-decimal x.count sound.some small) in
-    values_read (record { nonce = x.client_nonce; password = x.password; limit = x.limit }) (first_in x) (named_in x) (
+    values_read (client_of x.client_nonce x.password x.limit) (first_in x) (named_in x) (
       λ few. few (codes "i=" ++ decimal x.count) digits,
       (
         not_extended (first_in x) (nonce_in x) nonce,

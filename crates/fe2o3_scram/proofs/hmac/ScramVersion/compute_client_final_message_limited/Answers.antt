@@ -1,17 +1,12 @@
 use Rattle.std.proofs.Common.{Ok, arith}
 use Rattle.std.proofs.lemmas.Result.{err_from_is_err_and}
-use Rattle.fe2o3_scram.specs.ServerFirst.{Client, server_first_values}
+use Rattle.fe2o3_scram.specs.ServerFirst.{Client, client_of, server_first_values}
 use Rattle.fe2o3_scram.proofs.lemmas.messages.AnswerCostLemmas.{costs_of_answer}
 use Rattle.fe2o3_scram.proofs.hmac.ScramVersion.compute_client_final_message_limited.Goals as goal
 
 pub returns-in_err-answer-clause-cost : goal.returns-in_err-answer-clause-cost
 returns-in_err-answer-clause-cost c =
-    let client : Client = record {
-      nonce = c.args.client_nonce.now;
-      password = c.args.password.now;
-      limit =
-          c.args.limit;
-    } in
+    let client : Client = client_of c.args.client_nonce.now c.args.password.now c.args.limit in
     let from = err_from_is_err_and c.from_residual-in_err-answer.result c.from_residual-in_err-answer.ensures.1 in
     costs_of_answer client c.args.server_first.now c.from_residual-in_err-answer.result
     (server_first_values c.in_ok-first.first) c.args.meter.now c.answer.new.meter
@@ -19,12 +14,7 @@ returns-in_err-answer-clause-cost c =
 
 pub returns-clause-cost : goal.returns-clause-cost
 returns-clause-cost c =
-    let client : Client = record {
-      nonce = c.args.client_nonce.now;
-      password = c.args.password.now;
-      limit =
-          c.args.limit;
-    } in
+    let client : Client = client_of c.args.client_nonce.now c.args.password.now c.args.limit in
     costs_of_answer client c.args.server_first.now (Ok c.in_ok-answer.answer)
     (server_first_values c.in_ok-first.first) c.args.meter.now c.answer.new.meter
     c.in_ok-first.ensures.reads c.in_ok-first.ensures.count.1 c.in_ok-answer.ensures.counted
