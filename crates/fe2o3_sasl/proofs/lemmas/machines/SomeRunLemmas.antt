@@ -29,13 +29,13 @@ use Rattle.fe2o3_scram.specs.declared.scram_messages.error.ServerScramErrorKind.
 use Rattle.fe2o3_scram.specs.declared.scram_messages.error.ServerScramErrorKind.TheVariants.{AuthenticationFailed, IllegalAuthenticatorState}
 use Rattle.fe2o3_scram.proofs.lemmas.messages.SomeReadingLemmas.{some_client_first, some_server_first, some_client_final, some_server_final}
 use Rattle.fe2o3_scram.proofs.lemmas.texts.DecisionLemmas.{Decided, same_or, utf8_or}
-use Rattle.fe2o3_sasl.specs.ClientHistory.{ClientComplete}
 use Rattle.fe2o3_sasl.specs.Events.{Given, ServerSays, Failed, ClientSays, Started, Answered, Reported, Refused, ClientFault, NotImplemented, Scram, Frame, OutOfMemory}
 use Rattle.fe2o3_sasl.specs.Laws.{BodiesAreBytes, SomeServerHistory, SomeClientHistory}
 use Rattle.fe2o3_sasl.specs.Runs.{Runs, AcceptorGives, AcceptorSteps, ProfileGives, ProfileSteps, Replies, Sends, server_says}
 use Rattle.fe2o3_sasl.specs.SaslAcceptor.{ScramAcceptor, acceptor_machine, ends_with, server_frame}
 use Rattle.fe2o3_sasl.specs.SaslProfile.{ScramProfile, profile_machine, client_frame, initial_response}
-use Rattle.fe2o3_sasl.specs.ServerHistory.{ServerComplete, SpellsBody}
+use Rattle.fe2o3_sasl.specs.Complete.{ServerComplete, ClientComplete}
+use Rattle.fe2o3_sasl.specs.ServerHistory.{SpellsBody}
 use Rattle.fe2o3_sasl.proofs.lemmas.machines.ClientMachineLemmas.{profile_runs_are_histories}
 use Rattle.fe2o3_sasl.proofs.lemmas.machines.ServerMachineLemmas.{acceptor_runs_are_histories}
 
