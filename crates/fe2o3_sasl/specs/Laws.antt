@@ -91,7 +91,7 @@ AreMatched sides answer accepted =
     ((m n : ℕ) × Takes sides m n accepted × OpenAnswer sides.login sides.client_events sides.client_replies m answer)
     ⊎ ((k n : ℕ) × Shows sides k n answer accepted)
 
--- so do two histories, with equal AuthMessages
+-- two histories that are so matched, over a record that the code holds, with equal AuthMessages
 pub record MatchEqually (sides : Sides) (answer : Answering) (accepted : Accepted) : Type 0 where
   pub histories : Histories sides
   pub held : IsRecord accepted.challenge.stored

@@ -133,15 +133,13 @@ pub is_login : IsLogin login
 is_login = record {
   user = IsUtf8-literal (codes "user") refl;
   password = IsUtf8-literal (codes "pencil") refl;
-  limit =
-      omega arith;
+  limit = omega arith;
 }
 
 pub is_record : IsRecord stored
 is_record = record {
   salt = IsBytes-replicate 32 3 (omega arith);
   count = omega arith;
-  stored_key =
-      IsBytes-digest Sha256 _;
+  stored_key = IsBytes-digest Sha256 _;
   server_key = IsBytes-hmac_of Sha256 _ _;
 }

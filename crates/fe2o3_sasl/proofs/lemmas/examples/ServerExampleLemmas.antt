@@ -40,8 +40,7 @@ module _ (more others : List (List ℕ)) (plain : AllByRecursion Plain more) (to
   abbrev pub accepted_as : Accepted
   accepted_as = record {
     challenge = challenge_to;
-    final =
-        record { without = joined (binds both ++ others); proof = proof_at login (answering text nonce) };
+    final = record { without = joined (binds both ++ others); proof = proof_at login (answering text nonce) };
   }
 
   pub init_fits : FitsAsInit provider (arrives server_bytes (sends_init challenge_to.client.bare))
@@ -90,8 +89,7 @@ right = record {
   challenge = challenge;
   final = record {
     without = joined (binds both);
-    proof =
-        proof_at login answer;
+    proof = proof_at login answer;
   };
 }
 

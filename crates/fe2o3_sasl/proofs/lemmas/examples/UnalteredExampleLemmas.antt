@@ -28,12 +28,14 @@ use Rattle.fe2o3_sasl.proofs.lemmas.examples.ServerExampleLemmas.{init_fits, cha
 
 -- ---- the frames
 
+-- the client-first message without its header
 abbrev bare : List ℕ
 bare = joined (names (codes "user"))
 
 abbrev init : SaslFrame
 init = sends_init bare
 
+-- the challenge
 abbrev asked : SaslFrame
 asked = frames.Challenge (joined (values both))
 
@@ -44,10 +46,10 @@ response = sends_response (joined (binds both)) (proof_at login answer)
 abbrev right : Accepted
 right = record {
   challenge = challenging bare;
-  final =
-      record { without = joined (binds both); proof = proof_at login answer };
+  final = record { without = joined (binds both); proof = proof_at login answer };
 }
 
+-- the bodies of challenge and response
 asked_sent : canonical asked ≡ Some (body_of asked)
 asked_sent = challenge_bodied (joined (values both)) (omega
     (arith, short_joined (values both) (short_values both (omega (arith, length-both)))))
@@ -55,6 +57,7 @@ asked_sent = challenge_bodied (joined (values both)) (omega
 response_is_sent : canonical response ≡ Some (body_of response)
 response_is_sent = answer_sent both server_nonce [] refl plain_both tt (omega (arith, length-both))
 
+-- both sides have one AuthMessage
 one_message : client_message login answer ≡ server_message right
 one_message = client_joined both [] ∙ sym (server_joined [] [])
 
@@ -84,6 +87,7 @@ events = plain_sides.server_events
 abbrev replies : List ServerSays
 replies = plain_sides.server_replies
 
+-- the init fits, and so is open at 1
 fits_first : FitsAt provider events 0 right.challenge
 fits_first = (
   arrives server_bytes init,
@@ -128,6 +132,7 @@ given = plain_sides.client_events
 abbrev said : List ClientSays
 said = plain_sides.client_replies
 
+-- the challenge at 1 is due, and its answer is open at 2
 due_one : IsDue given said 1 client_nonce
 due_one = (0, opens_here is_start is_answer said 0 refl, (arrives client_bytes offer, refl, refl))
 
@@ -195,8 +200,7 @@ holds = record {
   version = refl;
   stored = refl;
   bytes = IsBytes-replicate 32 3 (omega arith);
-  printable =
-      printable;
+  printable = printable;
   some = omega arith;
   within = omega arith;
 }

@@ -44,8 +44,7 @@ start_of replies k s is = record {
   before = is.before;
   opened = is.opened;
   last = is.last;
-  kept =
-      λ i behind before. not_none (slice_get replies i);
+  kept = λ i behind before. not_none (slice_get replies i);
 }
 
 two_starts : (sides : Sides) (k l : ℕ) (answer other : Answering) → AreGiven sides.client_events → k ≢ l

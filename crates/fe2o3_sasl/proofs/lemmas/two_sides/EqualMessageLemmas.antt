@@ -91,8 +91,7 @@ is_accepted provider events replies n accepted is =
     record {
       event = at.0;
       challenge = is_challenging provider at.0 at.1 accepted.challenge at.4;
-      text =
-          fits.1.0;
+      text = fits.1.0;
       names = fits.1.1;
     }
 

@@ -121,8 +121,7 @@ agree sides answer accepted is same =
       user = messages.user;
       nonce = messages.nonce;
       full_nonce = messages.full;
-      salt =
-          messages.salt;
+      salt = messages.salt;
       count = messages.count;
     }
 

@@ -62,8 +62,7 @@ agreed sides answer accepted same agrees = go (plain_or_not accepted)
       Some (record {
         full_nonce = full_nonce accepted.challenge;
         salt = accepted.challenge.stored.salt;
-        iterations =
-            accepted.challenge.stored.count;
+        iterations = accepted.challenge.stored.count;
       }),
       (same, agrees, refl, refl, (plain, refl, refl, refl)),
     )
@@ -170,8 +169,7 @@ shown_proofs_are_judged sides k n answer accepted histories kept shows =
     (record {
       met = met sides answer accepted histories kept (inr (k, n, shows));
       one = shows.one;
-      meets =
-          names.meets;
+      meets = names.meets;
     })
 
 -- ---- and no other

@@ -49,8 +49,7 @@ exchange_of login salt count mine theirs =
       password = login.password;
       salt = salt;
       count = count;
-      limit =
-          login.limit;
+      limit = login.limit;
       client_nonce = base64_text mine;
       server_nonce = base64_text theirs;
     }
@@ -74,8 +73,7 @@ sound_exchange login salt count mine theirs is bytes printable some within = rec
 abbrev challenge_in : Exchange → Challenging
 challenge_in x = record {
   client = record { user = x.user; nonce = x.client_nonce; bare = bare_in x };
-  nonce =
-      x.server_nonce;
+  nonce = x.server_nonce;
   stored = record_in x;
 }
 
@@ -156,8 +154,7 @@ one_pair : (R : ℕ → ℕ → Type 0) (i j : ℕ) → R i j → ((m n : ℕ) �
 one_pair R i j is only = record {
   each = (is, tt);
   every = λ m n has. (0, omega arith, same i j m n (only m n has));
-  ordered =
-      (tt, tt);
+  ordered = (tt, tt);
 }
   where
     same : (i j m n : ℕ) → (m ≡ i) × (n ≡ j) → ◌≡◌ {A = ℕ × ℕ} (i, j) (m, n)
@@ -342,8 +339,7 @@ module _ (sides : Sides) (salt : List ℕ) (count : ℕ) (run : UnalteredRun sid
   ok_at = record {
     body = run.outcome.body;
     says = accepts.0;
-    accepts =
-        (run.response, frames.Response (answer_in exchange).0, response_at, response_spelled, response_fits);
+    accepts = (run.response, frames.Response (answer_in exchange).0, response_at, response_spelled, response_fits);
   }
 
   takes : Takes sides 2 1 (accepted_in exchange)
@@ -351,8 +347,7 @@ module _ (sides : Sides) (salt : List ℕ) (count : ℕ) (run : UnalteredRun sid
     text = final_sent;
     reported = reports;
     ok = ok_at;
-    one =
-        (_, only_part final_sent (part_of (codes "v=") (base64_text _) refl (no_comma-base64_text _)), refl);
+    one = (_, only_part final_sent (part_of (codes "v=") (base64_text _) refl (no_comma-base64_text _)), refl);
   }
 
   shows : Shows sides 1 1 (answering_in exchange) (accepted_in exchange)
@@ -386,8 +381,7 @@ module _ (sides : Sides) (salt : List ℕ) (count : ℕ) (run : UnalteredRun sid
       user = refl;
       nonce = refl;
       full_nonce = λ plain. refl;
-      salt =
-          λ plain. refl;
+      salt = λ plain. refl;
       count = λ plain. refl;
     },
     refl,
