@@ -1,5 +1,5 @@
 -- The worked examples of PLAIN.
-use Rattle.std.proofs.Common.{◌≡◌, ℕ, zero, suc, List, [], ◌∷◌, Result, refl, subst, arith, codes, inl, inr}
+use Rattle.std.proofs.Common.{◌≡◌, ℕ, zero, suc, List, [], ◌∷◌, Result, refl, subst, arith, codes, inl, inr, Ok, Err}
 use Rattle.std.specs.Prelude.{Option, Some, None}
 use Rattle.std.specs.List.{AllByRecursion, Contains}
 use Rattle.std.proofs.lemmas.Option.{none-some}
@@ -9,6 +9,7 @@ use Rattle.fe2o3_sasl_wire.specs.SaslFrames.{SaslFrame}
 use Rattle.fe2o3_sasl.specs.Events.{ClientFault, NotImplemented, Reported, Refused, OutOfMemory}
 use Rattle.fe2o3_sasl.specs.Runs.{ProfileReplies, Replies}
 use Rattle.fe2o3_sasl.specs.SaslAcceptor.{NoZero}
+use Rattle.fe2o3_sasl.specs.SaslProfile.{Profile}
 use Rattle.fe2o3_sasl.specs.examples.PlainExamples.{guest, GuestsEnter, SwappedWordsFail, WrongPasswordsFail, NamesAloneFail, EmptyInitsFail, ResponsesToPlainFail, GuestsStart, OthersAreNotImplemented, PlainReportsOutcomes, GuestsWantMemory, ExternalStarts, AnonymousAlwaysEnters, MechanismsAreNamed, NamesAreOffered}
 use Rattle.fe2o3_sasl.proofs.lemmas.machines.MechanismLemmas.{differ, contains_one}
 use Rattle.fe2o3_sasl.proofs.lemmas.machines.ZeroPartLemmas.{among, names_no_other, no_zero-test}
@@ -22,14 +23,16 @@ plain_secret = no_zero-test (codes "secret") refl
 pub guests_enter : GuestsEnter
 guests_enter mechanism hostname nonce =
     let parts : List (List ℕ) = [] ∷ codes "guest" ∷ codes "secret" ∷ codes "x" ∷ [] in
-    let apart : AllByRecursion NoZero parts = (tt, (plain_guest, (plain_secret, (no_zero-test (codes "x") refl, tt)))) in
+    let apart : AllByRecursion NoZero parts =
+    (tt, (plain_guest, (plain_secret, (no_zero-test (codes "x") refl, tt)))) in
     (inl (((parts, apart, refl, refl), (parts, apart, refl, refl)), refl), refl)
 
 pub swapped_words_fail : SwappedWordsFail
 swapped_words_fail mechanism hostname nonce = (
   inr (
     λ names. differ (codes "guest") (codes "secret") refl
-        (names_no_other (codes "guest") (codes "secret") (codes "secret") (codes "guest") plain_secret plain_guest names).0,
+        (names_no_other (codes "guest") (codes "secret") (codes "secret")
+        (codes "guest") plain_secret plain_guest names).0,
     refl,
   ),
   refl,
@@ -81,38 +84,39 @@ not_unexpected same = absurd (cc)
 not_reported : (more : Option (List ℕ)) → (Refused OutOfMemory ≡ Reported outcomes.Ok more) → ⊥
 not_reported more same = absurd (cc)
 
--- a list without names, a challenge, an outcome without data
-lists_want_none : (nonce : List ℕ)
-    → ¬ ProfileReplies (Some (codes "example.org")) guest nonce (frames.Mechanisms []) (Refused OutOfMemory) guest
-lists_want_none nonce (inl wants) = absurd (omega (arith, wants.0.1))
-lists_want_none nonce (inr (reply, moved, inl named, said)) = absurd (omega (arith, named.0.1))
-lists_want_none nonce (inr (reply, moved, inr (none, is, same), said)) =
-    not_unexpected (subst (λ (some : Result SaslFrame ClientFault). Replies guest moved some (Refused OutOfMemory) guest)
-    is said).0
+-- the reply in its place
+replied : (moved : Profile) (reply other : Result SaslFrame ClientFault) → reply ≡ other
+    → Replies guest moved reply (Refused OutOfMemory) guest → Replies guest moved other (Refused OutOfMemory) guest
+replied moved reply other is said =
+    subst (λ (some : Result SaslFrame ClientFault). Replies guest moved some (Refused OutOfMemory) guest) is said
 
-challenges_want_none : (nonce : List ℕ)
-    → ¬ ProfileReplies (Some (codes "example.org")) guest nonce (frames.Challenge (codes "x")) (Refused OutOfMemory)
-    guest
-challenges_want_none nonce (inl never) = never.0
-challenges_want_none nonce (inr (reply, moved, is, said)) =
-    not_unexpected (subst (λ (some : Result SaslFrame ClientFault). Replies guest moved some (Refused OutOfMemory) guest)
-    is.0 said).0
+-- the profile's reply to this frame
+abbrev WantsAt : SaslFrame → Type 0
+WantsAt frame = ProfileReplies (Some (codes "example.org")) guest [] frame (Refused OutOfMemory) guest
 
-outcomes_want_none : (nonce : List ℕ)
-    → ¬ ProfileReplies (Some (codes "example.org")) guest nonce (frames.Outcome outcomes.Ok None) (Refused OutOfMemory)
-    guest
-outcomes_want_none nonce (inl never) = never.0
-outcomes_want_none nonce (inr (reply, moved, is, said)) =
-    not_reported None (subst
-    (λ (some : Result SaslFrame ClientFault). Replies guest moved some (Refused OutOfMemory) guest) is.0 said).0
+lists_want_none : ¬ WantsAt (frames.Mechanisms [])
+lists_want_none (inl wants) = absurd (omega (arith, wants.0.1))
+lists_want_none (inr (reply, moved, inl named, said)) = absurd (omega (arith, named.0.1))
+lists_want_none (inr (reply, moved, inr unnamed, said)) =
+    not_unexpected (replied moved reply (Err NotImplemented) unnamed.1 said).0
+
+challenges_want_none : ¬ WantsAt (frames.Challenge (codes "x"))
+challenges_want_none (inl never) = never.0
+challenges_want_none (inr (reply, moved, is, said)) =
+    not_unexpected (replied moved reply (Err NotImplemented) is.0 said).0
+
+outcomes_want_none : ¬ WantsAt (frames.Outcome outcomes.Ok None)
+outcomes_want_none (inl never) = never.0
+outcomes_want_none (inr (reply, moved, is, said)) =
+    not_reported None (replied moved reply (Ok (frames.Outcome outcomes.Ok None)) is.0 said).0
 
 pub guests_want_memory : GuestsWantMemory
 guests_want_memory = (
   λ nonce. inl (contains_one (codes "PLAIN"), refl, refl),
   λ nonce. inl (tt, refl, refl),
-  λ wants. lists_want_none [] (wants []),
-  λ wants. challenges_want_none [] (wants []),
-  λ wants. outcomes_want_none [] (wants []),
+  λ wants. lists_want_none (wants []),
+  λ wants. challenges_want_none (wants []),
+  λ wants. outcomes_want_none (wants []),
 )
 
 -- ---- the other mechanisms

@@ -23,7 +23,8 @@ use Rattle.fe2o3_sasl.proofs.lemmas.machines.MechanismLemmas.{contains_one}
 
 -- a reply without a body is the fault, and leaves the state
 unsent : {S A : Type 0} (too_large : A) (says : List ℕ → A) (frame : SaslFrame) (state moved : S)
-    → canonical frame ≡ None → (too_large ≡ carried too_large says (canonical frame)) × (state ≡ carried state (λ _. moved) (canonical frame))
+    → canonical frame ≡ None → (too_large ≡ carried too_large says (canonical frame))
+    × (state ≡ carried state (λ _. moved) (canonical frame))
 unsent too_large says frame state moved none =
     (sym (ap (carried too_large says) none), sym (ap (carried state (λ _. moved)) none))
 
