@@ -1,14 +1,15 @@
--- Worked examples of PLAIN (RFC 4616, section 2) and of the names of mechanisms: what an acceptor and a profile for
--- the user `guest` with the password `secret` say. That they say nothing else is a law of every mechanism.
+-- Worked examples of PLAIN (RFC 4616, section 2) and of the other mechanisms than SCRAM: what an acceptor and a profile
+-- for the user `guest` with the password `secret` say. That they say nothing else is a law of every mechanism.
 use Rattle.std.specs.Prelude.{◌≡◌, ℕ, Option, Some, None, List, [], ◌∷◌, ◌++◌, map, codes, Result, Ok, Err}
 use Rattle.fe2o3_sasl_wire.specs.declared.amqp_types.SaslCode.{SaslCode}
 use Rattle.fe2o3_sasl_wire.specs.declared.amqp_types.SaslCode.TheVariants as outcomes
 use Rattle.fe2o3_sasl_wire.specs.SaslFrames as frames
 use Rattle.fe2o3_sasl_wire.specs.SaslFrames.{SaslFrame}
-use Rattle.fe2o3_sasl.specs.Events.{Login, ClientFault, NotImplemented}
+use Rattle.fe2o3_sasl.specs.Events.{Login, ClientFault, NotImplemented, Refused, OutOfMemory}
 use Rattle.fe2o3_sasl.specs.MechanismLaws.{six_profiles}
-use Rattle.fe2o3_sasl.specs.SaslAcceptor.{Acceptor, PlainAcceptor, acceptor_machine, acceptor_names, offered, ends_with}
-use Rattle.fe2o3_sasl.specs.SaslProfile.{Profile, PlainProfile, profile_machine, profile_name}
+use Rattle.fe2o3_sasl.specs.Runs.{ProfileReplies}
+use Rattle.fe2o3_sasl.specs.SaslAcceptor.{Acceptor, PlainAcceptor, AnonymousAcceptor, acceptor_machine, acceptor_names, offered, ends_with}
+use Rattle.fe2o3_sasl.specs.SaslProfile.{Profile, PlainProfile, ExternalProfile, profile_machine, profile_name}
 
 -- the acceptor of the guest
 abbrev pub guests : Acceptor
@@ -69,6 +70,32 @@ OthersAreNotImplemented = Says (frames.Mechanisms (codes "SCRAM-SHA-256" ∷ cod
 abbrev pub PlainReportsOutcomes : Type 0
 PlainReportsOutcomes = (code : SaslCode) (more : Option (List ℕ))
     → Says (frames.Outcome code more) (Ok (frames.Outcome code more))
+
+-- want of memory may be the profile's reply to the frame
+abbrev pub GuestMayWant : SaslFrame → Type 0
+GuestMayWant frame = (nonce : List ℕ)
+    → ProfileReplies (Some (codes "example.org")) guest nonce frame (Refused OutOfMemory) guest
+
+-- it may be at a list with the name and at an outcome with data, and nowhere else
+abbrev pub GuestsWantMemory : Type 0
+GuestsWantMemory = GuestMayWant (frames.Mechanisms (codes "PLAIN" ∷ []))
+    × GuestMayWant (frames.Outcome outcomes.Ok (Some (codes "x")))
+    × ¬ GuestMayWant (frames.Mechanisms [])
+    × ¬ GuestMayWant (frames.Challenge (codes "x"))
+    × ¬ GuestMayWant (frames.Outcome outcomes.Ok None)
+
+-- EXTERNAL starts without a response: who asks is told by other means (RFC 4422, appendix A)
+abbrev pub ExternalStarts : Type 0
+ExternalStarts = (hostname : Option (List ℕ)) (nonce : List ℕ)
+    → profile_machine ExternalProfile hostname nonce (frames.Mechanisms (codes "EXTERNAL" ∷ []))
+    (Ok (frames.Init (codes "EXTERNAL") None hostname)) ExternalProfile
+
+-- ANONYMOUS ends with Ok whatever it is sent
+abbrev pub AnonymousAlwaysEnters : Type 0
+AnonymousAlwaysEnters = (nonce mechanism text : List ℕ) (response hostname : Option (List ℕ))
+    → acceptor_machine AnonymousAcceptor nonce (frames.Init mechanism response hostname) (ends_with outcomes.Ok)
+    AnonymousAcceptor
+    × acceptor_machine AnonymousAcceptor nonce (frames.Response text) (ends_with outcomes.Ok) AnonymousAcceptor
 
 -- the six names (RFC 5802, section 4; RFC 7677, section 3; RFC 4616; RFC 4505; RFC 4422, appendix A)
 abbrev pub MechanismsAreNamed : Type 0

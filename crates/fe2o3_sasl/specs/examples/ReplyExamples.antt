@@ -75,7 +75,8 @@ UnsentChallenges = (held : Provider) (event : Given) (init : SaslFrame) (challen
 -- likewise a start of a client
 abbrev pub UnsentStarts : Type 0
 UnsentStarts = (held : Login) (nonce : List ℕ)
-    → canonical (frames.Init (mechanism_name held.version) (Some (client_first held.user (base64_text nonce))) None) ≡ None
+    → canonical (frames.Init (mechanism_name held.version) (Some (client_first held.user (base64_text nonce))) None)
+    ≡ None
     → ProfileReplies None (scram_profile held) nonce (frames.Mechanisms (mechanism_name held.version ∷ []))
     (Refused (Frame faults.TooLarge)) (scram_profile held)
 

@@ -1,4 +1,4 @@
-use Rattle.fe2o3_sasl.proofs.lemmas.examples.PlainExampleLemmas.{swapped_words_fail, guests_start, others_are_not_implemented, plain_reports_outcomes, mechanisms_are_named, names_are_offered}
+use Rattle.fe2o3_sasl.proofs.lemmas.examples.PlainExampleLemmas.{swapped_words_fail, guests_start, others_are_not_implemented, plain_reports_outcomes, guests_want_memory, external_starts, anonymous_always_enters, mechanisms_are_named, names_are_offered}
 use Rattle.fe2o3_sasl.proofs.lemmas.examples.HexExampleLemmas.{digits_of_both_cases, other_texts_spell_nothing}
 use Rattle.fe2o3_sasl.proofs.lemmas.examples.ReplyExampleLemmas.{other_mechanisms_fail, other_texts_are_refused, failures_are_reported, names_are_found, findings_in_order}
 use Rattle.fe2o3_sasl.proofs.lemmas.examples.UnsentExampleLemmas.{long_texts_have_no_body, unsent_challenges, unsent_starts}
@@ -58,3 +58,12 @@ returns-clause-servers_want_memory c = servers_want_memory
 
 pub returns-clause-clients_want_memory : goal.returns-clause-clients_want_memory
 returns-clause-clients_want_memory c = clients_want_memory
+
+pub returns-clause-guests_want_memory : goal.returns-clause-guests_want_memory
+returns-clause-guests_want_memory c = guests_want_memory
+
+pub returns-clause-external_starts : goal.returns-clause-external_starts
+returns-clause-external_starts c = external_starts
+
+pub returns-clause-anonymous_always_enters : goal.returns-clause-anonymous_always_enters
+returns-clause-anonymous_always_enters c = anonymous_always_enters

@@ -1,5 +1,5 @@
 -- The worked examples of hexadecimal text.
-use Rattle.std.proofs.Common.{◌≡◌, List, ℕ, Result, Ok, Err, refl, codes}
+use Rattle.std.proofs.Common.{◌≡◌, List, ℕ, Err, refl, codes}
 use Rattle.hex.proofs.OnLiterals.{hex_on_literals}
 use Rattle.hex.specs.Hex.{decode_of}
 use Rattle.hex.specs.declared.error.FromHexError.{FromHexError}

@@ -80,7 +80,7 @@ server_wants_none body spelled spells never other history =
     × (Failed faults.OutOfMemory ≡ Failed faults.OutOfMemory))
     ⊎ ServerAnswers provider IsOpen (to_server body) some (Failed faults.OutOfMemory))
     (one_spelling body row.0 spelled row.1 spells) row.2)
-        [ inl wanted ↦ never wanted.0 | inr answers ↦ other IsOpen answers ]
+    [ inl wanted ↦ never wanted.0 | inr answers ↦ other IsOpen answers ]
 
 -- want of memory is no other fault
 not_expected : (Failed faults.OutOfMemory ≡ Failed faults.NotImplemented) → ⊥
@@ -133,7 +133,7 @@ client_wants_none body spelled spells never other history =
     × (Refused OutOfMemory ≡ Refused OutOfMemory))
     ⊎ ClientAnswers login Due IsOpen (to_client body) some (Refused OutOfMemory))
     (one_spelling body row.0 spelled row.1 spells) row.2)
-        [ inl wanted ↦ never wanted.0 | inr answers ↦ other Due IsOpen answers ]
+    [ inl wanted ↦ never wanted.0 | inr answers ↦ other Due IsOpen answers ]
 
 -- want of memory is no other answer
 not_unexpected : (Refused OutOfMemory ≡ Refused NotImplemented) → ⊥

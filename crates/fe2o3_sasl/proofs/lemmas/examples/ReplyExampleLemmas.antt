@@ -1,27 +1,24 @@
 -- The worked examples of single replies, and of the order of findings.
-use Rattle.std.proofs.Common.{◌≡◌, ◌⊎◌, ◌≤◌, ◌<◌, ◌^◌, ℕ, zero, suc, true, false, List, [], ◌∷◌, ◌++◌, length, Result, Ok, Err, refl, sym, ◌∙◌, ap, subst, arith, codes, inl, inr, take}
-use Rattle.std.specs.Prelude.{Option, Some, None}
+use Rattle.std.proofs.Common.{◌≡◌, ◌≤◌, ℕ, zero, suc, true, false, List, [], ◌∷◌, ◌++◌, length, Ok, refl, sym, arith, codes, inl, inr}
+use Rattle.std.specs.Prelude.{Some, None}
 use Rattle.std.specs.List.{Contains}
 use Rattle.std.specs.Str.{IsUtf8, is_utf8, chars}
 use Rattle.std.proofs.lemmas.Str.{is_utf8-from_IsUtf8}
 use Rattle.std.proofs.lemmas.List.{length-append}
 use Rattle.fe2o3_sasl_wire.specs.declared.amqp_types.SaslCode.TheVariants as outcomes
-use Rattle.fe2o3_sasl_wire.specs.declared.sasl_frames.error.Error.{Error}
-use Rattle.fe2o3_sasl_wire.specs.declared.sasl_frames.error.Error.TheVariants as faults
-use Rattle.fe2o3_sasl_wire.specs.Canonical.{canonical, canonical_variable, HasTexts}
+use Rattle.fe2o3_sasl_wire.specs.Canonical.{canonical, canonical_variable}
 use Rattle.fe2o3_sasl_wire.specs.SaslFrames as frames
 use Rattle.fe2o3_sasl_wire.specs.SaslFrames.{SaslFrame}
 use Rattle.fe2o3_scram.specs.declared.scram_messages.error.ScramErrorKind.TheVariants.{Utf8Error, IllegalClientState}
 use Rattle.fe2o3_scram.specs.Texts.{joined}
 use Rattle.fe2o3_scram.proofs.lemmas.texts.AsciiLemmas.{IsAscii-literal, IsUtf8-literal}
 use Rattle.fe2o3_sasl.specs.Audit.{Before}
-use Rattle.fe2o3_sasl.specs.ClientHistory.{ClientAllocates, ClientAnswers, ClientHistory, IsDue, OpenAnswer, is_start, is_answer}
-use Rattle.fe2o3_sasl.specs.Events.{Given, ServerSays, Concluded, Failed, ClientSays, Reported, Refused, Started, Scram, OutOfMemory}
-use Rattle.fe2o3_sasl.specs.ServerHistory.{Challenging, FitsAsInit, Open, ServerAllocates, ServerAnswers, ServerHistory, SpellsBody, says_auth}
-use Rattle.fe2o3_sasl.specs.examples.Examples.{client_bytes, server_bytes, login, provider, names, sends_init, auth_body, body_of, arrives, arrive, HaveBodies}
-use Rattle.fe2o3_sasl.specs.examples.ReplyExamples.{ServerSent, ClientSent, other_init, OtherMechanismsFail, OtherTextsAreRefused, FailuresAreReported, NamesAreFound, FindingsInOrder}
+use Rattle.fe2o3_sasl.specs.ClientHistory.{is_start, is_answer}
+use Rattle.fe2o3_sasl.specs.Events.{ClientSays, Refused, Scram}
+use Rattle.fe2o3_sasl.specs.examples.Examples.{client_bytes, server_bytes, login, provider, names, body_of, arrive}
+use Rattle.fe2o3_sasl.specs.examples.ReplyExamples.{other_init, OtherMechanismsFail, OtherTextsAreRefused, FailuresAreReported, NamesAreFound, FindingsInOrder}
 use Rattle.fe2o3_sasl.proofs.lemmas.examples.ClientExampleLemmas.{start_said}
-use Rattle.fe2o3_sasl.proofs.lemmas.examples.ExampleBodyLemmas.{bodied, short_items, short_variable, short_joined, short_names, refusals_have_one_body, auth_sent, spells_body, init_texts}
+use Rattle.fe2o3_sasl.proofs.lemmas.examples.ExampleBodyLemmas.{bodied, short_items, short_variable, short_joined, short_names, refusals_have_one_body, spells_body}
 use Rattle.fe2o3_sasl.proofs.lemmas.examples.ReplyByReplyLemmas.{server_history, client_history}
 use Rattle.fe2o3_sasl.proofs.lemmas.machines.MechanismLemmas.{differ}
 use Rattle.fe2o3_sasl.proofs.lemmas.positions.PositionLemmas.{was_open}
@@ -33,9 +30,13 @@ other_bodied : (mechanism : List ℕ) → length mechanism ≤ 100
 other_bodied mechanism short =
     let bare = joined (names (codes "user")) in
     let one = short_joined (names (codes "user")) (short_names (codes "user") (omega arith)) in
-    bodied (other_init mechanism) (omega (arith, short, short_variable 0xa3 0xb3 mechanism,
-    short_items (codes "n,," ++ bare) (omega (arith, one)),
-    length-append (canonical_variable 0xa3 0xb3 mechanism) (canonical_variable 0xa0 0xb0 (codes "n,," ++ bare) ++ [])))
+    bodied (other_init mechanism) (omega (
+      arith,
+      short,
+      short_variable 0xa3 0xb3 mechanism,
+      short_items (codes "n,," ++ bare) (omega (arith, one)),
+      length-append (canonical_variable 0xa3 0xb3 mechanism) (canonical_variable 0xa0 0xb0 (codes "n,," ++ bare) ++ []),
+    ))
 
 pub other_mechanisms_fail : OtherMechanismsFail
 other_mechanisms_fail =
@@ -94,7 +95,7 @@ other_texts_are_refused =
               inr (inl (
                 IsUtf8-literal (codes "r=") refl,
                 λ nonce due. let before = was_open is_start is_answer replies 0 due.0 refl due.1 in
-                absurd (omega (arith, before.before)),
+                    absurd (omega (arith, before.before)),
                 refl,
               )),
               refl,

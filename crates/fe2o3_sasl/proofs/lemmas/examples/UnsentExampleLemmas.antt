@@ -1,31 +1,30 @@
 -- The worked examples of frames without a body.
-use Rattle.std.proofs.Common.{◌≡◌, ◌≤◌, ◌<◌, ◌^◌, ◌+◌, ℕ, List, [], ◌∷◌, ◌++◌, length, refl, sym, ap, ◌∙◌, arith, inl, inr, Ok}
+use Rattle.std.proofs.Common.{◌≡◌, ℕ, List, [], length, refl, sym, ap, arith, inl, inr, Ok}
 use Rattle.std.specs.Prelude.{Some, None}
 use Rattle.std.proofs.lemmas.List.{length-append}
 use Rattle.fe2o3_sasl_wire.specs.declared.sasl_frames.error.Error.TheVariants as faults
-use Rattle.fe2o3_sasl_wire.specs.declared.sasl_frames.forms.Form.TheVariants.{ThirtyTwo}
 use Rattle.fe2o3_sasl_wire.specs.Canonical.{canonical, canonical_variable, items_of, shortest}
 use Rattle.fe2o3_sasl_wire.specs.SaslFrames as frames
 use Rattle.fe2o3_sasl_wire.specs.SaslFrames.{SaslFrame}
 use Rattle.fe2o3_sasl_wire.proofs.CanonicalLemmas.{length-content}
 use Rattle.fe2o3_sasl_wire.proofs.EncodingLemmas.{no_body}
 use Rattle.fe2o3_scram.specs.ClientFirst.{client_first}
-use Rattle.fe2o3_scram.specs.Credentials.{Provider}
 use Rattle.fe2o3_scram.specs.Hmac.{mechanism_name}
 use Rattle.fe2o3_scram.specs.ScramServer as server_states
 use Rattle.fe2o3_scram.specs.ServerFirst.{challenge_of}
 use Rattle.fe2o3_scram.specs.Texts.{base64_text}
-use Rattle.fe2o3_sasl.specs.Events.{Given, Failed, Refused, Frame, Started}
-use Rattle.fe2o3_sasl.specs.Runs.{AcceptorAnswers, server_says}
-use Rattle.fe2o3_sasl.specs.SaslAcceptor.{Acceptor, ScramAcceptor, acceptor_machine}
-use Rattle.fe2o3_sasl.specs.SaslProfile.{Profile, after_init, scram_profile}
-use Rattle.fe2o3_sasl.specs.ServerHistory.{Challenging, FitsAsInit, carried, first_message}
+use Rattle.fe2o3_sasl.specs.Events.{Failed, Refused, Frame, Started}
+use Rattle.fe2o3_sasl.specs.Runs.{server_says}
+use Rattle.fe2o3_sasl.specs.SaslAcceptor.{ScramAcceptor}
+use Rattle.fe2o3_sasl.specs.SaslProfile.{after_init, scram_profile}
+use Rattle.fe2o3_sasl.specs.ServerHistory.{carried, first_message}
 use Rattle.fe2o3_sasl.specs.examples.ReplyExamples.{LongTextsHaveNoBody, UnsentChallenges, UnsentStarts}
 use Rattle.fe2o3_sasl.proofs.lemmas.machines.MechanismLemmas.{contains_one}
 
 -- a reply without a body is the fault, and leaves the state
-unsent : {S A : Type 0} (too_large : A) (says : List ℕ → A) (frame : SaslFrame) (state moved : S) → canonical frame ≡ None
-    → (too_large ≡ carried too_large says (canonical frame)) × (state ≡ carried state (λ _. moved) (canonical frame))
+unsent : {S A : Type 0} (too_large : A) (says : List ℕ → A) (frame : SaslFrame) (state moved : S)
+    → canonical frame ≡ None → (too_large ≡ carried too_large says (canonical frame))
+    × (state ≡ carried state (λ _. moved) (canonical frame))
 unsent too_large says frame state moved none =
     (sym (ap (carried too_large says) none), sym (ap (carried state (λ _. moved)) none))
 

@@ -1,5 +1,5 @@
 -- Acceptors and profiles of one mechanism find each other, and PLAIN and ANONYMOUS let in whom they should.
-use Rattle.std.proofs.Common.{◌≡◌, ◌≢◌, ◌<◌, ℕ, zero, suc, Bool, true, false, true≢false, None, List, [], ◌∷◌, refl, sym, ap, ◌∙◌, subst, arith, codes, inl, inr}
+use Rattle.std.proofs.Common.{◌≡◌, ◌≢◌, ℕ, zero, suc, false, true≢false, None, List, [], ◌∷◌, refl, sym, ap, ◌∙◌, subst, arith, codes, inl, inr}
 use Rattle.std.specs.Prelude.{nat_eq}
 use Rattle.std.specs.List.{Contains}
 use Rattle.std.specs.Cmp.Lexicographic.{pointwise}
@@ -7,9 +7,9 @@ use Rattle.std.proofs.lemmas.Cmp.{nat_list_eq_equiv}
 use Rattle.fe2o3_scram.specs.declared.hmac.ScramVersion.{ScramVersion}
 use Rattle.fe2o3_scram.specs.declared.hmac.ScramVersion.TheVariants.{Sha1, Sha256, Sha512}
 use Rattle.fe2o3_scram.specs.Hmac.{mechanism_name}
-use Rattle.fe2o3_sasl.specs.MechanismLaws.{EndsWith, PlainLetsIn, PlainRefuses, AnonymousLetsIn, AreOfOneMechanism, OffersAgree, SomethingIsOffered, NamesDiffer}
-use Rattle.fe2o3_sasl.specs.SaslAcceptor.{Acceptor, ScramAcceptor, PlainAcceptor, AnonymousAcceptor, acceptor_names, offered}
-use Rattle.fe2o3_sasl.specs.SaslProfile.{Profile, ScramProfile, PlainProfile, AnonymousProfile, ExternalProfile, profile_name, initial_response}
+use Rattle.fe2o3_sasl.specs.MechanismLaws.{PlainLetsIn, PlainRefuses, AnonymousLetsIn, OffersAgree, SomethingIsOffered, NamesDiffer}
+use Rattle.fe2o3_sasl.specs.SaslAcceptor.{ScramAcceptor, PlainAcceptor, AnonymousAcceptor}
+use Rattle.fe2o3_sasl.specs.SaslProfile.{ScramProfile, PlainProfile, AnonymousProfile, ExternalProfile, initial_response}
 use Rattle.fe2o3_sasl_wire.specs.SaslFrames as frames
 use Rattle.fe2o3_sasl.proofs.lemmas.machines.ZeroPartLemmas.{names_both, names_no_other}
 

@@ -1,5 +1,5 @@
 -- Each machine has one reply to each frame.
-use Rattle.std.proofs.Common.{◌≡◌, ℕ, Option, Some, None, List, refl, sym, ap, ◌∙◌, subst, inl, inr, Result, Ok, Err}
+use Rattle.std.proofs.Common.{◌≡◌, ℕ, Option, Some, None, List, sym, ap, ◌∙◌, subst, inl, inr, Result, Ok, Err}
 use Rattle.fe2o3_sasl_wire.specs.declared.amqp_types.SaslCode.TheVariants as outcomes
 use Rattle.fe2o3_sasl_wire.specs.SaslFrames as frames
 use Rattle.fe2o3_sasl_wire.specs.SaslFrames.{SaslFrame}
@@ -22,8 +22,8 @@ use Rattle.fe2o3_scram.proofs.lemmas.messages.ServerFinalLemmas.{one_server_fina
 use Rattle.fe2o3_scram.proofs.lemmas.messages.ServerFirstLemmas.{one_server_first}
 use Rattle.fe2o3_sasl.specs.Events.{ClientFault}
 use Rattle.fe2o3_sasl.specs.MechanismLaws.{OneAcceptorReply, OneProfileReply}
-use Rattle.fe2o3_sasl.specs.SaslAcceptor.{Acceptor, ScramAcceptor, PlainAcceptor, AnonymousAcceptor, acceptor_machine, server_frame}
-use Rattle.fe2o3_sasl.specs.SaslProfile.{Profile, ScramProfile, profile_machine, client_frame}
+use Rattle.fe2o3_sasl.specs.SaslAcceptor.{Acceptor, ScramAcceptor, PlainAcceptor, AnonymousAcceptor, server_frame}
+use Rattle.fe2o3_sasl.specs.SaslProfile.{Profile, ScramProfile, client_frame}
 
 -- the result is made of a reading
 abbrev MadeOf : {V R : Type 0} → (V → Type 0) → (V → R) → R → Type 0
@@ -260,8 +260,8 @@ one_belief client_states.Complete side text (Err fault) (Err kind) next last is 
 -- ---- a profile
 
 -- both of one turn of the client
-same_turn : {A : Type 0} (frame : A → SaslFrame) (turn again : ClientTurn A) (reply other : Result SaslFrame ClientFault)
-    (next last : Profile) → turn ≡ again
+same_turn : {A : Type 0} (frame : A → SaslFrame) (turn again : ClientTurn A)
+    (reply other : Result SaslFrame ClientFault) (next last : Profile) → turn ≡ again
     → reply ≡ client_frame frame turn.0 → next ≡ ScramProfile turn.1
     → other ≡ client_frame frame again.0 → last ≡ ScramProfile again.1 → (reply ≡ other) × (next ≡ last)
 same_turn {A} frame turn again reply other next last same r n s l = (

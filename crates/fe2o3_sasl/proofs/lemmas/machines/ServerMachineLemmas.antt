@@ -10,6 +10,7 @@ use Rattle.fe2o3_sasl_wire.specs.Canonical.{canonical}
 use Rattle.fe2o3_sasl_wire.specs.SaslFrames as frames
 use Rattle.fe2o3_sasl_wire.specs.SaslFrames.{SaslFrame}
 use Rattle.fe2o3_scram.specs.declared.scram_messages.error.ServerScramErrorKind.{ServerScramErrorKind}
+use Rattle.fe2o3_scram.specs.declared.scram_messages.error.ServerScramErrorKind.TheVariants.{AuthenticationFailed}
 use Rattle.fe2o3_scram.specs.Texts.{base64_text}
 use Rattle.fe2o3_scram.specs.ServerFirst.{Challenge, challenge_of}
 use Rattle.fe2o3_scram.specs.ClientFirst.{ClientFirst}
@@ -300,7 +301,9 @@ response_step P c event text says moved next reply (Err fault) known from r h =
     refl (λ p fits. unfit p fits from.0) r from.1 h
   where
     unfit : (p : Accepted) → FitsAsResponse P (λ d. Some c ≡ Some d) (frames.Response text) p
-        → ((stored : Record) × (record_at P.records c.client.user ≡ Some stored) × ReadsClientFinal (server_of P.version c.client.bare (first_message c) (full_nonce c) stored) text (Err fault)) ⊎ ((record_at P.records c.client.user ≡ None) × (fault ≡ Rattle.fe2o3_scram.specs.declared.scram_messages.error.ServerScramErrorKind.TheVariants.AuthenticationFailed)) → ⊥
+        → ((stored : Record) × (record_at P.records c.client.user ≡ Some stored)
+        × ReadsClientFinal (server_of P.version c.client.bare (first_message c) (full_nonce c) stored) text (Err fault))
+        ⊎ ((record_at P.records c.client.user ≡ None) × (fault ≡ AuthenticationFailed)) → ⊥
     unfit p fits (inl x) =
         let stored = same_server P c x.0 known x.1 in
         let same : c ≡ p.challenge = same_Some c p.challenge fits.0 in

@@ -1,5 +1,5 @@
 -- The parts of a message of PLAIN are the pieces between its zero bytes, and no others.
-use Rattle.std.proofs.Common.{◌≡◌, ◌≢◌, ℕ, true, false, not, eqb, List, [], ◌∷◌, ◌++◌, refl, sym, ◌∙◌, ap}
+use Rattle.std.proofs.Common.{◌≡◌, ℕ, true, false, not, eqb, List, [], ◌∷◌, ◌++◌, refl, sym, ◌∙◌, ap}
 use Rattle.std.specs.Prelude.{slice_get, Some}
 use Rattle.std.specs.List.{slice_split, join_with_byte, list_all, AllByRecursion}
 use Rattle.std.proofs.lemmas.Bool.{ne_eqb, and_parts, not-true, eqb-false}
