@@ -1,8 +1,13 @@
 -- What holds of the grammar of frames, over the relation alone (AMQP 1.0, part 5, section 5.3).
-use Rattle.std.specs.Prelude.{◌≡◌, ℕ, List, ◌++◌, length, Some, Result, Ok}
+use Rattle.std.specs.Prelude.{◌≡◌, ◌↔◌, ℕ, List, ◌++◌, length, IsTrue, Some, Result, Ok}
+use Rattle.fe2o3_sasl_wire.specs.declared.amqp_types.SaslCode.{SaslCode}
+use Rattle.fe2o3_sasl_wire.specs.declared.protocol_header.ProtocolHeader.{ProtocolHeader}
+use Rattle.fe2o3_sasl_wire.specs.declared.protocol_header.ProtocolId.{ProtocolId}
+use Rattle.fe2o3_sasl_wire.specs.ProtocolHeader.{id_byte, header_bytes}
+use Rattle.fe2o3_sasl_wire.specs.AmqpTypes.{same_frame}
 use Rattle.fe2o3_sasl_wire.specs.declared.sasl_frames.error.Error.{Error}
 use Rattle.fe2o3_sasl_wire.specs.Bytes.{IsBytes}
-use Rattle.fe2o3_sasl_wire.specs.SaslFrames.{SaslFrame, Spells}
+use Rattle.fe2o3_sasl_wire.specs.SaslFrames.{SaslFrame, outcome_code, Spells}
 use Rattle.fe2o3_sasl_wire.specs.Bodies.{ReadsBody}
 use Rattle.fe2o3_sasl_wire.specs.Canonical.{canonical, HasTexts}
 use Rattle.fe2o3_sasl_wire.specs.OwnedFrames.{HasAsciiMechanism}
@@ -32,3 +37,10 @@ BodiesHaveOneAnswer = (body : List ℕ) → IsBytes body
 -- what a body spells has an ASCII mechanism
 abbrev pub SpelledMechanismsAreAscii : Type 0
 SpelledMechanismsAreAscii = (frame : SaslFrame) (body : List ℕ) → Spells frame body → HasAsciiMechanism frame
+
+-- what `==` compares tells any two values apart, so it is true exactly of equal ones
+abbrev pub EqualValuesAreOne : Type 0
+EqualValuesAreOne = ((left right : SaslFrame) → IsTrue (same_frame left right) ↔ (left ≡ right))
+    × ((left right : SaslCode) → outcome_code left ≡ outcome_code right → left ≡ right)
+    × ((left right : ProtocolHeader) → header_bytes left ≡ header_bytes right → left ≡ right)
+    × ((left right : ProtocolId) → id_byte left ≡ id_byte right → left ≡ right)

@@ -3,6 +3,7 @@ pub mod Bytes
 pub mod Encodings
 pub mod SaslFrames
 pub mod AmqpTypes
+pub mod Sameness
 pub mod Bodies
 pub mod FrameViews
 pub mod SymbolsViews
