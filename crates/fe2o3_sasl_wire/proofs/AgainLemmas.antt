@@ -1,5 +1,6 @@
 -- What is spelled so is read, whatever follows.
 use Rattle.std.proofs.Common.{◌≡◌, ℕ, suc, ◌^◌, ◌<◌, false, ltb, eqb, ◌-◌, List, [], ◌∷◌, ◌++◌, length, Option, Some, None, refl, sym, ap, ◌∙◌, append_assoc, arith, inl, inr}
+use Rattle.std.specs.Prelude.{IsUtf8}
 use Rattle.std.specs.Int.{w32, w64, to_be_bytes}
 use Rattle.std.specs.List.{AllByRecursion}
 use Rattle.std.proofs.lemmas.Bool.{le-ltb, ne_eqb}
@@ -12,9 +13,10 @@ use Rattle.fe2o3_sasl_wire.specs.declared.sasl_frames.forms.Form.{Form}
 use Rattle.fe2o3_sasl_wire.specs.declared.sasl_frames.forms.Form.TheVariants.{Eight, ThirtyTwo}
 use Rattle.fe2o3_sasl_wire.specs.declared.sasl_frames.forms.Kind.{Kind}
 use Rattle.fe2o3_sasl_wire.specs.declared.sasl_frames.forms.Kind.TheVariants as kinds
-use Rattle.fe2o3_sasl_wire.specs.Encodings.{limit, number, choice, content, SpellsVariable, SpellsBinary, SpellsString, SpellsSymbol, IsElement, elements, array_body, list_body, SpellsList}
-use Rattle.fe2o3_sasl_wire.specs.SaslFrames.{SaslFrame, Mechanisms, Init, Challenge, Response, Outcome, kind_of, code_of, name_of, outcome_code, Field, Null, Ubyte, Binary, Text, Symbol, Symbols, optional, fields_of, SpellsField, AllNull, SpellsItems, SpellsDescriptor, SpellsValue, Spells}
-use Rattle.fe2o3_sasl_wire.specs.Reading.{eight_at, number_at, content_at, form_at, variable_at, element_at, symbol_at, string_at, elements_at, array_at, one_at, symbols_at, code_at, Items, required, null_at, optional_at, ended, binary_at, fields_at, list_at, kind_of_code, kind_of_name, descriptor_at, value_at}
+use Rattle.fe2o3_sasl_wire.specs.SaslFrames.{limit, number, choice, content, SpellsVariable, SpellsSymbol, IsElement, array_body, list_body, SpellsList, SaslFrame, Mechanisms, Init, Challenge, Response, Outcome, kind_of, code_of, name_of, outcome_code, Field, Null, Ubyte, Binary, Text, Symbol, Symbols, optional, fields_of, SpellsField, SpellsItems, SpellsDescriptor, SpellsValue, Spells}
+use Rattle.fe2o3_sasl_wire.specs.private.Fields.{AllNull}
+use Rattle.fe2o3_sasl_wire.specs.private.Writing.{elements}
+use Rattle.fe2o3_sasl_wire.specs.private.Reading.{eight_at, number_at, content_at, form_at, variable_at, element_at, symbol_at, string_at, elements_at, array_at, one_at, symbols_at, code_at, Items, required, null_at, optional_at, ended, binary_at, fields_at, list_at, kind_of_code, kind_of_name, descriptor_at, value_at}
 use Rattle.fe2o3_sasl_wire.proofs.TextLemmas.{is_ascii-from_IsAscii}
 
 pub number_again : (form : Form) (n : ℕ) (rest : List ℕ) → n < limit form → number_at form (number form n ++ rest) ≡ Some (n, rest)
@@ -55,11 +57,11 @@ list_form : Tells 0xc0 0xd0
 list_form Eight = refl
 list_form ThirtyTwo = refl
 
-pub binary_again : (x b rest : List ℕ) → SpellsBinary x b → binary_at (b ++ rest) ≡ Some (x, rest)
+pub binary_again : (x b rest : List ℕ) → SpellsVariable 0xa0 0xb0 x b → binary_at (b ++ rest) ≡ Some (x, rest)
 unfolding binary_at
 binary_again x b rest s = variable_again 0xa0 0xb0 binary_form x b rest s
 
-pub string_again : (x b rest : List ℕ) → SpellsString x b → string_at (b ++ rest) ≡ Some (x, rest)
+pub string_again : (x b rest : List ℕ) → IsUtf8 x × SpellsVariable 0xa1 0xb1 x b → string_at (b ++ rest) ≡ Some (x, rest)
 unfolding string_at
 string_again x b rest s = rw (variable_again 0xa1 0xb1 string_form x b rest s.1, is_utf8-from_IsUtf8 x s.0) refl
 

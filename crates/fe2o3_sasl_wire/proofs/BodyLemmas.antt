@@ -4,10 +4,8 @@ use Rattle.std.proofs.lemmas.List.{take_at, take-append-drop, length-append, len
 use Rattle.std.proofs.lemmas.Bool.{lt-ltb, le-ltb, ne_eqb, ltb-true, ltb-false, eqb-true, eqb-false}
 use Rattle.fe2o3_sasl_wire.specs.declared.sasl_frames.error.Error.{Error}
 use Rattle.fe2o3_sasl_wire.specs.declared.sasl_frames.error.Error.TheVariants as faults
-use Rattle.fe2o3_sasl_wire.specs.Bytes.{IsBytes}
-use Rattle.fe2o3_sasl_wire.specs.SaslFrames.{SaslFrame, Begins}
-use Rattle.fe2o3_sasl_wire.specs.Bodies.{fault_of, ReadsBody, RefusesBody}
-use Rattle.fe2o3_sasl_wire.specs.Reading.{value_at}
+use Rattle.fe2o3_sasl_wire.specs.SaslFrames.{IsBytes, SaslFrame, Begins, fault_of, ReadsBody, RefusesBody}
+use Rattle.fe2o3_sasl_wire.specs.private.Reading.{value_at}
 use Rattle.fe2o3_sasl_wire.proofs.ReadingLemmas.{IsBytes-drop}
 use Rattle.fe2o3_sasl_wire.proofs.FrameTakesLemmas.{value_takes}
 use Rattle.fe2o3_sasl_wire.proofs.AgainLemmas.{value_again, no_spelling_begins_another}

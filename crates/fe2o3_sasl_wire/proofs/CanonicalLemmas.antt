@@ -6,9 +6,9 @@ use Rattle.std.proofs.lemmas.Bool.{ltb-true, cases_lt, lt-ltb, le-ltb, and_parts
 use Rattle.std.proofs.lemmas.List.{length-append}
 use Rattle.fe2o3_sasl_wire.specs.declared.sasl_frames.forms.Form.{Form}
 use Rattle.fe2o3_sasl_wire.specs.declared.sasl_frames.forms.Form.TheVariants.{Eight, ThirtyTwo}
-use Rattle.fe2o3_sasl_wire.specs.Encodings.{width, limit, number, choice, content, SpellsVariable, IsElement, elements, array_body, SpellsArray, list_body, SpellsSized}
-use Rattle.fe2o3_sasl_wire.specs.SaslFrames.{SaslFrame, kind_of, code_of, Field, Null, Ubyte, Binary, Text, Symbol, Symbols, fields_of, SpellsField, AllNull, SpellsItems, SpellsValue, Spells}
-use Rattle.fe2o3_sasl_wire.specs.Canonical.{shortest, canonical_variable, all_short, inner_form, array_form, canonical_array, canonical_field, with_field, written, items_of, count_of, list_form, canonical_list, canonical, IsText, HasTexts}
+use Rattle.fe2o3_sasl_wire.specs.private.Fields.{AllNull}
+use Rattle.fe2o3_sasl_wire.specs.private.Writing.{width, elements, all_short, array_form, list_form}
+use Rattle.fe2o3_sasl_wire.specs.SaslFrames.{limit, number, choice, content, SpellsVariable, IsElement, array_body, SpellsArray, list_body, SpellsSized, SaslFrame, kind_of, code_of, Field, Null, Ubyte, Binary, Text, Symbol, Symbols, fields_of, SpellsField, SpellsItems, SpellsValue, Spells, shortest, canonical_variable, inner_form, canonical_array, canonical_field, with_field, written, items_of, count_of, canonical_list, canonical, IsText, HasTexts}
 use Rattle.fe2o3_sasl_wire.proofs.ReadingLemmas.{when_some, some_is}
 
 pub length-number : (form : Form) (n : ℕ) → length (number form n) ≡ width form

@@ -3,8 +3,7 @@ use Rattle.std.proofs.Common.{◌≡◌, ℕ, zero, suc, ◌+◌, ◌-◌, ◌<�
 use Rattle.std.proofs.lemmas.Option.{slice_get_within, get_or_from_slice_get}
 use Rattle.std.proofs.lemmas.List.{take_more}
 use Rattle.fe2o3_sasl_wire.specs.declared.sasl_frames.forms.Form.{Form}
-use Rattle.fe2o3_sasl_wire.specs.Reading.{◌>>=◌, element_at, elements_at}
-use Rattle.fe2o3_sasl_wire.specs.SymbolsViews.{names_in}
+use Rattle.fe2o3_sasl_wire.specs.private.Reading.{◌>>=◌, element_at, elements_at, names_in}
 
 abbrev pub rest_of : Option (List (List ℕ) × List ℕ) → Option (List ℕ)
 rest_of read = option_map (λ x. x.1) read

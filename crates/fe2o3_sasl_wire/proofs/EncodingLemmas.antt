@@ -6,10 +6,9 @@ use Rattle.std.proofs.lemmas.Bool.{lt-ltb, le-ltb}
 use Rattle.fe2o3_sasl_wire.specs.declared.sasl_frames.forms.Form.{Form}
 use Rattle.fe2o3_sasl_wire.specs.declared.sasl_frames.forms.Form.TheVariants.{Eight, ThirtyTwo}
 use Rattle.fe2o3_sasl_wire.specs.declared.sasl_frames.fields.Field.{Field as HeldField}
-use Rattle.fe2o3_sasl_wire.specs.Encodings.{width, number, choice, list_body}
-use Rattle.fe2o3_sasl_wire.specs.SaslFrames.{SaslFrame, kind_of, code_of, fields_of, Field, Null, Ubyte, Binary, Text, Symbol, Symbols}
-use Rattle.fe2o3_sasl_wire.specs.Canonical.{shortest, canonical_field, with_field, written, items_of, count_of, list_form, canonical_list, canonical, AppendsCanonical}
-use Rattle.fe2o3_sasl_wire.specs.Fields.{shown_field, filled}
+use Rattle.fe2o3_sasl_wire.specs.private.Writing.{width, list_form}
+use Rattle.fe2o3_sasl_wire.specs.SaslFrames.{number, choice, list_body, SaslFrame, kind_of, code_of, fields_of, Field, Null, Ubyte, Binary, Text, Symbol, Symbols, shortest, canonical_field, with_field, written, items_of, count_of, canonical_list, canonical, AppendsCanonical}
+use Rattle.fe2o3_sasl_wire.specs.private.Fields.{shown_field, filled}
 use Rattle.fe2o3_sasl_wire.proofs.CanonicalLemmas.{length-list_body}
 
 -- ---- the fields that are written

@@ -8,10 +8,9 @@ use Rattle.std.proofs.lemmas.List.{take-append-drop, length-take, nil_from_lengt
 use Rattle.std.proofs.lemmas.Nat.{be_bytes_8}
 use Rattle.fe2o3_sasl_wire.specs.declared.sasl_frames.forms.Kind.{Kind}
 use Rattle.fe2o3_sasl_wire.specs.declared.sasl_frames.forms.Kind.TheVariants as kinds
-use Rattle.fe2o3_sasl_wire.specs.Bytes.{IsBytes}
-use Rattle.fe2o3_sasl_wire.specs.Encodings.{limit, choice, content, SpellsSymbol, list_body, SpellsList}
-use Rattle.fe2o3_sasl_wire.specs.SaslFrames.{SaslFrame, Mechanisms, Init, Challenge, Response, Outcome, kind_of, code_of, name_of, outcome_code, Field, Null, Ubyte, Binary, Text, Symbol, Symbols, optional, fields_of, SpellsField, AllNull, SpellsItems, SpellsDescriptor, SpellsValue}
-use Rattle.fe2o3_sasl_wire.specs.Reading.{◌>>=◌, byte_at, eight_at, number_at, content_at, form_at, symbol_at, string_at, symbols_at, code_at, Items, required, null_at, unless_null, optional_at, ended, binary_at, fields_at, list_at, kind_of_code, kind_of_name, descriptor_at, value_at}
+use Rattle.fe2o3_sasl_wire.specs.SaslFrames.{IsBytes, limit, choice, content, SpellsSymbol, list_body, SpellsList, SaslFrame, Mechanisms, Init, Challenge, Response, Outcome, kind_of, code_of, name_of, outcome_code, Field, Null, Ubyte, Binary, Text, Symbol, Symbols, optional, fields_of, SpellsField, SpellsItems, SpellsDescriptor, SpellsValue}
+use Rattle.fe2o3_sasl_wire.specs.private.Fields.{AllNull}
+use Rattle.fe2o3_sasl_wire.specs.private.Reading.{◌>>=◌, byte_at, eight_at, number_at, content_at, form_at, symbol_at, string_at, symbols_at, code_at, Items, required, null_at, unless_null, optional_at, ended, binary_at, fields_at, list_at, kind_of_code, kind_of_name, descriptor_at, value_at}
 use Rattle.fe2o3_sasl_wire.proofs.ReadingLemmas.{IsBytes-drop, IsBytes-take, IsBytes-tail, bind_some, unless_some, when_some, chosen, some_is, Reads}
 use Rattle.fe2o3_sasl_wire.proofs.TakesLemmas.{number_takes, content_takes, form_takes, byte_takes, binary_takes, string_takes, symbol_takes, symbols_take, code_takes}
 

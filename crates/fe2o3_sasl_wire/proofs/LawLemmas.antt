@@ -5,7 +5,7 @@ use Rattle.fe2o3_sasl_wire.specs.declared.protocol_header.ProtocolHeader.{Protoc
 use Rattle.fe2o3_sasl_wire.specs.declared.protocol_header.ProtocolId.{ProtocolId}
 use Rattle.fe2o3_sasl_wire.specs.declared.protocol_header.ProtocolId.TheVariants.{Amqp, Tls, Sasl}
 use Rattle.fe2o3_sasl_wire.specs.ProtocolHeader.{id_byte, header_bytes}
-use Rattle.fe2o3_sasl_wire.specs.Sameness.{same_code, same_frame_decides}
+use Rattle.fe2o3_sasl_wire.specs.private.Sameness.{same_code, same_frame_decides}
 use Rattle.fe2o3_sasl_wire.specs.SaslFrames.{SaslFrame, Mechanisms, Init, Challenge, Response, Outcome, Symbol, Null, Spells, Begins}
 use Rattle.fe2o3_sasl_wire.specs.Laws.{SpellingsHaveOneFrame, WrittenBodiesAreRead, BodiesHaveOneAnswer, SpelledMechanismsAreAscii, EqualValuesAreOne}
 use Rattle.fe2o3_sasl_wire.proofs.AgainLemmas.{no_spelling_begins_another}

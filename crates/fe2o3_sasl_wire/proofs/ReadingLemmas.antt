@@ -2,8 +2,8 @@
 use Rattle.std.proofs.Common.{◌≡◌, ℕ, suc, ◌+◌, Bool, true, false, cond, List, ◌∷◌, ◌++◌, take, drop, Option, Some, None, refl, arith, inl, inr, ◌⊎◌}
 use Rattle.std.proofs.lemmas.Bool.{cases_lt}
 use Rattle.std.proofs.lemmas.List.{length-take, get_or-drop, get_or-take, get_or_past}
-use Rattle.fe2o3_sasl_wire.specs.Bytes.{IsBytes}
-use Rattle.fe2o3_sasl_wire.specs.Reading.{◌>>=◌}
+use Rattle.fe2o3_sasl_wire.specs.SaslFrames.{IsBytes}
+use Rattle.fe2o3_sasl_wire.specs.private.Reading.{◌>>=◌}
 
 pub IsBytes-drop : (n : ℕ) (bytes : List ℕ) → IsBytes bytes → IsBytes (drop n bytes)
 IsBytes-drop n bytes h i = rw get_or-drop (h (n + i))

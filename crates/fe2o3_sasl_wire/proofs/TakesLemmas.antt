@@ -11,10 +11,9 @@ use Rattle.fe2o3_sasl_wire.specs.declared.amqp_types.SaslCode.{SaslCode}
 use Rattle.fe2o3_sasl_wire.specs.declared.amqp_types.SaslCode.TheVariants as sasl_codes
 use Rattle.fe2o3_sasl_wire.specs.declared.sasl_frames.forms.Form.{Form}
 use Rattle.fe2o3_sasl_wire.specs.declared.sasl_frames.forms.Form.TheVariants.{Eight, ThirtyTwo}
-use Rattle.fe2o3_sasl_wire.specs.Bytes.{IsBytes}
-use Rattle.fe2o3_sasl_wire.specs.Encodings.{limit, number, choice, content, SpellsVariable, IsElement, elements, array_body}
-use Rattle.fe2o3_sasl_wire.specs.SaslFrames.{outcome_code, Ubyte, Binary, Text, Symbol, Symbols, SpellsField}
-use Rattle.fe2o3_sasl_wire.specs.Reading.{◌>>=◌, byte_at, four_at, number_at, content_at, form_at, variable_at, is_ascii, element_at, symbol_at, string_at, elements_at, array_at, one_at, symbols_at, sasl_code, code_at, binary_at}
+use Rattle.fe2o3_sasl_wire.specs.SaslFrames.{IsBytes, limit, number, choice, content, SpellsVariable, IsElement, array_body, outcome_code, Ubyte, Binary, Text, Symbol, Symbols, SpellsField}
+use Rattle.fe2o3_sasl_wire.specs.private.Writing.{elements}
+use Rattle.fe2o3_sasl_wire.specs.private.Reading.{◌>>=◌, byte_at, four_at, number_at, content_at, form_at, variable_at, is_ascii, element_at, symbol_at, string_at, elements_at, array_at, one_at, symbols_at, sasl_code, code_at, binary_at}
 use Rattle.fe2o3_sasl_wire.proofs.TextLemmas.{IsAscii-from_is_ascii}
 use Rattle.fe2o3_sasl_wire.proofs.ReadingLemmas.{IsBytes-drop, IsBytes-take, IsBytes-tail, bind_some, unless_some, when_some, chosen, some_is, Reads}
 

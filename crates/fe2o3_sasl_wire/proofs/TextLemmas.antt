@@ -6,7 +6,7 @@ use Rattle.std.specs.Result.{result_ok}
 use Rattle.std.specs.Borrow.{Bor}
 use Rattle.std.proofs.lemmas.Bool.{ltb-true, lt-ltb, and_parts, and_from, false_from_ne_true, cond-true, cond-false}
 use Rattle.std.proofs.lemmas.Str.{IsUtf8-from_is_utf8, is_utf8-from_IsUtf8, IsUtf8-from_ascii}
-use Rattle.fe2o3_sasl_wire.specs.Reading.{is_ascii}
+use Rattle.fe2o3_sasl_wire.specs.private.Reading.{is_ascii}
 
 pub shows_utf8 : {E : Type 0} (r : Result (Bor (List ℕ)) E) (b : List ℕ) (Q : E → Type 0)
     → MatchResult r (λ s. (s.now ≡ b) × IsUtf8 b) (λ e. (¬ (IsUtf8 b)) × Q e)

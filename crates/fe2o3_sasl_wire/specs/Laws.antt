@@ -6,11 +6,8 @@ use Rattle.fe2o3_sasl_wire.specs.declared.protocol_header.ProtocolId.{ProtocolId
 use Rattle.fe2o3_sasl_wire.specs.ProtocolHeader.{id_byte, header_bytes}
 use Rattle.fe2o3_sasl_wire.specs.AmqpTypes.{same_frame}
 use Rattle.fe2o3_sasl_wire.specs.declared.sasl_frames.error.Error.{Error}
-use Rattle.fe2o3_sasl_wire.specs.Bytes.{IsBytes}
-use Rattle.fe2o3_sasl_wire.specs.SaslFrames.{SaslFrame, outcome_code, Spells}
-use Rattle.fe2o3_sasl_wire.specs.Bodies.{ReadsBody}
-use Rattle.fe2o3_sasl_wire.specs.Canonical.{canonical, HasTexts}
-use Rattle.fe2o3_sasl_wire.specs.OwnedFrames.{HasAsciiMechanism}
+use Rattle.fe2o3_sasl_wire.specs.SaslFrames.{IsBytes, SaslFrame, outcome_code, Spells, ReadsBody, canonical, HasTexts}
+use Rattle.fe2o3_sasl_wire.specs.Owned.{HasAsciiMechanism}
 
 -- a canonical body spells its frame
 abbrev pub CanonicalBodiesSpell : Type 0

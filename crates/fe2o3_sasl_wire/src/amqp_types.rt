@@ -5,7 +5,7 @@ ghost use Rattle.std.specs.Cmp.{on_per, on_equiv, partial_equiv_from_equiv, nat_
 ghost use Rattle.std.specs.Cmp.Lexicographic.{pointwise, nat_list_eq_equiv, lists_per, lists_equiv};
 ghost use Rattle.fe2o3_sasl_wire.specs.SaslFrames.{Mechanisms, outcome_code};
 ghost use Rattle.fe2o3_sasl_wire.specs.AmqpTypes.{binary_bytes, mechanisms_frame, init_frame, challenge_frame, response_frame, outcome_frame, same_frame};
-ghost use Rattle.fe2o3_sasl_wire.specs.Sameness.{same_frame_equiv};
+ghost use Rattle.fe2o3_sasl_wire.specs.private.Sameness.{same_frame_equiv};
 
 mod symbols;
 

@@ -1,9 +1,9 @@
 use Rattle.std.proofs.Common.{◌≡◌, ◌+◌, ◌++◌, length, ap, refl, ◌∙◌, arith}
 use Rattle.std.specs.List.{flat_map}
 use Rattle.std.proofs.lemmas.Result.{err_from_is_err_and}
-use Rattle.fe2o3_sasl_wire.specs.Encodings.{width, number}
-use Rattle.fe2o3_sasl_wire.specs.Canonical.{canonical_field, items_of, count_of}
-use Rattle.fe2o3_sasl_wire.specs.OwnedFrames.{owned_frame}
+use Rattle.fe2o3_sasl_wire.specs.private.Writing.{width}
+use Rattle.fe2o3_sasl_wire.specs.SaslFrames.{number, canonical_field, items_of, count_of}
+use Rattle.fe2o3_sasl_wire.specs.Owned.{owned_frame}
 use Rattle.fe2o3_sasl_wire.proofs.EncodingLemmas.{kept_fields, kept_count, kept_len, no_body, body_in_parts, has_body, appends}
 use Rattle.fe2o3_sasl_wire.proofs.sasl_frames.FrameCodec.encode.Goals as goal
 

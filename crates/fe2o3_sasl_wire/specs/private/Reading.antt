@@ -1,5 +1,4 @@
--- Reading from left to right, as the private functions do. No public clause cites this file: the proofs join it to the relation `Spells`.
--- A step answers a value and the bytes after it, or nothing where the bytes do not begin with such a value.
+-- Reading from left to right, as the private functions do. The proofs join it to the relation `Spells`. A step answers a value and the bytes after it, or nothing where the bytes do not begin with such a value.
 use Rattle.std.specs.Prelude.{ℕ, zero, suc, ◌-◌, Bool, ◌&&◌, List, [], ◌∷◌, length, take, drop, Option, Some, None, nat_lt, ◌==◌, if◌then◌else◌, bytes_eq}
 use Rattle.std.specs.Str.{is_utf8}
 use Rattle.std.specs.List.{list_all}
@@ -206,3 +205,8 @@ value_at (zero ∷ bytes) = do
   frame ← fields_at kind.0 list.0
   Some (frame, list.1)
 value_at (suc b ∷ bytes) = None
+
+-- the symbols that were read from the elements
+abbrev pub names_in : Option (List (List ℕ) × List ℕ) → List (List ℕ)
+names_in None = []
+names_in (Some x) = x.0
