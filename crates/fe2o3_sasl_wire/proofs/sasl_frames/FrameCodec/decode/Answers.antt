@@ -1,6 +1,6 @@
 use Rattle.std.proofs.Common.{ap, Err}
 use Rattle.std.proofs.lemmas.Result.{err_from_is_err_and}
-use Rattle.fe2o3_sasl_wire.proofs.BodyLemmas.{refused_body}
+use Rattle.fe2o3_sasl_wire.proofs.lemmas.frames.BodyAnswerLemmas.{refused_body}
 use Rattle.fe2o3_sasl_wire.proofs.sasl_frames.FrameCodec.decode.Goals as goal
 
 pub returns-in_err-view-clause-err : goal.returns-in_err-view-clause-err

@@ -4,7 +4,7 @@ use Rattle.std.proofs.lemmas.Result.{err_from_is_err_and}
 use Rattle.fe2o3_sasl_wire.specs.private.Writing.{width}
 use Rattle.fe2o3_sasl_wire.specs.SaslFrames.{number, canonical_field, items_of, count_of}
 use Rattle.fe2o3_sasl_wire.specs.Owned.{owned_frame}
-use Rattle.fe2o3_sasl_wire.proofs.EncodingLemmas.{kept_fields, kept_count, kept_len, no_body, body_in_parts, has_body, appends}
+use Rattle.fe2o3_sasl_wire.proofs.lemmas.writing.BodyPartsLemmas.{kept_fields, kept_count, kept_len, no_body, body_in_parts, has_body, appends}
 use Rattle.fe2o3_sasl_wire.proofs.sasl_frames.FrameCodec.encode.Goals as goal
 
 pub returns-then-len-gt-MAX_ITEMS_LEN-clause-err : goal.returns-then-len-gt-MAX_ITEMS_LEN-clause-err

@@ -1,7 +1,7 @@
 use Rattle.std.proofs.Common.{sym, ap, ◌∙◌, arith}
 use Rattle.fe2o3_sasl_wire.specs.FrameView.{viewed_frame}
 use Rattle.fe2o3_sasl_wire.specs.private.Reading.{value_at}
-use Rattle.fe2o3_sasl_wire.proofs.BodyLemmas.{begins_read, rest_within, refuses_short, refuses_type, refuses_offset, refuses_value}
+use Rattle.fe2o3_sasl_wire.proofs.lemmas.frames.BodyAnswerLemmas.{begins_read, rest_within, refuses_short, refuses_type, refuses_offset, refuses_value}
 use Rattle.fe2o3_sasl_wire.proofs.sasl_frames.frame_view.view_frame.Goals as goal
 
 pub returns-then-bytes-lt4-clause-reads : goal.returns-then-bytes-lt4-clause-reads

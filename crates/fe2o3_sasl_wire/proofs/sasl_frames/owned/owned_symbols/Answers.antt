@@ -1,5 +1,5 @@
 use Rattle.std.proofs.Common.{sym, ap, ◌∙◌, Some}
-use Rattle.fe2o3_sasl_wire.proofs.ElementLemmas.{take_one_more}
+use Rattle.fe2o3_sasl_wire.proofs.lemmas.reading.ElementLoopLemmas.{take_one_more}
 use Rattle.fe2o3_sasl_wire.proofs.sasl_frames.owned.owned_symbols.Goals as goal
 
 pub loop-index-preserved : goal.loop-index-preserved

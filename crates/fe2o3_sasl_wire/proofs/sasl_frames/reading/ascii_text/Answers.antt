@@ -1,4 +1,4 @@
-use Rattle.fe2o3_sasl_wire.proofs.TextLemmas.{shows_ascii, shown_ascii, shows_none}
+use Rattle.fe2o3_sasl_wire.proofs.lemmas.reading.TextLemmas.{shows_ascii, shown_ascii, shows_none}
 use Rattle.std.proofs.Common.{sym}
 use Rattle.fe2o3_sasl_wire.proofs.sasl_frames.reading.ascii_text.Goals as goal
 

@@ -1,6 +1,6 @@
 use Rattle.std.proofs.Common.{sym}
 use Rattle.fe2o3_sasl_wire.specs.private.Reading.{elements_at}
-use Rattle.fe2o3_sasl_wire.proofs.ElementLemmas.{rest_of, rest_goes_on, rest_stops, rest_at_end}
+use Rattle.fe2o3_sasl_wire.proofs.lemmas.reading.ElementLoopLemmas.{rest_of, rest_goes_on, rest_stops, rest_at_end}
 use Rattle.fe2o3_sasl_wire.proofs.sasl_frames.symbols_view.elements_rest.Goals as goal
 
 pub returns-in_err-after : goal.returns-in_err-after

@@ -1,6 +1,6 @@
 use Rattle.std.proofs.Common.{◌≡◌, ◌-◌}
 use Rattle.fe2o3_sasl_wire.specs.private.Reading.{elements_at}
-use Rattle.fe2o3_sasl_wire.proofs.ElementLemmas.{rest_of}
+use Rattle.fe2o3_sasl_wire.proofs.lemmas.reading.ElementLoopLemmas.{rest_of}
 use Rattle.fe2o3_sasl_wire.proofs.sasl_frames.symbols_view.elements_rest.Given as goal
 
 abbrev pub invariant-loop : goal.invariant-loop

@@ -1,8 +1,8 @@
 use Rattle.std.proofs.Common.{◌≡◌, length, arith, ap}
 use Rattle.fe2o3_sasl_wire.specs.private.Writing.{elements}
 use Rattle.fe2o3_sasl_wire.specs.SaslFrames.{inner_form}
-use Rattle.fe2o3_sasl_wire.proofs.CanonicalLemmas.{few_names}
-use Rattle.fe2o3_sasl_wire.proofs.WritingLemmas.{elements_fit, count_fits, each_fits}
+use Rattle.fe2o3_sasl_wire.proofs.lemmas.writing.CanonicalSpellsLemmas.{few_names}
+use Rattle.fe2o3_sasl_wire.proofs.lemmas.writing.RoomLemmas.{elements_fit, count_fits, each_fits}
 use Rattle.fe2o3_sasl_wire.proofs.sasl_frames.writing.put_array.Goals as goal
 
 pub overflow_cast-symbols : goal.overflow_cast-symbols

@@ -1,5 +1,5 @@
 use Rattle.std.proofs.Common.{arith, ap, length, ◌∙◌}
-use Rattle.fe2o3_sasl_wire.proofs.WritingLemmas.{room_for}
+use Rattle.fe2o3_sasl_wire.proofs.lemmas.writing.RoomLemmas.{room_for}
 use Rattle.fe2o3_sasl_wire.proofs.sasl_frames.writing.put_elements.Goals as goal
 
 pub put_content-requires-clause-room : goal.put_content-requires-clause-room

@@ -1,6 +1,6 @@
 use Rattle.std.proofs.Common.{◌≡◌, ◌∙◌, Bool, true, false, sym, refl}
 use Rattle.std.proofs.lemmas.Slice.Eq.{bytes_eq-Decides}
-use Rattle.fe2o3_sasl_wire.proofs.ElementLemmas.{seeks_more, seeks_here, seeks_stops, seeks_nothing}
+use Rattle.fe2o3_sasl_wire.proofs.lemmas.reading.ElementLoopLemmas.{seeks_more, seeks_here, seeks_stops, seeks_nothing}
 use Rattle.fe2o3_sasl_wire.proofs.sasl_frames.symbols_view.SymbolsView.contains.Goals as goal
 
 pub unreachable-requires : goal.unreachable-requires

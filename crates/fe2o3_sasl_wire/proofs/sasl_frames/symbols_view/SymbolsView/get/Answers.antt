@@ -1,5 +1,5 @@
 use Rattle.std.proofs.Common.{sym, arith, ◌<◌, slice_get}
-use Rattle.fe2o3_sasl_wire.proofs.ElementLemmas.{finds_more, finds_here, finds_stops, finds_nothing}
+use Rattle.fe2o3_sasl_wire.proofs.lemmas.reading.ElementLoopLemmas.{finds_more, finds_here, finds_stops, finds_nothing}
 use Rattle.fe2o3_sasl_wire.proofs.sasl_frames.symbols_view.SymbolsView.get.Goals as goal
 
 pub returns-in_err-symbol-clause-value : goal.returns-in_err-symbol-clause-value

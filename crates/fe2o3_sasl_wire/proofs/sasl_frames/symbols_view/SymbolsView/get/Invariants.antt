@@ -1,5 +1,5 @@
 use Rattle.std.proofs.Common.{◌-◌, ◌≤◌, slice_get}
-use Rattle.fe2o3_sasl_wire.proofs.ElementLemmas.{Finds}
+use Rattle.fe2o3_sasl_wire.proofs.lemmas.reading.ElementLoopLemmas.{Finds}
 use Rattle.fe2o3_sasl_wire.proofs.sasl_frames.symbols_view.SymbolsView.get.Given as goal
 
 abbrev pub invariant-loop-at : goal.invariant-loop-at

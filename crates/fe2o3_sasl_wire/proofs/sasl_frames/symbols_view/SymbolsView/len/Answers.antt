@@ -1,5 +1,5 @@
 use Rattle.std.proofs.Common.{sym, ap, ◌∙◌, length}
-use Rattle.fe2o3_sasl_wire.proofs.ElementLemmas.{length_names}
+use Rattle.fe2o3_sasl_wire.proofs.lemmas.reading.ElementLoopLemmas.{length_names}
 use Rattle.fe2o3_sasl_wire.proofs.sasl_frames.symbols_view.SymbolsView.len.Goals as goal
 
 pub returns : goal.returns

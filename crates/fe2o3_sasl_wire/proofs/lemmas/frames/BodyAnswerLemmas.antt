@@ -6,9 +6,10 @@ use Rattle.fe2o3_sasl_wire.specs.declared.sasl_frames.error.Error.{Error}
 use Rattle.fe2o3_sasl_wire.specs.declared.sasl_frames.error.Error.TheVariants as faults
 use Rattle.fe2o3_sasl_wire.specs.SaslFrames.{IsBytes, SaslFrame, Begins, fault_of, ReadsBody, RefusesBody}
 use Rattle.fe2o3_sasl_wire.specs.private.Reading.{value_at}
-use Rattle.fe2o3_sasl_wire.proofs.ReadingLemmas.{IsBytes-drop}
-use Rattle.fe2o3_sasl_wire.proofs.FrameTakesLemmas.{value_takes}
-use Rattle.fe2o3_sasl_wire.proofs.AgainLemmas.{value_again, no_spelling_begins_another}
+use Rattle.fe2o3_sasl_wire.proofs.lemmas.reading.StepLemmas.{IsBytes-drop}
+use Rattle.fe2o3_sasl_wire.proofs.lemmas.reading.ReadFramesAreSpelledLemmas.{value_takes}
+use Rattle.fe2o3_sasl_wire.proofs.lemmas.reading.SpelledFramesAreReadLemmas.{value_again}
+use Rattle.fe2o3_sasl_wire.proofs.lemmas.frames.PrefixLemmas.{no_spelling_begins_another}
 
 -- what is read behind a sound header is spelled by the bytes before the rest
 pub begins_read : (bytes : List ℕ) (frame : SaslFrame) (rest : List ℕ) → IsBytes bytes → 4 ≤ length bytes → get_or bytes 1 0 ≡ 1 → get_or bytes 0 0 ≡ 2

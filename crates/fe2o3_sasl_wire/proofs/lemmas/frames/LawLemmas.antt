@@ -8,9 +8,9 @@ use Rattle.fe2o3_sasl_wire.specs.ProtocolHeader.{id_byte, header_bytes}
 use Rattle.fe2o3_sasl_wire.specs.private.Sameness.{same_code, same_frame_decides}
 use Rattle.fe2o3_sasl_wire.specs.SaslFrames.{SaslFrame, Mechanisms, Init, Challenge, Response, Outcome, Symbol, Null, Spells, Begins}
 use Rattle.fe2o3_sasl_wire.specs.Laws.{SpellingsHaveOneFrame, WrittenBodiesAreRead, BodiesHaveOneAnswer, SpelledMechanismsAreAscii, EqualValuesAreOne}
-use Rattle.fe2o3_sasl_wire.proofs.AgainLemmas.{no_spelling_begins_another}
-use Rattle.fe2o3_sasl_wire.proofs.BodyLemmas.{one_answer, some_answer}
-use Rattle.fe2o3_sasl_wire.proofs.CanonicalLemmas.{canonical_spells}
+use Rattle.fe2o3_sasl_wire.proofs.lemmas.frames.PrefixLemmas.{no_spelling_begins_another}
+use Rattle.fe2o3_sasl_wire.proofs.lemmas.frames.BodyAnswerLemmas.{one_answer, some_answer}
+use Rattle.fe2o3_sasl_wire.proofs.lemmas.writing.CanonicalSpellsLemmas.{canonical_spells}
 
 pub spellings_have_one_frame : SpellingsHaveOneFrame
 spellings_have_one_frame left right body s t = (no_spelling_begins_another left right body body [] [] s t refl).0

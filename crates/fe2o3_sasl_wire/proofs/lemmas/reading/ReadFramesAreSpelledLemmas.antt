@@ -11,8 +11,8 @@ use Rattle.fe2o3_sasl_wire.specs.declared.sasl_frames.forms.Kind.TheVariants as 
 use Rattle.fe2o3_sasl_wire.specs.SaslFrames.{IsBytes, limit, choice, content, SpellsSymbol, list_body, SpellsList, SaslFrame, Mechanisms, Init, Challenge, Response, Outcome, kind_of, code_of, name_of, outcome_code, Field, Null, Ubyte, Binary, Text, Symbol, Symbols, optional, fields_of, SpellsField, SpellsItems, SpellsDescriptor, SpellsValue}
 use Rattle.fe2o3_sasl_wire.specs.private.Fields.{AllNull}
 use Rattle.fe2o3_sasl_wire.specs.private.Reading.{◌>>=◌, byte_at, eight_at, number_at, content_at, form_at, symbol_at, string_at, symbols_at, code_at, Items, required, null_at, unless_null, optional_at, ended, binary_at, fields_at, list_at, kind_of_code, kind_of_name, descriptor_at, value_at}
-use Rattle.fe2o3_sasl_wire.proofs.ReadingLemmas.{IsBytes-drop, IsBytes-take, IsBytes-tail, bind_some, unless_some, when_some, chosen, some_is, Reads}
-use Rattle.fe2o3_sasl_wire.proofs.TakesLemmas.{number_takes, content_takes, form_takes, byte_takes, binary_takes, string_takes, symbol_takes, symbols_take, code_takes}
+use Rattle.fe2o3_sasl_wire.proofs.lemmas.reading.StepLemmas.{IsBytes-drop, IsBytes-take, IsBytes-tail, bind_some, unless_some, when_some, chosen, some_is, Reads}
+use Rattle.fe2o3_sasl_wire.proofs.lemmas.reading.ReadValuesAreSpelledLemmas.{number_takes, content_takes, form_takes, byte_takes, binary_takes, string_takes, symbol_takes, symbols_take, code_takes}
 
 -- ---- items
 
@@ -34,7 +34,7 @@ one_before count e = let ne = eqb-false count 0 e in omega (arith, ne)
 extends_by : (field : Field) (count : ℕ) (items rest : List ℕ) → count ≡ suc (count - 1) → Reads (SpellsField field) items rest → Extends field (count, items) (count - 1, rest)
 extends_by field count items rest e r fields s = inr (count - 1, r.front, rest, e, r.parts, r.spelled, s)
 
-pub required_takes : {A : Type 0} (read : List ℕ → Option (A × List ℕ)) (field : A → Field) → IsReader read field → (items : Items) (x : A × Items) → IsBytes items.1 → required read items ≡ Some x → Steps (field x.0) items x.1
+required_takes : {A : Type 0} (read : List ℕ → Option (A × List ℕ)) (field : A → Field) → IsReader read field → (items : Items) (x : A × Items) → IsBytes items.1 → required read items ≡ Some x → Steps (field x.0) items x.1
 unfolding required
 required_takes {A} read field reads items x fits e =
     let g = unless_some (eqb items.0 0) (read items.1 >>= λ y. Some (y.0, (items.0 - 1, y.1))) x e in
@@ -73,7 +73,7 @@ unless_null_takes read field reads None items x more fits null e =
     let made : Steps (field a.0.0) items (items.0 - 1, a.0.1) = record { extends = extends_by (field a.0.0) items.0 items.1 a.0.1 (one_before items.0 more) r; rest_fits = r.rest_fits } in
     subst (λ (y : Option (List ℕ) × Items). Steps (optional field y.0) items y.1) (some_is (Some a.0.0, (items.0 - 1, a.0.1)) x a.2) made
 
-pub optional_takes : (read : List ℕ → Option (List ℕ × List ℕ)) (field : List ℕ → Field) → IsReader read field → (items : Items) (x : Option (List ℕ) × Items) → IsBytes items.1 → optional_at read items ≡ Some x → Steps (optional field x.0) items x.1
+optional_takes : (read : List ℕ → Option (List ℕ × List ℕ)) (field : List ℕ → Field) → IsReader read field → (items : Items) (x : Option (List ℕ) × Items) → IsBytes items.1 → optional_at read items ≡ Some x → Steps (optional field x.0) items x.1
 unfolding optional_at
 optional_takes read field reads items x fits e =
     elim (chosen (eqb items.0 0) (Some (None, items)) (unless_null (null_at items.1) items.0 (read items.1)) (Some x) e) [
@@ -92,7 +92,7 @@ pub record TakesFields (kind : Kind) (items : Items) (f : SaslFrame) : Type 0 wh
   pub kind_is : kind_of f ≡ kind
   pub each : SpellsItems (fields_of f) items.0 items.1
 
-pub fields_take : (kind : Kind) (items : Items) (f : SaslFrame) → IsBytes items.1 → fields_at kind items ≡ Some f → TakesFields kind items f
+fields_take : (kind : Kind) (items : Items) (f : SaslFrame) → IsBytes items.1 → fields_at kind items ≡ Some f → TakesFields kind items f
 unfolding fields_at
 fields_take kinds.Mechanisms items f fits e =
     let a = bind_some (required symbols_at items) (λ names. ended names.1 >>= λ _. Some (Mechanisms names.0)) f e in
@@ -154,7 +154,7 @@ sized_takes bytes c x fits e =
     } in
     subst (λ (y : Items × List ℕ). TakesList (c ∷ bytes) y.0 y.1) (some_is (d.0, b.0.1) x d.2) made
 
-pub list_takes : (bytes : List ℕ) (x : Items × List ℕ) → IsBytes bytes → list_at bytes ≡ Some x → TakesList bytes x.0 x.1
+list_takes : (bytes : List ℕ) (x : Items × List ℕ) → IsBytes bytes → list_at bytes ≡ Some x → TakesList bytes x.0 x.1
 unfolding list_at
 list_takes [] x fits e = absurd cc
 list_takes (c ∷ bytes) x fits e =

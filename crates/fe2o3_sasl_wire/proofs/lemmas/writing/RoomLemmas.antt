@@ -1,7 +1,7 @@
 -- Canonical bodies, part by part.
-use Rattle.std.proofs.Common.{◌≡◌, ℕ, zero, suc, ◌+◌, ◌^◌, ◌<◌, ◌≤◌, List, [], ◌∷◌, length, take, get_or, refl, arith, Bool, true, false, ltb, cond, ◌&&◌, add-one, map, inl, inr}
+use Rattle.std.proofs.Common.{◌≡◌, ℕ, zero, suc, ◌+◌, ◌^◌, ◌<◌, ◌≤◌, List, [], ◌∷◌, length, take, get_or, refl, arith, Bool, true, false, ltb, cond, map, inl, inr}
 use Rattle.std.specs.List.{flat_map, AllByRecursion}
-use Rattle.std.proofs.lemmas.Bool.{lt-ltb, le-ltb, ltb-true, cases_lt, and_parts, and_from}
+use Rattle.std.proofs.lemmas.Bool.{lt-ltb, le-ltb, ltb-true, cases_lt, and_parts}
 use Rattle.std.proofs.lemmas.List.{length-append}
 use Rattle.fe2o3_sasl_wire.specs.declared.sasl_frames.forms.Form.{Form}
 use Rattle.fe2o3_sasl_wire.specs.declared.sasl_frames.forms.Form.TheVariants.{Eight, ThirtyTwo}
@@ -9,7 +9,7 @@ use Rattle.fe2o3_sasl_wire.specs.declared.sasl_frames.fields.Field.{Field as Hel
 use Rattle.fe2o3_sasl_wire.specs.private.Writing.{width, elements, all_short, array_form}
 use Rattle.fe2o3_sasl_wire.specs.SaslFrames.{limit, content, shortest, inner_form, canonical_array, canonical_field}
 use Rattle.fe2o3_sasl_wire.specs.private.Fields.{shown_field}
-use Rattle.fe2o3_sasl_wire.proofs.CanonicalLemmas.{length-content, few_names, small_array}
+use Rattle.fe2o3_sasl_wire.proofs.lemmas.writing.CanonicalSpellsLemmas.{length-content, few_names, small_array}
 
 -- room for one more element
 pub room_for : (form : Form) (names : List (List ℕ)) (i : ℕ) (d : List ℕ) → i < length names → length (elements form (take i names)) + (width form + length (get_or names i d)) ≤ length (elements form names)
@@ -17,29 +17,6 @@ room_for form [] i d lt = absurd (omega arith)
 room_for form (name ∷ names) zero d lt = omega (arith, length-append (content form name) (elements form names), length-content form name)
 room_for form (name ∷ names) (suc i) d lt =
     omega (arith, room_for form names i d (omega arith), length-append (content form name) (elements form names), length-append (content form name) (elements form (take i names)))
-
--- ---- the form of the elements
-
--- the symbols so far are short, and the next is too
-pub short_more : (names : List (List ℕ)) (i : ℕ) (d : List ℕ) → i < length names → length (get_or names i d) < 256 → all_short (take i names) ≡ true → all_short (take (i + 1) names) ≡ true
-short_more names i d lt short so_far = rw (add-one) (more names i lt short so_far)
-  where
-    more : (names : List (List ℕ)) (i : ℕ) → i < length names → length (get_or names i d) < 256 → all_short (take i names) ≡ true → all_short (take (suc i) names) ≡ true
-    more [] i lt short so_far = absurd (omega arith)
-    more (name ∷ names) zero lt short so_far = and_from (ltb (length name) 256) true (lt-ltb _ _ short) refl
-    more (name ∷ names) (suc i) lt short so_far =
-        let parts = and_parts (ltb (length name) 256) (all_short (take i names)) so_far in
-        and_from (ltb (length name) 256) (all_short (take (suc i) names)) parts.0 (more names i (omega arith) short parts.1)
-
--- a long symbol makes the symbols long
-pub long_one : (names : List (List ℕ)) (i : ℕ) (d : List ℕ) → i < length names → 256 ≤ length (get_or names i d) → all_short names ≡ false
-long_one [] i d lt long = absurd (omega arith)
-long_one (name ∷ names) zero d lt long = rw (le-ltb (length name) 256 long) refl
-long_one (name ∷ names) (suc i) d lt long = rw (long_one names i d (omega arith) long) (and_false (ltb (length name) 256))
-  where
-    and_false : (b : Bool) → (b && false) ≡ false
-    and_false true = refl
-    and_false false = refl
 
 -- ---- arrays
 

@@ -12,20 +12,20 @@ rest_of read = option_map (λ x. x.1) read
 abbrev pub with_first : List ℕ → Option (List (List ℕ) × List ℕ) → Option (List (List ℕ) × List ℕ)
 with_first name read = read >>= λ x. Some (name ∷ x.0, x.1)
 
-pub one_more : (form : Form) (count i : ℕ) (bytes name after : List ℕ) → i < count → element_at form bytes ≡ Some (name, after)
+one_more : (form : Form) (count i : ℕ) (bytes name after : List ℕ) → i < count → element_at form bytes ≡ Some (name, after)
     → elements_at form (count - i) bytes ≡ with_first name (elements_at form (count - (i + 1)) after)
 unfolding elements_at
 one_more form count i bytes name after lt h =
     let k : count - i ≡ suc (count - (i + 1)) = omega arith in
     rw (k, h) refl
 
-pub stops : (form : Form) (count i : ℕ) (bytes : List ℕ) → i < count → element_at form bytes ≡ None → elements_at form (count - i) bytes ≡ None
+stops : (form : Form) (count i : ℕ) (bytes : List ℕ) → i < count → element_at form bytes ≡ None → elements_at form (count - i) bytes ≡ None
 unfolding elements_at
 stops form count i bytes lt h =
     let k : count - i ≡ suc (count - (i + 1)) = omega arith in
     rw (k, h) refl
 
-pub at_end : (form : Form) (count i : ℕ) (bytes : List ℕ) → count ≤ i → elements_at form (count - i) bytes ≡ Some ([], bytes)
+at_end : (form : Form) (count i : ℕ) (bytes : List ℕ) → count ≤ i → elements_at form (count - i) bytes ≡ Some ([], bytes)
 unfolding elements_at
 at_end form count i bytes le =
     let k : count - i ≡ 0 = omega arith in
@@ -47,11 +47,6 @@ rest_stops form count i bytes total lt h so_far = sym (ap rest_of (stops form co
 pub rest_at_end : (form : Form) (count i : ℕ) (bytes : List ℕ) (total : Option (List ℕ)) → count ≤ i
     → rest_of (elements_at form (count - i) bytes) ≡ total → Some bytes ≡ total
 rest_at_end form count i bytes total le so_far = sym (ap rest_of (at_end form count i bytes le)) ∙ so_far
-
--- an optional answer with its parts seen by f
-pub map_none : {A B : Type 0} (f : A → B) (o : Option A) → option_map f o ≡ None → o ≡ None
-map_none f None e = refl
-map_none f (Some x) e = absurd cc
 
 -- ---- a view of elements
 

@@ -9,9 +9,9 @@ use Rattle.fe2o3_sasl_wire.specs.declared.sasl_frames.forms.Form.TheVariants.{Ei
 use Rattle.fe2o3_sasl_wire.specs.private.Fields.{AllNull}
 use Rattle.fe2o3_sasl_wire.specs.private.Writing.{width, elements, all_short, array_form, list_form}
 use Rattle.fe2o3_sasl_wire.specs.SaslFrames.{limit, number, choice, content, SpellsVariable, IsElement, array_body, SpellsArray, list_body, SpellsSized, SaslFrame, kind_of, code_of, Field, Null, Ubyte, Binary, Text, Symbol, Symbols, fields_of, SpellsField, SpellsItems, SpellsValue, Spells, shortest, canonical_variable, inner_form, canonical_array, canonical_field, with_field, written, items_of, count_of, canonical_list, canonical, IsText, HasTexts}
-use Rattle.fe2o3_sasl_wire.proofs.ReadingLemmas.{when_some, some_is}
+use Rattle.fe2o3_sasl_wire.proofs.lemmas.reading.StepLemmas.{when_some, some_is}
 
-pub length-number : (form : Form) (n : ℕ) → length (number form n) ≡ width form
+length-number : (form : Form) (n : ℕ) → length (number form n) ≡ width form
 length-number Eight n = refl
 length-number ThirtyTwo n = refl
 
@@ -86,7 +86,7 @@ small_array Eight inner names e lt =
     apart h = cc
 small_array ThirtyTwo inner names e lt = omega (arith, length-array_body ThirtyTwo inner names, length-content ThirtyTwo (array_body ThirtyTwo inner names))
 
-pub array_spells : (names : List (List ℕ)) → AllByRecursion IsAscii names → length (canonical_array names) < 2 ^ 32 → SpellsArray names (canonical_array names)
+array_spells : (names : List (List ℕ)) → AllByRecursion IsAscii names → length (canonical_array names) < 2 ^ 32 → SpellsArray names (canonical_array names)
 array_spells names ascii lt =
     let small = small_array (array_form names) (inner_form names) names refl lt in
     array_in (array_form names) (inner_form names) names (inner_elements names (inner_form names) (all_short names) refl refl ascii (omega arith)) refl (omega (arith, length-array_body ThirtyTwo (inner_form names) names))

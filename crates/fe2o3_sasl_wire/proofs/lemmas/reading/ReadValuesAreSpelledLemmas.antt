@@ -14,8 +14,8 @@ use Rattle.fe2o3_sasl_wire.specs.declared.sasl_frames.forms.Form.TheVariants.{Ei
 use Rattle.fe2o3_sasl_wire.specs.SaslFrames.{IsBytes, limit, number, choice, content, SpellsVariable, IsElement, array_body, outcome_code, Ubyte, Binary, Text, Symbol, Symbols, SpellsField}
 use Rattle.fe2o3_sasl_wire.specs.private.Writing.{elements}
 use Rattle.fe2o3_sasl_wire.specs.private.Reading.{◌>>=◌, byte_at, four_at, number_at, content_at, form_at, variable_at, is_ascii, element_at, symbol_at, string_at, elements_at, array_at, one_at, symbols_at, sasl_code, code_at, binary_at}
-use Rattle.fe2o3_sasl_wire.proofs.TextLemmas.{IsAscii-from_is_ascii}
-use Rattle.fe2o3_sasl_wire.proofs.ReadingLemmas.{IsBytes-drop, IsBytes-take, IsBytes-tail, bind_some, unless_some, when_some, chosen, some_is, Reads}
+use Rattle.fe2o3_sasl_wire.proofs.lemmas.reading.TextLemmas.{IsAscii-from_is_ascii}
+use Rattle.fe2o3_sasl_wire.proofs.lemmas.reading.StepLemmas.{IsBytes-drop, IsBytes-take, IsBytes-tail, bind_some, unless_some, when_some, chosen, some_is, Reads}
 
 -- ---- numbers
 
@@ -117,7 +117,7 @@ pub record TakesElement (form : Form) (bytes x rest : List ℕ) : Type 0 where
   pub element : IsElement form x
   pub rest_fits : IsBytes rest
 
-pub element_takes : (form : Form) (bytes : List ℕ) (x : List ℕ × List ℕ) → IsBytes bytes → element_at form bytes ≡ Some x → TakesElement form bytes x.0 x.1
+element_takes : (form : Form) (bytes : List ℕ) (x : List ℕ × List ℕ) → IsBytes bytes → element_at form bytes ≡ Some x → TakesElement form bytes x.0 x.1
 unfolding element_at
 element_takes form bytes x fits e =
     let a = bind_some (content_at form bytes) (λ y. cond (is_ascii y.0) (Some y) None) x e in
@@ -148,7 +148,7 @@ pub record TakesElements (form : Form) (n : ℕ) (bytes : List ℕ) (xs : List (
   pub each : AllByRecursion (IsElement form) xs
   pub rest_fits : IsBytes rest
 
-pub elements_take : (form : Form) (n : ℕ) (bytes : List ℕ) (x : List (List ℕ) × List ℕ) → IsBytes bytes → elements_at form n bytes ≡ Some x → TakesElements form n bytes x.0 x.1
+elements_take : (form : Form) (n : ℕ) (bytes : List ℕ) (x : List (List ℕ) × List ℕ) → IsBytes bytes → elements_at form n bytes ≡ Some x → TakesElements form n bytes x.0 x.1
 unfolding elements_at
 elements_take form zero bytes x fits e =
     let made : TakesElements form 0 bytes [] bytes = record { parts = refl; count = refl; each = tt; rest_fits = fits } in

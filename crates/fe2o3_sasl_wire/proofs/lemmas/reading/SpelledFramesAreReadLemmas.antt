@@ -1,124 +1,17 @@
--- What is spelled so is read, whatever follows.
-use Rattle.std.proofs.Common.{◌≡◌, ℕ, suc, ◌^◌, ◌<◌, false, ltb, eqb, ◌-◌, List, [], ◌∷◌, ◌++◌, length, Option, Some, None, refl, sym, ap, ◌∙◌, append_assoc, arith, inl, inr}
-use Rattle.std.specs.Prelude.{IsUtf8}
-use Rattle.std.specs.Int.{w32, w64, to_be_bytes}
-use Rattle.std.specs.List.{AllByRecursion}
+-- What spells a frame is read as it, whatever follows.
+use Rattle.std.proofs.Common.{◌≡◌, ℕ, suc, ◌^◌, ◌<◌, false, ltb, eqb, ◌-◌, List, [], ◌∷◌, ◌++◌, length, Option, Some, None, refl, ap, ◌∙◌, append_assoc, arith, inl, inr}
+use Rattle.std.specs.Int.{w64, to_be_bytes}
 use Rattle.std.proofs.lemmas.Bool.{le-ltb, ne_eqb}
-use Rattle.std.proofs.lemmas.List.{take_at, drop_at, append-nil, length-append, append_cancel_right}
-use Rattle.std.proofs.lemmas.Nat.{from_be_bytes-to_be_bytes_4, from_be_bytes-to_be_bytes_8}
-use Rattle.std.proofs.lemmas.Str.{is_utf8-from_IsUtf8}
-use Rattle.fe2o3_sasl_wire.specs.declared.amqp_types.SaslCode.{SaslCode}
-use Rattle.fe2o3_sasl_wire.specs.declared.amqp_types.SaslCode.TheVariants as sasl_codes
+use Rattle.std.proofs.lemmas.List.{length-append}
+use Rattle.std.proofs.lemmas.Nat.{from_be_bytes-to_be_bytes_8}
 use Rattle.fe2o3_sasl_wire.specs.declared.sasl_frames.forms.Form.{Form}
 use Rattle.fe2o3_sasl_wire.specs.declared.sasl_frames.forms.Form.TheVariants.{Eight, ThirtyTwo}
 use Rattle.fe2o3_sasl_wire.specs.declared.sasl_frames.forms.Kind.{Kind}
 use Rattle.fe2o3_sasl_wire.specs.declared.sasl_frames.forms.Kind.TheVariants as kinds
-use Rattle.fe2o3_sasl_wire.specs.SaslFrames.{limit, number, choice, content, SpellsVariable, SpellsSymbol, IsElement, array_body, list_body, SpellsList, SaslFrame, Mechanisms, Init, Challenge, Response, Outcome, kind_of, code_of, name_of, outcome_code, Field, Null, Ubyte, Binary, Text, Symbol, Symbols, optional, fields_of, SpellsField, SpellsItems, SpellsDescriptor, SpellsValue, Spells}
+use Rattle.fe2o3_sasl_wire.specs.SaslFrames.{limit, choice, content, SpellsVariable, list_body, SpellsList, SaslFrame, Mechanisms, Init, Challenge, Response, Outcome, kind_of, code_of, name_of, outcome_code, Field, Null, Ubyte, Binary, Text, Symbol, Symbols, optional, fields_of, SpellsField, SpellsItems, SpellsDescriptor, SpellsValue}
 use Rattle.fe2o3_sasl_wire.specs.private.Fields.{AllNull}
-use Rattle.fe2o3_sasl_wire.specs.private.Writing.{elements}
-use Rattle.fe2o3_sasl_wire.specs.private.Reading.{eight_at, number_at, content_at, form_at, variable_at, element_at, symbol_at, string_at, elements_at, array_at, one_at, symbols_at, code_at, Items, required, null_at, optional_at, ended, binary_at, fields_at, list_at, kind_of_code, kind_of_name, descriptor_at, value_at}
-use Rattle.fe2o3_sasl_wire.proofs.TextLemmas.{is_ascii-from_IsAscii}
-
-pub number_again : (form : Form) (n : ℕ) (rest : List ℕ) → n < limit form → number_at form (number form n ++ rest) ≡ Some (n, rest)
-number_again Eight n rest lt = refl
-number_again ThirtyTwo n rest lt =
-    let bytes = to_be_bytes w32 n in
-    let long : ltb (length (bytes ++ rest)) 4 ≡ false = le-ltb _ _ (omega (arith, length-append bytes rest)) in
-    rw (long, from_be_bytes-to_be_bytes_4 n lt) refl
-
-pub content_again : (form : Form) (x rest : List ℕ) → length x < limit form → content_at form (content form x ++ rest) ≡ Some (x, rest)
-unfolding content_at
-content_again form x rest lt =
-    let long : ltb (length (x ++ rest)) (length x) ≡ false = le-ltb _ _ (omega (arith, length-append x rest)) in
-    rw (append_assoc (number form (length x)) x rest, number_again form (length x) (x ++ rest) lt, long, take_at x rest (length x) refl, drop_at x rest (length x) refl) refl
-
--- the constructor says which form it is
-abbrev Tells : ℕ → ℕ → Type 0
-Tells short long = (form : Form) → form_at short long (choice short long form) ≡ Some form
-
-variable_again : (short long : ℕ) → Tells short long → (x b rest : List ℕ) → SpellsVariable short long x b → variable_at short long (b ++ rest) ≡ Some (x, rest)
-unfolding variable_at
-variable_again short long tells x b rest s =
-    rw (s.whole, tells s.form, content_again s.form x rest s.fits) refl
-
-pub symbol_form : Tells 0xa3 0xb3
-symbol_form Eight = refl
-symbol_form ThirtyTwo = refl
-
-binary_form : Tells 0xa0 0xb0
-binary_form Eight = refl
-binary_form ThirtyTwo = refl
-
-string_form : Tells 0xa1 0xb1
-string_form Eight = refl
-string_form ThirtyTwo = refl
-
-list_form : Tells 0xc0 0xd0
-list_form Eight = refl
-list_form ThirtyTwo = refl
-
-pub binary_again : (x b rest : List ℕ) → SpellsVariable 0xa0 0xb0 x b → binary_at (b ++ rest) ≡ Some (x, rest)
-unfolding binary_at
-binary_again x b rest s = variable_again 0xa0 0xb0 binary_form x b rest s
-
-pub string_again : (x b rest : List ℕ) → IsUtf8 x × SpellsVariable 0xa1 0xb1 x b → string_at (b ++ rest) ≡ Some (x, rest)
-unfolding string_at
-string_again x b rest s = rw (variable_again 0xa1 0xb1 string_form x b rest s.1, is_utf8-from_IsUtf8 x s.0) refl
-
-pub element_again : (form : Form) (x rest : List ℕ) → IsElement form x → element_at form (content form x ++ rest) ≡ Some (x, rest)
-unfolding element_at
-element_again form x rest s = rw (content_again form x rest s.fits, is_ascii-from_IsAscii x s.ascii) refl
-
-pub symbol_again : (x b rest : List ℕ) → SpellsSymbol x b → symbol_at (b ++ rest) ≡ Some (x, rest)
-unfolding symbol_at
-symbol_again x b rest s = rw (s.1.whole, symbol_form s.1.form, element_again s.1.form x rest (record { ascii = s.0; fits = s.1.fits })) refl
-
-pub elements_again : (form : Form) (xs : List (List ℕ)) (rest : List ℕ) → AllByRecursion (IsElement form) xs → elements_at form (length xs) (elements form xs ++ rest) ≡ Some (xs, rest)
-unfolding elements_at
-elements_again form [] rest s = refl
-elements_again form (x ∷ xs) rest s =
-    rw (append_assoc (content form x) (elements form xs) rest, element_again form x (elements form xs ++ rest) s.0, elements_again form xs rest s.1) refl
-
--- ---- arrays
-
-array_again : (xs : List (List ℕ)) (rest : List ℕ) (form inner : Form) → AllByRecursion (IsElement inner) xs → length (array_body form inner xs) < limit form → length xs < limit form
-    → array_at form (content form (array_body form inner xs) ++ rest) ≡ Some (xs, rest)
-unfolding array_at
-array_again xs rest form inner each size count =
-    let all : elements_at inner (length xs) (elements inner xs) ≡ Some (xs, []) = ap (elements_at inner (length xs)) (sym (append-nil (elements inner xs))) ∙ elements_again inner xs [] each in
-    rw (content_again form (array_body form inner xs) rest size, number_again form (length xs) (choice 0xa3 0xb3 inner ∷ elements inner xs) count, symbol_form inner, all) refl
-
-one_again : (form : Form) (x rest : List ℕ) → IsElement form x → one_at form (content form x ++ rest) ≡ Some (x ∷ [], rest)
-unfolding one_at elements_at
-one_again form x rest s = rw (element_again form x rest s) refl
-
-single_again : (xs : List (List ℕ)) (x : List ℕ) (rest : List ℕ) (form : Form) → xs ≡ x ∷ [] → IsElement form x
-    → symbols_at (choice 0xa3 0xb3 form ∷ content form x ++ rest) ≡ Some (xs, rest)
-unfolding symbols_at
-single_again xs x rest Eight e s = rw (one_again Eight x rest s, e) refl
-single_again xs x rest ThirtyTwo e s = rw (one_again ThirtyTwo x rest s, e) refl
-
-many_again : (xs : List (List ℕ)) (rest : List ℕ) (form inner : Form) → AllByRecursion (IsElement inner) xs → length (array_body form inner xs) < limit form → length xs < limit form
-    → symbols_at (choice 0xe0 0xf0 form ∷ content form (array_body form inner xs) ++ rest) ≡ Some (xs, rest)
-unfolding symbols_at
-many_again xs rest Eight inner each size count = array_again xs rest Eight inner each size count
-many_again xs rest ThirtyTwo inner each size count = array_again xs rest ThirtyTwo inner each size count
-
-pub symbols_again : (xs : List (List ℕ)) (b rest : List ℕ) → SpellsField (Symbols xs) b → symbols_at (b ++ rest) ≡ Some (xs, rest)
-symbols_again xs b rest (inl one) =
-    rw one.2.1.whole (single_again xs one.0 rest one.2.1.form one.1 (record { ascii = one.2.0; fits = one.2.1.fits }))
-symbols_again xs b rest (inr s) = rw s.whole (many_again xs rest s.form s.inner s.each s.size s.count)
-
-code_of_again : (c : SaslCode) (rest : List ℕ) → code_at (0x50 ∷ outcome_code c ∷ rest) ≡ Some (c, rest)
-unfolding code_at
-code_of_again sasl_codes.Ok rest = refl
-code_of_again sasl_codes.Auth rest = refl
-code_of_again sasl_codes.Sys rest = refl
-code_of_again sasl_codes.SysPerm rest = refl
-code_of_again sasl_codes.SysTemp rest = refl
-
-pub code_again : (c : SaslCode) (b rest : List ℕ) → SpellsField (Ubyte (outcome_code c)) b → code_at (b ++ rest) ≡ Some (c, rest)
-code_again c b rest e = rw e (code_of_again c rest)
+use Rattle.fe2o3_sasl_wire.specs.private.Reading.{eight_at, symbol_at, string_at, symbols_at, code_at, Items, required, null_at, optional_at, ended, binary_at, fields_at, list_at, kind_of_code, kind_of_name, descriptor_at, value_at}
+use Rattle.fe2o3_sasl_wire.proofs.lemmas.reading.SpelledValuesAreReadLemmas.{number_again, content_again, binary_again, string_again, symbol_again, symbols_again, code_again}
 
 -- ---- items
 
@@ -141,7 +34,7 @@ required_step read count before items item others x e f r =
     let less : count - 1 ≡ before = omega arith in
     rw (more, f, r, less) refl
 
-pub required_again : {A : Type 0} (read : List ℕ → Option (A × List ℕ)) (field : A → Field) → Rereads read field → (x : A) (fields : List Field) (count : ℕ) (items : List ℕ)
+required_again : {A : Type 0} (read : List ℕ → Option (A × List ℕ)) (field : A → Field) → Rereads read field → (x : A) (fields : List Field) (count : ℕ) (items : List ℕ)
     → SpellsItems (field x ∷ fields) count items → Goes (required read (count, items)) x fields
 required_again read field rereads x fields count items (inl none) = absurd (rereads.there x none.0.0)
 required_again read field rereads x fields count items (inr s) =
@@ -174,7 +67,7 @@ there_step read count before items item others x e f n r =
 abbrev pub NotNull : (List ℕ → Field) → Type 0
 NotNull field = (x b rest : List ℕ) → SpellsField (field x) b → null_at (b ++ rest) ≡ None
 
-pub optional_again : (read : List ℕ → Option (List ℕ × List ℕ)) (field : List ℕ → Field) → Rereads read field → NotNull field → (o : Option (List ℕ)) (fields : List Field) (count : ℕ) (items : List ℕ)
+optional_again : (read : List ℕ → Option (List ℕ × List ℕ)) (field : List ℕ → Field) → Rereads read field → NotNull field → (o : Option (List ℕ)) (fields : List Field) (count : ℕ) (items : List ℕ)
     → SpellsItems (optional field o ∷ fields) count items → Goes (optional_at read (count, items)) o fields
 optional_again read field rereads apart None fields count items (inl none) =
     record { left = (0, []); read = absent_step read count items none.1 none.2; others = nothing_at_all fields none.0.1 }
@@ -184,7 +77,7 @@ optional_again read field rereads apart (Some x) fields count items (inl none) =
 optional_again read field rereads apart (Some x) fields count items (inr s) =
     record { left = (s.0, s.2); read = there_step read count s.0 items s.1 s.2 x s.3 s.4 (apart x s.1 s.2 s.5) (rereads.again x s.1 s.2 s.5); others = s.6 }
 
-pub ended_again : (items : Items) → SpellsItems [] items.0 items.1 → ended items ≡ Some tt
+ended_again : (items : Items) → SpellsItems [] items.0 items.1 → ended items ≡ Some tt
 ended_again items s = rw (s.0, s.1) refl
 
 variable_null : (short long : ℕ) → eqb short 0x40 ≡ false → eqb long 0x40 ≡ false → (x b rest : List ℕ) → SpellsVariable short long x b → null_at (b ++ rest) ≡ None
@@ -194,28 +87,28 @@ variable_null short long p q x b rest s = rw s.whole (first s.form)
     first Eight = rw p refl
     first ThirtyTwo = rw q refl
 
-pub symbols_reread : Rereads symbols_at Symbols
+symbols_reread : Rereads symbols_at Symbols
 symbols_reread = record { again = symbols_again; there = λ x e. cc }
 
-pub symbol_reread : Rereads symbol_at Symbol
+symbol_reread : Rereads symbol_at Symbol
 symbol_reread = record { again = symbol_again; there = λ x e. cc }
 
-pub binary_reread : Rereads binary_at Binary
+binary_reread : Rereads binary_at Binary
 binary_reread = record { again = binary_again; there = λ x e. cc }
 
-pub string_reread : Rereads string_at Text
+string_reread : Rereads string_at Text
 string_reread = record { again = string_again; there = λ x e. cc }
 
-pub code_reread : Rereads code_at (λ c. Ubyte (outcome_code c))
+code_reread : Rereads code_at (λ c. Ubyte (outcome_code c))
 code_reread = record { again = code_again; there = λ x e. cc }
 
-pub binary_not_null : NotNull Binary
+binary_not_null : NotNull Binary
 binary_not_null x b rest s = variable_null 0xa0 0xb0 refl refl x b rest s
 
-pub string_not_null : NotNull Text
+string_not_null : NotNull Text
 string_not_null x b rest s = variable_null 0xa1 0xb1 refl refl x b rest s.1
 
-pub fields_again : (f : SaslFrame) (count : ℕ) (items : List ℕ) → SpellsItems (fields_of f) count items → fields_at (kind_of f) (count, items) ≡ Some f
+fields_again : (f : SaslFrame) (count : ℕ) (items : List ℕ) → SpellsItems (fields_of f) count items → fields_at (kind_of f) (count, items) ≡ Some f
 unfolding fields_at
 fields_again (Mechanisms names) count items s =
     let a = required_again symbols_at Symbols symbols_reread names [] count items s in
@@ -248,7 +141,7 @@ empty_again : (count : ℕ) (items b rest : List ℕ) → count ≡ 0 → items 
 unfolding list_at
 empty_again count items b rest e f g = rw (e, f, g) refl
 
-pub list_again : (count : ℕ) (items b rest : List ℕ) → SpellsList count items b → list_at (b ++ rest) ≡ Some ((count, items), rest)
+list_again : (count : ℕ) (items b rest : List ℕ) → SpellsList count items b → list_at (b ++ rest) ≡ Some ((count, items), rest)
 list_again count items b rest (inl s) = empty_again count items b rest s.0 s.1 s.2
 list_again count items b rest (inr s) = rw s.whole (sized_again s.form count items rest s.size s.few)
 
@@ -294,7 +187,7 @@ unfolding descriptor_at
 named_step kind Eight rest e = rw (e, name_again kind) refl
 named_step kind ThirtyTwo rest e = rw (e, name_again kind) refl
 
-pub descriptor_again : (kind : Kind) (b rest : List ℕ) → SpellsDescriptor kind b → descriptor_at (b ++ rest) ≡ Some (kind, rest)
+descriptor_again : (kind : Kind) (b rest : List ℕ) → SpellsDescriptor kind b → descriptor_at (b ++ rest) ≡ Some (kind, rest)
 descriptor_again kind b rest (inl e) = rw e (short_descriptor kind rest)
 descriptor_again kind b rest (inr (inl e)) = rw e (long_descriptor kind rest)
 descriptor_again kind b rest (inr (inr s)) =
@@ -311,26 +204,3 @@ value_again f b rest s =
     let regrouped : b ++ rest ≡ 0 ∷ s.descriptor ++ (s.fields ++ rest) = rw s.whole (ap (λ (t : List ℕ). 0 ∷ t) (append_assoc s.descriptor s.fields rest)) in
     ap value_at regrouped ∙ value_step f s.count s.descriptor s.items s.fields rest (descriptor_again (kind_of f) s.descriptor (s.fields ++ rest) s.described)
     (list_again s.count s.items s.fields rest s.listed) (fields_again f s.count s.items s.each)
-
--- One frame a spelling, and no spelling begins another.
-abbrev front_and_rest : SaslFrame → List ℕ → SaslFrame × List ℕ
-front_and_rest f x = (f, x)
-
-abbrev read_as : SaslFrame → List ℕ → Option (SaslFrame × List ℕ)
-read_as f x = Some (front_and_rest f x)
-
-parts_of : (f : SaslFrame) (x : List ℕ) (g : SaslFrame) (y : List ℕ) → read_as f x ≡ read_as g y → (f ≡ g) × (x ≡ y)
-parts_of f x g y e =
-    let both : front_and_rest f x ≡ front_and_rest g y = cc in
-    (ap (λ (z : SaslFrame × List ℕ). z.0) both, ap (λ (z : SaslFrame × List ℕ). z.1) both)
-
-tails_of : (p q r s : ℕ) (va vb x y : List ℕ) → 2 ∷ 1 ∷ p ∷ q ∷ va ++ x ≡ 2 ∷ 1 ∷ r ∷ s ∷ vb ++ y → va ++ x ≡ vb ++ y
-tails_of p q r s va vb x y e = cc
-
-pub no_spelling_begins_another : (f g : SaslFrame) (a b x y : List ℕ) → Spells f a → Spells g b → a ++ x ≡ b ++ y → (f ≡ g) × (a ≡ b)
-no_spelling_begins_another f g a b x y s t e =
-    let e' : 2 ∷ 1 ∷ s.third ∷ s.fourth ∷ s.value ++ x ≡ 2 ∷ 1 ∷ t.third ∷ t.fourth ∷ t.value ++ y = rw (s.whole, t.whole) at e in
-    let tails = tails_of s.third s.fourth t.third t.fourth s.value t.value x y e' in
-    let same : read_as f x ≡ read_as g y = sym (value_again f s.value x s.spelled) ∙ ap value_at tails ∙ value_again g t.value y t.spelled in
-    let parts = parts_of f x g y same in
-    (parts.0, append_cancel_right a b x (e ∙ ap (λ (z : List ℕ). b ++ z) (sym parts.1)))

@@ -9,7 +9,7 @@ use Rattle.fe2o3_sasl_wire.specs.declared.sasl_frames.fields.Field.{Field as Hel
 use Rattle.fe2o3_sasl_wire.specs.private.Writing.{width, list_form}
 use Rattle.fe2o3_sasl_wire.specs.SaslFrames.{number, choice, list_body, SaslFrame, kind_of, code_of, fields_of, Field, Null, Ubyte, Binary, Text, Symbol, Symbols, shortest, canonical_field, with_field, written, items_of, count_of, canonical_list, canonical, AppendsCanonical}
 use Rattle.fe2o3_sasl_wire.specs.private.Fields.{shown_field, filled}
-use Rattle.fe2o3_sasl_wire.proofs.CanonicalLemmas.{length-list_body}
+use Rattle.fe2o3_sasl_wire.proofs.lemmas.writing.CanonicalSpellsLemmas.{length-list_body}
 
 -- ---- the fields that are written
 
