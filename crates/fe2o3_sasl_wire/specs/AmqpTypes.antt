@@ -27,7 +27,8 @@ mechanisms_frame mechanisms = Mechanisms mechanisms.sasl_server_mechanisms.0.ite
 
 -- the frame of an init
 abbrev pub init_frame : SaslInit → SaslFrame
-init_frame init = Init init.mechanism (option_map binary_bytes init.initial_response) (option_map string_bytes init.hostname)
+init_frame init =
+    Init init.mechanism (option_map binary_bytes init.initial_response) (option_map string_bytes init.hostname)
 
 -- the frame of a challenge
 abbrev pub challenge_frame : SaslChallenge → SaslFrame
@@ -44,8 +45,10 @@ outcome_frame outcome = Outcome outcome.code (option_map binary_bytes outcome.ad
 -- whether two frames are equal, field by field: the test that `==` computes
 abbrev pub same_frame : SaslFrame → SaslFrame → Bool
 same_frame (Mechanisms names) (Mechanisms others) = pointwise bytes_eq names others
-same_frame (Init name first host) (Init other next home) = bytes_eq name other && option_eq bytes_eq first next && option_eq bytes_eq host home
+same_frame (Init name first host) (Init other next home) =
+    bytes_eq name other && option_eq bytes_eq first next && option_eq bytes_eq host home
 same_frame (Challenge bytes) (Challenge others) = bytes_eq bytes others
 same_frame (Response bytes) (Response others) = bytes_eq bytes others
-same_frame (Outcome code bytes) (Outcome other others) = (outcome_code code == outcome_code other) && option_eq bytes_eq bytes others
+same_frame (Outcome code bytes) (Outcome other others) =
+    (outcome_code code == outcome_code other) && option_eq bytes_eq bytes others
 same_frame _ _ = false

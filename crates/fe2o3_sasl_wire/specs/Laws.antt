@@ -11,7 +11,8 @@ use Rattle.fe2o3_sasl_wire.specs.Owned.{HasAsciiMechanism}
 
 -- a canonical body spells its frame
 abbrev pub CanonicalBodiesSpell : Type 0
-CanonicalBodiesSpell = (frame : SaslFrame) (body : List ℕ) → HasTexts frame → canonical frame ≡ Some body → Spells frame body
+CanonicalBodiesSpell =
+    (frame : SaslFrame) (body : List ℕ) → HasTexts frame → canonical frame ≡ Some body → Spells frame body
 
 -- a spelling has one frame
 abbrev pub SpellingsHaveOneFrame : Type 0
@@ -19,17 +20,23 @@ SpellingsHaveOneFrame = (left right : SaslFrame) (body : List ℕ) → Spells le
 
 -- no spelling begins another: where two spellings, each followed by anything, are one list, they are one spelling of one frame
 abbrev pub NoSpellingBeginsAnother : Type 0
-NoSpellingBeginsAnother = (left right : SaslFrame) (a b x y : List ℕ) → Spells left a → Spells right b → a ++ x ≡ b ++ y → (left ≡ right) × (a ≡ b)
+NoSpellingBeginsAnother =
+    (left right : SaslFrame) (a b x y : List ℕ) → Spells left a → Spells right b → a ++ x ≡ b ++ y → (left ≡ right)
+    × (a ≡ b)
 
 -- a canonical body followed by anything is read as its frame, and as no other
 abbrev pub WrittenBodiesAreRead : Type 0
-WrittenBodiesAreRead = (frame : SaslFrame) (body rest : List ℕ) (answer : Result (SaslFrame × ℕ) Error) → HasTexts frame → canonical frame ≡ Some body
-    → ReadsBody (body ++ rest) (Ok (frame, length body)) × (ReadsBody (body ++ rest) answer → answer ≡ Ok (frame, length body))
+WrittenBodiesAreRead =
+    (frame : SaslFrame) (body rest : List ℕ) (answer : Result (SaslFrame × ℕ) Error) → HasTexts frame
+    → canonical frame ≡ Some body
+    → ReadsBody (body ++ rest) (Ok (frame, length body))
+    × (ReadsBody (body ++ rest) answer → answer ≡ Ok (frame, length body))
 
 -- each list of bytes is read in exactly one way
 abbrev pub BodiesHaveOneAnswer : Type 0
 BodiesHaveOneAnswer = (body : List ℕ) → IsBytes body
-    → (answer : Result (SaslFrame × ℕ) Error) × ReadsBody body answer × ((other : Result (SaslFrame × ℕ) Error) → ReadsBody body other → other ≡ answer)
+    → (answer : Result (SaslFrame × ℕ) Error) × ReadsBody body answer
+    × ((other : Result (SaslFrame × ℕ) Error) → ReadsBody body other → other ≡ answer)
 
 -- what a body spells has an ASCII mechanism
 abbrev pub SpelledMechanismsAreAscii : Type 0

@@ -52,8 +52,11 @@ pub record TakesEight (old new : List ℕ) : Type 0 where
 abbrev pub DecodesBuffer : List ℕ → List ℕ → Result (Option ProtocolHeader) NegotiationError → Type 0
 DecodesBuffer old new (Ok None) = (length old < 8) × (new ≡ old)
 DecodesBuffer old new (Ok (Some header)) = TakesEight old new × (header_bytes header ≡ take 8 old)
-DecodesBuffer old new (Err (ProtocolHeaderMismatch bytes)) = TakesEight old new × (bytes ≡ take 8 old) × IsNoHeader bytes
+DecodesBuffer old new (Err (ProtocolHeaderMismatch bytes)) =
+    TakesEight old new × (bytes ≡ take 8 old) × IsNoHeader bytes
 
 -- a header's bytes are read as that header
 abbrev pub BytesGiveTheHeaderBack : Type 0
-BytesGiveTheHeaderBack = (header : ProtocolHeader) (r : Result ProtocolHeader (List ℕ)) → DecodesHeader (header_bytes header) r → r ≡ Ok header
+BytesGiveTheHeaderBack =
+    (header : ProtocolHeader) (r : Result ProtocolHeader (List ℕ)) → DecodesHeader (header_bytes header) r
+    → r ≡ Ok header

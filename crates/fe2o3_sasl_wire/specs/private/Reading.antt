@@ -43,7 +43,8 @@ content_at form bytes = do
 
 -- the form that a constructor names
 abbrev pub form_at : ℕ → ℕ → ℕ → Option Form
-form_at short long constructor = if constructor == short then Some Eight else (if constructor == long then Some ThirtyTwo else None)
+form_at short long constructor =
+    if constructor == short then Some Eight else (if constructor == long then Some ThirtyTwo else None)
 
 -- a constructor of either form, a length, and that many bytes (part 1, section 1.2.2)
 unfoldable pub variable_at : ℕ → ℕ → List ℕ → Option (List ℕ × List ℕ)
@@ -100,12 +101,14 @@ one_at form bytes = elements_at form 1 bytes
 -- an array of symbols, or one symbol, which stands for a list of one (part 1, sections 1.4 and 1.6.24)
 unfoldable pub symbols_at : List ℕ → Option (List (List ℕ) × List ℕ)
 symbols_at [] = None
-symbols_at (constructor ∷ rest) = if constructor == 0xe0 then array_at Eight rest else (if constructor == 0xf0 then array_at ThirtyTwo rest
+symbols_at (constructor ∷ rest) =
+    if constructor == 0xe0 then array_at Eight rest else (if constructor == 0xf0 then array_at ThirtyTwo rest
     else (form_at 0xa3 0xb3 constructor >>= λ form. one_at form rest))
 
 -- the code with this number (part 5, section 5.3.3.6)
 abbrev pub sasl_code : ℕ → Option SaslCode
-sasl_code n = if n == 0 then Some sasl_codes.Ok else (if n == 1 then Some sasl_codes.Auth else (if n == 2 then Some sasl_codes.Sys
+sasl_code n =
+    if n == 0 then Some sasl_codes.Ok else (if n == 1 then Some sasl_codes.Auth else (if n == 2 then Some sasl_codes.Sys
     else (if n == 3 then Some sasl_codes.SysPerm else (if n == 4 then Some sasl_codes.SysTemp else None))))
 
 -- an outcome's code, as a ubyte (part 5, section 5.3.3.5)
@@ -138,7 +141,8 @@ unless_null None count read = read >>= λ x. Some (Some x.0, (count - 1, x.1))
 
 -- the next item, which may be null or absent (part 1, section 1.4)
 unfoldable pub optional_at : {A : Type 0} → (List ℕ → Option (A × List ℕ)) → Items → Option (Option A × Items)
-optional_at read items = if items.0 == 0 then Some (None, items) else unless_null (null_at items.1) items.0 (read items.1)
+optional_at read items =
+    if items.0 == 0 then Some (None, items) else unless_null (null_at items.1) items.0 (read items.1)
 
 -- no item and no byte is left
 abbrev pub ended : Items → Option (Unit {0})
@@ -180,19 +184,25 @@ list_at (constructor ∷ rest) = if constructor == 0x45 then Some ((0, []), rest
 
 -- the kind of frame with this code (part 5, section 5.3.3)
 abbrev pub kind_of_code : ℕ → Option Kind
-kind_of_code n = if n == 0x40 then Some kinds.Mechanisms else (if n == 0x41 then Some kinds.Init else (if n == 0x42 then Some kinds.Challenge
+kind_of_code n =
+    if n == 0x40 then Some kinds.Mechanisms else
+    (if n == 0x41 then Some kinds.Init else (if n == 0x42 then Some kinds.Challenge
     else (if n == 0x43 then Some kinds.Response else (if n == 0x44 then Some kinds.Outcome else None))))
 
 -- the kind of frame with this name (part 5, section 5.3.3)
 unfoldable pub kind_of_name : List ℕ → Option Kind
-kind_of_name name = if bytes_eq name (name_of kinds.Mechanisms) then Some kinds.Mechanisms else (if bytes_eq name (name_of kinds.Init) then Some kinds.Init
-    else (if bytes_eq name (name_of kinds.Challenge) then Some kinds.Challenge else (if bytes_eq name (name_of kinds.Response) then Some kinds.Response
+kind_of_name name =
+    if bytes_eq name (name_of kinds.Mechanisms) then Some kinds.Mechanisms else
+    (if bytes_eq name (name_of kinds.Init) then Some kinds.Init
+    else (if bytes_eq name (name_of kinds.Challenge) then Some kinds.Challenge else
+    (if bytes_eq name (name_of kinds.Response) then Some kinds.Response
     else (if bytes_eq name (name_of kinds.Outcome) then Some kinds.Outcome else None))))
 
 -- a descriptor (part 1, section 1.4)
 unfoldable pub descriptor_at : List ℕ → Option (Kind × List ℕ)
 descriptor_at [] = None
-descriptor_at (constructor ∷ rest) = if constructor == 0x53 then (byte_at rest >>= λ n. kind_of_code n.0 >>= λ kind. Some (kind, n.1))
+descriptor_at (constructor ∷ rest) =
+    if constructor == 0x53 then (byte_at rest >>= λ n. kind_of_code n.0 >>= λ kind. Some (kind, n.1))
     else (if constructor == 0x80 then (eight_at rest >>= λ n. kind_of_code n.0 >>= λ kind. Some (kind, n.1))
     else (symbol_at (constructor ∷ rest) >>= λ name. kind_of_name name.0 >>= λ kind. Some (kind, name.1)))
 

@@ -38,7 +38,8 @@ same_frame_decides (Init name first host) (Init other next home) =
     let bytes_same = options_decide first next in
     let hosts = options_decide host home in (
       λ test.
-          let parts = and_parts (bytes_eq name other && option_eq bytes_eq first next) (option_eq bytes_eq host home) test in
+          let parts =
+          and_parts (bytes_eq name other && option_eq bytes_eq first next) (option_eq bytes_eq host home) test in
           let front = and_parts (bytes_eq name other) (option_eq bytes_eq first next) parts.0 in
           cc (names.0 front.0, bytes_same.0 front.1, hosts.0 parts.1),
       λ same. and_from _ _ (and_from _ _ (names.1 cc) (bytes_same.1 cc)) (hosts.1 cc),
@@ -63,6 +64,8 @@ same_frame_decides _ _ = (λ test. cc, λ same. cc)
 pub same_frame_equiv : IsEquivalence same_frame
 same_frame_equiv = record {
   refl = λ frame. (same_frame_decides frame frame).1 refl;
-  symm = λ left right. one_answer (same_frame left right) (same_frame right left) (same_frame_decides left right) (λ test. sym ((same_frame_decides right left).0 test), λ same. (same_frame_decides right left).1 (sym same));
+  symm =
+      λ left right. one_answer (same_frame left right) (same_frame right left) (same_frame_decides left right)
+      (λ test. sym ((same_frame_decides right left).0 test), λ same. (same_frame_decides right left).1 (sym same));
   congr = λ left right third test. ap (λ frame. same_frame frame third) ((same_frame_decides left right).0 test);
 }

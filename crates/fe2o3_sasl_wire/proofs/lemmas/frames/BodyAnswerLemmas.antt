@@ -12,7 +12,8 @@ use Rattle.fe2o3_sasl_wire.proofs.lemmas.reading.SpelledFramesAreReadLemmas.{val
 use Rattle.fe2o3_sasl_wire.proofs.lemmas.frames.PrefixLemmas.{no_spelling_begins_another}
 
 -- what is read behind a sound header is spelled by the bytes before the rest
-pub begins_read : (bytes : List ℕ) (frame : SaslFrame) (rest : List ℕ) → IsBytes bytes → 4 ≤ length bytes → get_or bytes 1 0 ≡ 1 → get_or bytes 0 0 ≡ 2
+pub begins_read : (bytes : List ℕ) (frame : SaslFrame) (rest : List ℕ) → IsBytes bytes → 4 ≤ length bytes
+    → get_or bytes 1 0 ≡ 1 → get_or bytes 0 0 ≡ 2
     → value_at (drop 4 bytes) ≡ Some (frame, rest) → Begins bytes frame (length bytes - length rest)
 begins_read [] frame rest fits long kind offset e = absurd (omega arith)
 begins_read (a ∷ []) frame rest fits long kind offset e = absurd (omega arith)
@@ -22,23 +23,32 @@ begins_read (a ∷ b ∷ x ∷ y ∷ bytes) frame rest fits long kind offset e =
     let r = value_takes bytes (frame, rest) (IsBytes-drop 4 (a ∷ b ∷ x ∷ y ∷ bytes) fits) e in
     let front : List ℕ = 2 ∷ 1 ∷ x ∷ y ∷ r.front in
     let whole : a ∷ b ∷ x ∷ y ∷ bytes ≡ front ++ rest =
-    ap (λ (n : ℕ). n ∷ b ∷ x ∷ y ∷ bytes) offset ∙ ap (λ (n : ℕ). 2 ∷ n ∷ x ∷ y ∷ bytes) kind ∙ ap (λ (t : List ℕ). 2 ∷ 1 ∷ x ∷ y ∷ t) r.parts in
-    let len : length (a ∷ b ∷ x ∷ y ∷ bytes) ≡ length front + length rest = ap length whole ∙ length-append front rest in
+    ap (λ (n : ℕ). n ∷ b ∷ x ∷ y ∷ bytes) offset ∙ ap (λ (n : ℕ). 2 ∷ n ∷ x ∷ y ∷ bytes) kind
+    ∙ ap (λ (t : List ℕ). 2 ∷ 1 ∷ x ∷ y ∷ t) r.parts in
+    let len : length (a ∷ b ∷ x ∷ y ∷ bytes) ≡ length front + length rest =
+    ap length whole ∙ length-append front rest in
     let here : take (length (a ∷ b ∷ x ∷ y ∷ bytes) - length rest) (a ∷ b ∷ x ∷ y ∷ bytes) ≡ front =
-    ap (take (length (a ∷ b ∷ x ∷ y ∷ bytes) - length rest)) whole ∙ take_at front rest (length (a ∷ b ∷ x ∷ y ∷ bytes) - length rest) (omega arith) in
-    record { within = omega arith; spelled = record { third = x; fourth = y; value = r.front; spelled = r.spelled; whole = here } }
+    ap (take (length (a ∷ b ∷ x ∷ y ∷ bytes) - length rest)) whole
+    ∙ take_at front rest (length (a ∷ b ∷ x ∷ y ∷ bytes) - length rest) (omega arith) in
+    record {
+      within = omega arith;
+      spelled = record { third = x; fourth = y; value = r.front; spelled = r.spelled; whole = here };
+    }
 
 -- the rest lies within the bytes
-pub rest_within : (bytes : List ℕ) (frame : SaslFrame) (rest : List ℕ) → IsBytes bytes → 4 ≤ length bytes → value_at (drop 4 bytes) ≡ Some (frame, rest) → length rest ≤ length bytes
+pub rest_within : (bytes : List ℕ) (frame : SaslFrame) (rest : List ℕ) → IsBytes bytes → 4 ≤ length bytes
+    → value_at (drop 4 bytes) ≡ Some (frame, rest) → length rest ≤ length bytes
 rest_within bytes frame rest fits long e =
     let r = value_takes (drop 4 bytes) (frame, rest) (IsBytes-drop 4 bytes fits) e in
     omega (arith, ap length r.parts, length-append r.front rest, length-drop 4 bytes)
 
 -- what a beginning spells is read behind a sound header
-read_back : (bytes : List ℕ) (frame : SaslFrame) (n : ℕ) → Begins bytes frame n → (rest : List ℕ) × (4 ≤ length bytes) × (get_or bytes 1 0 ≡ 1) × (get_or bytes 0 0 ≡ 2) × (value_at (drop 4 bytes) ≡ Some (frame, rest))
+read_back : (bytes : List ℕ) (frame : SaslFrame) (n : ℕ) → Begins bytes frame n → (rest : List ℕ) × (4 ≤ length bytes)
+    × (get_or bytes 1 0 ≡ 1) × (get_or bytes 0 0 ≡ 2) × (value_at (drop 4 bytes) ≡ Some (frame, rest))
 read_back bytes frame n b =
     let s = b.spelled in
-    let whole : bytes ≡ 2 ∷ 1 ∷ s.third ∷ s.fourth ∷ (s.value ++ drop n bytes) = sym (take-append-drop n bytes) ∙ ap (λ (t : List ℕ). t ++ drop n bytes) s.whole in (
+    let whole : bytes ≡ 2 ∷ 1 ∷ s.third ∷ s.fourth ∷ (s.value ++ drop n bytes) =
+    sym (take-append-drop n bytes) ∙ ap (λ (t : List ℕ). t ++ drop n bytes) s.whole in (
       drop n bytes,
       rw whole (omega arith),
       ap (λ (t : List ℕ). get_or t 1 0) whole,
@@ -53,34 +63,45 @@ is_none p q = cc
 
 pub refuses_short : (bytes : List ℕ) → length bytes < 4 → ReadsBody bytes (Err faults.DecodeError)
 unfolding fault_of
-refuses_short bytes lt = (rw (lt-ltb _ _ lt) refl, λ frame n b. let r = read_back bytes frame n b in absurd (omega arith))
+refuses_short bytes lt =
+    (rw (lt-ltb _ _ lt) refl, λ frame n b. let r = read_back bytes frame n b in absurd (omega arith))
 
-pub refuses_type : (bytes : List ℕ) → 4 ≤ length bytes → (get_or bytes 1 0 ≡ 1 → ⊥) → ReadsBody bytes (Err faults.NotImplemented)
+pub refuses_type : (bytes : List ℕ) → 4 ≤ length bytes → (get_or bytes 1 0 ≡ 1 → ⊥)
+    → ReadsBody bytes (Err faults.NotImplemented)
 unfolding fault_of
 refuses_type bytes long ne = (rw (le-ltb _ _ long, ne_eqb _ _ ne) refl, λ frame n b. ne (read_back bytes frame n b).2)
 
-pub refuses_offset : (bytes : List ℕ) → 4 ≤ length bytes → get_or bytes 1 0 ≡ 1 → (get_or bytes 0 0 ≡ 2 → ⊥) → ReadsBody bytes (Err faults.NotImplemented)
+pub refuses_offset : (bytes : List ℕ) → 4 ≤ length bytes → get_or bytes 1 0 ≡ 1 → (get_or bytes 0 0 ≡ 2 → ⊥)
+    → ReadsBody bytes (Err faults.NotImplemented)
 unfolding fault_of
-refuses_offset bytes long kind ne = (rw (le-ltb _ _ long, kind, ne_eqb _ _ ne) refl, λ frame n b. ne (read_back bytes frame n b).3)
+refuses_offset bytes long kind ne =
+    (rw (le-ltb _ _ long, kind, ne_eqb _ _ ne) refl, λ frame n b. ne (read_back bytes frame n b).3)
 
-pub refuses_value : (bytes : List ℕ) → 4 ≤ length bytes → get_or bytes 1 0 ≡ 1 → get_or bytes 0 0 ≡ 2 → value_at (drop 4 bytes) ≡ None → ReadsBody bytes (Err faults.DecodeError)
+pub refuses_value : (bytes : List ℕ) → 4 ≤ length bytes → get_or bytes 1 0 ≡ 1 → get_or bytes 0 0 ≡ 2
+    → value_at (drop 4 bytes) ≡ None → ReadsBody bytes (Err faults.DecodeError)
 unfolding fault_of
-refuses_value bytes long kind offset none = (rw (le-ltb _ _ long, kind, offset) refl, λ frame n b. is_none none (read_back bytes frame n b).4)
+refuses_value bytes long kind offset none =
+    (rw (le-ltb _ _ long, kind, offset) refl, λ frame n b. is_none none (read_back bytes frame n b).4)
 
 -- ---- one answer
 
 -- two beginnings that spell frames are one
-pub begins_once : (bytes : List ℕ) (frame other : SaslFrame) (m n : ℕ) → Begins bytes frame m → Begins bytes other n → (frame ≡ other) × (m ≡ n)
+pub begins_once : (bytes : List ℕ) (frame other : SaslFrame) (m n : ℕ) → Begins bytes frame m → Begins bytes other n
+    → (frame ≡ other) × (m ≡ n)
 begins_once bytes frame other m n f s =
-    let same : take m bytes ++ drop m bytes ≡ take n bytes ++ drop n bytes = take-append-drop m bytes ∙ sym (take-append-drop n bytes) in
-    let one = no_spelling_begins_another frame other (take m bytes) (take n bytes) (drop m bytes) (drop n bytes) f.spelled s.spelled same in
+    let same : take m bytes ++ drop m bytes ≡ take n bytes ++ drop n bytes =
+    take-append-drop m bytes ∙ sym (take-append-drop n bytes) in
+    let one =
+    no_spelling_begins_another frame other (take m bytes) (take n bytes) (drop m bytes)
+    (drop n bytes) f.spelled s.spelled same in
     let len = ap length one.1 in
     (one.0, omega (arith, len, length-take m bytes, length-take n bytes, f.within, s.within))
 
 abbrev answer_with : SaslFrame → ℕ → SaslFrame × ℕ
 answer_with frame n = (frame, n)
 
-pub one_answer : (bytes : List ℕ) (left right : Result (SaslFrame × ℕ) Error) → ReadsBody bytes left → ReadsBody bytes right → left ≡ right
+pub one_answer : (bytes : List ℕ) (left right : Result (SaslFrame × ℕ) Error) → ReadsBody bytes left
+    → ReadsBody bytes right → left ≡ right
 one_answer bytes (Ok x) (Ok y) f s =
     let same = begins_once bytes x.0 y.0 x.1 y.1 f s in
     ap (λ (frame : SaslFrame). Ok (answer_with frame x.1)) same.0 ∙ ap (λ (n : ℕ). Ok (answer_with y.0 n)) same.1
@@ -91,27 +112,37 @@ one_answer bytes (Err e) (Err d) f s = ap (λ (fault : Error). Err fault) (f.0 �
 abbrev Answered : List ℕ → Type 0
 Answered bytes = (answer : Result (SaslFrame × ℕ) Error) × ReadsBody bytes answer
 
-answered_value : (bytes : List ℕ) (read : Option (SaslFrame × List ℕ)) → IsBytes bytes → 4 ≤ length bytes → get_or bytes 1 0 ≡ 1 → get_or bytes 0 0 ≡ 2 → value_at (drop 4 bytes) ≡ read → Answered bytes
-answered_value bytes (Some x) fits long kind offset e = (Ok (x.0, length bytes - length x.1), begins_read bytes x.0 x.1 fits long kind offset e)
+answered_value : (bytes : List ℕ) (read : Option (SaslFrame × List ℕ)) → IsBytes bytes → 4 ≤ length bytes
+    → get_or bytes 1 0 ≡ 1 → get_or bytes 0 0 ≡ 2 → value_at (drop 4 bytes) ≡ read → Answered bytes
+answered_value bytes (Some x) fits long kind offset e =
+    (Ok (x.0, length bytes - length x.1), begins_read bytes x.0 x.1 fits long kind offset e)
 answered_value bytes None fits long kind offset e = (Err faults.DecodeError, refuses_value bytes long kind offset e)
 
-answered_offset : (bytes : List ℕ) (offset : Bool) → IsBytes bytes → 4 ≤ length bytes → get_or bytes 1 0 ≡ 1 → eqb (get_or bytes 0 0) 2 ≡ offset → Answered bytes
-answered_offset bytes true fits long kind e = answered_value bytes (value_at (drop 4 bytes)) fits long kind (eqb-true (get_or bytes 0 0) 2 e) refl
-answered_offset bytes false fits long kind e = (Err faults.NotImplemented, refuses_offset bytes long kind (eqb-false (get_or bytes 0 0) 2 e))
+answered_offset : (bytes : List ℕ) (offset : Bool) → IsBytes bytes → 4 ≤ length bytes → get_or bytes 1 0 ≡ 1
+    → eqb (get_or bytes 0 0) 2 ≡ offset → Answered bytes
+answered_offset bytes true fits long kind e =
+    answered_value bytes (value_at (drop 4 bytes)) fits long kind (eqb-true (get_or bytes 0 0) 2 e) refl
+answered_offset bytes false fits long kind e =
+    (Err faults.NotImplemented, refuses_offset bytes long kind (eqb-false (get_or bytes 0 0) 2 e))
 
-answered_type : (bytes : List ℕ) (kind : Bool) → IsBytes bytes → 4 ≤ length bytes → eqb (get_or bytes 1 0) 1 ≡ kind → Answered bytes
-answered_type bytes true fits long e = answered_offset bytes (eqb (get_or bytes 0 0) 2) fits long (eqb-true (get_or bytes 1 0) 1 e) refl
-answered_type bytes false fits long e = (Err faults.NotImplemented, refuses_type bytes long (eqb-false (get_or bytes 1 0) 1 e))
+answered_type : (bytes : List ℕ) (kind : Bool) → IsBytes bytes → 4 ≤ length bytes → eqb (get_or bytes 1 0) 1 ≡ kind
+    → Answered bytes
+answered_type bytes true fits long e =
+    answered_offset bytes (eqb (get_or bytes 0 0) 2) fits long (eqb-true (get_or bytes 1 0) 1 e) refl
+answered_type bytes false fits long e =
+    (Err faults.NotImplemented, refuses_type bytes long (eqb-false (get_or bytes 1 0) 1 e))
 
 answered_length : (bytes : List ℕ) (short : Bool) → IsBytes bytes → ltb (length bytes) 4 ≡ short → Answered bytes
 answered_length bytes true fits e = (Err faults.DecodeError, refuses_short bytes (ltb-true (length bytes) 4 e))
-answered_length bytes false fits e = answered_type bytes (eqb (get_or bytes 1 0) 1) fits (ltb-false (length bytes) 4 e) refl
+answered_length bytes false fits e =
+    answered_type bytes (eqb (get_or bytes 1 0) 1) fits (ltb-false (length bytes) 4 e) refl
 
 pub some_answer : (bytes : List ℕ) → IsBytes bytes → Answered bytes
 some_answer bytes fits = answered_length bytes (ltb (length bytes) 4) fits refl
 
 -- a fault of a body is why it is not decoded
-pub refused_body : (bytes : List ℕ) (fault : Error) → ReadsBody bytes (Err fault) → (fault ≡ faults.OutOfMemory → ⊥) → RefusesBody bytes fault
+pub refused_body : (bytes : List ℕ) (fault : Error) → ReadsBody bytes (Err fault) → (fault ≡ faults.OutOfMemory → ⊥)
+    → RefusesBody bytes fault
 refused_body bytes faults.DecodeError reads ne = reads
 refused_body bytes faults.NotImplemented reads ne = reads
 refused_body bytes faults.TooLarge reads ne = reads

@@ -16,7 +16,8 @@ pub spellings_have_one_frame : SpellingsHaveOneFrame
 spellings_have_one_frame left right body s t = (no_spelling_begins_another left right body body [] [] s t refl).0
 
 -- a spelling followed by anything begins it
-spelling_begins : (frame : SaslFrame) (body rest : List ℕ) → Spells frame body → Begins (body ++ rest) frame (length body)
+spelling_begins : (frame : SaslFrame) (body rest : List ℕ) → Spells frame body
+    → Begins (body ++ rest) frame (length body)
 spelling_begins frame body rest s = record {
   within = omega (arith, length-append body rest);
   spelled = subst (Spells frame) (sym (take_at body rest (length body) refl)) s;

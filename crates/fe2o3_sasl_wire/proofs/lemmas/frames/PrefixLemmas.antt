@@ -19,10 +19,13 @@ parts_of f x g y e =
 tails_of : (p q r s : ℕ) (va vb x y : List ℕ) → 2 ∷ 1 ∷ p ∷ q ∷ va ++ x ≡ 2 ∷ 1 ∷ r ∷ s ∷ vb ++ y → va ++ x ≡ vb ++ y
 tails_of p q r s va vb x y e = cc
 
-pub no_spelling_begins_another : (f g : SaslFrame) (a b x y : List ℕ) → Spells f a → Spells g b → a ++ x ≡ b ++ y → (f ≡ g) × (a ≡ b)
+pub no_spelling_begins_another : (f g : SaslFrame) (a b x y : List ℕ) → Spells f a → Spells g b → a ++ x ≡ b ++ y
+    → (f ≡ g) × (a ≡ b)
 no_spelling_begins_another f g a b x y s t e =
-    let e' : 2 ∷ 1 ∷ s.third ∷ s.fourth ∷ s.value ++ x ≡ 2 ∷ 1 ∷ t.third ∷ t.fourth ∷ t.value ++ y = rw (s.whole, t.whole) at e in
+    let e' : 2 ∷ 1 ∷ s.third ∷ s.fourth ∷ s.value ++ x ≡ 2 ∷ 1 ∷ t.third ∷ t.fourth ∷ t.value ++ y =
+    rw (s.whole, t.whole) at e in
     let tails = tails_of s.third s.fourth t.third t.fourth s.value t.value x y e' in
-    let same : read_as f x ≡ read_as g y = sym (value_again f s.value x s.spelled) ∙ ap value_at tails ∙ value_again g t.value y t.spelled in
+    let same : read_as f x ≡ read_as g y =
+    sym (value_again f s.value x s.spelled) ∙ ap value_at tails ∙ value_again g t.value y t.spelled in
     let parts = parts_of f x g y same in
     (parts.0, append_cancel_right a b x (e ∙ ap (λ (z : List ℕ). b ++ z) (sym parts.1)))

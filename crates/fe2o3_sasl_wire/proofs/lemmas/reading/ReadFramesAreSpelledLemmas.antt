@@ -18,11 +18,13 @@ use Rattle.fe2o3_sasl_wire.proofs.lemmas.reading.ReadValuesAreSpelledLemmas.{num
 
 -- a reader of a field
 abbrev pub IsReader : {A : Type 0} → (List ℕ → Option (A × List ℕ)) → (A → Field) → Type 0
-IsReader {A} read field = (bytes : List ℕ) (x : A × List ℕ) → IsBytes bytes → read bytes ≡ Some x → Reads (SpellsField (field x.0)) bytes x.1
+IsReader {A} read field =
+    (bytes : List ℕ) (x : A × List ℕ) → IsBytes bytes → read bytes ≡ Some x → Reads (SpellsField (field x.0)) bytes x.1
 
 -- items of which a step left some
 abbrev pub Extends : Field → Items → Items → Type 0
-Extends field items left = (fields : List Field) → SpellsItems fields left.0 left.1 → SpellsItems (field ∷ fields) items.0 items.1
+Extends field items left =
+    (fields : List Field) → SpellsItems fields left.0 left.1 → SpellsItems (field ∷ fields) items.0 items.1
 
 pub record Steps (field : Field) (items left : Items) : Type 0 where
   pub extends : Extends field items left
@@ -31,16 +33,21 @@ pub record Steps (field : Field) (items left : Items) : Type 0 where
 one_before : (count : ℕ) → eqb count 0 ≡ false → count ≡ suc (count - 1)
 one_before count e = let ne = eqb-false count 0 e in omega (arith, ne)
 
-extends_by : (field : Field) (count : ℕ) (items rest : List ℕ) → count ≡ suc (count - 1) → Reads (SpellsField field) items rest → Extends field (count, items) (count - 1, rest)
+extends_by : (field : Field) (count : ℕ) (items rest : List ℕ) → count ≡ suc (count - 1)
+    → Reads (SpellsField field) items rest → Extends field (count, items) (count - 1, rest)
 extends_by field count items rest e r fields s = inr (count - 1, r.front, rest, e, r.parts, r.spelled, s)
 
-required_takes : {A : Type 0} (read : List ℕ → Option (A × List ℕ)) (field : A → Field) → IsReader read field → (items : Items) (x : A × Items) → IsBytes items.1 → required read items ≡ Some x → Steps (field x.0) items x.1
+required_takes : {A : Type 0} (read : List ℕ → Option (A × List ℕ)) (field : A → Field) → IsReader read field
+    → (items : Items) (x : A × Items) → IsBytes items.1 → required read items ≡ Some x → Steps (field x.0) items x.1
 unfolding required
 required_takes {A} read field reads items x fits e =
     let g = unless_some (eqb items.0 0) (read items.1 >>= λ y. Some (y.0, (items.0 - 1, y.1))) x e in
     let a = bind_some (read items.1) (λ y. Some (y.0, (items.0 - 1, y.1))) x g.1 in
     let r = reads items.1 a.0 fits a.1 in
-    let made : Steps (field a.0.0) items (items.0 - 1, a.0.1) = record { extends = extends_by (field a.0.0) items.0 items.1 a.0.1 (one_before items.0 g.0) r; rest_fits = r.rest_fits } in
+    let made : Steps (field a.0.0) items (items.0 - 1, a.0.1) = record {
+      extends = extends_by (field a.0.0) items.0 items.1 a.0.1 (one_before items.0 g.0) r;
+      rest_fits = r.rest_fits;
+    } in
     subst (λ (y : A × Items). Steps (field y.0) items y.1) (some_is (a.0.0, (items.0 - 1, a.0.1)) x a.2) made
 
 -- nothing is read where there are no more items
@@ -59,25 +66,44 @@ null_takes [] rest fits e = absurd cc
 null_takes (b ∷ bytes) rest fits e =
     let g = when_some (eqb b 0x40) (Some bytes) rest e in
     let same = some_is bytes rest g.1 in
-    record { front = 0x40 ∷ []; spelled = refl; parts = ap (λ (k : ℕ). k ∷ bytes) (eqb-true b 0x40 g.0) ∙ ap (λ (t : List ℕ). 0x40 ∷ t) same; rest_fits = rw (← same) (IsBytes-tail b bytes fits) }
+    record {
+      front = 0x40 ∷ [];
+      spelled = refl;
+      parts = ap (λ (k : ℕ). k ∷ bytes) (eqb-true b 0x40 g.0) ∙ ap (λ (t : List ℕ). 0x40 ∷ t) same;
+      rest_fits = rw (← same) (IsBytes-tail b bytes fits);
+    }
 
-unless_null_takes : (read : List ℕ → Option (List ℕ × List ℕ)) (field : List ℕ → Field) → IsReader read field → (null : Option (List ℕ)) (items : Items) (x : Option (List ℕ) × Items) → eqb items.0 0 ≡ false → IsBytes items.1
+unless_null_takes : (read : List ℕ → Option (List ℕ × List ℕ)) (field : List ℕ → Field) → IsReader read field
+    → (null : Option (List ℕ)) (items : Items) (x : Option (List ℕ) × Items) → eqb items.0 0 ≡ false → IsBytes items.1
     → null_at items.1 ≡ null → unless_null null items.0 (read items.1) ≡ Some x → Steps (optional field x.0) items x.1
 unless_null_takes read field reads (Some rest) items x more fits null e =
     let r = null_takes items.1 rest fits null in
-    let made : Steps Null items (items.0 - 1, rest) = record { extends = extends_by Null items.0 items.1 rest (one_before items.0 more) r; rest_fits = r.rest_fits } in
-    subst (λ (y : Option (List ℕ) × Items). Steps (optional field y.0) items y.1) (some_is (None, (items.0 - 1, rest)) x e) made
+    let made : Steps Null items (items.0 - 1, rest) = record {
+      extends = extends_by Null items.0 items.1 rest (one_before items.0 more) r;
+      rest_fits = r.rest_fits;
+    } in
+    subst (λ (y : Option (List ℕ) × Items). Steps (optional field y.0) items y.1)
+    (some_is (None, (items.0 - 1, rest)) x e) made
 unless_null_takes read field reads None items x more fits null e =
     let a = bind_some (read items.1) (λ y. Some (Some y.0, (items.0 - 1, y.1))) x e in
     let r = reads items.1 a.0 fits a.1 in
-    let made : Steps (field a.0.0) items (items.0 - 1, a.0.1) = record { extends = extends_by (field a.0.0) items.0 items.1 a.0.1 (one_before items.0 more) r; rest_fits = r.rest_fits } in
-    subst (λ (y : Option (List ℕ) × Items). Steps (optional field y.0) items y.1) (some_is (Some a.0.0, (items.0 - 1, a.0.1)) x a.2) made
+    let made : Steps (field a.0.0) items (items.0 - 1, a.0.1) = record {
+      extends = extends_by (field a.0.0) items.0 items.1 a.0.1 (one_before items.0 more) r;
+      rest_fits = r.rest_fits;
+    } in
+    subst (λ (y : Option (List ℕ) × Items). Steps (optional field y.0) items y.1)
+    (some_is (Some a.0.0, (items.0 - 1, a.0.1)) x a.2) made
 
-optional_takes : (read : List ℕ → Option (List ℕ × List ℕ)) (field : List ℕ → Field) → IsReader read field → (items : Items) (x : Option (List ℕ) × Items) → IsBytes items.1 → optional_at read items ≡ Some x → Steps (optional field x.0) items x.1
+optional_takes : (read : List ℕ → Option (List ℕ × List ℕ)) (field : List ℕ → Field) → IsReader read field
+    → (items : Items) (x : Option (List ℕ) × Items) → IsBytes items.1 → optional_at read items ≡ Some x
+    → Steps (optional field x.0) items x.1
 unfolding optional_at
 optional_takes read field reads items x fits e =
-    elim (chosen (eqb items.0 0) (Some (None, items)) (unless_null (null_at items.1) items.0 (read items.1)) (Some x) e) [
-      | inl h ↦ subst (λ (y : Option (List ℕ) × Items). Steps (optional field y.0) items y.1) (some_is (None, items) x h.1) (record { extends = absent_extends items (eqb-true items.0 0 h.0); rest_fits = fits })
+    elim (chosen (eqb items.0 0) (Some (None, items)) (unless_null (null_at items.1) items.0 (read items.1))
+    (Some x) e) [
+      | inl h ↦
+          subst (λ (y : Option (List ℕ) × Items). Steps (optional field y.0) items y.1) (some_is (None, items) x h.1)
+          (record { extends = absent_extends items (eqb-true items.0 0 h.0); rest_fits = fits })
       | inr h ↦ unless_null_takes read field reads (null_at items.1) items x h.0 fits refl h.1
     ]
 
@@ -92,42 +118,56 @@ pub record TakesFields (kind : Kind) (items : Items) (f : SaslFrame) : Type 0 wh
   pub kind_is : kind_of f ≡ kind
   pub each : SpellsItems (fields_of f) items.0 items.1
 
-fields_take : (kind : Kind) (items : Items) (f : SaslFrame) → IsBytes items.1 → fields_at kind items ≡ Some f → TakesFields kind items f
+fields_take : (kind : Kind) (items : Items) (f : SaslFrame) → IsBytes items.1 → fields_at kind items ≡ Some f
+    → TakesFields kind items f
 unfolding fields_at
 fields_take kinds.Mechanisms items f fits e =
     let a = bind_some (required symbols_at items) (λ names. ended names.1 >>= λ _. Some (Mechanisms names.0)) f e in
     let z = bind_some (ended a.0.1) (λ _. Some (Mechanisms a.0.0)) f a.2 in
     let s = required_takes symbols_at Symbols symbols_take items a.0 fits a.1 in
-    subst (λ (y : SaslFrame). TakesFields kinds.Mechanisms items y) (some_is (Mechanisms a.0.0) f z.2) (record { kind_is = refl; each = s.extends [] (ended_takes a.0.1 z.0 z.1) })
+    subst (λ (y : SaslFrame). TakesFields kinds.Mechanisms items y) (some_is (Mechanisms a.0.0) f z.2)
+    (record { kind_is = refl; each = s.extends [] (ended_takes a.0.1 z.0 z.1) })
 fields_take kinds.Init items f fits e =
-    let a = bind_some (required symbol_at items) (λ m. optional_at binary_at m.1 >>= λ r. optional_at string_at r.1 >>= λ h. ended h.1 >>= λ _. Some (Init m.0 r.0 h.0)) f e in
-    let b = bind_some (optional_at binary_at a.0.1) (λ r. optional_at string_at r.1 >>= λ h. ended h.1 >>= λ _. Some (Init a.0.0 r.0 h.0)) f a.2 in
+    let a =
+    bind_some (required symbol_at items)
+    (λ m. optional_at binary_at m.1 >>= λ r. optional_at string_at r.1 >>= λ h. ended h.1 >>= λ _. Some
+    (Init m.0 r.0 h.0)) f e in
+    let b =
+    bind_some (optional_at binary_at a.0.1)
+    (λ r. optional_at string_at r.1 >>= λ h. ended h.1 >>= λ _. Some (Init a.0.0 r.0 h.0)) f a.2 in
     let d = bind_some (optional_at string_at b.0.1) (λ h. ended h.1 >>= λ _. Some (Init a.0.0 b.0.0 h.0)) f b.2 in
     let z = bind_some (ended d.0.1) (λ _. Some (Init a.0.0 b.0.0 d.0.0)) f d.2 in
     let s = required_takes symbol_at Symbol symbol_takes items a.0 fits a.1 in
     let t = optional_takes binary_at Binary binary_takes a.0.1 b.0 s.rest_fits b.1 in
     let u = optional_takes string_at Text string_takes b.0.1 d.0 t.rest_fits d.1 in
     let last = u.extends [] (ended_takes d.0.1 z.0 z.1) in
-    let each = s.extends (optional Binary b.0.0 ∷ optional Text d.0.0 ∷ []) (t.extends (optional Text d.0.0 ∷ []) last) in
-    subst (λ (y : SaslFrame). TakesFields kinds.Init items y) (some_is (Init a.0.0 b.0.0 d.0.0) f z.2) (record { kind_is = refl; each = each })
+    let each =
+    s.extends (optional Binary b.0.0 ∷ optional Text d.0.0 ∷ []) (t.extends (optional Text d.0.0 ∷ []) last) in
+    subst (λ (y : SaslFrame). TakesFields kinds.Init items y) (some_is (Init a.0.0 b.0.0 d.0.0) f z.2)
+    (record { kind_is = refl; each = each })
 fields_take kinds.Challenge items f fits e =
     let a = bind_some (required binary_at items) (λ x. ended x.1 >>= λ _. Some (Challenge x.0)) f e in
     let z = bind_some (ended a.0.1) (λ _. Some (Challenge a.0.0)) f a.2 in
     let s = required_takes binary_at Binary binary_takes items a.0 fits a.1 in
-    subst (λ (y : SaslFrame). TakesFields kinds.Challenge items y) (some_is (Challenge a.0.0) f z.2) (record { kind_is = refl; each = s.extends [] (ended_takes a.0.1 z.0 z.1) })
+    subst (λ (y : SaslFrame). TakesFields kinds.Challenge items y) (some_is (Challenge a.0.0) f z.2)
+    (record { kind_is = refl; each = s.extends [] (ended_takes a.0.1 z.0 z.1) })
 fields_take kinds.Response items f fits e =
     let a = bind_some (required binary_at items) (λ x. ended x.1 >>= λ _. Some (Response x.0)) f e in
     let z = bind_some (ended a.0.1) (λ _. Some (Response a.0.0)) f a.2 in
     let s = required_takes binary_at Binary binary_takes items a.0 fits a.1 in
-    subst (λ (y : SaslFrame). TakesFields kinds.Response items y) (some_is (Response a.0.0) f z.2) (record { kind_is = refl; each = s.extends [] (ended_takes a.0.1 z.0 z.1) })
+    subst (λ (y : SaslFrame). TakesFields kinds.Response items y) (some_is (Response a.0.0) f z.2)
+    (record { kind_is = refl; each = s.extends [] (ended_takes a.0.1 z.0 z.1) })
 fields_take kinds.Outcome items f fits e =
-    let a = bind_some (required code_at items) (λ x. optional_at binary_at x.1 >>= λ y. ended y.1 >>= λ _. Some (Outcome x.0 y.0)) f e in
+    let a =
+    bind_some (required code_at items) (λ x. optional_at binary_at x.1 >>= λ y. ended y.1 >>= λ _. Some
+    (Outcome x.0 y.0)) f e in
     let b = bind_some (optional_at binary_at a.0.1) (λ y. ended y.1 >>= λ _. Some (Outcome a.0.0 y.0)) f a.2 in
     let z = bind_some (ended b.0.1) (λ _. Some (Outcome a.0.0 b.0.0)) f b.2 in
     let s = required_takes code_at (λ c. Ubyte (outcome_code c)) code_takes items a.0 fits a.1 in
     let t = optional_takes binary_at Binary binary_takes a.0.1 b.0 s.rest_fits b.1 in
     let each = s.extends (optional Binary b.0.0 ∷ []) (t.extends [] (ended_takes b.0.1 z.0 z.1)) in
-    subst (λ (y : SaslFrame). TakesFields kinds.Outcome items y) (some_is (Outcome a.0.0 b.0.0) f z.2) (record { kind_is = refl; each = each })
+    subst (λ (y : SaslFrame). TakesFields kinds.Outcome items y) (some_is (Outcome a.0.0 b.0.0) f z.2)
+    (record { kind_is = refl; each = each })
 
 -- ---- a described list
 
@@ -135,10 +175,15 @@ pub record TakesList (bytes : List ℕ) (items : Items) (rest : List ℕ) : Type
   pub reads : Reads (SpellsList items.0 items.1) bytes rest
   pub items_fit : IsBytes items.1
 
-sized_takes : (bytes : List ℕ) (c : ℕ) (x : Items × List ℕ) → IsBytes bytes → (form_at 0xc0 0xd0 c >>= λ form. content_at form bytes >>= λ inner. number_at form inner.0 >>= λ count. Some (count, inner.1)) ≡ Some x → TakesList (c ∷ bytes) x.0 x.1
+sized_takes : (bytes : List ℕ) (c : ℕ) (x : Items × List ℕ) → IsBytes bytes
+    → (form_at 0xc0 0xd0 c >>= λ form. content_at form bytes >>= λ inner. number_at form inner.0 >>= λ count. Some
+    (count, inner.1)) ≡ Some x → TakesList (c ∷ bytes) x.0 x.1
 sized_takes bytes c x fits e =
-    let a = bind_some (form_at 0xc0 0xd0 c) (λ form. content_at form bytes >>= λ inner. number_at form inner.0 >>= λ count. Some (count, inner.1)) x e in
-    let b = bind_some (content_at a.0 bytes) (λ inner. number_at a.0 inner.0 >>= λ count. Some (count, inner.1)) x a.2 in
+    let a =
+    bind_some (form_at 0xc0 0xd0 c) (λ form. content_at form bytes >>= λ inner. number_at form inner.0 >>=
+    λ count. Some (count, inner.1)) x e in
+    let b =
+    bind_some (content_at a.0 bytes) (λ inner. number_at a.0 inner.0 >>= λ count. Some (count, inner.1)) x a.2 in
     let d = bind_some (number_at a.0 b.0.0) (λ count. Some (count, b.0.1)) x b.2 in
     let body = content_takes a.0 bytes b.0 fits b.1 in
     let count = number_takes a.0 b.0.0 d.0 body.bytes_fit d.1 in
@@ -147,7 +192,10 @@ sized_takes bytes c x fits e =
       reads = record {
         front = choice 0xc0 0xd0 a.0 ∷ content a.0 (list_body a.0 d.0.0 d.0.1);
         spelled = inr (record { form = a.0; size = size; few = count.fits; whole = refl });
-        parts = ap (λ (k : ℕ). k ∷ bytes) (form_takes 0xc0 0xd0 c a.0 a.1) ∙ ap (λ (t : List ℕ). choice 0xc0 0xd0 a.0 ∷ t) (body.parts ∙ ap (λ (t : List ℕ). content a.0 t ++ b.0.1) count.parts);
+        parts =
+            ap (λ (k : ℕ). k ∷ bytes) (form_takes 0xc0 0xd0 c a.0 a.1)
+            ∙ ap (λ (t : List ℕ). choice 0xc0 0xd0 a.0 ∷ t)
+            (body.parts ∙ ap (λ (t : List ℕ). content a.0 t ++ b.0.1) count.parts);
         rest_fits = body.rest_fits;
       };
       items_fit = count.rest_fits;
@@ -159,9 +207,20 @@ unfolding list_at
 list_takes [] x fits e = absurd cc
 list_takes (c ∷ bytes) x fits e =
     let rest = IsBytes-tail c bytes fits in
-    elim (chosen (eqb c 0x45) (Some ((0, []), bytes)) (form_at 0xc0 0xd0 c >>= λ form. content_at form bytes >>= λ inner. number_at form inner.0 >>= λ count. Some (count, inner.1)) (Some x) e) [
+    elim (chosen (eqb c 0x45) (Some ((0, []), bytes))
+    (form_at 0xc0 0xd0 c >>= λ form. content_at form bytes >>= λ inner. number_at form inner.0 >>= λ count. Some
+    (count, inner.1)) (Some x) e) [
       | inl h ↦ subst (λ (y : Items × List ℕ). TakesList (c ∷ bytes) y.0 y.1) (some_is ((0, []), bytes) x h.1)
-          (record { reads = record { front = 0x45 ∷ []; spelled = inl (refl, refl, refl); parts = ap (λ (k : ℕ). k ∷ bytes) (eqb-true c 0x45 h.0); rest_fits = rest }; items_fit = λ i. omega arith })
+          (record {
+            reads =
+                record {
+                  front = 0x45 ∷ [];
+                  spelled = inl (refl, refl, refl);
+                  parts = ap (λ (k : ℕ). k ∷ bytes) (eqb-true c 0x45 h.0);
+                  rest_fits = rest;
+                };
+            items_fit = λ i. omega arith;
+          })
       | inr h ↦ sized_takes bytes c x rest h.1
     ]
 
@@ -169,84 +228,139 @@ list_takes (c ∷ bytes) x fits e =
 
 code_kind_is : (n : ℕ) (kind : Kind) → kind_of_code n ≡ Some kind → n ≡ code_of kind
 code_kind_is n kind e =
-    elim (chosen (eqb n 0x40) (Some kinds.Mechanisms) (cond (eqb n 0x41) (Some kinds.Init) (cond (eqb n 0x42) (Some kinds.Challenge) (cond (eqb n 0x43) (Some kinds.Response) (cond (eqb n 0x44) (Some kinds.Outcome) None)))) (Some kind) e) [
+    elim (chosen (eqb n 0x40) (Some kinds.Mechanisms)
+    (cond (eqb n 0x41) (Some kinds.Init)
+    (cond (eqb n 0x42) (Some kinds.Challenge)
+    (cond (eqb n 0x43) (Some kinds.Response) (cond (eqb n 0x44) (Some kinds.Outcome) None)))) (Some kind) e) [
       | inl h ↦ rw (← some_is kinds.Mechanisms kind h.1) (eqb-true n 0x40 h.0)
-      | inr h ↦ elim (chosen (eqb n 0x41) (Some kinds.Init) (cond (eqb n 0x42) (Some kinds.Challenge) (cond (eqb n 0x43) (Some kinds.Response) (cond (eqb n 0x44) (Some kinds.Outcome) None))) (Some kind) h.1) [
-        | inl k ↦ rw (← some_is kinds.Init kind k.1) (eqb-true n 0x41 k.0)
-        | inr k ↦ elim (chosen (eqb n 0x42) (Some kinds.Challenge) (cond (eqb n 0x43) (Some kinds.Response) (cond (eqb n 0x44) (Some kinds.Outcome) None)) (Some kind) k.1) [
-          | inl l ↦ rw (← some_is kinds.Challenge kind l.1) (eqb-true n 0x42 l.0)
-          | inr l ↦ elim (chosen (eqb n 0x43) (Some kinds.Response) (cond (eqb n 0x44) (Some kinds.Outcome) None) (Some kind) l.1) [
-            | inl m ↦ rw (← some_is kinds.Response kind m.1) (eqb-true n 0x43 m.0)
-            | inr m ↦ let g = when_some (eqb n 0x44) (Some kinds.Outcome) kind m.1 in rw (← some_is kinds.Outcome kind g.1) (eqb-true n 0x44 g.0)
+      | inr h ↦
+          elim (chosen (eqb n 0x41) (Some kinds.Init)
+          (cond (eqb n 0x42) (Some kinds.Challenge)
+          (cond (eqb n 0x43) (Some kinds.Response) (cond (eqb n 0x44) (Some kinds.Outcome) None))) (Some kind) h.1) [
+            | inl k ↦ rw (← some_is kinds.Init kind k.1) (eqb-true n 0x41 k.0)
+            | inr k ↦
+                elim (chosen (eqb n 0x42) (Some kinds.Challenge)
+                (cond (eqb n 0x43) (Some kinds.Response) (cond (eqb n 0x44) (Some kinds.Outcome) None)) (Some kind) k.1) [
+                  | inl l ↦ rw (← some_is kinds.Challenge kind l.1) (eqb-true n 0x42 l.0)
+                  | inr l ↦
+                      elim (chosen (eqb n 0x43) (Some kinds.Response) (cond (eqb n 0x44) (Some kinds.Outcome) None)
+                      (Some kind) l.1) [
+                        | inl m ↦ rw (← some_is kinds.Response kind m.1) (eqb-true n 0x43 m.0)
+                        | inr m ↦
+                            let g = when_some (eqb n 0x44) (Some kinds.Outcome) kind m.1 in
+                            rw (← some_is kinds.Outcome kind g.1) (eqb-true n 0x44 g.0)
+                      ]
+                ]
           ]
-        ]
-      ]
     ]
 
-same_name : (name : List ℕ) (kind other : Kind) → bytes_eq name (name_of kind) ≡ true → kind ≡ other → name ≡ name_of other
+same_name : (name : List ℕ) (kind other : Kind) → bytes_eq name (name_of kind) ≡ true → kind ≡ other
+    → name ≡ name_of other
 same_name name kind other e f = (bytes_eq-Decides name (name_of kind)).0 e ∙ ap name_of f
 
 kind_named : (name : List ℕ) (kind : Kind) → kind_of_name name ≡ Some kind → name ≡ name_of kind
 unfolding kind_of_name
 kind_named name kind e =
     let test : Kind → Bool = λ k. bytes_eq name (name_of k) in
-    elim (chosen (test kinds.Mechanisms) (Some kinds.Mechanisms) (cond (test kinds.Init) (Some kinds.Init) (cond (test kinds.Challenge) (Some kinds.Challenge) (cond (test kinds.Response) (Some kinds.Response) (cond (test kinds.Outcome) (Some kinds.Outcome) None)))) (Some kind) e) [
+    elim (chosen (test kinds.Mechanisms) (Some kinds.Mechanisms)
+    (cond (test kinds.Init) (Some kinds.Init)
+    (cond (test kinds.Challenge) (Some kinds.Challenge)
+    (cond (test kinds.Response) (Some kinds.Response) (cond (test kinds.Outcome) (Some kinds.Outcome) None))))
+    (Some kind) e) [
       | inl h ↦ same_name name kinds.Mechanisms kind h.0 (some_is kinds.Mechanisms kind h.1)
-      | inr h ↦ elim (chosen (test kinds.Init) (Some kinds.Init) (cond (test kinds.Challenge) (Some kinds.Challenge) (cond (test kinds.Response) (Some kinds.Response) (cond (test kinds.Outcome) (Some kinds.Outcome) None))) (Some kind) h.1) [
-        | inl k ↦ same_name name kinds.Init kind k.0 (some_is kinds.Init kind k.1)
-        | inr k ↦ elim (chosen (test kinds.Challenge) (Some kinds.Challenge) (cond (test kinds.Response) (Some kinds.Response) (cond (test kinds.Outcome) (Some kinds.Outcome) None)) (Some kind) k.1) [
-          | inl l ↦ same_name name kinds.Challenge kind l.0 (some_is kinds.Challenge kind l.1)
-          | inr l ↦ elim (chosen (test kinds.Response) (Some kinds.Response) (cond (test kinds.Outcome) (Some kinds.Outcome) None) (Some kind) l.1) [
-            | inl m ↦ same_name name kinds.Response kind m.0 (some_is kinds.Response kind m.1)
-            | inr m ↦ let g = when_some (test kinds.Outcome) (Some kinds.Outcome) kind m.1 in same_name name kinds.Outcome kind g.0 (some_is kinds.Outcome kind g.1)
+      | inr h ↦
+          elim (chosen (test kinds.Init) (Some kinds.Init)
+          (cond (test kinds.Challenge) (Some kinds.Challenge)
+          (cond (test kinds.Response) (Some kinds.Response) (cond (test kinds.Outcome) (Some kinds.Outcome) None)))
+          (Some kind) h.1) [
+            | inl k ↦ same_name name kinds.Init kind k.0 (some_is kinds.Init kind k.1)
+            | inr k ↦
+                elim (chosen (test kinds.Challenge) (Some kinds.Challenge)
+                (cond (test kinds.Response) (Some kinds.Response) (cond (test kinds.Outcome) (Some kinds.Outcome) None))
+                (Some kind) k.1) [
+                  | inl l ↦ same_name name kinds.Challenge kind l.0 (some_is kinds.Challenge kind l.1)
+                  | inr l ↦
+                      elim (chosen (test kinds.Response) (Some kinds.Response)
+                      (cond (test kinds.Outcome) (Some kinds.Outcome) None) (Some kind) l.1) [
+                        | inl m ↦ same_name name kinds.Response kind m.0 (some_is kinds.Response kind m.1)
+                        | inr m ↦
+                            let g = when_some (test kinds.Outcome) (Some kinds.Outcome) kind m.1 in
+                            same_name name kinds.Outcome kind g.0 (some_is kinds.Outcome kind g.1)
+                      ]
+                ]
           ]
-        ]
-      ]
     ]
 
-eight_takes : (bytes : List ℕ) (x : ℕ × List ℕ) → IsBytes bytes → eight_at bytes ≡ Some x → (bytes ≡ to_be_bytes w64 x.0 ++ x.1) × IsBytes x.1
+eight_takes : (bytes : List ℕ) (x : ℕ × List ℕ) → IsBytes bytes → eight_at bytes ≡ Some x
+    → (bytes ≡ to_be_bytes w64 x.0 ++ x.1) × IsBytes x.1
 eight_takes bytes x fits e =
     let g = unless_some (ltb (length bytes) 8) (Some (from_be_bytes w64 (take 8 bytes), drop 8 bytes)) x e in
     let long : 8 ≤ length bytes = ltb-false _ _ g.0 in
-    let back : to_be_bytes w64 (from_be_bytes w64 (take 8 bytes)) ≡ take 8 bytes = be_bytes_8 (take 8 bytes) _ (omega (arith, length-take 8 bytes)) (IsBytes-take 8 bytes fits) refl in
-    subst (λ (y : ℕ × List ℕ). (bytes ≡ to_be_bytes w64 y.0 ++ y.1) × IsBytes y.1) (some_is (from_be_bytes w64 (take 8 bytes), drop 8 bytes) x g.1)
+    let back : to_be_bytes w64 (from_be_bytes w64 (take 8 bytes)) ≡ take 8 bytes =
+    be_bytes_8 (take 8 bytes) _ (omega (arith, length-take 8 bytes)) (IsBytes-take 8 bytes fits) refl in
+    subst (λ (y : ℕ × List ℕ). (bytes ≡ to_be_bytes w64 y.0 ++ y.1) × IsBytes y.1)
+    (some_is (from_be_bytes w64 (take 8 bytes), drop 8 bytes) x g.1)
     (sym (ap (λ (t : List ℕ). t ++ drop 8 bytes) back ∙ take-append-drop 8 bytes), IsBytes-drop 8 bytes fits)
 
 abbrev IsDescribed : List ℕ → Kind × List ℕ → Type 0
 IsDescribed bytes y = Reads (SpellsDescriptor y.0) bytes y.1
 
-short_takes : (c : ℕ) (bytes : List ℕ) (x : Kind × List ℕ) → IsBytes bytes → c ≡ 0x53 → (byte_at bytes >>= λ n. kind_of_code n.0 >>= λ kind. Some (kind, n.1)) ≡ Some x → IsDescribed (c ∷ bytes) x
+short_takes : (c : ℕ) (bytes : List ℕ) (x : Kind × List ℕ) → IsBytes bytes → c ≡ 0x53
+    → (byte_at bytes >>= λ n. kind_of_code n.0 >>= λ kind. Some (kind, n.1)) ≡ Some x → IsDescribed (c ∷ bytes) x
 short_takes c bytes x fits h e =
     let a = bind_some (byte_at bytes) (λ n. kind_of_code n.0 >>= λ kind. Some (kind, n.1)) x e in
     let b = bind_some (kind_of_code a.0.0) (λ kind. Some (kind, a.0.1)) x a.2 in
     let first = byte_takes bytes a.0 fits a.1 in
     subst (IsDescribed (c ∷ bytes)) (some_is (b.0, a.0.1) x b.2)
-    (record { front = 0x53 ∷ code_of b.0 ∷ []; spelled = inl refl; parts = ap (λ (k : ℕ). k ∷ bytes) h ∙ ap (λ (t : List ℕ). 0x53 ∷ t) (first.0 ∙ ap (λ (k : ℕ). k ∷ a.0.1) (code_kind_is a.0.0 b.0 b.1)); rest_fits = first.1 })
+    (record {
+      front = 0x53 ∷ code_of b.0 ∷ [];
+      spelled = inl refl;
+      parts =
+          ap (λ (k : ℕ). k ∷ bytes) h ∙ ap (λ (t : List ℕ). 0x53 ∷ t)
+          (first.0 ∙ ap (λ (k : ℕ). k ∷ a.0.1) (code_kind_is a.0.0 b.0 b.1));
+      rest_fits = first.1;
+    })
 
-long_takes : (c : ℕ) (bytes : List ℕ) (x : Kind × List ℕ) → IsBytes bytes → c ≡ 0x80 → (eight_at bytes >>= λ n. kind_of_code n.0 >>= λ kind. Some (kind, n.1)) ≡ Some x → IsDescribed (c ∷ bytes) x
+long_takes : (c : ℕ) (bytes : List ℕ) (x : Kind × List ℕ) → IsBytes bytes → c ≡ 0x80
+    → (eight_at bytes >>= λ n. kind_of_code n.0 >>= λ kind. Some (kind, n.1)) ≡ Some x → IsDescribed (c ∷ bytes) x
 long_takes c bytes x fits h e =
     let a = bind_some (eight_at bytes) (λ n. kind_of_code n.0 >>= λ kind. Some (kind, n.1)) x e in
     let b = bind_some (kind_of_code a.0.0) (λ kind. Some (kind, a.0.1)) x a.2 in
     let first = eight_takes bytes a.0 fits a.1 in
     subst (IsDescribed (c ∷ bytes)) (some_is (b.0, a.0.1) x b.2)
-    (record { front = 0x80 ∷ to_be_bytes w64 (code_of b.0); spelled = inr (inl refl); parts = ap (λ (k : ℕ). k ∷ bytes) h ∙ ap (λ (t : List ℕ). 0x80 ∷ t) (first.0 ∙ ap (λ (k : ℕ). to_be_bytes w64 k ++ a.0.1) (code_kind_is a.0.0 b.0 b.1)); rest_fits = first.1 })
+    (record {
+      front = 0x80 ∷ to_be_bytes w64 (code_of b.0);
+      spelled = inr (inl refl);
+      parts =
+          ap (λ (k : ℕ). k ∷ bytes) h ∙ ap (λ (t : List ℕ). 0x80 ∷ t)
+          (first.0 ∙ ap (λ (k : ℕ). to_be_bytes w64 k ++ a.0.1) (code_kind_is a.0.0 b.0 b.1));
+      rest_fits = first.1;
+    })
 
-named_takes : (bytes : List ℕ) (x : Kind × List ℕ) → IsBytes bytes → (symbol_at bytes >>= λ name. kind_of_name name.0 >>= λ kind. Some (kind, name.1)) ≡ Some x → IsDescribed bytes x
+named_takes : (bytes : List ℕ) (x : Kind × List ℕ) → IsBytes bytes
+    → (symbol_at bytes >>= λ name. kind_of_name name.0 >>= λ kind. Some (kind, name.1)) ≡ Some x → IsDescribed bytes x
 named_takes bytes x fits e =
     let a = bind_some (symbol_at bytes) (λ name. kind_of_name name.0 >>= λ kind. Some (kind, name.1)) x e in
     let b = bind_some (kind_of_name a.0.0) (λ kind. Some (kind, a.0.1)) x a.2 in
     let r = symbol_takes bytes a.0 fits a.1 in
     subst (IsDescribed bytes) (some_is (b.0, a.0.1) x b.2)
-    (record { front = r.front; spelled = inr (inr (subst (λ (t : List ℕ). SpellsSymbol t r.front) (kind_named a.0.0 b.0 b.1) r.spelled)); parts = r.parts; rest_fits = r.rest_fits })
+    (record {
+      front = r.front;
+      spelled = inr (inr (subst (λ (t : List ℕ). SpellsSymbol t r.front) (kind_named a.0.0 b.0 b.1) r.spelled));
+      parts = r.parts;
+      rest_fits = r.rest_fits;
+    })
 
-descriptor_takes : (bytes : List ℕ) (x : Kind × List ℕ) → IsBytes bytes → descriptor_at bytes ≡ Some x → IsDescribed bytes x
+descriptor_takes : (bytes : List ℕ) (x : Kind × List ℕ) → IsBytes bytes → descriptor_at bytes ≡ Some x
+    → IsDescribed bytes x
 unfolding descriptor_at
 descriptor_takes [] x fits e = absurd cc
 descriptor_takes (c ∷ bytes) x fits e =
     let rest = IsBytes-tail c bytes fits in
     let one : Option (Kind × List ℕ) = byte_at bytes >>= λ n. kind_of_code n.0 >>= λ kind. Some (kind, n.1) in
     let eight : Option (Kind × List ℕ) = eight_at bytes >>= λ n. kind_of_code n.0 >>= λ kind. Some (kind, n.1) in
-    let named : Option (Kind × List ℕ) = symbol_at (c ∷ bytes) >>= λ name. kind_of_name name.0 >>= λ kind. Some (kind, name.1) in
+    let named : Option (Kind × List ℕ) =
+    symbol_at (c ∷ bytes) >>= λ name. kind_of_name name.0 >>= λ kind. Some (kind, name.1) in
     elim (chosen (eqb c 0x53) one (cond (eqb c 0x80) eight named) (Some x) e) [
       | inl h ↦ short_takes c bytes x rest (eqb-true c 0x53 h.0) h.1
       | inr h ↦ elim (chosen (eqb c 0x80) eight named (Some x) h.1) [
@@ -255,11 +369,13 @@ descriptor_takes (c ∷ bytes) x fits e =
       ]
     ]
 
-pub value_takes : (bytes : List ℕ) (x : SaslFrame × List ℕ) → IsBytes bytes → value_at bytes ≡ Some x → Reads (SpellsValue x.0) bytes x.1
+pub value_takes : (bytes : List ℕ) (x : SaslFrame × List ℕ) → IsBytes bytes → value_at bytes ≡ Some x
+    → Reads (SpellsValue x.0) bytes x.1
 unfolding value_at
 value_takes [] x fits e = absurd cc
 value_takes (zero ∷ bytes) x fits e =
-    let a = bind_some (descriptor_at bytes) (λ kind. list_at kind.1 >>= λ l. fields_at kind.0 l.0 >>= λ f. Some (f, l.1)) x e in
+    let a =
+    bind_some (descriptor_at bytes) (λ kind. list_at kind.1 >>= λ l. fields_at kind.0 l.0 >>= λ f. Some (f, l.1)) x e in
     let b = bind_some (list_at a.0.1) (λ l. fields_at a.0.0 l.0 >>= λ f. Some (f, l.1)) x a.2 in
     let d = bind_some (fields_at a.0.0 b.0.0) (λ f. Some (f, b.0.1)) x b.2 in
     let described = descriptor_takes bytes a.0 (IsBytes-tail 0 bytes fits) a.1 in
@@ -277,7 +393,9 @@ value_takes (zero ∷ bytes) x fits e =
         listed = listed.reads.spelled;
         whole = refl;
       };
-      parts = ap (λ (t : List ℕ). 0 ∷ t) (described.parts ∙ ap (λ (t : List ℕ). described.front ++ t) listed.reads.parts ∙ sym (append_assoc described.front listed.reads.front b.0.1));
+      parts =
+          ap (λ (t : List ℕ). 0 ∷ t) (described.parts ∙ ap (λ (t : List ℕ). described.front ++ t) listed.reads.parts
+          ∙ sym (append_assoc described.front listed.reads.front b.0.1));
       rest_fits = listed.reads.rest_fits;
     } in
     subst (λ (y : SaslFrame × List ℕ). Reads (SpellsValue y.0) (0 ∷ bytes) y.1) (some_is (d.0, b.0.1) x d.2) made

@@ -25,23 +25,28 @@ pub record TakesNumber (form : Form) (bytes : List ℕ) (n : ℕ) (rest : List �
   pub fits : n < limit form
   pub rest_fits : IsBytes rest
 
-four_takes : (bytes : List ℕ) (x : ℕ × List ℕ) → IsBytes bytes → four_at bytes ≡ Some x → TakesNumber ThirtyTwo bytes x.0 x.1
+four_takes : (bytes : List ℕ) (x : ℕ × List ℕ) → IsBytes bytes → four_at bytes ≡ Some x
+    → TakesNumber ThirtyTwo bytes x.0 x.1
 four_takes bytes x fits e =
     let g = unless_some (ltb (length bytes) 4) (Some (from_be_bytes w32 (take 4 bytes), drop 4 bytes)) x e in
     let long : 4 ≤ length bytes = ltb-false _ _ g.0 in
     let front = IsBytes-take 4 bytes fits in
-    let back : to_be_bytes w32 (from_be_bytes w32 (take 4 bytes)) ≡ take 4 bytes = be_bytes_4 (take 4 bytes) _ (omega (arith, length-take 4 bytes)) front refl in
+    let back : to_be_bytes w32 (from_be_bytes w32 (take 4 bytes)) ≡ take 4 bytes =
+    be_bytes_4 (take 4 bytes) _ (omega (arith, length-take 4 bytes)) front refl in
     let made : TakesNumber ThirtyTwo bytes (from_be_bytes w32 (take 4 bytes)) (drop 4 bytes) = record {
       parts = sym (ap (λ (t : List ℕ). t ++ drop 4 bytes) back ∙ take-append-drop 4 bytes);
       fits = omega (arith, front 0, front 1, front 2, front 3);
       rest_fits = IsBytes-drop 4 bytes fits;
     } in
-    subst (λ (y : ℕ × List ℕ). TakesNumber ThirtyTwo bytes y.0 y.1) (some_is (from_be_bytes w32 (take 4 bytes), drop 4 bytes) x g.1) made
+    subst (λ (y : ℕ × List ℕ). TakesNumber ThirtyTwo bytes y.0 y.1)
+    (some_is (from_be_bytes w32 (take 4 bytes), drop 4 bytes) x g.1) made
 
-pub number_takes : (form : Form) (bytes : List ℕ) (x : ℕ × List ℕ) → IsBytes bytes → number_at form bytes ≡ Some x → TakesNumber form bytes x.0 x.1
+pub number_takes : (form : Form) (bytes : List ℕ) (x : ℕ × List ℕ) → IsBytes bytes → number_at form bytes ≡ Some x
+    → TakesNumber form bytes x.0 x.1
 number_takes Eight [] x fits e = absurd cc
 number_takes Eight (b ∷ bytes) x fits e =
-    subst (λ (y : ℕ × List ℕ). TakesNumber Eight (b ∷ bytes) y.0 y.1) (some_is (b, bytes) x e) (record { parts = refl; fits = fits 0; rest_fits = IsBytes-tail b bytes fits })
+    subst (λ (y : ℕ × List ℕ). TakesNumber Eight (b ∷ bytes) y.0 y.1) (some_is (b, bytes) x e)
+    (record { parts = refl; fits = fits 0; rest_fits = IsBytes-tail b bytes fits })
 number_takes ThirtyTwo bytes x fits e = four_takes bytes x fits e
 
 -- ---- contents
@@ -52,20 +57,28 @@ pub record TakesContent (form : Form) (bytes x rest : List ℕ) : Type 0 where
   pub bytes_fit : IsBytes x
   pub rest_fits : IsBytes rest
 
-pub content_takes : (form : Form) (bytes : List ℕ) (x : List ℕ × List ℕ) → IsBytes bytes → content_at form bytes ≡ Some x → TakesContent form bytes x.0 x.1
+pub content_takes : (form : Form) (bytes : List ℕ) (x : List ℕ × List ℕ) → IsBytes bytes
+    → content_at form bytes ≡ Some x → TakesContent form bytes x.0 x.1
 unfolding content_at
 content_takes form bytes x fits e =
-    let b = bind_some (number_at form bytes) (λ n. cond (ltb (length n.1) n.0) None (Some (take n.0 n.1, drop n.0 n.1))) x e in
+    let b =
+    bind_some (number_at form bytes) (λ n. cond (ltb (length n.1) n.0) None (Some (take n.0 n.1, drop n.0 n.1))) x e in
     let n = b.0 in
     let t = number_takes form bytes n fits b.1 in
     let g = unless_some (ltb (length n.1) n.0) (Some (take n.0 n.1, drop n.0 n.1)) x b.2 in
     let long : n.0 ≤ length n.1 = ltb-false _ _ g.0 in
     let len : length (take n.0 n.1) ≡ n.0 = omega (arith, length-take n.0 n.1) in
     let whole : bytes ≡ content form (take n.0 n.1) ++ drop n.0 n.1 =
-    t.parts ∙ ap (λ (r : List ℕ). number form n.0 ++ r) (sym (take-append-drop n.0 n.1)) ∙ ap (λ (k : ℕ). number form k ++ (take n.0 n.1 ++ drop n.0 n.1)) (sym len)
+    t.parts ∙ ap (λ (r : List ℕ). number form n.0 ++ r) (sym (take-append-drop n.0 n.1))
+    ∙ ap (λ (k : ℕ). number form k ++ (take n.0 n.1 ++ drop n.0 n.1)) (sym len)
     ∙ sym (append_assoc (number form (length (take n.0 n.1))) (take n.0 n.1) (drop n.0 n.1)) in
     let small : length (take n.0 n.1) < limit form = rw len t.fits in
-    let made : TakesContent form bytes (take n.0 n.1) (drop n.0 n.1) = record { parts = whole; fits = small; bytes_fit = IsBytes-take n.0 n.1 t.rest_fits; rest_fits = IsBytes-drop n.0 n.1 t.rest_fits } in
+    let made : TakesContent form bytes (take n.0 n.1) (drop n.0 n.1) = record {
+      parts = whole;
+      fits = small;
+      bytes_fit = IsBytes-take n.0 n.1 t.rest_fits;
+      rest_fits = IsBytes-drop n.0 n.1 t.rest_fits;
+    } in
     subst (λ (y : List ℕ × List ℕ). TakesContent form bytes y.0 y.1) (some_is (take n.0 n.1, drop n.0 n.1) x g.1) made
 
 -- which form a constructor names
@@ -73,14 +86,20 @@ pub form_takes : (short long c : ℕ) (form : Form) → form_at short long c ≡
 form_takes short long c form e =
     elim (chosen (eqb c short) (Some Eight) (cond (eqb c long) (Some ThirtyTwo) None) (Some form) e) [
       | inl h ↦ rw (← some_is Eight form h.1) (eqb-true c short h.0)
-      | inr h ↦ let g = when_some (eqb c long) (Some ThirtyTwo) form h.1 in rw (← some_is ThirtyTwo form g.1) (eqb-true c long g.0)
+      | inr h ↦
+          let g = when_some (eqb c long) (Some ThirtyTwo) form h.1 in
+          rw (← some_is ThirtyTwo form g.1) (eqb-true c long g.0)
     ]
 
-pub byte_takes : (bytes : List ℕ) (x : ℕ × List ℕ) → IsBytes bytes → byte_at bytes ≡ Some x → (bytes ≡ x.0 ∷ x.1) × IsBytes x.1
+pub byte_takes : (bytes : List ℕ) (x : ℕ × List ℕ) → IsBytes bytes → byte_at bytes ≡ Some x → (bytes ≡ x.0 ∷ x.1)
+    × IsBytes x.1
 byte_takes [] x fits e = absurd cc
-byte_takes (b ∷ bytes) x fits e = subst (λ (y : ℕ × List ℕ). (b ∷ bytes ≡ y.0 ∷ y.1) × IsBytes y.1) (some_is (b, bytes) x e) (refl, IsBytes-tail b bytes fits)
+byte_takes (b ∷ bytes) x fits e =
+    subst (λ (y : ℕ × List ℕ). (b ∷ bytes ≡ y.0 ∷ y.1) × IsBytes y.1) (some_is (b, bytes) x e)
+    (refl, IsBytes-tail b bytes fits)
 
-variable_takes : (short long : ℕ) (bytes : List ℕ) (x : List ℕ × List ℕ) → IsBytes bytes → variable_at short long bytes ≡ Some x → Reads (SpellsVariable short long x.0) bytes x.1
+variable_takes : (short long : ℕ) (bytes : List ℕ) (x : List ℕ × List ℕ) → IsBytes bytes
+    → variable_at short long bytes ≡ Some x → Reads (SpellsVariable short long x.0) bytes x.1
 unfolding variable_at
 variable_takes short long bytes x fits e =
     let a = bind_some (byte_at bytes) (λ c. form_at short long c.0 >>= λ form. content_at form c.1) x e in
@@ -95,21 +114,26 @@ variable_takes short long bytes x fits e =
       rest_fits = c.rest_fits;
     }
 
-pub binary_takes : (bytes : List ℕ) (x : List ℕ × List ℕ) → IsBytes bytes → binary_at bytes ≡ Some x → Reads (SpellsField (Binary x.0)) bytes x.1
+pub binary_takes : (bytes : List ℕ) (x : List ℕ × List ℕ) → IsBytes bytes → binary_at bytes ≡ Some x
+    → Reads (SpellsField (Binary x.0)) bytes x.1
 unfolding binary_at
 binary_takes bytes x fits e = variable_takes 0xa0 0xb0 bytes x fits e
 
 -- a spelling of something that passes a test
-tested : {P Q : List ℕ → Type 0} (bytes rest : List ℕ) → ((b : List ℕ) → P b → Q b) → Reads P bytes rest → Reads Q bytes rest
-tested bytes rest more r = record { front = r.front; spelled = more r.front r.spelled; parts = r.parts; rest_fits = r.rest_fits }
+tested : {P Q : List ℕ → Type 0} (bytes rest : List ℕ) → ((b : List ℕ) → P b → Q b) → Reads P bytes rest
+    → Reads Q bytes rest
+tested bytes rest more r =
+    record { front = r.front; spelled = more r.front r.spelled; parts = r.parts; rest_fits = r.rest_fits }
 
-pub string_takes : (bytes : List ℕ) (x : List ℕ × List ℕ) → IsBytes bytes → string_at bytes ≡ Some x → Reads (SpellsField (Text x.0)) bytes x.1
+pub string_takes : (bytes : List ℕ) (x : List ℕ × List ℕ) → IsBytes bytes → string_at bytes ≡ Some x
+    → Reads (SpellsField (Text x.0)) bytes x.1
 unfolding string_at
 string_takes bytes x fits e =
     let a = bind_some (variable_at 0xa1 0xb1 bytes) (λ y. cond (is_utf8 y.0) (Some y) None) x e in
     let g = when_some (is_utf8 a.0.0) (Some a.0) x a.2 in
     let r = variable_takes 0xa1 0xb1 bytes a.0 fits a.1 in
-    let made : Reads (SpellsField (Text a.0.0)) bytes a.0.1 = tested bytes a.0.1 (λ b s. (IsUtf8-from_is_utf8 a.0.0 g.0, s)) r in
+    let made : Reads (SpellsField (Text a.0.0)) bytes a.0.1 =
+    tested bytes a.0.1 (λ b s. (IsUtf8-from_is_utf8 a.0.0 g.0, s)) r in
     subst (λ (y : List ℕ × List ℕ). Reads (SpellsField (Text y.0)) bytes y.1) (some_is a.0 x g.1) made
 
 pub record TakesElement (form : Form) (bytes x rest : List ℕ) : Type 0 where
@@ -117,16 +141,22 @@ pub record TakesElement (form : Form) (bytes x rest : List ℕ) : Type 0 where
   pub element : IsElement form x
   pub rest_fits : IsBytes rest
 
-element_takes : (form : Form) (bytes : List ℕ) (x : List ℕ × List ℕ) → IsBytes bytes → element_at form bytes ≡ Some x → TakesElement form bytes x.0 x.1
+element_takes : (form : Form) (bytes : List ℕ) (x : List ℕ × List ℕ) → IsBytes bytes → element_at form bytes ≡ Some x
+    → TakesElement form bytes x.0 x.1
 unfolding element_at
 element_takes form bytes x fits e =
     let a = bind_some (content_at form bytes) (λ y. cond (is_ascii y.0) (Some y) None) x e in
     let g = when_some (is_ascii a.0.0) (Some a.0) x a.2 in
     let c = content_takes form bytes a.0 fits a.1 in
-    let made : TakesElement form bytes a.0.0 a.0.1 = record { parts = c.parts; element = record { ascii = IsAscii-from_is_ascii a.0.0 g.0; fits = c.fits }; rest_fits = c.rest_fits } in
+    let made : TakesElement form bytes a.0.0 a.0.1 = record {
+      parts = c.parts;
+      element = record { ascii = IsAscii-from_is_ascii a.0.0 g.0; fits = c.fits };
+      rest_fits = c.rest_fits;
+    } in
     subst (λ (y : List ℕ × List ℕ). TakesElement form bytes y.0 y.1) (some_is a.0 x g.1) made
 
-pub symbol_takes : (bytes : List ℕ) (x : List ℕ × List ℕ) → IsBytes bytes → symbol_at bytes ≡ Some x → Reads (SpellsField (Symbol x.0)) bytes x.1
+pub symbol_takes : (bytes : List ℕ) (x : List ℕ × List ℕ) → IsBytes bytes → symbol_at bytes ≡ Some x
+    → Reads (SpellsField (Symbol x.0)) bytes x.1
 unfolding symbol_at
 symbol_takes bytes x fits e =
     let a = bind_some (byte_at bytes) (λ c. form_at 0xa3 0xb3 c.0 >>= λ form. element_at form c.1) x e in
@@ -136,7 +166,9 @@ symbol_takes bytes x fits e =
     record {
       front = choice 0xa3 0xb3 b.0 ∷ content b.0 x.0;
       spelled = (c.element.ascii, record { form = b.0; fits = c.element.fits; whole = refl });
-      parts = first.0 ∙ ap (λ (k : ℕ). k ∷ a.0.1) (form_takes 0xa3 0xb3 a.0.0 b.0 b.1) ∙ ap (λ (t : List ℕ). choice 0xa3 0xb3 b.0 ∷ t) c.parts;
+      parts =
+          first.0 ∙ ap (λ (k : ℕ). k ∷ a.0.1) (form_takes 0xa3 0xb3 a.0.0 b.0 b.1)
+          ∙ ap (λ (t : List ℕ). choice 0xa3 0xb3 b.0 ∷ t) c.parts;
       rest_fits = c.rest_fits;
     }
 
@@ -148,23 +180,34 @@ pub record TakesElements (form : Form) (n : ℕ) (bytes : List ℕ) (xs : List (
   pub each : AllByRecursion (IsElement form) xs
   pub rest_fits : IsBytes rest
 
-elements_take : (form : Form) (n : ℕ) (bytes : List ℕ) (x : List (List ℕ) × List ℕ) → IsBytes bytes → elements_at form n bytes ≡ Some x → TakesElements form n bytes x.0 x.1
+elements_take : (form : Form) (n : ℕ) (bytes : List ℕ) (x : List (List ℕ) × List ℕ) → IsBytes bytes
+    → elements_at form n bytes ≡ Some x → TakesElements form n bytes x.0 x.1
 unfolding elements_at
 elements_take form zero bytes x fits e =
-    let made : TakesElements form 0 bytes [] bytes = record { parts = refl; count = refl; each = tt; rest_fits = fits } in
+    let made : TakesElements form 0 bytes [] bytes = record {
+      parts = refl;
+      count = refl;
+      each = tt;
+      rest_fits = fits;
+    } in
     subst (λ (y : List (List ℕ) × List ℕ). TakesElements form 0 bytes y.0 y.1) (some_is ([], bytes) x e) made
 elements_take form (suc n) bytes x fits e =
-    let a = bind_some (element_at form bytes) (λ first. elements_at form n first.1 >>= λ others. Some (first.0 ∷ others.0, others.1)) x e in
+    let a =
+    bind_some (element_at form bytes) (λ first. elements_at form n first.1 >>= λ others. Some
+    (first.0 ∷ others.0, others.1)) x e in
     let b = bind_some (elements_at form n a.0.1) (λ others. Some (a.0.0 ∷ others.0, others.1)) x a.2 in
     let first = element_takes form bytes a.0 fits a.1 in
     let others = elements_take form n a.0.1 b.0 first.rest_fits b.1 in
     let made : TakesElements form (suc n) bytes (a.0.0 ∷ b.0.0) b.0.1 = record {
-      parts = first.parts ∙ ap (λ (t : List ℕ). content form a.0.0 ++ t) others.parts ∙ sym (append_assoc (content form a.0.0) (elements form b.0.0) b.0.1);
+      parts =
+          first.parts ∙ ap (λ (t : List ℕ). content form a.0.0 ++ t) others.parts
+          ∙ sym (append_assoc (content form a.0.0) (elements form b.0.0) b.0.1);
       count = ap suc others.count;
       each = (first.element, others.each);
       rest_fits = others.rest_fits;
     } in
-    subst (λ (y : List (List ℕ) × List ℕ). TakesElements form (suc n) bytes y.0 y.1) (some_is (a.0.0 ∷ b.0.0, b.0.1) x b.2) made
+    subst (λ (y : List (List ℕ) × List ℕ). TakesElements form (suc n) bytes y.0 y.1)
+    (some_is (a.0.0 ∷ b.0.0, b.0.1) x b.2) made
 
 pub record TakesArray (form : Form) (bytes : List ℕ) (xs : List (List ℕ)) (rest : List ℕ) : Type 0 where
   pub inner : Form
@@ -174,31 +217,56 @@ pub record TakesArray (form : Form) (bytes : List ℕ) (xs : List (List ℕ)) (r
   pub parts : bytes ≡ content form (array_body form inner xs) ++ rest
   pub rest_fits : IsBytes rest
 
-array_takes : (form : Form) (bytes : List ℕ) (x : List (List ℕ) × List ℕ) → IsBytes bytes → array_at form bytes ≡ Some x → TakesArray form bytes x.0 x.1
+array_takes : (form : Form) (bytes : List ℕ) (x : List (List ℕ) × List ℕ) → IsBytes bytes
+    → array_at form bytes ≡ Some x → TakesArray form bytes x.0 x.1
 unfolding array_at
 array_takes form bytes x fits e =
-    let a = bind_some (content_at form bytes) (λ inner. number_at form inner.0 >>= λ count. byte_at count.1 >>= λ c. form_at 0xa3 0xb3 c.0 >>= λ element. elements_at element count.0 c.1 >>= λ names. cond (eqb (length names.1) 0) (Some (names.0, inner.1)) None) x e in
-    let b = bind_some (number_at form a.0.0) (λ count. byte_at count.1 >>= λ c. form_at 0xa3 0xb3 c.0 >>= λ element. elements_at element count.0 c.1 >>= λ names. cond (eqb (length names.1) 0) (Some (names.0, a.0.1)) None) x a.2 in
-    let c = bind_some (byte_at b.0.1) (λ c. form_at 0xa3 0xb3 c.0 >>= λ element. elements_at element b.0.0 c.1 >>= λ names. cond (eqb (length names.1) 0) (Some (names.0, a.0.1)) None) x b.2 in
-    let d = bind_some (form_at 0xa3 0xb3 c.0.0) (λ element. elements_at element b.0.0 c.0.1 >>= λ names. cond (eqb (length names.1) 0) (Some (names.0, a.0.1)) None) x c.2 in
-    let f = bind_some (elements_at d.0 b.0.0 c.0.1) (λ names. cond (eqb (length names.1) 0) (Some (names.0, a.0.1)) None) x d.2 in
+    let a =
+    bind_some (content_at form bytes) (λ inner. number_at form inner.0 >>= λ count. byte_at count.1 >>=
+    λ c. form_at 0xa3 0xb3 c.0 >>= λ element. elements_at element count.0 c.1 >>= λ names. cond
+    (eqb (length names.1) 0) (Some (names.0, inner.1)) None) x e in
+    let b =
+    bind_some (number_at form a.0.0) (λ count. byte_at count.1 >>= λ c. form_at 0xa3 0xb3 c.0 >>=
+    λ element. elements_at element count.0 c.1 >>= λ names. cond (eqb (length names.1) 0)
+    (Some (names.0, a.0.1)) None) x a.2 in
+    let c =
+    bind_some (byte_at b.0.1) (λ c. form_at 0xa3 0xb3 c.0 >>= λ element. elements_at element b.0.0 c.1 >>=
+    λ names. cond (eqb (length names.1) 0) (Some (names.0, a.0.1)) None) x b.2 in
+    let d =
+    bind_some (form_at 0xa3 0xb3 c.0.0)
+    (λ element. elements_at element b.0.0 c.0.1 >>= λ names. cond (eqb (length names.1) 0)
+    (Some (names.0, a.0.1)) None) x c.2 in
+    let f =
+    bind_some (elements_at d.0 b.0.0 c.0.1)
+    (λ names. cond (eqb (length names.1) 0) (Some (names.0, a.0.1)) None) x d.2 in
     let g = when_some (eqb (length f.0.1) 0) (Some (f.0.0, a.0.1)) x f.2 in
     let body = content_takes form bytes a.0 fits a.1 in
     let count = number_takes form a.0.0 b.0 body.bytes_fit b.1 in
     let constructor = byte_takes b.0.1 c.0 count.rest_fits c.1 in
     let names = elements_take d.0 b.0.0 c.0.1 f.0 constructor.1 f.1 in
     let nothing : f.0.1 ≡ [] = nil_from_length f.0.1 (eqb-true _ _ g.0) in
-    let inside : c.0.1 ≡ elements d.0 f.0.0 = names.parts ∙ ap (λ (t : List ℕ). elements d.0 f.0.0 ++ t) nothing ∙ append-nil (elements d.0 f.0.0) in
+    let inside : c.0.1 ≡ elements d.0 f.0.0 =
+    names.parts ∙ ap (λ (t : List ℕ). elements d.0 f.0.0 ++ t) nothing ∙ append-nil (elements d.0 f.0.0) in
     let whole : a.0.0 ≡ array_body form d.0 f.0.0 =
     count.parts ∙ ap (λ (k : ℕ). number form k ++ b.0.1) (sym names.count)
-    ∙ ap (λ (t : List ℕ). number form (length f.0.0) ++ t) (constructor.0 ∙ ap (λ (k : ℕ). k ∷ c.0.1) (form_takes 0xa3 0xb3 c.0.0 d.0 d.1) ∙ ap (λ (t : List ℕ). choice 0xa3 0xb3 d.0 ∷ t) inside) in
+    ∙ ap (λ (t : List ℕ). number form (length f.0.0) ++ t)
+    (constructor.0 ∙ ap (λ (k : ℕ). k ∷ c.0.1) (form_takes 0xa3 0xb3 c.0.0 d.0 d.1)
+    ∙ ap (λ (t : List ℕ). choice 0xa3 0xb3 d.0 ∷ t) inside) in
     let size : length (array_body form d.0 f.0.0) < limit form = rw (← whole) body.fits in
     let few : length f.0.0 < limit form = rw names.count count.fits in
-    let made : TakesArray form bytes f.0.0 a.0.1 = record { inner = d.0; each = names.each; size = size; count = few; parts = body.parts ∙ ap (λ (t : List ℕ). content form t ++ a.0.1) whole; rest_fits = body.rest_fits } in
+    let made : TakesArray form bytes f.0.0 a.0.1 = record {
+      inner = d.0;
+      each = names.each;
+      size = size;
+      count = few;
+      parts = body.parts ∙ ap (λ (t : List ℕ). content form t ++ a.0.1) whole;
+      rest_fits = body.rest_fits;
+    } in
     subst (λ (y : List (List ℕ) × List ℕ). TakesArray form bytes y.0 y.1) (some_is (f.0.0, a.0.1) x g.1) made
 
 -- an array behind its constructor
-array_reads : (form : Form) (c : ℕ) (bytes : List ℕ) (x : List (List ℕ) × List ℕ) → c ≡ choice 0xe0 0xf0 form → TakesArray form bytes x.0 x.1 → Reads (SpellsField (Symbols x.0)) (c ∷ bytes) x.1
+array_reads : (form : Form) (c : ℕ) (bytes : List ℕ) (x : List (List ℕ) × List ℕ) → c ≡ choice 0xe0 0xf0 form
+    → TakesArray form bytes x.0 x.1 → Reads (SpellsField (Symbols x.0)) (c ∷ bytes) x.1
 array_reads form c bytes x e t = record {
   front = choice 0xe0 0xf0 form ∷ content form (array_body form t.inner x.0);
   spelled = inr (record { form = form; inner = t.inner; each = t.each; size = t.size; count = t.count; whole = refl });
@@ -206,7 +274,8 @@ array_reads form c bytes x e t = record {
   rest_fits = t.rest_fits;
 }
 
-one_reads : (form : Form) (c : ℕ) (bytes : List ℕ) (x : List (List ℕ) × List ℕ) → IsBytes bytes → c ≡ choice 0xa3 0xb3 form → one_at form bytes ≡ Some x → Reads (SpellsField (Symbols x.0)) (c ∷ bytes) x.1
+one_reads : (form : Form) (c : ℕ) (bytes : List ℕ) (x : List (List ℕ) × List ℕ) → IsBytes bytes
+    → c ≡ choice 0xa3 0xb3 form → one_at form bytes ≡ Some x → Reads (SpellsField (Symbols x.0)) (c ∷ bytes) x.1
 unfolding one_at elements_at
 one_reads form c bytes x fits e h =
     let a = bind_some (element_at form bytes) (λ first. Some (first.0 ∷ [], first.1)) x h in
@@ -217,44 +286,67 @@ one_reads form c bytes x fits e h =
       parts = ap (λ (k : ℕ). k ∷ bytes) e ∙ ap (λ (r : List ℕ). choice 0xa3 0xb3 form ∷ r) t.parts;
       rest_fits = t.rest_fits;
     } in
-    subst (λ (y : List (List ℕ) × List ℕ). Reads (SpellsField (Symbols y.0)) (c ∷ bytes) y.1) (some_is (a.0.0 ∷ [], a.0.1) x a.2) made
+    subst (λ (y : List (List ℕ) × List ℕ). Reads (SpellsField (Symbols y.0)) (c ∷ bytes) y.1)
+    (some_is (a.0.0 ∷ [], a.0.1) x a.2) made
 
-pub symbols_take : (bytes : List ℕ) (x : List (List ℕ) × List ℕ) → IsBytes bytes → symbols_at bytes ≡ Some x → Reads (SpellsField (Symbols x.0)) bytes x.1
+pub symbols_take : (bytes : List ℕ) (x : List (List ℕ) × List ℕ) → IsBytes bytes → symbols_at bytes ≡ Some x
+    → Reads (SpellsField (Symbols x.0)) bytes x.1
 unfolding symbols_at
 symbols_take [] x fits e = absurd cc
 symbols_take (c ∷ bytes) x fits e =
     let rest = IsBytes-tail c bytes fits in
-    elim (chosen (eqb c 0xe0) (array_at Eight bytes) (cond (eqb c 0xf0) (array_at ThirtyTwo bytes) (form_at 0xa3 0xb3 c >>= λ form. one_at form bytes)) (Some x) e) [
+    elim (chosen (eqb c 0xe0) (array_at Eight bytes)
+    (cond (eqb c 0xf0) (array_at ThirtyTwo bytes) (form_at 0xa3 0xb3 c >>= λ form. one_at form bytes)) (Some x) e) [
       | inl h ↦ array_reads Eight c bytes x (eqb-true c 0xe0 h.0) (array_takes Eight bytes x rest h.1)
-      | inr h ↦ elim (chosen (eqb c 0xf0) (array_at ThirtyTwo bytes) (form_at 0xa3 0xb3 c >>= λ form. one_at form bytes) (Some x) h.1) [
-        | inl k ↦ array_reads ThirtyTwo c bytes x (eqb-true c 0xf0 k.0) (array_takes ThirtyTwo bytes x rest k.1)
-        | inr k ↦ let a = bind_some (form_at 0xa3 0xb3 c) (λ form. one_at form bytes) x k.1 in one_reads a.0 c bytes x rest (form_takes 0xa3 0xb3 c a.0 a.1) a.2
-      ]
+      | inr h ↦
+          elim (chosen (eqb c 0xf0) (array_at ThirtyTwo bytes) (form_at 0xa3 0xb3 c >>= λ form. one_at form bytes)
+          (Some x) h.1) [
+            | inl k ↦ array_reads ThirtyTwo c bytes x (eqb-true c 0xf0 k.0) (array_takes ThirtyTwo bytes x rest k.1)
+            | inr k ↦
+                let a = bind_some (form_at 0xa3 0xb3 c) (λ form. one_at form bytes) x k.1 in
+                one_reads a.0 c bytes x rest (form_takes 0xa3 0xb3 c a.0 a.1) a.2
+          ]
     ]
 
 -- ---- codes
 
 code_is : (n : ℕ) (c : SaslCode) → sasl_code n ≡ Some c → n ≡ outcome_code c
 code_is n c e =
-    elim (chosen (eqb n 0) (Some sasl_codes.Ok) (cond (eqb n 1) (Some sasl_codes.Auth) (cond (eqb n 2) (Some sasl_codes.Sys) (cond (eqb n 3) (Some sasl_codes.SysPerm) (cond (eqb n 4) (Some sasl_codes.SysTemp) None)))) (Some c) e) [
+    elim (chosen (eqb n 0) (Some sasl_codes.Ok)
+    (cond (eqb n 1) (Some sasl_codes.Auth)
+    (cond (eqb n 2) (Some sasl_codes.Sys)
+    (cond (eqb n 3) (Some sasl_codes.SysPerm) (cond (eqb n 4) (Some sasl_codes.SysTemp) None)))) (Some c) e) [
       | inl h ↦ rw (← some_is sasl_codes.Ok c h.1) (eqb-true n 0 h.0)
-      | inr h ↦ elim (chosen (eqb n 1) (Some sasl_codes.Auth) (cond (eqb n 2) (Some sasl_codes.Sys) (cond (eqb n 3) (Some sasl_codes.SysPerm) (cond (eqb n 4) (Some sasl_codes.SysTemp) None))) (Some c) h.1) [
-        | inl k ↦ rw (← some_is sasl_codes.Auth c k.1) (eqb-true n 1 k.0)
-        | inr k ↦ elim (chosen (eqb n 2) (Some sasl_codes.Sys) (cond (eqb n 3) (Some sasl_codes.SysPerm) (cond (eqb n 4) (Some sasl_codes.SysTemp) None)) (Some c) k.1) [
-          | inl l ↦ rw (← some_is sasl_codes.Sys c l.1) (eqb-true n 2 l.0)
-          | inr l ↦ elim (chosen (eqb n 3) (Some sasl_codes.SysPerm) (cond (eqb n 4) (Some sasl_codes.SysTemp) None) (Some c) l.1) [
-            | inl m ↦ rw (← some_is sasl_codes.SysPerm c m.1) (eqb-true n 3 m.0)
-            | inr m ↦ let g = when_some (eqb n 4) (Some sasl_codes.SysTemp) c m.1 in rw (← some_is sasl_codes.SysTemp c g.1) (eqb-true n 4 g.0)
+      | inr h ↦
+          elim (chosen (eqb n 1) (Some sasl_codes.Auth)
+          (cond (eqb n 2) (Some sasl_codes.Sys)
+          (cond (eqb n 3) (Some sasl_codes.SysPerm) (cond (eqb n 4) (Some sasl_codes.SysTemp) None))) (Some c) h.1) [
+            | inl k ↦ rw (← some_is sasl_codes.Auth c k.1) (eqb-true n 1 k.0)
+            | inr k ↦
+                elim (chosen (eqb n 2) (Some sasl_codes.Sys)
+                (cond (eqb n 3) (Some sasl_codes.SysPerm) (cond (eqb n 4) (Some sasl_codes.SysTemp) None)) (Some c) k.1) [
+                  | inl l ↦ rw (← some_is sasl_codes.Sys c l.1) (eqb-true n 2 l.0)
+                  | inr l ↦
+                      elim (chosen (eqb n 3) (Some sasl_codes.SysPerm) (cond (eqb n 4) (Some sasl_codes.SysTemp) None)
+                      (Some c) l.1) [
+                        | inl m ↦ rw (← some_is sasl_codes.SysPerm c m.1) (eqb-true n 3 m.0)
+                        | inr m ↦
+                            let g = when_some (eqb n 4) (Some sasl_codes.SysTemp) c m.1 in
+                            rw (← some_is sasl_codes.SysTemp c g.1) (eqb-true n 4 g.0)
+                      ]
+                ]
           ]
-        ]
-      ]
     ]
 
-pub code_takes : (bytes : List ℕ) (x : SaslCode × List ℕ) → IsBytes bytes → code_at bytes ≡ Some x → Reads (SpellsField (Ubyte (outcome_code x.0))) bytes x.1
+pub code_takes : (bytes : List ℕ) (x : SaslCode × List ℕ) → IsBytes bytes → code_at bytes ≡ Some x
+    → Reads (SpellsField (Ubyte (outcome_code x.0))) bytes x.1
 unfolding code_at
 code_takes bytes x fits e =
-    let a = bind_some (byte_at bytes) (λ c. byte_at c.1 >>= λ n. sasl_code n.0 >>= λ code. cond (eqb c.0 0x50) (Some (code, n.1)) None) x e in
-    let b = bind_some (byte_at a.0.1) (λ n. sasl_code n.0 >>= λ code. cond (eqb a.0.0 0x50) (Some (code, n.1)) None) x a.2 in
+    let a =
+    bind_some (byte_at bytes) (λ c. byte_at c.1 >>= λ n. sasl_code n.0 >>= λ code. cond (eqb c.0 0x50)
+    (Some (code, n.1)) None) x e in
+    let b =
+    bind_some (byte_at a.0.1) (λ n. sasl_code n.0 >>= λ code. cond (eqb a.0.0 0x50) (Some (code, n.1)) None) x a.2 in
     let c = bind_some (sasl_code b.0.0) (λ code. cond (eqb a.0.0 0x50) (Some (code, b.0.1)) None) x b.2 in
     let g = when_some (eqb a.0.0 0x50) (Some (c.0, b.0.1)) x c.2 in
     let first = byte_takes bytes a.0 fits a.1 in
@@ -262,7 +354,10 @@ code_takes bytes x fits e =
     let made : Reads (SpellsField (Ubyte (outcome_code c.0))) bytes b.0.1 = record {
       front = 0x50 ∷ outcome_code c.0 ∷ [];
       spelled = refl;
-      parts = first.0 ∙ ap (λ (k : ℕ). k ∷ a.0.1) (eqb-true a.0.0 0x50 g.0) ∙ ap (λ (t : List ℕ). 0x50 ∷ t) (second.0 ∙ ap (λ (k : ℕ). k ∷ b.0.1) (code_is b.0.0 c.0 c.1));
+      parts =
+          first.0 ∙ ap (λ (k : ℕ). k ∷ a.0.1) (eqb-true a.0.0 0x50 g.0)
+          ∙ ap (λ (t : List ℕ). 0x50 ∷ t) (second.0 ∙ ap (λ (k : ℕ). k ∷ b.0.1) (code_is b.0.0 c.0 c.1));
       rest_fits = second.1;
     } in
-    subst (λ (y : SaslCode × List ℕ). Reads (SpellsField (Ubyte (outcome_code y.0))) bytes y.1) (some_is (c.0, b.0.1) x g.1) made
+    subst (λ (y : SaslCode × List ℕ). Reads (SpellsField (Ubyte (outcome_code y.0))) bytes y.1)
+    (some_is (c.0, b.0.1) x g.1) made

@@ -13,7 +13,8 @@ use Rattle.fe2o3_sasl_wire.proofs.lemmas.writing.CanonicalSpellsLemmas.{length-l
 
 -- ---- the fields that are written
 
-take-with_field : (field : Field) (fields ws : List Field) → take (length ws) fields ≡ ws → take (length (with_field field ws)) (field ∷ fields) ≡ with_field field ws
+take-with_field : (field : Field) (fields ws : List Field) → take (length ws) fields ≡ ws
+    → take (length (with_field field ws)) (field ∷ fields) ≡ with_field field ws
 take-with_field Null fields [] e = refl
 take-with_field Null fields (w ∷ ws) e = ap (λ rest. Null ∷ rest) e
 take-with_field (Ubyte n) fields ws e = ap (λ rest. Ubyte n ∷ rest) e
@@ -25,7 +26,8 @@ take-with_field (Symbols n) fields ws e = ap (λ rest. Symbols n ∷ rest) e
 -- the written fields begin the fields, whatever follows
 take-written : (fields others : List Field) → take (length (written fields)) (fields ++ others) ≡ written fields
 take-written [] others = refl
-take-written (field ∷ fields) others = take-with_field field (fields ++ others) (written fields) (take-written fields others)
+take-written (field ∷ fields) others =
+    take-with_field field (fields ++ others) (written fields) (take-written fields others)
 
 map-take : (n : ℕ) (fields : List HeldField) → map shown_field (take n fields) ≡ take n (map shown_field fields)
 map-take zero fields = refl
@@ -33,8 +35,11 @@ map-take (suc n) [] = refl
 map-take (suc n) (field ∷ fields) = ap (λ rest. shown_field field ∷ rest) (map-take n fields)
 
 -- the fields that the encoder keeps are those that are written
-pub kept_fields : (frame : SaslFrame) (held : List HeldField) (n : ℕ) → map shown_field held ≡ filled (fields_of frame) → n ≡ count_of frame → map shown_field (take n held) ≡ written (fields_of frame)
-kept_fields frame held n e f = map-take n held ∙ ap (take n) e ∙ ap (λ k. take k (filled (fields_of frame))) f ∙ take-written (fields_of frame) _
+pub kept_fields : (frame : SaslFrame) (held : List HeldField) (n : ℕ)
+    → map shown_field held ≡ filled (fields_of frame) → n ≡ count_of frame
+    → map shown_field (take n held) ≡ written (fields_of frame)
+kept_fields frame held n e f =
+    map-take n held ∙ ap (take n) e ∙ ap (λ k. take k (filled (fields_of frame))) f ∙ take-written (fields_of frame) _
 
 -- ---- the body
 
@@ -45,16 +50,21 @@ no_body frame n e le =
     let body = length-list_body ThirtyTwo (count_of frame) (items_of frame) in
     rw (le-ltb (length (list_body ThirtyTwo (count_of frame) (items_of frame))) (2 ^ 32) (omega arith)) refl
 
-list_parts : (list : Form) (count m : ℕ) (items : List ℕ) → list_form count items ≡ list → m ≡ width list + length items → canonical_list count items ≡ choice 0xc0 0xd0 list ∷ (number list m ++ (number list count ++ items))
+list_parts : (list : Form) (count m : ℕ) (items : List ℕ) → list_form count items ≡ list
+    → m ≡ width list + length items → canonical_list count items ≡ choice 0xc0 0xd0 list ∷
+    (number list m ++ (number list count ++ items))
 list_parts list count m items e f =
     let len : length (list_body list count items) ≡ m = length-list_body list count items ∙ sym f in
     rw (e, len) refl
 
 -- the body as it is written: eight bytes, the size, the count and the items
 abbrev pub body_parts : SaslFrame → Form → ℕ → ℕ → List ℕ
-body_parts frame list m count = 2 ∷ 1 ∷ 0 ∷ 0 ∷ 0 ∷ 0x53 ∷ code_of (kind_of frame) ∷ choice 0xc0 0xd0 list ∷ (number list m ++ (number list count ++ items_of frame))
+body_parts frame list m count =
+    2 ∷ 1 ∷ 0 ∷ 0 ∷ 0 ∷ 0x53 ∷ code_of (kind_of frame) ∷ choice 0xc0 0xd0 list ∷
+    (number list m ++ (number list count ++ items_of frame))
 
-pub body_in_parts : (frame : SaslFrame) (list : Form) (n m : ℕ) → n ≡ length (items_of frame) → 4 + n < 2 ^ 32 → list ≡ shortest (1 + n) → m ≡ width list + n → canonical frame ≡ Some (body_parts frame list m (count_of frame))
+pub body_in_parts : (frame : SaslFrame) (list : Form) (n m : ℕ) → n ≡ length (items_of frame) → 4 + n < 2 ^ 32
+    → list ≡ shortest (1 + n) → m ≡ width list + n → canonical frame ≡ Some (body_parts frame list m (count_of frame))
 unfolding canonical
 body_in_parts frame list n m e lt f g =
     let items = items_of frame in
@@ -70,13 +80,17 @@ pub has_body : (frame : SaslFrame) (n : ℕ) → n ≡ length (items_of frame) �
 has_body frame n e lt = rw (body_in_parts frame (shortest (1 + n)) n (width (shortest (1 + n)) + n) e lt refl refl) refl
 
 -- the four writes append the body
-pub appends : (frame : SaslFrame) (old headed sized counted new : List ℕ) (list : Form) (m count : ℕ) → canonical frame ≡ Some (body_parts frame list m count)
-    → headed ≡ old ++ 2 ∷ 1 ∷ 0 ∷ 0 ∷ 0 ∷ 0x53 ∷ code_of (kind_of frame) ∷ choice 0xc0 0xd0 list ∷ [] → sized ≡ headed ++ number list m → counted ≡ sized ++ number list count → new ≡ counted ++ items_of frame
+pub appends : (frame : SaslFrame) (old headed sized counted new : List ℕ) (list : Form) (m count : ℕ)
+    → canonical frame ≡ Some (body_parts frame list m count)
+    → headed ≡ old ++ 2 ∷ 1 ∷ 0 ∷ 0 ∷ 0 ∷ 0x53 ∷ code_of (kind_of frame) ∷ choice 0xc0 0xd0 list ∷ []
+    → sized ≡ headed ++ number list m → counted ≡ sized ++ number list count → new ≡ counted ++ items_of frame
     → AppendsCanonical frame old new
-appends frame old headed sized counted new list m count e p q r s = (body_parts frame list m count, e, rw (s, r, q, p) (simp append_assoc))
+appends frame old headed sized counted new list m count e p q r s =
+    (body_parts frame list m count, e, rw (s, r, q, p) (simp append_assoc))
 
 -- how many fields the encoder keeps
-pub kept_count : (frame : SaslFrame) (held : List HeldField) (n : ℕ) → map shown_field held ≡ filled (fields_of frame) → n ≡ count_of frame → length (take n held) ≡ count_of frame
+pub kept_count : (frame : SaslFrame) (held : List HeldField) (n : ℕ) → map shown_field held ≡ filled (fields_of frame)
+    → n ≡ count_of frame → length (take n held) ≡ count_of frame
 kept_count frame held n e f = sym (length-shown (take n held)) ∙ ap length (kept_fields frame held n e f)
   where
     length-shown : (fields : List HeldField) → length (map shown_field fields) ≡ length fields
@@ -84,6 +98,9 @@ kept_count frame held n e f = sym (length-shown (take n held)) ∙ ap length (ke
     length-shown (field ∷ fields) = ap suc (length-shown fields)
 
 -- how long the fields are that the encoder keeps
-pub kept_len : (frame : SaslFrame) (held : List HeldField) (n len : ℕ) → map shown_field held ≡ filled (fields_of frame) → n ≡ count_of frame
-    → len ≡ min (length (flat_map canonical_field (map shown_field (take n held)))) (2 ^ 64 - 1) → len ≡ min (length (items_of frame)) (2 ^ 64 - 1)
-kept_len frame held n len e f g = g ∙ ap (λ fields. min (length (flat_map canonical_field fields)) (2 ^ 64 - 1)) (kept_fields frame held n e f)
+pub kept_len : (frame : SaslFrame) (held : List HeldField) (n len : ℕ)
+    → map shown_field held ≡ filled (fields_of frame) → n ≡ count_of frame
+    → len ≡ min (length (flat_map canonical_field (map shown_field (take n held)))) (2 ^ 64 - 1)
+    → len ≡ min (length (items_of frame)) (2 ^ 64 - 1)
+kept_len frame held n len e f g =
+    g ∙ ap (λ fields. min (length (flat_map canonical_field fields)) (2 ^ 64 - 1)) (kept_fields frame held n e f)

@@ -8,16 +8,28 @@ pub returns-then-bytes-lt4-clause-reads : goal.returns-then-bytes-lt4-clause-rea
 returns-then-bytes-lt4-clause-reads c = refuses_short c.args.bytes.now c.if-bytes-lt4.true
 
 pub returns-then-bytes-ne-FRAME_TYPE_SASL-clause-reads : goal.returns-then-bytes-ne-FRAME_TYPE_SASL-clause-reads
-returns-then-bytes-ne-FRAME_TYPE_SASL-clause-reads c = refuses_type c.args.bytes.now c.if-bytes-lt4.false c.if-bytes-ne-FRAME_TYPE_SASL.true
+returns-then-bytes-ne-FRAME_TYPE_SASL-clause-reads c =
+    refuses_type c.args.bytes.now c.if-bytes-lt4.false c.if-bytes-ne-FRAME_TYPE_SASL.true
 
 pub returns-then-bytes-ne-DATA_OFFSET-clause-reads : goal.returns-then-bytes-ne-DATA_OFFSET-clause-reads
-returns-then-bytes-ne-DATA_OFFSET-clause-reads c = refuses_offset c.args.bytes.now c.if-bytes-lt4.false c.if-bytes-ne-FRAME_TYPE_SASL.false c.if-bytes-ne-DATA_OFFSET.true
+returns-then-bytes-ne-DATA_OFFSET-clause-reads c =
+    refuses_offset c.args.bytes.now c.if-bytes-lt4.false c.if-bytes-ne-FRAME_TYPE_SASL.false c.if-bytes-ne-DATA_OFFSET.true
 
 pub overflow_sub-result : goal.overflow_sub-result
-overflow_sub-result c = rest_within c.args.bytes.now (viewed_frame c.in-Some.frame) c.in-Some.rest.now (λ i. omega (arith, c.type_inv.bytes i)) c.if-bytes-lt4.false (ap value_at (sym c.split_at.ensures.back) ∙ sym c.in-Some.ensures)
+overflow_sub-result c =
+    rest_within c.args.bytes.now (viewed_frame c.in-Some.frame) c.in-Some.rest.now
+    (λ i. omega (arith, c.type_inv.bytes i)) c.if-bytes-lt4.false
+    (ap value_at (sym c.split_at.ensures.back) ∙ sym c.in-Some.ensures)
 
 pub returns-in-Some-clause-reads : goal.returns-in-Some-clause-reads
-returns-in-Some-clause-reads c = begins_read c.args.bytes.now (viewed_frame c.in-Some.frame) c.in-Some.rest.now (λ i. omega (arith, c.type_inv.bytes i)) c.if-bytes-lt4.false c.if-bytes-ne-FRAME_TYPE_SASL.false c.if-bytes-ne-DATA_OFFSET.false (ap value_at (sym c.split_at.ensures.back) ∙ sym c.in-Some.ensures)
+returns-in-Some-clause-reads c =
+    begins_read c.args.bytes.now (viewed_frame c.in-Some.frame) c.in-Some.rest.now
+    (λ i. omega (
+      arith,
+      c.type_inv.bytes i,
+    )) c.if-bytes-lt4.false c.if-bytes-ne-FRAME_TYPE_SASL.false c.if-bytes-ne-DATA_OFFSET.false
+    (ap value_at (sym c.split_at.ensures.back) ∙ sym c.in-Some.ensures)
 
 pub returns-in-None-clause-reads : goal.returns-in-None-clause-reads
-returns-in-None-clause-reads c = refuses_value c.args.bytes.now c.if-bytes-lt4.false c.if-bytes-ne-FRAME_TYPE_SASL.false c.if-bytes-ne-DATA_OFFSET.false (ap value_at (sym c.split_at.ensures.back) ∙ sym c.in-None.ensures)
+returns-in-None-clause-reads c =
+    refuses_value c.args.bytes.now c.if-bytes-lt4.false c.if-bytes-ne-FRAME_TYPE_SASL.false c.if-bytes-ne-DATA_OFFSET.false (ap value_at (sym c.split_at.ensures.back) ∙ sym c.in-None.ensures)

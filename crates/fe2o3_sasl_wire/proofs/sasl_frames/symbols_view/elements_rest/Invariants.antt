@@ -4,4 +4,5 @@ use Rattle.fe2o3_sasl_wire.proofs.lemmas.reading.ElementLoopLemmas.{rest_of}
 use Rattle.fe2o3_sasl_wire.proofs.sasl_frames.symbols_view.elements_rest.Given as goal
 
 abbrev pub invariant-loop : goal.invariant-loop
-invariant-loop l = rest_of (elements_at l.form (l.count - l.counter) l.rest) ≡ rest_of (elements_at l.form l.count l.bytes)
+invariant-loop l =
+    rest_of (elements_at l.form (l.count - l.counter) l.rest) ≡ rest_of (elements_at l.form l.count l.bytes)

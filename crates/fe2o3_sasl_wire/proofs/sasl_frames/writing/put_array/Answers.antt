@@ -14,8 +14,10 @@ pub put_number-requires-2-clause-fits : goal.put_number-requires-2-clause-fits
 put_number-requires-2-clause-fits c =
     let names = c.args.symbols.now in
     let fit = elements_fit names c.requires.fits in
-    let same : length (elements c.inner_form-inner.result names) ≡ length (elements (inner_form names) names) = ap (λ inner. length (elements inner names)) c.inner_form-inner.ensures in
-    rw c.shortest-form.ensures (count_fits names c.elements_len-len.result c.requires.fits (omega (arith, c.elements_len-len.ensures)))
+    let same : length (elements c.inner_form-inner.result names) ≡ length (elements (inner_form names) names) =
+    ap (λ inner. length (elements inner names)) c.inner_form-inner.ensures in
+    rw c.shortest-form.ensures (count_fits names c.elements_len-len.result c.requires.fits
+    (omega (arith, c.elements_len-len.ensures)))
 
 pub put_elements-requires-clause-fits : goal.put_elements-requires-clause-fits
 put_elements-requires-clause-fits c = rw c.inner_form-inner.ensures (each_fits c.args.symbols.now c.requires.fits)
