@@ -18,18 +18,17 @@ CanonicalBodiesSpell =
 abbrev pub SpellingsHaveOneFrame : Type 0
 SpellingsHaveOneFrame = (left right : SaslFrame) (body : List ℕ) → Spells left body → Spells right body → left ≡ right
 
--- no spelling begins another: where two spellings, each followed by anything, are one list, they are one spelling of one frame
+-- no spelling begins another: two that begin one list of bytes are one spelling of one frame
 abbrev pub NoSpellingBeginsAnother : Type 0
 NoSpellingBeginsAnother =
-    (left right : SaslFrame) (a b x y : List ℕ) → Spells left a → Spells right b → a ++ x ≡ b ++ y → (left ≡ right)
-    × (a ≡ b)
+    (left right : SaslFrame) (body other rest others : List ℕ) → Spells left body → Spells right other
+    → body ++ rest ≡ other ++ others → (left ≡ right) × (body ≡ other)
 
 -- a canonical body followed by anything is read as its frame, and as no other
 abbrev pub WrittenBodiesAreRead : Type 0
 WrittenBodiesAreRead =
-    (frame : SaslFrame) (body rest : List ℕ) (answer : Result (SaslFrame × ℕ) Error) → HasTexts frame
-    → canonical frame ≡ Some body
-    → ReadsBody (body ++ rest) (Ok (frame, length body))
+    (frame : SaslFrame) (body rest : List ℕ) (answer : Result (SaslFrame × ℕ) Error)
+    → HasTexts frame → canonical frame ≡ Some body → ReadsBody (body ++ rest) (Ok (frame, length body))
     × (ReadsBody (body ++ rest) answer → answer ≡ Ok (frame, length body))
 
 -- each list of bytes is read in exactly one way

@@ -1,4 +1,5 @@
--- Reading from left to right, as the private functions do. The proofs join it to the relation `Spells`. A step answers a value and the bytes after it, or nothing where the bytes do not begin with such a value.
+-- Reading from left to right, as the private functions do. The proofs join it to the relation `Spells`.
+-- A step answers a value and the bytes after it, or nothing where the bytes do not begin with such a value.
 use Rattle.std.specs.Prelude.{ℕ, zero, suc, ◌-◌, Bool, ◌&&◌, List, [], ◌∷◌, length, take, drop, Option, Some, None, nat_lt, ◌==◌, if◌then◌else◌, bytes_eq}
 use Rattle.std.specs.Str.{is_utf8}
 use Rattle.std.specs.List.{list_all}
@@ -173,14 +174,19 @@ fields_at kinds.Outcome items = do
   bytes ← optional_at binary_at code.1
   ended bytes.1 >>= λ _. Some (Outcome code.0 bytes.0)
 
+-- a list with a size and a count, behind its constructor (part 1, section 1.2.3)
+abbrev pub sized_at : ℕ → List ℕ → Option (Items × List ℕ)
+sized_at constructor bytes = do
+  form ← form_at 0xc0 0xd0 constructor
+  inner ← content_at form bytes
+  count ← number_at form inner.0
+  Some (count, inner.1)
+
 -- a list of any form (part 1, section 1.6.22)
 unfoldable pub list_at : List ℕ → Option (Items × List ℕ)
 list_at [] = None
-list_at (constructor ∷ rest) = if constructor == 0x45 then Some ((0, []), rest) else (do
-  form ← form_at 0xc0 0xd0 constructor
-  inner ← content_at form rest
-  count ← number_at form inner.0
-  Some (count, inner.1))
+list_at (constructor ∷ rest) =
+    if constructor == 0x45 then Some ((0, []), rest) else sized_at constructor rest
 
 -- the kind of frame with this code (part 5, section 5.3.3)
 abbrev pub kind_of_code : ℕ → Option Kind

@@ -1,4 +1,4 @@
--- That the test `same_frame` decides equality, and so is an equivalence: the laws that the impls of `PartialEq` and `Eq` cite. Nobody has to believe these.
+-- That the test `same_frame` decides equality, and so is an equivalence, as the impls of `PartialEq` and `Eq` cite.
 use Rattle.std.specs.Prelude.{◌≡◌, ℕ, ◌&&◌, List, Option, Some, None, bytes_eq}
 use Rattle.std.specs.Option.{option_eq}
 use Rattle.std.specs.Bool.{Decides, one_answer}

@@ -11,50 +11,64 @@ use Rattle.fe2o3_sasl_wire.proofs.lemmas.reading.ReadFramesAreSpelledLemmas.{val
 use Rattle.fe2o3_sasl_wire.proofs.lemmas.reading.SpelledFramesAreReadLemmas.{value_again}
 use Rattle.fe2o3_sasl_wire.proofs.lemmas.frames.PrefixLemmas.{no_spelling_begins_another}
 
--- what is read behind a sound header is spelled by the bytes before the rest
-pub begins_read : (bytes : List ℕ) (frame : SaslFrame) (rest : List ℕ) → IsBytes bytes → 4 ≤ length bytes
-    → get_or bytes 1 0 ≡ 1 → get_or bytes 0 0 ≡ 2
+-- four bytes stand before the value, and they are those of a SASL frame
+pub record StartsSoundly (bytes : List ℕ) : Type 0 where
+  pub long : 4 ≤ length bytes
+  pub kind : get_or bytes 1 0 ≡ 1
+  pub offset : get_or bytes 0 0 ≡ 2
+
+-- what is read behind a sound start is spelled by the bytes before the rest
+pub begins_read : (bytes : List ℕ) (frame : SaslFrame) (rest : List ℕ) → IsBytes bytes → StartsSoundly bytes
     → value_at (drop 4 bytes) ≡ Some (frame, rest) → Begins bytes frame (length bytes - length rest)
-begins_read [] frame rest fits long kind offset e = absurd (omega arith)
-begins_read (a ∷ []) frame rest fits long kind offset e = absurd (omega arith)
-begins_read (a ∷ b ∷ []) frame rest fits long kind offset e = absurd (omega arith)
-begins_read (a ∷ b ∷ x ∷ []) frame rest fits long kind offset e = absurd (omega arith)
-begins_read (a ∷ b ∷ x ∷ y ∷ bytes) frame rest fits long kind offset e =
-    let r = value_takes bytes (frame, rest) (IsBytes-drop 4 (a ∷ b ∷ x ∷ y ∷ bytes) fits) e in
-    let front : List ℕ = 2 ∷ 1 ∷ x ∷ y ∷ r.front in
-    let whole : a ∷ b ∷ x ∷ y ∷ bytes ≡ front ++ rest =
-    ap (λ (n : ℕ). n ∷ b ∷ x ∷ y ∷ bytes) offset ∙ ap (λ (n : ℕ). 2 ∷ n ∷ x ∷ y ∷ bytes) kind
-    ∙ ap (λ (t : List ℕ). 2 ∷ 1 ∷ x ∷ y ∷ t) r.parts in
-    let len : length (a ∷ b ∷ x ∷ y ∷ bytes) ≡ length front + length rest =
-    ap length whole ∙ length-append front rest in
-    let here : take (length (a ∷ b ∷ x ∷ y ∷ bytes) - length rest) (a ∷ b ∷ x ∷ y ∷ bytes) ≡ front =
-    ap (take (length (a ∷ b ∷ x ∷ y ∷ bytes) - length rest)) whole
-    ∙ take_at front rest (length (a ∷ b ∷ x ∷ y ∷ bytes) - length rest) (omega arith) in
+begins_read [] frame rest fits start read = absurd (omega (arith, start.long))
+begins_read (a ∷ []) frame rest fits start read = absurd (omega (arith, start.long))
+begins_read (a ∷ b ∷ []) frame rest fits start read = absurd (omega (arith, start.long))
+begins_read (a ∷ b ∷ x ∷ []) frame rest fits start read = absurd (omega (arith, start.long))
+begins_read (a ∷ b ∷ x ∷ y ∷ bytes) frame rest fits start read =
+    let body : List ℕ = a ∷ b ∷ x ∷ y ∷ bytes in
+    let value = value_takes bytes (frame, rest) (IsBytes-drop 4 body fits) read in
+    let front : List ℕ = 2 ∷ 1 ∷ x ∷ y ∷ value.front in
+    let whole : body ≡ front ++ rest =
+    ap (λ (n : ℕ). n ∷ b ∷ x ∷ y ∷ bytes) start.offset ∙ ap (λ (n : ℕ). 2 ∷ n ∷ x ∷ y ∷ bytes) start.kind
+    ∙ ap (λ (others : List ℕ). 2 ∷ 1 ∷ x ∷ y ∷ others) value.parts in
+    let len : length body ≡ length front + length rest = ap length whole ∙ length-append front rest in
+    let n = length body - length rest in
+    let here : take n body ≡ front = ap (take n) whole ∙ take_at front rest n (omega (arith, len)) in
     record {
-      within = omega arith;
-      spelled = record { third = x; fourth = y; value = r.front; spelled = r.spelled; whole = here };
+      within = omega (arith, len);
+      spelled = record { third = x; fourth = y; value = value.front; spelled = value.spelled; whole = here };
     }
 
 -- the rest lies within the bytes
 pub rest_within : (bytes : List ℕ) (frame : SaslFrame) (rest : List ℕ) → IsBytes bytes → 4 ≤ length bytes
     → value_at (drop 4 bytes) ≡ Some (frame, rest) → length rest ≤ length bytes
-rest_within bytes frame rest fits long e =
-    let r = value_takes (drop 4 bytes) (frame, rest) (IsBytes-drop 4 bytes fits) e in
-    omega (arith, ap length r.parts, length-append r.front rest, length-drop 4 bytes)
+rest_within bytes frame rest fits long read =
+    let value = value_takes (drop 4 bytes) (frame, rest) (IsBytes-drop 4 bytes fits) read in
+    omega (arith, ap length value.parts, length-append value.front rest, length-drop 4 bytes)
 
--- what a beginning spells is read behind a sound header
-read_back : (bytes : List ℕ) (frame : SaslFrame) (n : ℕ) → Begins bytes frame n → (rest : List ℕ) × (4 ≤ length bytes)
-    × (get_or bytes 1 0 ≡ 1) × (get_or bytes 0 0 ≡ 2) × (value_at (drop 4 bytes) ≡ Some (frame, rest))
-read_back bytes frame n b =
-    let s = b.spelled in
-    let whole : bytes ≡ 2 ∷ 1 ∷ s.third ∷ s.fourth ∷ (s.value ++ drop n bytes) =
-    sym (take-append-drop n bytes) ∙ ap (λ (t : List ℕ). t ++ drop n bytes) s.whole in (
-      drop n bytes,
-      rw whole (omega arith),
-      ap (λ (t : List ℕ). get_or t 1 0) whole,
-      ap (λ (t : List ℕ). get_or t 0 0) whole,
-      ap (λ (t : List ℕ). value_at (drop 4 t)) whole ∙ value_again frame s.value (drop n bytes) s.spelled,
-    )
+-- what a beginning spells is read behind a sound start
+pub record ReadBack (bytes : List ℕ) (frame : SaslFrame) : Type 0 where
+  pub start : StartsSoundly bytes
+  pub rest : List ℕ
+  pub read : value_at (drop 4 bytes) ≡ Some (frame, rest)
+
+read_back : (bytes : List ℕ) (frame : SaslFrame) (n : ℕ) → Begins bytes frame n → ReadBack bytes frame
+read_back bytes frame n begins =
+    let spelled = begins.spelled in
+    let rest = drop n bytes in
+    let whole : bytes ≡ 2 ∷ 1 ∷ spelled.third ∷ spelled.fourth ∷ (spelled.value ++ rest) =
+    sym (take-append-drop n bytes) ∙ ap (λ (front : List ℕ). front ++ rest) spelled.whole in
+    record {
+      start = record {
+        long = rw whole (omega arith);
+        kind = ap (λ (body : List ℕ). get_or body 1 0) whole;
+        offset = ap (λ (body : List ℕ). get_or body 0 0) whole;
+      };
+      rest = rest;
+      read =
+          ap (λ (body : List ℕ). value_at (drop 4 body)) whole
+          ∙ value_again frame spelled.value rest spelled.spelled;
+    }
 
 is_none : {A : Type 0} {o : Option A} {x : A} → o ≡ None → o ≡ Some x → ⊥
 is_none p q = cc
@@ -63,25 +77,30 @@ is_none p q = cc
 
 pub refuses_short : (bytes : List ℕ) → length bytes < 4 → ReadsBody bytes (Err faults.DecodeError)
 unfolding fault_of
-refuses_short bytes lt =
-    (rw (lt-ltb _ _ lt) refl, λ frame n b. let r = read_back bytes frame n b in absurd (omega arith))
+refuses_short bytes short =
+    (rw (lt-ltb _ _ short) refl, λ frame n begins. omega (arith, (read_back bytes frame n begins).start.long))
 
 pub refuses_type : (bytes : List ℕ) → 4 ≤ length bytes → (get_or bytes 1 0 ≡ 1 → ⊥)
     → ReadsBody bytes (Err faults.NotImplemented)
 unfolding fault_of
-refuses_type bytes long ne = (rw (le-ltb _ _ long, ne_eqb _ _ ne) refl, λ frame n b. ne (read_back bytes frame n b).2)
+refuses_type bytes long other =
+    (rw (le-ltb _ _ long, ne_eqb _ _ other) refl, λ frame n begins. other (read_back bytes frame n begins).start.kind)
 
 pub refuses_offset : (bytes : List ℕ) → 4 ≤ length bytes → get_or bytes 1 0 ≡ 1 → (get_or bytes 0 0 ≡ 2 → ⊥)
     → ReadsBody bytes (Err faults.NotImplemented)
 unfolding fault_of
-refuses_offset bytes long kind ne =
-    (rw (le-ltb _ _ long, kind, ne_eqb _ _ ne) refl, λ frame n b. ne (read_back bytes frame n b).3)
+refuses_offset bytes long kind other = (
+  rw (le-ltb _ _ long, kind, ne_eqb _ _ other) refl,
+  λ frame n begins. other (read_back bytes frame n begins).start.offset,
+)
 
-pub refuses_value : (bytes : List ℕ) → 4 ≤ length bytes → get_or bytes 1 0 ≡ 1 → get_or bytes 0 0 ≡ 2
-    → value_at (drop 4 bytes) ≡ None → ReadsBody bytes (Err faults.DecodeError)
+pub refuses_value : (bytes : List ℕ) → StartsSoundly bytes → value_at (drop 4 bytes) ≡ None
+    → ReadsBody bytes (Err faults.DecodeError)
 unfolding fault_of
-refuses_value bytes long kind offset none =
-    (rw (le-ltb _ _ long, kind, offset) refl, λ frame n b. is_none none (read_back bytes frame n b).4)
+refuses_value bytes start none = (
+  rw (le-ltb _ _ start.long, start.kind, start.offset) refl,
+  λ frame n begins. is_none none (read_back bytes frame n begins).read,
+)
 
 -- ---- one answer
 
@@ -112,25 +131,30 @@ one_answer bytes (Err e) (Err d) f s = ap (λ (fault : Error). Err fault) (f.0 �
 abbrev Answered : List ℕ → Type 0
 Answered bytes = (answer : Result (SaslFrame × ℕ) Error) × ReadsBody bytes answer
 
-answered_value : (bytes : List ℕ) (read : Option (SaslFrame × List ℕ)) → IsBytes bytes → 4 ≤ length bytes
-    → get_or bytes 1 0 ≡ 1 → get_or bytes 0 0 ≡ 2 → value_at (drop 4 bytes) ≡ read → Answered bytes
-answered_value bytes (Some x) fits long kind offset e =
-    (Ok (x.0, length bytes - length x.1), begins_read bytes x.0 x.1 fits long kind offset e)
-answered_value bytes None fits long kind offset e = (Err faults.DecodeError, refuses_value bytes long kind offset e)
+answered_value : (bytes : List ℕ) (read : Option (SaslFrame × List ℕ)) → IsBytes bytes → StartsSoundly bytes
+    → value_at (drop 4 bytes) ≡ read → Answered bytes
+answered_value bytes (Some x) fits start read =
+    (Ok (x.0, length bytes - length x.1), begins_read bytes x.0 x.1 fits start read)
+answered_value bytes None fits start read = (Err faults.DecodeError, refuses_value bytes start read)
 
 answered_offset : (bytes : List ℕ) (offset : Bool) → IsBytes bytes → 4 ≤ length bytes → get_or bytes 1 0 ≡ 1
     → eqb (get_or bytes 0 0) 2 ≡ offset → Answered bytes
-answered_offset bytes true fits long kind e =
-    answered_value bytes (value_at (drop 4 bytes)) fits long kind (eqb-true (get_or bytes 0 0) 2 e) refl
-answered_offset bytes false fits long kind e =
-    (Err faults.NotImplemented, refuses_offset bytes long kind (eqb-false (get_or bytes 0 0) 2 e))
+answered_offset bytes true fits long kind test =
+    let start : StartsSoundly bytes = record {
+      long = long;
+      kind = kind;
+      offset = eqb-true (get_or bytes 0 0) 2 test;
+    } in
+    answered_value bytes (value_at (drop 4 bytes)) fits start refl
+answered_offset bytes false fits long kind test =
+    (Err faults.NotImplemented, refuses_offset bytes long kind (eqb-false (get_or bytes 0 0) 2 test))
 
 answered_type : (bytes : List ℕ) (kind : Bool) → IsBytes bytes → 4 ≤ length bytes → eqb (get_or bytes 1 0) 1 ≡ kind
     → Answered bytes
-answered_type bytes true fits long e =
-    answered_offset bytes (eqb (get_or bytes 0 0) 2) fits long (eqb-true (get_or bytes 1 0) 1 e) refl
-answered_type bytes false fits long e =
-    (Err faults.NotImplemented, refuses_type bytes long (eqb-false (get_or bytes 1 0) 1 e))
+answered_type bytes true fits long test =
+    answered_offset bytes (eqb (get_or bytes 0 0) 2) fits long (eqb-true (get_or bytes 1 0) 1 test) refl
+answered_type bytes false fits long test =
+    (Err faults.NotImplemented, refuses_type bytes long (eqb-false (get_or bytes 1 0) 1 test))
 
 answered_length : (bytes : List ℕ) (short : Bool) → IsBytes bytes → ltb (length bytes) 4 ≡ short → Answered bytes
 answered_length bytes true fits e = (Err faults.DecodeError, refuses_short bytes (ltb-true (length bytes) 4 e))

@@ -10,8 +10,8 @@ use Rattle.fe2o3_sasl_wire.specs.declared.sasl_frames.forms.Kind.{Kind}
 use Rattle.fe2o3_sasl_wire.specs.declared.sasl_frames.forms.Kind.TheVariants as kinds
 use Rattle.fe2o3_sasl_wire.specs.SaslFrames.{IsBytes, limit, choice, content, SpellsSymbol, list_body, SpellsList, SaslFrame, Mechanisms, Init, Challenge, Response, Outcome, kind_of, code_of, name_of, outcome_code, Field, Null, Ubyte, Binary, Text, Symbol, Symbols, optional, fields_of, SpellsField, SpellsItems, SpellsDescriptor, SpellsValue}
 use Rattle.fe2o3_sasl_wire.specs.private.Fields.{AllNull}
-use Rattle.fe2o3_sasl_wire.specs.private.Reading.{◌>>=◌, byte_at, eight_at, number_at, content_at, form_at, symbol_at, string_at, symbols_at, code_at, Items, required, null_at, unless_null, optional_at, ended, binary_at, fields_at, list_at, kind_of_code, kind_of_name, descriptor_at, value_at}
-use Rattle.fe2o3_sasl_wire.proofs.lemmas.reading.StepLemmas.{IsBytes-drop, IsBytes-take, IsBytes-tail, bind_some, unless_some, when_some, chosen, some_is, Reads}
+use Rattle.fe2o3_sasl_wire.specs.private.Reading.{◌>>=◌, byte_at, eight_at, number_at, content_at, form_at, symbol_at, string_at, symbols_at, code_at, Items, required, null_at, unless_null, optional_at, ended, binary_at, fields_at, sized_at, list_at, kind_of_code, kind_of_name, descriptor_at, value_at}
+use Rattle.fe2o3_sasl_wire.proofs.lemmas.reading.StepLemmas.{IsBytes-drop, IsBytes-take, IsBytes-tail, bind_some, unless_some, when_some, chosen, first_passed, some_is, Reads}
 use Rattle.fe2o3_sasl_wire.proofs.lemmas.reading.ReadValuesAreSpelledLemmas.{number_takes, content_takes, form_takes, byte_takes, binary_takes, string_takes, symbol_takes, symbols_take, code_takes}
 
 -- ---- items
@@ -130,8 +130,8 @@ fields_take kinds.Mechanisms items f fits e =
 fields_take kinds.Init items f fits e =
     let a =
     bind_some (required symbol_at items)
-    (λ m. optional_at binary_at m.1 >>= λ r. optional_at string_at r.1 >>= λ h. ended h.1 >>= λ _. Some
-    (Init m.0 r.0 h.0)) f e in
+    (λ m. optional_at binary_at m.1 >>= λ r. optional_at string_at r.1 >>= λ h. ended h.1
+    >>= λ _. Some (Init m.0 r.0 h.0)) f e in
     let b =
     bind_some (optional_at binary_at a.0.1)
     (λ r. optional_at string_at r.1 >>= λ h. ended h.1 >>= λ _. Some (Init a.0.0 r.0 h.0)) f a.2 in
@@ -159,8 +159,8 @@ fields_take kinds.Response items f fits e =
     (record { kind_is = refl; each = s.extends [] (ended_takes a.0.1 z.0 z.1) })
 fields_take kinds.Outcome items f fits e =
     let a =
-    bind_some (required code_at items) (λ x. optional_at binary_at x.1 >>= λ y. ended y.1 >>= λ _. Some
-    (Outcome x.0 y.0)) f e in
+    bind_some (required code_at items) (λ x. optional_at binary_at x.1 >>= λ y. ended y.1
+    >>= λ _. Some (Outcome x.0 y.0)) f e in
     let b = bind_some (optional_at binary_at a.0.1) (λ y. ended y.1 >>= λ _. Some (Outcome a.0.0 y.0)) f a.2 in
     let z = bind_some (ended b.0.1) (λ _. Some (Outcome a.0.0 b.0.0)) f b.2 in
     let s = required_takes code_at (λ c. Ubyte (outcome_code c)) code_takes items a.0 fits a.1 in
@@ -175,13 +175,12 @@ pub record TakesList (bytes : List ℕ) (items : Items) (rest : List ℕ) : Type
   pub reads : Reads (SpellsList items.0 items.1) bytes rest
   pub items_fit : IsBytes items.1
 
-sized_takes : (bytes : List ℕ) (c : ℕ) (x : Items × List ℕ) → IsBytes bytes
-    → (form_at 0xc0 0xd0 c >>= λ form. content_at form bytes >>= λ inner. number_at form inner.0 >>= λ count. Some
-    (count, inner.1)) ≡ Some x → TakesList (c ∷ bytes) x.0 x.1
+sized_takes : (bytes : List ℕ) (c : ℕ) (x : Items × List ℕ) → IsBytes bytes → sized_at c bytes ≡ Some x
+    → TakesList (c ∷ bytes) x.0 x.1
 sized_takes bytes c x fits e =
     let a =
-    bind_some (form_at 0xc0 0xd0 c) (λ form. content_at form bytes >>= λ inner. number_at form inner.0 >>=
-    λ count. Some (count, inner.1)) x e in
+    bind_some (form_at 0xc0 0xd0 c) (λ form. content_at form bytes >>= λ inner. number_at form inner.0
+    >>= λ count. Some (count, inner.1)) x e in
     let b =
     bind_some (content_at a.0 bytes) (λ inner. number_at a.0 inner.0 >>= λ count. Some (count, inner.1)) x a.2 in
     let d = bind_some (number_at a.0 b.0.0) (λ count. Some (count, b.0.1)) x b.2 in
@@ -207,9 +206,7 @@ unfolding list_at
 list_takes [] x fits e = absurd cc
 list_takes (c ∷ bytes) x fits e =
     let rest = IsBytes-tail c bytes fits in
-    elim (chosen (eqb c 0x45) (Some ((0, []), bytes))
-    (form_at 0xc0 0xd0 c >>= λ form. content_at form bytes >>= λ inner. number_at form inner.0 >>= λ count. Some
-    (count, inner.1)) (Some x) e) [
+    elim (chosen (eqb c 0x45) (Some ((0, []), bytes)) (sized_at c bytes) (Some x) e) [
       | inl h ↦ subst (λ (y : Items × List ℕ). TakesList (c ∷ bytes) y.0 y.1) (some_is ((0, []), bytes) x h.1)
           (record {
             reads =
@@ -227,69 +224,28 @@ list_takes (c ∷ bytes) x fits e =
 -- ---- descriptors and values
 
 code_kind_is : (n : ℕ) (kind : Kind) → kind_of_code n ≡ Some kind → n ≡ code_of kind
-code_kind_is n kind e =
-    elim (chosen (eqb n 0x40) (Some kinds.Mechanisms)
-    (cond (eqb n 0x41) (Some kinds.Init)
-    (cond (eqb n 0x42) (Some kinds.Challenge)
-    (cond (eqb n 0x43) (Some kinds.Response) (cond (eqb n 0x44) (Some kinds.Outcome) None)))) (Some kind) e) [
-      | inl h ↦ rw (← some_is kinds.Mechanisms kind h.1) (eqb-true n 0x40 h.0)
-      | inr h ↦
-          elim (chosen (eqb n 0x41) (Some kinds.Init)
-          (cond (eqb n 0x42) (Some kinds.Challenge)
-          (cond (eqb n 0x43) (Some kinds.Response) (cond (eqb n 0x44) (Some kinds.Outcome) None))) (Some kind) h.1) [
-            | inl k ↦ rw (← some_is kinds.Init kind k.1) (eqb-true n 0x41 k.0)
-            | inr k ↦
-                elim (chosen (eqb n 0x42) (Some kinds.Challenge)
-                (cond (eqb n 0x43) (Some kinds.Response) (cond (eqb n 0x44) (Some kinds.Outcome) None)) (Some kind) k.1) [
-                  | inl l ↦ rw (← some_is kinds.Challenge kind l.1) (eqb-true n 0x42 l.0)
-                  | inr l ↦
-                      elim (chosen (eqb n 0x43) (Some kinds.Response) (cond (eqb n 0x44) (Some kinds.Outcome) None)
-                      (Some kind) l.1) [
-                        | inl m ↦ rw (← some_is kinds.Response kind m.1) (eqb-true n 0x43 m.0)
-                        | inr m ↦
-                            let g = when_some (eqb n 0x44) (Some kinds.Outcome) kind m.1 in
-                            rw (← some_is kinds.Outcome kind g.1) (eqb-true n 0x44 g.0)
-                      ]
-                ]
-          ]
-    ]
+code_kind_is n kind =
+    let has_code : Kind → Type 0 = λ other. n ≡ code_of other in
+    first_passed has_code (eqb n 0x40) kinds.Mechanisms _ kind (eqb-true n 0x40)
+    (first_passed has_code (eqb n 0x41) kinds.Init _ kind (eqb-true n 0x41)
+    (first_passed has_code (eqb n 0x42) kinds.Challenge _ kind (eqb-true n 0x42)
+    (first_passed has_code (eqb n 0x43) kinds.Response _ kind (eqb-true n 0x43)
+    (first_passed has_code (eqb n 0x44) kinds.Outcome None kind (eqb-true n 0x44) (λ e. absurd cc)))))
 
-same_name : (name : List ℕ) (kind other : Kind) → bytes_eq name (name_of kind) ≡ true → kind ≡ other
-    → name ≡ name_of other
-same_name name kind other e f = (bytes_eq-Decides name (name_of kind)).0 e ∙ ap name_of f
+named_so : (name : List ℕ) (kind : Kind) → bytes_eq name (name_of kind) ≡ true → name ≡ name_of kind
+named_so name kind test = (bytes_eq-Decides name (name_of kind)).0 test
 
 kind_named : (name : List ℕ) (kind : Kind) → kind_of_name name ≡ Some kind → name ≡ name_of kind
 unfolding kind_of_name
-kind_named name kind e =
-    let test : Kind → Bool = λ k. bytes_eq name (name_of k) in
-    elim (chosen (test kinds.Mechanisms) (Some kinds.Mechanisms)
-    (cond (test kinds.Init) (Some kinds.Init)
-    (cond (test kinds.Challenge) (Some kinds.Challenge)
-    (cond (test kinds.Response) (Some kinds.Response) (cond (test kinds.Outcome) (Some kinds.Outcome) None))))
-    (Some kind) e) [
-      | inl h ↦ same_name name kinds.Mechanisms kind h.0 (some_is kinds.Mechanisms kind h.1)
-      | inr h ↦
-          elim (chosen (test kinds.Init) (Some kinds.Init)
-          (cond (test kinds.Challenge) (Some kinds.Challenge)
-          (cond (test kinds.Response) (Some kinds.Response) (cond (test kinds.Outcome) (Some kinds.Outcome) None)))
-          (Some kind) h.1) [
-            | inl k ↦ same_name name kinds.Init kind k.0 (some_is kinds.Init kind k.1)
-            | inr k ↦
-                elim (chosen (test kinds.Challenge) (Some kinds.Challenge)
-                (cond (test kinds.Response) (Some kinds.Response) (cond (test kinds.Outcome) (Some kinds.Outcome) None))
-                (Some kind) k.1) [
-                  | inl l ↦ same_name name kinds.Challenge kind l.0 (some_is kinds.Challenge kind l.1)
-                  | inr l ↦
-                      elim (chosen (test kinds.Response) (Some kinds.Response)
-                      (cond (test kinds.Outcome) (Some kinds.Outcome) None) (Some kind) l.1) [
-                        | inl m ↦ same_name name kinds.Response kind m.0 (some_is kinds.Response kind m.1)
-                        | inr m ↦
-                            let g = when_some (test kinds.Outcome) (Some kinds.Outcome) kind m.1 in
-                            same_name name kinds.Outcome kind g.0 (some_is kinds.Outcome kind g.1)
-                      ]
-                ]
-          ]
-    ]
+kind_named name kind =
+    let has_name : Kind → Type 0 = λ other. name ≡ name_of other in
+    let test : Kind → Bool = λ other. bytes_eq name (name_of other) in
+    first_passed has_name (test kinds.Mechanisms) kinds.Mechanisms _ kind (named_so name kinds.Mechanisms)
+    (first_passed has_name (test kinds.Init) kinds.Init _ kind (named_so name kinds.Init)
+    (first_passed has_name (test kinds.Challenge) kinds.Challenge _ kind (named_so name kinds.Challenge)
+    (first_passed has_name (test kinds.Response) kinds.Response _ kind (named_so name kinds.Response)
+    (first_passed has_name (test kinds.Outcome) kinds.Outcome None kind (named_so name kinds.Outcome)
+    (λ e. absurd cc)))))
 
 eight_takes : (bytes : List ℕ) (x : ℕ × List ℕ) → IsBytes bytes → eight_at bytes ≡ Some x
     → (bytes ≡ to_be_bytes w64 x.0 ++ x.1) × IsBytes x.1

@@ -15,7 +15,7 @@ use Rattle.fe2o3_sasl_wire.specs.SaslFrames.{IsBytes, limit, number, choice, con
 use Rattle.fe2o3_sasl_wire.specs.private.Writing.{elements}
 use Rattle.fe2o3_sasl_wire.specs.private.Reading.{◌>>=◌, byte_at, four_at, number_at, content_at, form_at, variable_at, is_ascii, element_at, symbol_at, string_at, elements_at, array_at, one_at, symbols_at, sasl_code, code_at, binary_at}
 use Rattle.fe2o3_sasl_wire.proofs.lemmas.reading.TextLemmas.{IsAscii-from_is_ascii}
-use Rattle.fe2o3_sasl_wire.proofs.lemmas.reading.StepLemmas.{IsBytes-drop, IsBytes-take, IsBytes-tail, bind_some, unless_some, when_some, chosen, some_is, Reads}
+use Rattle.fe2o3_sasl_wire.proofs.lemmas.reading.StepLemmas.{IsBytes-drop, IsBytes-take, IsBytes-tail, bind_some, unless_some, when_some, chosen, first_passed, some_is, Reads}
 
 -- ---- numbers
 
@@ -83,13 +83,10 @@ content_takes form bytes x fits e =
 
 -- which form a constructor names
 pub form_takes : (short long c : ℕ) (form : Form) → form_at short long c ≡ Some form → c ≡ choice short long form
-form_takes short long c form e =
-    elim (chosen (eqb c short) (Some Eight) (cond (eqb c long) (Some ThirtyTwo) None) (Some form) e) [
-      | inl h ↦ rw (← some_is Eight form h.1) (eqb-true c short h.0)
-      | inr h ↦
-          let g = when_some (eqb c long) (Some ThirtyTwo) form h.1 in
-          rw (← some_is ThirtyTwo form g.1) (eqb-true c long g.0)
-    ]
+form_takes short long c form =
+    let names : Form → Type 0 = λ other. c ≡ choice short long other in
+    first_passed names (eqb c short) Eight _ form (eqb-true c short)
+    (first_passed names (eqb c long) ThirtyTwo None form (eqb-true c long) (λ e. absurd cc))
 
 pub byte_takes : (bytes : List ℕ) (x : ℕ × List ℕ) → IsBytes bytes → byte_at bytes ≡ Some x → (bytes ≡ x.0 ∷ x.1)
     × IsBytes x.1
@@ -193,8 +190,8 @@ elements_take form zero bytes x fits e =
     subst (λ (y : List (List ℕ) × List ℕ). TakesElements form 0 bytes y.0 y.1) (some_is ([], bytes) x e) made
 elements_take form (suc n) bytes x fits e =
     let a =
-    bind_some (element_at form bytes) (λ first. elements_at form n first.1 >>= λ others. Some
-    (first.0 ∷ others.0, others.1)) x e in
+    bind_some (element_at form bytes) (λ first. elements_at form n first.1
+    >>= λ others. Some (first.0 ∷ others.0, others.1)) x e in
     let b = bind_some (elements_at form n a.0.1) (λ others. Some (a.0.0 ∷ others.0, others.1)) x a.2 in
     let first = element_takes form bytes a.0 fits a.1 in
     let others = elements_take form n a.0.1 b.0 first.rest_fits b.1 in
@@ -222,16 +219,16 @@ array_takes : (form : Form) (bytes : List ℕ) (x : List (List ℕ) × List ℕ)
 unfolding array_at
 array_takes form bytes x fits e =
     let a =
-    bind_some (content_at form bytes) (λ inner. number_at form inner.0 >>= λ count. byte_at count.1 >>=
-    λ c. form_at 0xa3 0xb3 c.0 >>= λ element. elements_at element count.0 c.1 >>= λ names. cond
-    (eqb (length names.1) 0) (Some (names.0, inner.1)) None) x e in
+    bind_some (content_at form bytes) (λ inner. number_at form inner.0 >>= λ count. byte_at count.1
+    >>= λ c. form_at 0xa3 0xb3 c.0 >>= λ element. elements_at element count.0 c.1
+    >>= λ names. cond (eqb (length names.1) 0) (Some (names.0, inner.1)) None) x e in
     let b =
-    bind_some (number_at form a.0.0) (λ count. byte_at count.1 >>= λ c. form_at 0xa3 0xb3 c.0 >>=
-    λ element. elements_at element count.0 c.1 >>= λ names. cond (eqb (length names.1) 0)
+    bind_some (number_at form a.0.0) (λ count. byte_at count.1 >>= λ c. form_at 0xa3 0xb3 c.0
+    >>= λ element. elements_at element count.0 c.1 >>= λ names. cond (eqb (length names.1) 0)
     (Some (names.0, a.0.1)) None) x a.2 in
     let c =
-    bind_some (byte_at b.0.1) (λ c. form_at 0xa3 0xb3 c.0 >>= λ element. elements_at element b.0.0 c.1 >>=
-    λ names. cond (eqb (length names.1) 0) (Some (names.0, a.0.1)) None) x b.2 in
+    bind_some (byte_at b.0.1) (λ c. form_at 0xa3 0xb3 c.0 >>= λ element. elements_at element b.0.0 c.1
+    >>= λ names. cond (eqb (length names.1) 0) (Some (names.0, a.0.1)) None) x b.2 in
     let d =
     bind_some (form_at 0xa3 0xb3 c.0.0)
     (λ element. elements_at element b.0.0 c.0.1 >>= λ names. cond (eqb (length names.1) 0)
@@ -310,41 +307,22 @@ symbols_take (c ∷ bytes) x fits e =
 
 -- ---- codes
 
-code_is : (n : ℕ) (c : SaslCode) → sasl_code n ≡ Some c → n ≡ outcome_code c
-code_is n c e =
-    elim (chosen (eqb n 0) (Some sasl_codes.Ok)
-    (cond (eqb n 1) (Some sasl_codes.Auth)
-    (cond (eqb n 2) (Some sasl_codes.Sys)
-    (cond (eqb n 3) (Some sasl_codes.SysPerm) (cond (eqb n 4) (Some sasl_codes.SysTemp) None)))) (Some c) e) [
-      | inl h ↦ rw (← some_is sasl_codes.Ok c h.1) (eqb-true n 0 h.0)
-      | inr h ↦
-          elim (chosen (eqb n 1) (Some sasl_codes.Auth)
-          (cond (eqb n 2) (Some sasl_codes.Sys)
-          (cond (eqb n 3) (Some sasl_codes.SysPerm) (cond (eqb n 4) (Some sasl_codes.SysTemp) None))) (Some c) h.1) [
-            | inl k ↦ rw (← some_is sasl_codes.Auth c k.1) (eqb-true n 1 k.0)
-            | inr k ↦
-                elim (chosen (eqb n 2) (Some sasl_codes.Sys)
-                (cond (eqb n 3) (Some sasl_codes.SysPerm) (cond (eqb n 4) (Some sasl_codes.SysTemp) None)) (Some c) k.1) [
-                  | inl l ↦ rw (← some_is sasl_codes.Sys c l.1) (eqb-true n 2 l.0)
-                  | inr l ↦
-                      elim (chosen (eqb n 3) (Some sasl_codes.SysPerm) (cond (eqb n 4) (Some sasl_codes.SysTemp) None)
-                      (Some c) l.1) [
-                        | inl m ↦ rw (← some_is sasl_codes.SysPerm c m.1) (eqb-true n 3 m.0)
-                        | inr m ↦
-                            let g = when_some (eqb n 4) (Some sasl_codes.SysTemp) c m.1 in
-                            rw (← some_is sasl_codes.SysTemp c g.1) (eqb-true n 4 g.0)
-                      ]
-                ]
-          ]
-    ]
+code_is : (n : ℕ) (code : SaslCode) → sasl_code n ≡ Some code → n ≡ outcome_code code
+code_is n code =
+    let has_number : SaslCode → Type 0 = λ other. n ≡ outcome_code other in
+    first_passed has_number (eqb n 0) sasl_codes.Ok _ code (eqb-true n 0)
+    (first_passed has_number (eqb n 1) sasl_codes.Auth _ code (eqb-true n 1)
+    (first_passed has_number (eqb n 2) sasl_codes.Sys _ code (eqb-true n 2)
+    (first_passed has_number (eqb n 3) sasl_codes.SysPerm _ code (eqb-true n 3)
+    (first_passed has_number (eqb n 4) sasl_codes.SysTemp None code (eqb-true n 4) (λ e. absurd cc)))))
 
 pub code_takes : (bytes : List ℕ) (x : SaslCode × List ℕ) → IsBytes bytes → code_at bytes ≡ Some x
     → Reads (SpellsField (Ubyte (outcome_code x.0))) bytes x.1
 unfolding code_at
 code_takes bytes x fits e =
     let a =
-    bind_some (byte_at bytes) (λ c. byte_at c.1 >>= λ n. sasl_code n.0 >>= λ code. cond (eqb c.0 0x50)
-    (Some (code, n.1)) None) x e in
+    bind_some (byte_at bytes) (λ c. byte_at c.1 >>= λ n. sasl_code n.0
+    >>= λ code. cond (eqb c.0 0x50) (Some (code, n.1)) None) x e in
     let b =
     bind_some (byte_at a.0.1) (λ n. sasl_code n.0 >>= λ code. cond (eqb a.0.0 0x50) (Some (code, n.1)) None) x a.2 in
     let c = bind_some (sasl_code b.0.0) (λ code. cond (eqb a.0.0 0x50) (Some (code, b.0.1)) None) x b.2 in

@@ -210,13 +210,13 @@ short_descriptor : (kind : Kind) (rest : List ℕ) → descriptor_at (0x53 ∷ c
 unfolding descriptor_at
 short_descriptor kind rest = rw (code_kind_again kind) refl
 
-long_descriptor : (kind : Kind) (rest : List ℕ) → descriptor_at (0x80 ∷ to_be_bytes w64 (code_of kind) ++ rest) ≡ Some
-    (kind, rest)
+long_descriptor : (kind : Kind) (rest : List ℕ)
+    → descriptor_at (0x80 ∷ to_be_bytes w64 (code_of kind) ++ rest) ≡ Some (kind, rest)
 unfolding descriptor_at
 long_descriptor kind rest = rw (eight_again (code_of kind) rest (code_small kind), code_kind_again kind) refl
 
-named_step : (kind : Kind) (form : Form) (rest : List ℕ) → symbol_at
-    (choice 0xa3 0xb3 form ∷ content form (name_of kind) ++ rest) ≡ Some (name_of kind, rest)
+named_step : (kind : Kind) (form : Form) (rest : List ℕ)
+    → symbol_at (choice 0xa3 0xb3 form ∷ content form (name_of kind) ++ rest) ≡ Some (name_of kind, rest)
     → descriptor_at (choice 0xa3 0xb3 form ∷ content form (name_of kind) ++ rest) ≡ Some (kind, rest)
 unfolding descriptor_at
 named_step kind Eight rest e = rw (e, name_again kind) refl

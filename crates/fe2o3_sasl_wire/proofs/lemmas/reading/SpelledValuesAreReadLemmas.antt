@@ -31,8 +31,7 @@ content_again form x rest lt =
     let long : ltb (length (x ++ rest)) (length x) ≡ false = le-ltb _ _ (omega (arith, length-append x rest)) in
     rw (
       append_assoc (number form (length x)) x rest,
-      number_again form (length x)
-          (x ++ rest) lt,
+      number_again form (length x) (x ++ rest) lt,
       long,
       take_at x rest (length x) refl,
       drop_at x rest (length x) refl,
@@ -86,8 +85,7 @@ elements_again form [] rest s = refl
 elements_again form (x ∷ xs) rest s =
     rw (
       append_assoc (content form x) (elements form xs) rest,
-      element_again form x
-          (elements form xs ++ rest) s.0,
+      element_again form x (elements form xs ++ rest) s.0,
       elements_again form xs rest s.1,
     ) refl
 
@@ -102,8 +100,7 @@ array_again xs rest form inner each size count =
     ap (elements_at inner (length xs)) (sym (append-nil (elements inner xs))) ∙ elements_again inner xs [] each in
     rw (
       content_again form (array_body form inner xs) rest size,
-      number_again form (length xs)
-          (choice 0xa3 0xb3 inner ∷ elements inner xs) count,
+      number_again form (length xs) (choice 0xa3 0xb3 inner ∷ elements inner xs) count,
       symbol_form inner,
       all,
     ) refl

@@ -1,5 +1,5 @@
 -- Steps that succeeded, and what they took from the front.
-use Rattle.std.proofs.Common.{◌≡◌, ℕ, suc, ◌+◌, Bool, true, false, cond, List, ◌∷◌, ◌++◌, take, drop, Option, Some, None, refl, arith, inl, inr, ◌⊎◌}
+use Rattle.std.proofs.Common.{◌≡◌, ℕ, suc, ◌+◌, Bool, true, false, cond, List, ◌∷◌, ◌++◌, take, drop, Option, Some, None, refl, subst, arith, inl, inr, ◌⊎◌}
 use Rattle.std.proofs.lemmas.Bool.{cases_lt}
 use Rattle.std.proofs.lemmas.List.{length-take, get_or-drop, get_or-take, get_or_past}
 use Rattle.fe2o3_sasl_wire.specs.SaslFrames.{IsBytes}
@@ -40,6 +40,13 @@ chosen false x y z e = inr (refl, e)
 
 pub some_is : {A : Type 0} (x y : A) → Some x ≡ Some y → x ≡ y
 some_is x y e = cc
+
+-- the first of some values whose test passes has what each value whose test passes has
+pub first_passed : {A : Type 0} (P : A → Type 0) (test : Bool) (one : A) (others : Option A) (x : A)
+    → (test ≡ true → P one)
+    → (others ≡ Some x → P x) → cond test (Some one) others ≡ Some x → P x
+first_passed P true one others x here later e = subst P (some_is one x e) (here refl)
+first_passed P false one others x here later e = later e
 
 -- what a step took from the front is a spelling
 pub record Reads (P : List ℕ → Type 0) (bytes rest : List ℕ) : Type 0 where

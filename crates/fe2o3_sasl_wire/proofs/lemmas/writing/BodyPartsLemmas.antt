@@ -34,12 +34,33 @@ map-take zero fields = refl
 map-take (suc n) [] = refl
 map-take (suc n) (field ∷ fields) = ap (λ rest. shown_field field ∷ rest) (map-take n fields)
 
+-- the encoder holds the fields of a frame and keeps as many as are written
+pub record Keeps (frame : SaslFrame) (held : List HeldField) (n : ℕ) : Type 0 where
+  pub fields : map shown_field held ≡ filled (fields_of frame)
+  pub count : n ≡ count_of frame
+
 -- the fields that the encoder keeps are those that are written
-pub kept_fields : (frame : SaslFrame) (held : List HeldField) (n : ℕ)
-    → map shown_field held ≡ filled (fields_of frame) → n ≡ count_of frame
+pub kept_fields : {frame : SaslFrame} {held : List HeldField} {n : ℕ} → Keeps frame held n
     → map shown_field (take n held) ≡ written (fields_of frame)
-kept_fields frame held n e f =
-    map-take n held ∙ ap (take n) e ∙ ap (λ k. take k (filled (fields_of frame))) f ∙ take-written (fields_of frame) _
+kept_fields {frame} {held} {n} keeps =
+    map-take n held ∙ ap (take n) keeps.fields ∙ ap (λ k. take k (filled (fields_of frame))) keeps.count
+    ∙ take-written (fields_of frame) _
+
+-- how many fields the encoder keeps
+pub kept_count : {frame : SaslFrame} {held : List HeldField} {n : ℕ} → Keeps frame held n
+    → length (take n held) ≡ count_of frame
+kept_count {frame} {held} {n} keeps = sym (length-shown (take n held)) ∙ ap length (kept_fields keeps)
+  where
+    length-shown : (fields : List HeldField) → length (map shown_field fields) ≡ length fields
+    length-shown [] = refl
+    length-shown (field ∷ fields) = ap suc (length-shown fields)
+
+-- how long the fields are that the encoder keeps
+pub kept_len : {frame : SaslFrame} {held : List HeldField} {n : ℕ} (len : ℕ) → Keeps frame held n
+    → len ≡ min (length (flat_map canonical_field (map shown_field (take n held)))) (2 ^ 64 - 1)
+    → len ≡ min (length (items_of frame)) (2 ^ 64 - 1)
+kept_len len keeps len_is =
+    len_is ∙ ap (λ fields. min (length (flat_map canonical_field fields)) (2 ^ 64 - 1)) (kept_fields keeps)
 
 -- ---- the body
 
@@ -50,57 +71,41 @@ no_body frame n e le =
     let body = length-list_body ThirtyTwo (count_of frame) (items_of frame) in
     rw (le-ltb (length (list_body ThirtyTwo (count_of frame) (items_of frame))) (2 ^ 32) (omega arith)) refl
 
-list_parts : (list : Form) (count m : ℕ) (items : List ℕ) → list_form count items ≡ list
-    → m ≡ width list + length items → canonical_list count items ≡ choice 0xc0 0xd0 list ∷
-    (number list m ++ (number list count ++ items))
-list_parts list count m items e f =
-    let len : length (list_body list count items) ≡ m = length-list_body list count items ∙ sym f in
-    rw (e, len) refl
+list_parts : (form : Form) (count size : ℕ) (items : List ℕ) → list_form count items ≡ form
+    → size ≡ width form + length items
+    → canonical_list count items ≡ choice 0xc0 0xd0 form ∷ (number form size ++ (number form count ++ items))
+list_parts form count size items form_is size_is =
+    let len : length (list_body form count items) ≡ size = length-list_body form count items ∙ sym size_is in
+    rw (form_is, len) refl
 
 -- the body as it is written: eight bytes, the size, the count and the items
 abbrev pub body_parts : SaslFrame → Form → ℕ → ℕ → List ℕ
-body_parts frame list m count =
-    2 ∷ 1 ∷ 0 ∷ 0 ∷ 0 ∷ 0x53 ∷ code_of (kind_of frame) ∷ choice 0xc0 0xd0 list ∷
-    (number list m ++ (number list count ++ items_of frame))
+body_parts frame form size count =
+    2 ∷ 1 ∷ 0 ∷ 0 ∷ 0 ∷ 0x53 ∷ code_of (kind_of frame) ∷ choice 0xc0 0xd0 form
+    ∷ (number form size ++ (number form count ++ items_of frame))
 
-pub body_in_parts : (frame : SaslFrame) (list : Form) (n m : ℕ) → n ≡ length (items_of frame) → 4 + n < 2 ^ 32
-    → list ≡ shortest (1 + n) → m ≡ width list + n → canonical frame ≡ Some (body_parts frame list m (count_of frame))
+pub body_in_parts : (frame : SaslFrame) (form : Form) (n size : ℕ) → n ≡ length (items_of frame) → 4 + n < 2 ^ 32
+    → form ≡ shortest (1 + n) → size ≡ width form + n
+    → canonical frame ≡ Some (body_parts frame form size (count_of frame))
 unfolding canonical
-body_in_parts frame list n m e lt f g =
+body_in_parts frame form n size len_is fits form_is size_is =
     let items = items_of frame in
     let count = count_of frame in
-    let body = length-list_body ThirtyTwo count items in
-    let fits = lt-ltb (length (list_body ThirtyTwo count items)) (2 ^ 32) (omega arith) in
+    let wide = length-list_body ThirtyTwo count items in
+    let written_so = lt-ltb (length (list_body ThirtyTwo count items)) (2 ^ 32) (omega (arith, wide)) in
     let small : length (list_body Eight count items) ≡ 1 + n = omega (arith, length-list_body Eight count items) in
-    let form_is : list_form count items ≡ list = ap shortest small ∙ sym f in
-    let parts = list_parts list count m items form_is (omega arith) in
-    rw (fits, parts) refl
+    let list_form_is : list_form count items ≡ form = ap shortest small ∙ sym form_is in
+    let parts = list_parts form count size items list_form_is (omega arith) in
+    rw (written_so, parts) refl
 
 pub has_body : (frame : SaslFrame) (n : ℕ) → n ≡ length (items_of frame) → 4 + n < 2 ^ 32 → IsSome (canonical frame)
 has_body frame n e lt = rw (body_in_parts frame (shortest (1 + n)) n (width (shortest (1 + n)) + n) e lt refl refl) refl
 
 -- the four writes append the body
-pub appends : (frame : SaslFrame) (old headed sized counted new : List ℕ) (list : Form) (m count : ℕ)
-    → canonical frame ≡ Some (body_parts frame list m count)
-    → headed ≡ old ++ 2 ∷ 1 ∷ 0 ∷ 0 ∷ 0 ∷ 0x53 ∷ code_of (kind_of frame) ∷ choice 0xc0 0xd0 list ∷ []
-    → sized ≡ headed ++ number list m → counted ≡ sized ++ number list count → new ≡ counted ++ items_of frame
-    → AppendsCanonical frame old new
-appends frame old headed sized counted new list m count e p q r s =
-    (body_parts frame list m count, e, rw (s, r, q, p) (simp append_assoc))
-
--- how many fields the encoder keeps
-pub kept_count : (frame : SaslFrame) (held : List HeldField) (n : ℕ) → map shown_field held ≡ filled (fields_of frame)
-    → n ≡ count_of frame → length (take n held) ≡ count_of frame
-kept_count frame held n e f = sym (length-shown (take n held)) ∙ ap length (kept_fields frame held n e f)
-  where
-    length-shown : (fields : List HeldField) → length (map shown_field fields) ≡ length fields
-    length-shown [] = refl
-    length-shown (field ∷ fields) = ap suc (length-shown fields)
-
--- how long the fields are that the encoder keeps
-pub kept_len : (frame : SaslFrame) (held : List HeldField) (n len : ℕ)
-    → map shown_field held ≡ filled (fields_of frame) → n ≡ count_of frame
-    → len ≡ min (length (flat_map canonical_field (map shown_field (take n held)))) (2 ^ 64 - 1)
-    → len ≡ min (length (items_of frame)) (2 ^ 64 - 1)
-kept_len frame held n len e f g =
-    g ∙ ap (λ fields. min (length (flat_map canonical_field fields)) (2 ^ 64 - 1)) (kept_fields frame held n e f)
+pub appends : (frame : SaslFrame) (old headed sized counted new : List ℕ) (form : Form) (size : ℕ)
+    → canonical frame ≡ Some (body_parts frame form size (count_of frame))
+    → headed ≡ old ++ 2 ∷ 1 ∷ 0 ∷ 0 ∷ 0 ∷ 0x53 ∷ code_of (kind_of frame) ∷ choice 0xc0 0xd0 form ∷ []
+    → sized ≡ headed ++ number form size → counted ≡ sized ++ number form (count_of frame)
+    → new ≡ counted ++ items_of frame → AppendsCanonical frame old new
+appends frame old headed sized counted new form size body head_is size_is count_is items_are =
+    (body_parts frame form size (count_of frame), body, rw (items_are, count_is, size_is, head_is) (simp append_assoc))

@@ -225,13 +225,13 @@ item_step (Symbols n) fields ws text none s lt =
       flat_map canonical_field ws,
       refl,
       refl,
-      field_spells
-          (Symbols n) text (omega (arith, length-append (canonical_field (Symbols n)) (flat_map canonical_field ws))),
+      field_spells (Symbols n) text
+          (omega (arith, length-append (canonical_field (Symbols n)) (flat_map canonical_field ws))),
       s,
     )
 
-length-with_field : (field : Field) (ws : List Field) → length (flat_map canonical_field ws) ≤ length
-    (flat_map canonical_field (with_field field ws))
+length-with_field : (field : Field) (ws : List Field)
+    → length (flat_map canonical_field ws) ≤ length (flat_map canonical_field (with_field field ws))
 length-with_field Null [] = omega arith
 length-with_field Null (w ∷ ws) =
     omega (arith, length-append (canonical_field Null) (flat_map canonical_field (w ∷ ws)))

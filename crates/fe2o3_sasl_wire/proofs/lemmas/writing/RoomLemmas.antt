@@ -21,8 +21,7 @@ room_for form (name ∷ names) (suc i) d lt =
     omega (
       arith,
       room_for form names i d (omega arith),
-      length-append (content form name)
-          (elements form names),
+      length-append (content form name) (elements form names),
       length-append (content form name) (elements form (take i names)),
     )
 
