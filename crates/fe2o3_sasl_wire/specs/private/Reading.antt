@@ -103,14 +103,18 @@ one_at form bytes = elements_at form 1 bytes
 unfoldable pub symbols_at : List ℕ → Option (List (List ℕ) × List ℕ)
 symbols_at [] = None
 symbols_at (constructor ∷ rest) =
-    if constructor == 0xe0 then array_at Eight rest else (if constructor == 0xf0 then array_at ThirtyTwo rest
+    if constructor == 0xe0 then array_at Eight rest
+    else (if constructor == 0xf0 then array_at ThirtyTwo rest
     else (form_at 0xa3 0xb3 constructor >>= λ form. one_at form rest))
 
 -- the code with this number (part 5, section 5.3.3.6)
 abbrev pub sasl_code : ℕ → Option SaslCode
 sasl_code n =
-    if n == 0 then Some sasl_codes.Ok else (if n == 1 then Some sasl_codes.Auth else (if n == 2 then Some sasl_codes.Sys
-    else (if n == 3 then Some sasl_codes.SysPerm else (if n == 4 then Some sasl_codes.SysTemp else None))))
+    if n == 0 then Some sasl_codes.Ok
+    else (if n == 1 then Some sasl_codes.Auth
+    else (if n == 2 then Some sasl_codes.Sys
+    else (if n == 3 then Some sasl_codes.SysPerm
+    else (if n == 4 then Some sasl_codes.SysTemp else None))))
 
 -- an outcome's code, as a ubyte (part 5, section 5.3.3.5)
 unfoldable pub code_at : List ℕ → Option (SaslCode × List ℕ)
@@ -185,23 +189,24 @@ sized_at constructor bytes = do
 -- a list of any form (part 1, section 1.6.22)
 unfoldable pub list_at : List ℕ → Option (Items × List ℕ)
 list_at [] = None
-list_at (constructor ∷ rest) =
-    if constructor == 0x45 then Some ((0, []), rest) else sized_at constructor rest
+list_at (constructor ∷ rest) = if constructor == 0x45 then Some ((0, []), rest) else sized_at constructor rest
 
 -- the kind of frame with this code (part 5, section 5.3.3)
 abbrev pub kind_of_code : ℕ → Option Kind
 kind_of_code n =
-    if n == 0x40 then Some kinds.Mechanisms else
-    (if n == 0x41 then Some kinds.Init else (if n == 0x42 then Some kinds.Challenge
-    else (if n == 0x43 then Some kinds.Response else (if n == 0x44 then Some kinds.Outcome else None))))
+    if n == 0x40 then Some kinds.Mechanisms
+    else (if n == 0x41 then Some kinds.Init
+    else (if n == 0x42 then Some kinds.Challenge
+    else (if n == 0x43 then Some kinds.Response
+    else (if n == 0x44 then Some kinds.Outcome else None))))
 
 -- the kind of frame with this name (part 5, section 5.3.3)
 unfoldable pub kind_of_name : List ℕ → Option Kind
 kind_of_name name =
-    if bytes_eq name (name_of kinds.Mechanisms) then Some kinds.Mechanisms else
-    (if bytes_eq name (name_of kinds.Init) then Some kinds.Init
-    else (if bytes_eq name (name_of kinds.Challenge) then Some kinds.Challenge else
-    (if bytes_eq name (name_of kinds.Response) then Some kinds.Response
+    if bytes_eq name (name_of kinds.Mechanisms) then Some kinds.Mechanisms
+    else (if bytes_eq name (name_of kinds.Init) then Some kinds.Init
+    else (if bytes_eq name (name_of kinds.Challenge) then Some kinds.Challenge
+    else (if bytes_eq name (name_of kinds.Response) then Some kinds.Response
     else (if bytes_eq name (name_of kinds.Outcome) then Some kinds.Outcome else None))))
 
 -- a descriptor (part 1, section 1.4)

@@ -19,8 +19,9 @@ returns-then-bytes-ne-DATA_OFFSET-clause-reads c =
 pub overflow_sub-result : goal.overflow_sub-result
 overflow_sub-result c =
     let read = ap value_at (sym c.split_at.ensures.back) ∙ sym c.in-Some.ensures in
-    rest_within c.args.bytes.now (viewed_frame c.in-Some.frame) c.in-Some.rest.now
-    (λ i. omega (arith, c.type_inv.bytes i)) c.if-bytes-lt4.false read
+    let within = rest_within c.args.bytes.now (viewed_frame c.in-Some.frame) c.in-Some.rest.now
+    (λ i. omega (arith, c.type_inv.bytes i)) c.if-bytes-lt4.false read in
+    omega (arith, within)
 
 pub returns-in-Some-clause-reads : goal.returns-in-Some-clause-reads
 returns-in-Some-clause-reads c =
