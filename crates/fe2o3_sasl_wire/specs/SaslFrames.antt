@@ -13,7 +13,7 @@ use Rattle.fe2o3_sasl_wire.specs.declared.sasl_frames.forms.Kind.TheVariants as 
 
 -- ---- frames
 
--- mechanisms; mechanism, initial response and hostname; challenge; response; code and data (part 5, section 5.3.3)
+-- a frame: mechanisms; mechanism, response and hostname; challenge; response; code and data (part 5, section 5.3.3)
 pub data SaslFrame : Type 0 where
   Mechanisms : List (List ℕ) → SaslFrame
   Init : List ℕ → Option (List ℕ) → Option (List ℕ) → SaslFrame

@@ -1,5 +1,5 @@
 -- What is written is a spelling.
-use Rattle.std.proofs.Common.{◌≡◌, ℕ, ◌+◌, ◌^◌, ◌<◌, ◌≤◌, Bool, true, false, cond, ltb, List, [], ◌∷◌, ◌++◌, length, Some, refl, sym, ap, ◌∙◌, arith, inl, inr}
+use Rattle.std.proofs.Common.{◌≡◌, ℕ, suc, ◌+◌, ◌^◌, ◌<◌, ◌≤◌, Bool, true, false, cond, ltb, List, [], ◌∷◌, ◌++◌, length, Some, refl, sym, ap, ◌∙◌, arith, inl, inr}
 use Rattle.std.specs.Prelude.{IsAscii}
 use Rattle.std.specs.List.{flat_map, AllByRecursion}
 use Rattle.std.proofs.lemmas.Bool.{ltb-true, cases_lt, lt-ltb, le-ltb, and_parts}
@@ -175,60 +175,36 @@ none_written : (fields : List Field) → written fields ≡ [] → AllNull field
 none_written [] e = tt
 none_written (field ∷ fields) e = none_step field fields (written fields) (none_written fields) e
 
+-- the first field that is written spells itself
+first_spells : (field : Field) (ws : List Field) → IsText field
+    → length (canonical_field field ++ flat_map canonical_field ws) < 2 ^ 32 → SpellsField field (canonical_field field)
+first_spells field ws text lt =
+    field_spells field text (omega (arith, length-append (canonical_field field) (flat_map canonical_field ws)))
+
+-- a field before those that are written
+item_before : (field : Field) (fields ws : List Field) → SpellsField field (canonical_field field)
+    → SpellsItems fields (length ws) (flat_map canonical_field ws)
+    → SpellsItems (field ∷ fields) (suc (length ws)) (canonical_field field ++ flat_map canonical_field ws)
+item_before field fields ws spelled others =
+    inr (length ws, canonical_field field, flat_map canonical_field ws, refl, refl, spelled, others)
+
 -- what is written of a field and the fields after it
 item_step : (field : Field) (fields ws : List Field) → IsText field → (ws ≡ [] → AllNull fields)
     → SpellsItems fields (length ws) (flat_map canonical_field ws)
     → length (flat_map canonical_field (with_field field ws)) < 2 ^ 32
     → SpellsItems (field ∷ fields) (length (with_field field ws)) (flat_map canonical_field (with_field field ws))
 item_step Null fields [] text none s lt = inl ((refl, none refl), refl, refl)
-item_step Null fields (w ∷ ws) text none s lt =
-    inr (length (w ∷ ws), canonical_field Null, flat_map canonical_field (w ∷ ws), refl, refl, refl, s)
+item_step Null fields (w ∷ ws) text none s lt = item_before Null fields (w ∷ ws) refl s
 item_step (Ubyte n) fields ws text none s lt =
-    inr (length ws, canonical_field (Ubyte n), flat_map canonical_field ws, refl, refl, refl, s)
+    item_before (Ubyte n) fields ws (first_spells (Ubyte n) ws text lt) s
 item_step (Binary n) fields ws text none s lt =
-    inr (
-      length ws,
-      canonical_field (Binary n),
-      flat_map canonical_field ws,
-      refl,
-      refl,
-      field_spells (Binary n) text
-          (omega (arith, length-append (canonical_field (Binary n)) (flat_map canonical_field ws))),
-      s,
-    )
+    item_before (Binary n) fields ws (first_spells (Binary n) ws text lt) s
 item_step (Text n) fields ws text none s lt =
-    inr (
-      length ws,
-      canonical_field (Text n),
-      flat_map canonical_field ws,
-      refl,
-      refl,
-      field_spells (Text n) text
-          (omega (arith, length-append (canonical_field (Text n)) (flat_map canonical_field ws))),
-      s,
-    )
+    item_before (Text n) fields ws (first_spells (Text n) ws text lt) s
 item_step (Symbol n) fields ws text none s lt =
-    inr (
-      length ws,
-      canonical_field (Symbol n),
-      flat_map canonical_field ws,
-      refl,
-      refl,
-      field_spells (Symbol n) text
-          (omega (arith, length-append (canonical_field (Symbol n)) (flat_map canonical_field ws))),
-      s,
-    )
+    item_before (Symbol n) fields ws (first_spells (Symbol n) ws text lt) s
 item_step (Symbols n) fields ws text none s lt =
-    inr (
-      length ws,
-      canonical_field (Symbols n),
-      flat_map canonical_field ws,
-      refl,
-      refl,
-      field_spells (Symbols n) text
-          (omega (arith, length-append (canonical_field (Symbols n)) (flat_map canonical_field ws))),
-      s,
-    )
+    item_before (Symbols n) fields ws (first_spells (Symbols n) ws text lt) s
 
 length-with_field : (field : Field) (ws : List Field)
     → length (flat_map canonical_field ws) ≤ length (flat_map canonical_field (with_field field ws))
