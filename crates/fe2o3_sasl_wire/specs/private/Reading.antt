@@ -1,4 +1,4 @@
--- Reading from left to right, as the private functions do. No public clause cites this file: the proofs join it to the relation `Spells`.
+-- Reading from left to right, as the private functions do. The proofs join it to the relation `Spells`.
 -- A step answers a value and the bytes after it, or nothing where the bytes do not begin with such a value.
 use Rattle.std.specs.Prelude.{ℕ, zero, suc, ◌-◌, Bool, ◌&&◌, List, [], ◌∷◌, length, take, drop, Option, Some, None, nat_lt, ◌==◌, if◌then◌else◌, bytes_eq}
 use Rattle.std.specs.Str.{is_utf8}
@@ -44,7 +44,8 @@ content_at form bytes = do
 
 -- the form that a constructor names
 abbrev pub form_at : ℕ → ℕ → ℕ → Option Form
-form_at short long constructor = if constructor == short then Some Eight else (if constructor == long then Some ThirtyTwo else None)
+form_at short long constructor =
+    if constructor == short then Some Eight else (if constructor == long then Some ThirtyTwo else None)
 
 -- a constructor of either form, a length, and that many bytes (part 1, section 1.2.2)
 unfoldable pub variable_at : ℕ → ℕ → List ℕ → Option (List ℕ × List ℕ)
@@ -101,13 +102,19 @@ one_at form bytes = elements_at form 1 bytes
 -- an array of symbols, or one symbol, which stands for a list of one (part 1, sections 1.4 and 1.6.24)
 unfoldable pub symbols_at : List ℕ → Option (List (List ℕ) × List ℕ)
 symbols_at [] = None
-symbols_at (constructor ∷ rest) = if constructor == 0xe0 then array_at Eight rest else (if constructor == 0xf0 then array_at ThirtyTwo rest
+symbols_at (constructor ∷ rest) =
+    if constructor == 0xe0 then array_at Eight rest
+    else (if constructor == 0xf0 then array_at ThirtyTwo rest
     else (form_at 0xa3 0xb3 constructor >>= λ form. one_at form rest))
 
 -- the code with this number (part 5, section 5.3.3.6)
 abbrev pub sasl_code : ℕ → Option SaslCode
-sasl_code n = if n == 0 then Some sasl_codes.Ok else (if n == 1 then Some sasl_codes.Auth else (if n == 2 then Some sasl_codes.Sys
-    else (if n == 3 then Some sasl_codes.SysPerm else (if n == 4 then Some sasl_codes.SysTemp else None))))
+sasl_code n =
+    if n == 0 then Some sasl_codes.Ok
+    else (if n == 1 then Some sasl_codes.Auth
+    else (if n == 2 then Some sasl_codes.Sys
+    else (if n == 3 then Some sasl_codes.SysPerm
+    else (if n == 4 then Some sasl_codes.SysTemp else None))))
 
 -- an outcome's code, as a ubyte (part 5, section 5.3.3.5)
 unfoldable pub code_at : List ℕ → Option (SaslCode × List ℕ)
@@ -139,7 +146,8 @@ unless_null None count read = read >>= λ x. Some (Some x.0, (count - 1, x.1))
 
 -- the next item, which may be null or absent (part 1, section 1.4)
 unfoldable pub optional_at : {A : Type 0} → (List ℕ → Option (A × List ℕ)) → Items → Option (Option A × Items)
-optional_at read items = if items.0 == 0 then Some (None, items) else unless_null (null_at items.1) items.0 (read items.1)
+optional_at read items =
+    if items.0 == 0 then Some (None, items) else unless_null (null_at items.1) items.0 (read items.1)
 
 -- no item and no byte is left
 abbrev pub ended : Items → Option (Unit {0})
@@ -170,30 +178,42 @@ fields_at kinds.Outcome items = do
   bytes ← optional_at binary_at code.1
   ended bytes.1 >>= λ _. Some (Outcome code.0 bytes.0)
 
+-- a list with a size and a count, behind its constructor (part 1, section 1.2.3)
+abbrev pub sized_at : ℕ → List ℕ → Option (Items × List ℕ)
+sized_at constructor bytes = do
+  form ← form_at 0xc0 0xd0 constructor
+  inner ← content_at form bytes
+  count ← number_at form inner.0
+  Some (count, inner.1)
+
 -- a list of any form (part 1, section 1.6.22)
 unfoldable pub list_at : List ℕ → Option (Items × List ℕ)
 list_at [] = None
-list_at (constructor ∷ rest) = if constructor == 0x45 then Some ((0, []), rest) else (do
-  form ← form_at 0xc0 0xd0 constructor
-  inner ← content_at form rest
-  count ← number_at form inner.0
-  Some (count, inner.1))
+list_at (constructor ∷ rest) = if constructor == 0x45 then Some ((0, []), rest) else sized_at constructor rest
 
 -- the kind of frame with this code (part 5, section 5.3.3)
 abbrev pub kind_of_code : ℕ → Option Kind
-kind_of_code n = if n == 0x40 then Some kinds.Mechanisms else (if n == 0x41 then Some kinds.Init else (if n == 0x42 then Some kinds.Challenge
-    else (if n == 0x43 then Some kinds.Response else (if n == 0x44 then Some kinds.Outcome else None))))
+kind_of_code n =
+    if n == 0x40 then Some kinds.Mechanisms
+    else (if n == 0x41 then Some kinds.Init
+    else (if n == 0x42 then Some kinds.Challenge
+    else (if n == 0x43 then Some kinds.Response
+    else (if n == 0x44 then Some kinds.Outcome else None))))
 
 -- the kind of frame with this name (part 5, section 5.3.3)
 unfoldable pub kind_of_name : List ℕ → Option Kind
-kind_of_name name = if bytes_eq name (name_of kinds.Mechanisms) then Some kinds.Mechanisms else (if bytes_eq name (name_of kinds.Init) then Some kinds.Init
-    else (if bytes_eq name (name_of kinds.Challenge) then Some kinds.Challenge else (if bytes_eq name (name_of kinds.Response) then Some kinds.Response
+kind_of_name name =
+    if bytes_eq name (name_of kinds.Mechanisms) then Some kinds.Mechanisms
+    else (if bytes_eq name (name_of kinds.Init) then Some kinds.Init
+    else (if bytes_eq name (name_of kinds.Challenge) then Some kinds.Challenge
+    else (if bytes_eq name (name_of kinds.Response) then Some kinds.Response
     else (if bytes_eq name (name_of kinds.Outcome) then Some kinds.Outcome else None))))
 
 -- a descriptor (part 1, section 1.4)
 unfoldable pub descriptor_at : List ℕ → Option (Kind × List ℕ)
 descriptor_at [] = None
-descriptor_at (constructor ∷ rest) = if constructor == 0x53 then (byte_at rest >>= λ n. kind_of_code n.0 >>= λ kind. Some (kind, n.1))
+descriptor_at (constructor ∷ rest) =
+    if constructor == 0x53 then (byte_at rest >>= λ n. kind_of_code n.0 >>= λ kind. Some (kind, n.1))
     else (if constructor == 0x80 then (eight_at rest >>= λ n. kind_of_code n.0 >>= λ kind. Some (kind, n.1))
     else (symbol_at (constructor ∷ rest) >>= λ name. kind_of_name name.0 >>= λ kind. Some (kind, name.1)))
 
@@ -206,3 +226,8 @@ value_at (zero ∷ bytes) = do
   frame ← fields_at kind.0 list.0
   Some (frame, list.1)
 value_at (suc b ∷ bytes) = None
+
+-- the symbols that were read from the elements
+abbrev pub names_in : Option (List (List ℕ) × List ℕ) → List (List ℕ)
+names_in None = []
+names_in (Some x) = x.0

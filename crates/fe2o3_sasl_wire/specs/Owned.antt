@@ -4,7 +4,7 @@ use Rattle.fe2o3_sasl_wire.specs.declared.sasl_frames.Frame.{Frame}
 use Rattle.fe2o3_sasl_wire.specs.declared.sasl_frames.Frame.TheVariants as frames
 use Rattle.fe2o3_sasl_wire.specs.declared.sasl_frames.error.Error.{Error}
 use Rattle.fe2o3_sasl_wire.specs.declared.sasl_frames.error.Error.TheVariants as faults
-use Rattle.fe2o3_sasl_wire.specs.SaslFrames.{SaslFrame, Mechanisms, Init, Challenge, Response, Outcome}
+use Rattle.fe2o3_sasl_wire.specs.SaslFrames.{SaslFrame, Init}
 use Rattle.fe2o3_sasl_wire.specs.AmqpTypes.{mechanisms_frame, init_frame, challenge_frame, response_frame, outcome_frame}
 
 -- the frame that a value holds
@@ -18,14 +18,10 @@ owned_frame (frames.Outcome outcome) = outcome_frame outcome
 -- the mechanism of an init is ASCII, as symbols are (part 1, section 1.6.21)
 abbrev pub HasAsciiMechanism : SaslFrame → Type 0
 HasAsciiMechanism (Init mechanism response hostname) = IsAscii mechanism
-HasAsciiMechanism (Mechanisms names) = Unit {0}
-HasAsciiMechanism (Challenge bytes) = Unit {0}
-HasAsciiMechanism (Response bytes) = Unit {0}
-HasAsciiMechanism (Outcome code bytes) = Unit {0}
+HasAsciiMechanism _ = Unit {0}
 
 -- why no frame is made of a view: the mechanism is not ASCII; or there is no memory, and then it is
 abbrev pub RefusesView : SaslFrame → Error → Type 0
 RefusesView frame faults.DecodeError = ¬ (HasAsciiMechanism frame)
 RefusesView frame faults.OutOfMemory = HasAsciiMechanism frame
-RefusesView frame faults.NotImplemented = ⊥
-RefusesView frame faults.TooLarge = ⊥
+RefusesView frame _ = ⊥

@@ -1,5 +1,6 @@
--- The fields of a frame as the encoder holds them. No public clause cites this file.
-use Rattle.std.specs.Prelude.{◌-◌, List, ◌++◌, length, replicate}
+-- The fields of a frame as the encoder holds them.
+use Rattle.std.specs.Prelude.{◌≡◌, ◌-◌, List, ◌++◌, length, replicate}
+use Rattle.std.specs.List.{AllByRecursion}
 use Rattle.fe2o3_sasl_wire.specs.declared.sasl_frames.fields.Field.{Field as HeldField}
 use Rattle.fe2o3_sasl_wire.specs.declared.sasl_frames.fields.Field.TheVariants as held
 use Rattle.fe2o3_sasl_wire.specs.SaslFrames.{Field, Null, Ubyte, Binary, Text, Symbol, Symbols}
@@ -16,3 +17,7 @@ shown_field (held.Symbols symbols) = Symbols symbols.now
 -- the fields with nulls behind them, up to three
 abbrev pub filled : List Field → List Field
 filled fields = fields ++ replicate (3 - length fields) Null
+
+-- none of the fields has a value
+abbrev pub AllNull : List Field → Type 0
+AllNull fields = AllByRecursion (λ field. field ≡ Null) fields
