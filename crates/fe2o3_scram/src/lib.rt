@@ -7,6 +7,9 @@
 //! [`ScramVersion::compute_server_final_message`], from the records of a
 //! [`ScramCredentialProvider`]. [`ScramClient`] and [`ScramAuthenticator`] keep the messages of
 //! one exchange between the calls; [`laws`] says what holds of a whole exchange.
+//!
+//! [`ClientFirst`], [`ServerFirst`], [`ClientFinal`] and [`ServerFinal`] are what the four messages
+//! name, and each has a `parse`. The keys, the proof and the signature stand in [`keys`].
 #![tactic(auto)]
 
 pub mod credentials;

@@ -1,8 +1,7 @@
 //! The client-final message, which answers a server-first message.
 
-ghost use Rattle.std.specs.Prelude.{◌≡◌, ◌≤◌, ◌<◌, ◌+◌, ◌^◌, IfOk, IfErr, OnOk, OnErr};
+ghost use Rattle.std.specs.Prelude.{◌≡◌, ◌≤◌, ◌+◌, ◌^◌, IfOk, IfErr, OnOk, OnErr};
 ghost use Rattle.fe2o3_scram.specs.ClientFinal.{AnswerCosts, answer_values, without_proof, client_final_of, answer_of, AnswersServerFirst};
-ghost use Rattle.fe2o3_scram.specs.Hmac.{digest_bytes};
 ghost use Rattle.fe2o3_scram.specs.Readings.{Gives};
 ghost use Rattle.fe2o3_scram.specs.ServerFirst.{client_of, no_limit, server_first_values};
 

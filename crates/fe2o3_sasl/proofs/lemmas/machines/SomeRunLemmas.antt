@@ -4,15 +4,12 @@ use Rattle.std.proofs.Common.{◌≡◌, ◌≢◌, ℕ, zero, suc, ◌<◌, Boo
 use Rattle.std.specs.List.{Contains}
 use Rattle.std.specs.Prelude.{slice_get, slice_index_or, IsUtf8}
 use Rattle.std.proofs.lemmas.Option.{none-some, same_Some}
-use Rattle.fe2o3_sasl_wire.specs.Bodies.{ReadsBody, fault_of}
-use Rattle.fe2o3_sasl_wire.specs.Bytes.{IsBytes}
-use Rattle.fe2o3_sasl_wire.specs.Canonical.{canonical}
+use Rattle.fe2o3_sasl_wire.specs.SaslFrames.{ReadsBody, fault_of, IsBytes, canonical, SaslFrame}
 use Rattle.fe2o3_sasl_wire.specs.SaslFrames as frames
-use Rattle.fe2o3_sasl_wire.specs.SaslFrames.{SaslFrame}
 use Rattle.fe2o3_sasl_wire.specs.declared.amqp_types.SaslCode.TheVariants as outcomes
 use Rattle.fe2o3_sasl_wire.specs.declared.sasl_frames.error.Error.{Error}
 use Rattle.fe2o3_sasl_wire.specs.declared.sasl_frames.error.Error.TheVariants as faults
-use Rattle.fe2o3_sasl_wire.proofs.LawLemmas.{bodies_have_one_answer}
+use Rattle.fe2o3_sasl_wire.proofs.lemmas.frames.LawLemmas.{bodies_have_one_answer}
 use Rattle.fe2o3_scram.specs.ClientFinal.{ClientFinal, ReadsClientFinal, server_of, answer_of}
 use Rattle.fe2o3_scram.specs.ClientFirst.{ClientFirst, ReadsClientFirst}
 use Rattle.fe2o3_scram.specs.Credentials.{Record, Provider, record_at}
