@@ -41,15 +41,13 @@ use Rattle.fe2o3_sasl.proofs.lemmas.machines.ServerMachineLemmas.{acceptor_runs_
 -- the fault of a body is not want of memory
 no_want : (body : List ℕ) → fault_of body ≢ faults.OutOfMemory
 unfolding fault_of
-no_want body = go _ _ _
+no_want body = go _ _
   where
-    go : (short other_type other_offset : Bool) → cond short faults.DecodeError
-        (cond other_type faults.NotImplemented (cond other_offset faults.NotImplemented faults.DecodeError))
+    go : (short right : Bool) → cond short faults.DecodeError (cond right faults.DecodeError faults.NotImplemented)
         ≢ faults.OutOfMemory
-    go true t o is = cc
-    go false true o is = cc
-    go false false true is = cc
-    go false false false is = cc
+    go true right is = cc
+    go false true is = cc
+    go false false is = cc
 
 -- it is not a fault of memory
 abbrev Readable : Result SaslFrame Error → Type 0
