@@ -3,6 +3,7 @@ use Rattle.std.specs.Prelude.{◌≡◌, ◌≢◌, ◌⊎◌, ℕ, suc, ◌<◌
 use Rattle.std.specs.List.{filter}
 use Rattle.fe2o3_sasl_wire.specs.declared.amqp_types.SaslCode.TheVariants as outcomes
 use Rattle.fe2o3_sasl_wire.specs.declared.sasl_frames.error.Error.TheVariants as faults
+use Rattle.fe2o3_sasl_wire.specs.SaslFrames.{IsBytes}
 use Rattle.fe2o3_sasl_wire.specs.SaslFrames as frames
 use Rattle.fe2o3_sasl.specs.ClientHistory.{Answering, AnswersAt, OpenAnswer, ClientHistory, is_start, is_answer, ends_answer}
 use Rattle.fe2o3_scram.specs.Credentials.{Provider}
@@ -183,6 +184,20 @@ RepeatedServerPositions = (sides : Sides) (k n o : ℕ) (accepted other : Accept
     → n ≢ o → IsPlainInit accepted → IsPlainInit other
     → ((m l : ℕ) → TakesAgreed sides m k n accepted → TakesAgreed sides m l o other → FromTwoChallenges sides n o)
     × (ShowsAgreed sides k n accepted → ShowsAgreed sides k o other → FromTwoChallenges sides n o)
+
+-- the bodies of the events are bytes
+abbrev pub BodiesAreBytes : List Given → Type 0
+BodiesAreBytes events = (k : ℕ) (event : Given) → slice_get events k ≡ Some event → IsBytes event.body
+
+-- events whose bodies are bytes have a server history without want of memory
+abbrev pub SomeServerHistory : Type 0
+SomeServerHistory = (provider : Provider) (events : List Given) → BodiesAreBytes events
+    → (replies : List ServerSays) × ServerHistory provider events replies × ServerComplete replies
+
+-- likewise a client history
+abbrev pub SomeClientHistory : Type 0
+SomeClientHistory = (login : Login) (events : List Given) → BodiesAreBytes events
+    → (replies : List ClientSays) × ClientHistory login events replies × ClientComplete replies
 
 -- unaltered runs log in: what that gives every history of a client whose login the code holds
 abbrev pub ClientsLogIn : Type 0

@@ -6,10 +6,12 @@ pub mod Complete
 pub mod SaslAcceptor
 pub mod SaslProfile
 pub mod Runs
+pub mod Hex
 pub mod TwoSides
 pub mod Audit
 pub mod UnalteredRuns
 pub mod Laws
+pub mod MechanismLaws
 pub mod Headline
 pub mod examples
 pub use Rattle.fe2o3_scram.specs.Texts

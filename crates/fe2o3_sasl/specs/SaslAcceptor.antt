@@ -23,10 +23,19 @@ acceptor_names (ScramAcceptor provider state) = mechanism_name provider.version 
 acceptor_names (PlainAcceptor user password) = codes "PLAIN" ∷ []
 acceptor_names AnonymousAcceptor = codes "ANONYMOUS" ∷ []
 
+-- the names that a server offers: ANONYMOUS where it has none (AMQP 1.0, part 5, section 5.3.3.1)
+abbrev pub offered : List (List ℕ) → List (List ℕ)
+offered [] = codes "ANONYMOUS" ∷ []
+offered names = names
+
+-- no byte of the text is zero
+abbrev pub NoZero : List ℕ → Type 0
+NoZero text = AllByRecursion (λ byte. byte ≢ 0) text
+
 -- cut at its zero bytes, the text has this part at place k, counted from 0
 abbrev pub ZeroPart : List ℕ → ℕ → List ℕ → Type 0
-ZeroPart text k part = (parts : List (List ℕ)) × AllByRecursion (λ some. AllByRecursion (λ byte. byte ≢ 0) some) parts
-    × (join_with_byte 0 parts ≡ text) × (slice_get parts k ≡ Some part)
+ZeroPart text k part = (parts : List (List ℕ)) × AllByRecursion NoZero parts × (join_with_byte 0 parts ≡ text)
+    × (slice_get parts k ≡ Some part)
 
 -- a message of PLAIN (RFC 4616, section 2) names this user and this password; its first part and those after
 -- the third say nothing

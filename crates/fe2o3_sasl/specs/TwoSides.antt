@@ -9,7 +9,7 @@ use Rattle.fe2o3_sasl.specs.ClientHistory.{Answering, AnswersAt, ClientHistory}
 use Rattle.fe2o3_scram.specs.Credentials.{Provider}
 use Rattle.fe2o3_sasl.specs.Events.{Given, Login, ServerSays, Concluded, ClientSays, Answered, Reported}
 use Rattle.fe2o3_scram.specs.Hmac.{hmac_of}
-use Rattle.fe2o3_scram.specs.Keys.{auth_message, client_proof, server_key}
+use Rattle.fe2o3_scram.specs.Keys.{auth_message, client_proof, server_key, client_key}
 use Rattle.fe2o3_scram.specs.Pbkdf2Hi.{salted_of}
 use Rattle.fe2o3_sasl.specs.ServerHistory.{Accepted, AcceptsAt, ServerHistory, first_message, full_nonce, final_message}
 use Rattle.fe2o3_scram.specs.Texts.{Part, Parts}
@@ -34,7 +34,8 @@ server_key_at login answer = server_key login.version (salted_at login answer)
 
 -- its ClientProof
 abbrev pub proof_at : Login → Answering → List ℕ
-proof_at login answer = client_proof login.version (salted_at login answer) (client_message login answer)
+proof_at login answer = client_proof login.version (client_key login.version (salted_at login answer))
+    (client_message login answer)
 
 -- a login, what a client was given and said, a provider, and what a server was given and said
 pub record Sides : Type 0 where

@@ -1,14 +1,19 @@
 //! Laws of the definitions. A function with an empty body says nothing but its contract: a
 //! statement about every list of bytes, which the check has proved.
 
+ghost use Rattle.fe2o3_sasl.specs.Hex.{OneBytesOfHex, HexIsReadAgain};
+ghost use Rattle.fe2o3_sasl.specs.MechanismLaws.{OneAcceptorReply, OneProfileReply, OffersAgree, PlainLetsIn, PlainRefuses, AnonymousLetsIn, SomethingIsOffered, NamesDiffer};
+ghost use Rattle.fe2o3_sasl.specs.examples.Examples.{ShiftedTextsPass, RefusalsHaveOneBody, ServersAnswer, ClientsAnswer, ShiftedHistoriesPass};
+ghost use Rattle.fe2o3_sasl.specs.examples.PlainExamples.{GuestsEnter, SwappedWordsFail, WrongPasswordsFail, NamesAloneFail, EmptyInitsFail, ResponsesToPlainFail, GuestsStart, OthersAreNotImplemented, PlainReportsOutcomes, GuestsWantMemory, ExternalStarts, AnonymousAlwaysEnters, MechanismsAreNamed, NamesAreOffered};
+ghost use Rattle.fe2o3_sasl.specs.examples.HexExamples.{DigitsOfBothCases, OtherTextsSpellNothing};
+ghost use Rattle.fe2o3_sasl.specs.examples.ReplyExamples.{OtherMechanismsFail, OtherTextsAreRefused, ClientsWantMemory, LongTextsHaveNoBody, ServersWantMemory, FailuresAreReported, NamesAreFound, FindingsInOrder, UnsentChallenges, UnsentStarts};
 ghost use Rattle.fe2o3_sasl.specs.Headline.{EveryServer, EveryClient, AnswersOkExactly, ReportsOkExactly, TakenVerifiersAgree};
-ghost use Rattle.fe2o3_sasl.specs.Laws.{OneServerHistory, OneClientHistory, AcceptorRunsAreHistories, ProfileRunsAreHistories, OksWithinChallenges, RepeatedResponsesAreRefused, OneResponseOneNonce, RefusalsLeaveOpen, PositionsAreUsedOnce, EqualMessagesAgree, NoShortExtensions, TakenVerifiersAreJudged, ShownProofsAreJudged, OneVerdictEach, OneAuditEach, RepeatedClientPositions, RepeatedServerPositions, ClientsLogIn, ServersLogIn};
+ghost use Rattle.fe2o3_sasl.specs.Laws.{OneServerHistory, OneClientHistory, SomeServerHistory, SomeClientHistory, AcceptorRunsAreHistories, ProfileRunsAreHistories, OksWithinChallenges, RepeatedResponsesAreRefused, OneResponseOneNonce, RefusalsLeaveOpen, PositionsAreUsedOnce, EqualMessagesAgree, NoShortExtensions, TakenVerifiersAreJudged, ShownProofsAreJudged, OneVerdictEach, OneAuditEach, RepeatedClientPositions, RepeatedServerPositions, ClientsLogIn, ServersLogIn};
 ghost use Rattle.fe2o3_sasl.specs.examples.UnalteredExample.{PremisesCanBeMet};
-ghost use Rattle.fe2o3_sasl.specs.examples.Examples.{GuestsEnter, WrongPasswordsFail, NamesAloneFail, EmptyInitsFail, ResponsesToPlainFail, ShiftedTextsPass, RefusalsHaveOneBody, ServersAnswer, ClientsAnswer, ShiftedHistoriesPass};
 
 pub use fe2o3_scram::laws::{
-    base64_texts, clone_of_version, digests, escaped_names, one_answer_each, parts,
-    unaltered_exchanges,
+    base64_texts, clone_of_version, digests, each_text_is_read, escaped_names, one_answer_each,
+    parts, unaltered_exchanges,
 };
 
 /// The headline theorem. Over every list of frame bodies, a SCRAM server answers Ok exactly when a
@@ -108,4 +113,77 @@ pub fn worked_examples()
     ensures clients_answer { ClientsAnswer }
     ensures shifted_histories_pass { ShiftedHistoriesPass }
     ensures premises_can_be_met { PremisesCanBeMet }
+{}
+
+/// What holds of every mechanism: each acceptor and each profile has one reply to a frame; a server
+/// offers what a profile asks for exactly where both are of one mechanism; PLAIN lets in the same
+/// user with the same password and refuses all others, in words without zero bytes (RFC 4616,
+/// section 2); ANONYMOUS lets in whoever asks for it; a server always offers something; and the six
+/// profiles have six names.
+pub fn mechanisms()
+    ensures one_acceptor_reply { OneAcceptorReply }
+    ensures one_profile_reply { OneProfileReply }
+    ensures offers_agree { OffersAgree }
+    ensures plain_lets_in { PlainLetsIn }
+    ensures plain_refuses { PlainRefuses }
+    ensures anonymous_lets_in { AnonymousLetsIn }
+    ensures something_is_offered { SomethingIsOffered }
+    ensures names_differ { NamesDiffer }
+{}
+
+/// A hexadecimal text spells at most one list of bytes, and each list of bytes is spelled by one in
+/// digits of either case.
+pub fn hex_texts()
+    ensures one { OneBytesOfHex }
+    ensures again { HexIsReadAgain }
+{}
+
+/// More of what the definitions say of worked examples.
+///
+/// Of PLAIN for the user `guest` with the password `secret`: the two words in the other order end with
+/// Auth; a list with PLAIN among other names is answered by an init with the words and the hostname, a
+/// list without it by NotImplemented; outcomes are reported as they are; memory may be wanting at such
+/// a list and at an outcome with data. EXTERNAL starts without a response, ANONYMOUS ends with Ok
+/// whatever it is sent, the six names are those of their standards, and a server without a name offers
+/// ANONYMOUS.
+///
+/// Of hexadecimal text: digits of both cases are read, an odd number of digits and other characters
+/// are not.
+///
+/// Of SCRAM: inits of other mechanisms end with Auth; a challenge that is not UTF-8 is refused as such
+/// before it is refused as early; outcomes of the codes other than Ok are reported unchecked; the name
+/// is found among others; a challenge and a start without a body are TooLarge and leave the state, and
+/// a text of 4 GiB has no body; memory may be wanting at an init and at a response of a server, at a
+/// list with the name, a challenge and an outcome with data of a client, and nowhere else.
+///
+/// Of an audit: findings stand by the client's position first and then by the server's.
+pub fn more_examples()
+    ensures swapped_words_fail { SwappedWordsFail }
+    ensures guests_start { GuestsStart }
+    ensures others_are_not_implemented { OthersAreNotImplemented }
+    ensures plain_reports_outcomes { PlainReportsOutcomes }
+    ensures guests_want_memory { GuestsWantMemory }
+    ensures external_starts { ExternalStarts }
+    ensures anonymous_always_enters { AnonymousAlwaysEnters }
+    ensures mechanisms_are_named { MechanismsAreNamed }
+    ensures names_are_offered { NamesAreOffered }
+    ensures digits_of_both_cases { DigitsOfBothCases }
+    ensures other_texts_spell_nothing { OtherTextsSpellNothing }
+    ensures other_mechanisms_fail { OtherMechanismsFail }
+    ensures other_texts_are_refused { OtherTextsAreRefused }
+    ensures failures_are_reported { FailuresAreReported }
+    ensures names_are_found { NamesAreFound }
+    ensures unsent_challenges { UnsentChallenges }
+    ensures unsent_starts { UnsentStarts }
+    ensures long_texts_have_no_body { LongTextsHaveNoBody }
+    ensures servers_want_memory { ServersWantMemory }
+    ensures clients_want_memory { ClientsWantMemory }
+    ensures findings_in_order { FindingsInOrder }
+{}
+
+/// Over every list of events whose bodies are bytes, each server and each client has a history in which
+/// memory is not wanting: with `one_history_each` it has exactly one.
+pub fn histories_exist()
+    ensures server { SomeServerHistory }
+    ensures client { SomeClientHistory }
 {}

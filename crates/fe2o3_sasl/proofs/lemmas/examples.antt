@@ -3,9 +3,13 @@ pub mod ExampleBodyLemmas
 pub mod ExampleByteLemmas
 pub mod ExampleReadingLemmas
 pub mod ExampleTextLemmas
+pub mod HexExampleLemmas
+pub mod MemoryExampleLemmas
 pub mod PlainExampleLemmas
 pub mod ReplyByReplyLemmas
+pub mod ReplyExampleLemmas
 pub mod ServerExampleLemmas
 pub mod ShiftedHistoryLemmas
 pub mod ShiftedTextLemmas
+pub mod UnsentExampleLemmas
 pub mod UnalteredExampleLemmas

@@ -1,2 +1,6 @@
 pub mod ClientMachineLemmas
+pub mod MechanismLemmas
+pub mod OneReplyLemmas
 pub mod ServerMachineLemmas
+pub mod ZeroPartLemmas
+pub mod SomeRunLemmas

@@ -1,12 +1,10 @@
 -- Worked examples: what the definitions say of small cases. Hashes stay as they are.
-use Rattle.std.specs.Prelude.{◌≡◌, ◌≢◌, ℕ, Option, Some, None, List, [], ◌∷◌, ◌++◌, map, replicate, codes, Ok}
+use Rattle.std.specs.Prelude.{◌≡◌, ◌≢◌, ℕ, Some, None, List, [], ◌∷◌, ◌++◌, map, replicate, codes, Ok}
 use Rattle.std.specs.List.{AllByRecursion}
-use Rattle.fe2o3_sasl_wire.specs.declared.amqp_types.SaslCode.{SaslCode}
 use Rattle.fe2o3_sasl_wire.specs.declared.amqp_types.SaslCode.TheVariants as outcomes
 use Rattle.fe2o3_sasl_wire.specs.declared.sasl_frames.error.Error.TheVariants as faults
-use Rattle.fe2o3_sasl_wire.specs.Canonical.{canonical}
+use Rattle.fe2o3_sasl_wire.specs.SaslFrames.{canonical, SaslFrame}
 use Rattle.fe2o3_sasl_wire.specs.SaslFrames as frames
-use Rattle.fe2o3_sasl_wire.specs.SaslFrames.{SaslFrame}
 use Rattle.fe2o3_scram.specs.declared.hmac.ScramVersion.TheVariants.{Sha256}
 use Rattle.fe2o3_scram.specs.declared.scram_messages.error.ScramErrorKind.TheVariants.{IllegalClientState, ServerSignatureMismatch}
 use Rattle.fe2o3_scram.specs.Texts.{base64_text, joined}
@@ -14,48 +12,12 @@ use Rattle.fe2o3_scram.specs.ClientFirst.{ReadsClientFirst}
 use Rattle.fe2o3_sasl.specs.ClientHistory.{Answering, client_at, answer_at, OpenAnswer, ClientHistory}
 use Rattle.fe2o3_scram.specs.Credentials.{Record, Provider, record_at, record_of}
 use Rattle.fe2o3_sasl.specs.Events.{Given, AreGiven, Login, IsLogin, IsRecord, ServerSays, Challenged, Concluded, Failed, ClientSays, Started, Answered, Reported, Refused, Scram}
-use Rattle.fe2o3_sasl.specs.SaslAcceptor.{Acceptor, PlainAcceptor, acceptor_machine, ends_with}
 use Rattle.fe2o3_scram.specs.ClientFinal.{ReadsClientFinal, Meets}
 use Rattle.fe2o3_scram.specs.ServerFinal.{ReadsServerFinal}
 use Rattle.fe2o3_scram.specs.ServerFirst.{ReadsServerFirst}
 use Rattle.fe2o3_sasl.specs.ServerHistory.{Challenging, Accepted, full_nonce, server_at, final_message, carried, says_auth, ServerHistory}
 use Rattle.fe2o3_sasl.specs.TwoSides.{Sides, Histories, Takes, Shows, proof_at, client_message, server_message, HasParts}
 use Rattle.fe2o3_sasl.specs.Audit.{Agreed, JudgesVerifier, JudgesProof}
-
--- the acceptor of PLAIN for the user `guest` with the password `guest`
-abbrev pub guests : Acceptor
-guests = PlainAcceptor (codes "guest") (codes "guest")
-
--- its machine answers the frame with an outcome of this code, and in no other way
-abbrev pub Ends : SaslFrame → SaslCode → Type 0
-Ends frame code = (nonce : List ℕ) → acceptor_machine guests nonce frame (ends_with code) guests
-    × ((reply : SaslFrame) (next : Acceptor) → acceptor_machine guests nonce frame reply next
-    → (reply ≡ ends_with code) × (next ≡ guests))
-
--- an init with this response, whatever else it says
-abbrev pub EndsInit : Option (List ℕ) → SaslCode → Type 0
-EndsInit response code = (mechanism : List ℕ) (hostname : Option (List ℕ))
-    → Ends (frames.Init mechanism response hostname) code
-
--- PLAIN: name and password of the guest, and a part more, end with Ok
-abbrev pub GuestsEnter : Type 0
-GuestsEnter = EndsInit (Some (0 ∷ codes "guest" ++ 0 ∷ codes "guest" ++ 0 ∷ codes "x")) outcomes.Ok
-
--- another password ends with Auth
-abbrev pub WrongPasswordsFail : Type 0
-WrongPasswordsFail = EndsInit (Some (0 ∷ codes "guest" ++ 0 ∷ codes "wrong")) outcomes.Auth
-
--- so does a name alone
-abbrev pub NamesAloneFail : Type 0
-NamesAloneFail = EndsInit (Some (0 ∷ codes "guest")) outcomes.Auth
-
--- and an init without a response
-abbrev pub EmptyInitsFail : Type 0
-EmptyInitsFail = EndsInit None outcomes.Auth
-
--- a response ends with Sys, whatever its text
-abbrev pub ResponsesToPlainFail : Type 0
-ResponsesToPlainFail = (text : List ℕ) → Ends (frames.Response text) outcomes.Sys
 
 -- the nonce of the client's event
 abbrev pub client_bytes : List ℕ

@@ -6,14 +6,12 @@ use Rattle.std.proofs.lemmas.List.{length-append}
 use Rattle.fe2o3_sasl_wire.specs.declared.amqp_types.SaslCode.TheVariants as outcomes
 use Rattle.fe2o3_sasl_wire.specs.declared.sasl_frames.forms.Form.{Form}
 use Rattle.fe2o3_sasl_wire.specs.declared.sasl_frames.forms.Form.TheVariants.{Eight, ThirtyTwo}
-use Rattle.fe2o3_sasl_wire.specs.Bodies.{ReadsBody}
-use Rattle.fe2o3_sasl_wire.specs.Canonical.{canonical, canonical_variable, items_of, shortest, HasTexts}
-use Rattle.fe2o3_sasl_wire.specs.Encodings.{width}
+use Rattle.fe2o3_sasl_wire.specs.SaslFrames.{ReadsBody, canonical, canonical_variable, items_of, shortest, HasTexts, SaslFrame}
+use Rattle.fe2o3_sasl_wire.specs.private.Writing.{width}
 use Rattle.fe2o3_sasl_wire.specs.SaslFrames as frames
-use Rattle.fe2o3_sasl_wire.specs.SaslFrames.{SaslFrame}
-use Rattle.fe2o3_sasl_wire.proofs.CanonicalLemmas.{length-content}
-use Rattle.fe2o3_sasl_wire.proofs.EncodingLemmas.{has_body}
-use Rattle.fe2o3_sasl_wire.proofs.LawLemmas.{written_bodies_are_read}
+use Rattle.fe2o3_sasl_wire.proofs.lemmas.writing.CanonicalSpellsLemmas.{length-content}
+use Rattle.fe2o3_sasl_wire.proofs.lemmas.writing.BodyPartsLemmas.{has_body}
+use Rattle.fe2o3_sasl_wire.proofs.lemmas.frames.LawLemmas.{written_bodies_are_read}
 use Rattle.fe2o3_scram.specs.Texts.{base64_text, joined}
 use Rattle.fe2o3_sasl.specs.ClientHistory.{Answering, answer_at}
 use Rattle.fe2o3_sasl.specs.examples.Examples.{client_bytes, server_bytes, client_nonce, server_nonce, both, salt, login, names, values, binds, sends_init, sends_response, sends_ok, body_of, auth_body, RefusalsHaveOneBody}
@@ -28,14 +26,14 @@ some_body : (body : Option (List ℕ)) → IsSome body → body ≡ Some (carrie
 some_body None is = absurd (true≢false (sym is))
 some_body (Some body) is = refl
 
-bodied : (frame : SaslFrame) → length (items_of frame) < 2 ^ 31 → canonical frame ≡ Some (body_of frame)
+pub bodied : (frame : SaslFrame) → length (items_of frame) < 2 ^ 31 → canonical frame ≡ Some (body_of frame)
 bodied frame short = some_body (canonical frame) (has_body frame (length (items_of frame)) refl (omega (arith, short)))
 
 most_width : (form : Form) → width form ≤ 4
 most_width Eight = omega arith
 most_width ThirtyTwo = omega arith
 
-short_variable : (short long : ℕ) (bytes : List ℕ) → length (canonical_variable short long bytes) ≤ length bytes + 5
+pub short_variable : (short long : ℕ) (bytes : List ℕ) → length (canonical_variable short long bytes) ≤ length bytes + 5
 short_variable short long bytes =
     omega (arith, length-content (shortest (length bytes)) bytes, most_width (shortest (length bytes)))
 

@@ -1,0 +1,81 @@
+-- What holds of every acceptor and every profile, of SCRAM and of the other mechanisms. Each is the contract of a
+-- clause of `laws::mechanisms`.
+use Rattle.std.specs.Prelude.{◌≡◌, ◌≢◌, ℕ, Option, List, [], ◌∷◌, ◌++◌, map, Result, Ok}
+use Rattle.std.specs.List.{AllByRecursion, Contains}
+use Rattle.fe2o3_sasl_wire.specs.declared.amqp_types.SaslCode.{SaslCode}
+use Rattle.fe2o3_sasl_wire.specs.declared.amqp_types.SaslCode.TheVariants as outcomes
+use Rattle.fe2o3_sasl_wire.specs.SaslFrames as frames
+use Rattle.fe2o3_sasl_wire.specs.SaslFrames.{SaslFrame}
+use Rattle.fe2o3_scram.specs.declared.hmac.ScramVersion.TheVariants.{Sha1, Sha256, Sha512}
+use Rattle.fe2o3_sasl.specs.Events.{Login, ClientFault}
+use Rattle.fe2o3_sasl.specs.SaslAcceptor.{Acceptor, ScramAcceptor, PlainAcceptor, AnonymousAcceptor, acceptor_machine, acceptor_names, offered, ends_with, NoZero}
+use Rattle.fe2o3_sasl.specs.SaslProfile.{Profile, ScramProfile, PlainProfile, AnonymousProfile, ExternalProfile, profile_machine, profile_name, scram_profile}
+
+-- an acceptor has one reply to each frame, and one acceptor after it
+abbrev pub OneAcceptorReply : Type 0
+OneAcceptorReply = (acceptor : Acceptor) (nonce : List ℕ) (frame reply other : SaslFrame) (next last : Acceptor)
+    → acceptor_machine acceptor nonce frame reply next → acceptor_machine acceptor nonce frame other last
+    → (reply ≡ other) × (next ≡ last)
+
+-- likewise a profile
+abbrev pub OneProfileReply : Type 0
+OneProfileReply = (profile : Profile) (hostname : Option (List ℕ)) (nonce : List ℕ) (frame : SaslFrame)
+    (reply other : Result SaslFrame ClientFault) (next last : Profile)
+    → profile_machine profile hostname nonce frame reply next → profile_machine profile hostname nonce frame other last
+    → (reply ≡ other) × (next ≡ last)
+
+-- the profile answers the names that the acceptor offers with an init, and the acceptor this init with an outcome
+-- of this code; both stay as they are
+abbrev pub EndsWith : Acceptor → Profile → SaslCode → Type 0
+EndsWith acceptor profile code = (hostname : Option (List ℕ)) (client_nonce server_nonce : List ℕ)
+    → (init : SaslFrame)
+    × profile_machine profile hostname client_nonce (frames.Mechanisms (offered (acceptor_names acceptor)))
+    (Ok init) profile
+    × acceptor_machine acceptor server_nonce init (ends_with code) acceptor
+
+-- PLAIN lets in the same user with the same password, in words without zero bytes (RFC 4616, section 2)
+abbrev pub PlainLetsIn : Type 0
+PlainLetsIn = (user password : List ℕ) → NoZero user → NoZero password
+    → EndsWith (PlainAcceptor user password) (PlainProfile user password) outcomes.Ok
+
+-- and refuses every other user and password in such words
+abbrev pub PlainRefuses : Type 0
+PlainRefuses = (user password other secret : List ℕ) → NoZero other → NoZero secret
+    → ¬ ((user ≡ other) × (password ≡ secret))
+    → EndsWith (PlainAcceptor user password) (PlainProfile other secret) outcomes.Auth
+
+-- ANONYMOUS lets in whoever asks for it (RFC 4505, section 2)
+abbrev pub AnonymousLetsIn : Type 0
+AnonymousLetsIn = EndsWith AnonymousAcceptor AnonymousProfile outcomes.Ok
+
+-- both are of one mechanism; EXTERNAL has no acceptor
+abbrev pub AreOfOneMechanism : Acceptor → Profile → Type 0
+AreOfOneMechanism (ScramAcceptor provider state) (ScramProfile client) = client.version ≡ provider.version
+AreOfOneMechanism (PlainAcceptor user password) (PlainProfile other secret) = Unit {0}
+AreOfOneMechanism AnonymousAcceptor AnonymousProfile = Unit {0}
+AreOfOneMechanism acceptor profile = ⊥
+
+-- an acceptor offers what a profile asks for exactly where both are of one mechanism
+abbrev pub OffersAgree : Type 0
+OffersAgree = (acceptor : Acceptor) (profile : Profile)
+    → (Contains (offered (acceptor_names acceptor)) (profile_name profile) → AreOfOneMechanism acceptor profile)
+    × (AreOfOneMechanism acceptor profile → Contains (offered (acceptor_names acceptor)) (profile_name profile))
+
+-- what is offered is never nothing, and a list with a name in it is offered as it is
+abbrev pub SomethingIsOffered : Type 0
+SomethingIsOffered = (names : List (List ℕ)) → (offered names ≢ []) × (names ≢ [] → offered names ≡ names)
+
+-- each is another than all later ones
+abbrev pub Differ : List (List ℕ) → Type 0
+Differ [] = Unit {0}
+Differ (name ∷ names) = AllByRecursion (λ other. name ≢ other) names × Differ names
+
+-- the profiles of the six mechanisms for one login
+abbrev pub six_profiles : Login → List Profile
+six_profiles login =
+    map (λ version. scram_profile (record login { version = version })) (Sha1 ∷ Sha256 ∷ Sha512 ∷ [])
+    ++ PlainProfile login.user login.password ∷ AnonymousProfile ∷ ExternalProfile ∷ []
+
+-- their names are six
+abbrev pub NamesDiffer : Type 0
+NamesDiffer = (login : Login) → Differ (map profile_name (six_profiles login))
