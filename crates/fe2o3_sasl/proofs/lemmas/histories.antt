@@ -1,3 +1,5 @@
+pub mod LongerClientHistoryLemmas
+pub mod LongerServerHistoryLemmas
 pub mod OneClientHistoryLemmas
 pub mod OneServerHistoryLemmas
 pub mod RepeatedNonceLemmas
