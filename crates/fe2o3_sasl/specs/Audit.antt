@@ -1,11 +1,17 @@
 -- What is found on two lists of frame bodies, and how each finding is judged: the project's own words, over the
 -- keys of RFC 5802, section 3.
 use Rattle.std.specs.Prelude.{◌≡◌, ◌≢◌, ◌⊎◌, ℕ, ◌<◌, Option, Some, None, List, [], ◌∷◌, ◌++◌, map}
-use Rattle.std.specs.List.{AllByRecursion}
-use Rattle.fe2o3_sasl.specs.ClientHistory.{Answering, ClientComplete, OpenAnswer}
+use Rattle.std.specs.List.{AllByRecursion, Contains}
+use Rattle.fe2o3_sasl.specs.ClientHistory.{Answering, OpenAnswer}
+use Rattle.fe2o3_sasl.specs.Events.{Given, Login, ClientSays, ServerSays}
+use Rattle.fe2o3_scram.specs.Credentials.{Provider}
+use Rattle.fe2o3_scram.specs.declared.hmac.ScramVersion.{ScramVersion}
+use Rattle.fe2o3_scram.specs.ClientFinal.{recovered_key}
 use Rattle.fe2o3_scram.specs.Hmac.{digest}
-use Rattle.fe2o3_sasl.specs.ServerHistory.{Accepted, full_nonce, ServerComplete}
-use Rattle.fe2o3_sasl.specs.TwoSides.{Sides, Histories, Takes, Shows, Agree, IsPlainInit, MacCollision, HashCollision, client_message, server_message, client_key_at, server_key_at, recovered_at}
+use Rattle.fe2o3_scram.specs.Keys.{client_key}
+use Rattle.fe2o3_sasl.specs.Complete.{ServerComplete, ClientComplete}
+use Rattle.fe2o3_sasl.specs.ServerHistory.{Accepted, full_nonce, server_at}
+use Rattle.fe2o3_sasl.specs.TwoSides.{Sides, sides_of, Histories, Takes, Shows, Agree, IsPlainInit, MessagesCollide, client_message, server_message, salted_at, server_key_at}
 
 -- the nonce of both sides, the salt and the iteration count
 pub record Parameters : Type 0 where
@@ -35,12 +41,6 @@ AreAgreed sides answer accepted user nonce parameters =
     × (user ≡ accepted.challenge.client.user) × (nonce ≡ accepted.challenge.client.nonce)
     × AreParameters accepted parameters
 
--- the AuthMessages differ, and their HMAC values under these keys are one
-abbrev pub MessagesCollide : Sides → Answering → Accepted → List ℕ → List ℕ → Type 0
-MessagesCollide sides answer accepted client_key server_key =
-    (sides.login.version ≡ sides.provider.version) × MacCollision sides.login.version client_key
-    (client_message sides.login answer) server_key (server_message accepted)
-
 -- the verdict on a verifier that the client took: both agree, or the AuthMessages collide under the server keys
 -- of the two sides
 abbrev pub JudgesVerifier : Sides → Answering → Accepted → Verdict → Type 0
@@ -51,6 +51,19 @@ JudgesVerifier sides answer accepted (SameMac client_key client_text server_key 
     × (server_key ≡ accepted.challenge.stored.server_key) × (server_text ≡ server_message accepted)
     × MessagesCollide sides answer accepted client_key server_key
 JudgesVerifier sides answer accepted verdict = ⊥
+
+-- the client's ClientKey
+abbrev pub client_key_at : Login → Answering → List ℕ
+client_key_at login answer = client_key login.version (salted_at login answer)
+
+-- the key that the server recovered from the proof
+abbrev pub recovered_at : Provider → Accepted → List ℕ
+recovered_at provider accepted = recovered_key (server_at provider accepted.challenge) accepted.final
+
+-- two keys that differ have one digest: a collision
+pub record HashCollision (version : ScramVersion) (key other_key : List ℕ) : Type 0 where
+  pub differ : key ≢ other_key
+  pub one : digest version key ≡ digest version other_key
 
 -- the client's key is the one whose digest the server stores
 abbrev pub IsStoredKey : Sides → Answering → Accepted → Type 0
@@ -98,15 +111,10 @@ abbrev pub Ascending : List (ℕ × ℕ) → Type 0
 Ascending [] = Unit {0}
 Ascending (place ∷ places) = AllByRecursion (Before place) places × Ascending places
 
--- the pair is in the list
-abbrev pub Among : ℕ × ℕ → List (ℕ × ℕ) → Type 0
-Among place [] = ⊥
-Among place (first ∷ places) = (first ≡ place) ⊎ Among place places
-
 -- exactly the pairs of the relation, each once, in order
 pub record Lists (R : ℕ → ℕ → Type 0) (places : List (ℕ × ℕ)) : Type 0 where
   pub each : AllByRecursion (λ place. R place.0 place.1) places
-  pub every : (m n : ℕ) → R m n → Among (m, n) places
+  pub every : (m n : ℕ) → R m n → Contains places (m, n)
   pub ordered : Ascending places
 
 -- a verifier that the client took, with its verdict
@@ -137,3 +145,9 @@ pub record Audits (sides : Sides) (findings : List Finding) : Type 0 where
       (map place_of proofs)
   pub verifier_verdicts : AllByRecursion (IsVerifierFinding sides) verifiers
   pub proof_verdicts : AllByRecursion (IsProofFinding sides) proofs
+
+-- what an audit lists of these events: what it lists of two histories of them
+abbrev pub AuditsEvents : Login → List Given → Provider → List Given → List Finding → Type 0
+AuditsEvents login client_events provider server_events findings =
+    (client_replies : List ClientSays) × (server_replies : List ServerSays)
+    × Audits (sides_of login client_events client_replies provider server_events server_replies) findings

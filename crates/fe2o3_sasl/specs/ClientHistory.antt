@@ -1,14 +1,13 @@
 -- What a SCRAM client answers to a list of frame bodies (RFC 5802, section 5; AMQP 1.0, part 5, section 5.3.2).
 -- Nothing here is a state: what is due and what is open are positions in the list.
-use Rattle.std.specs.Prelude.{◌≡◌, ◌≢◌, ◌⊎◌, ℕ, Bool, true, false, Option, Some, None, List, length, slice_get, Result, Ok, Err}
+use Rattle.std.specs.Prelude.{◌≡◌, ◌⊎◌, ℕ, Bool, true, false, Option, Some, None, List, length, slice_get, Result, Ok, Err}
 use Rattle.std.specs.List.{Contains}
 use Rattle.std.specs.Str.{IsUtf8}
 use Rattle.fe2o3_sasl_wire.specs.declared.amqp_types.SaslCode.TheVariants as outcomes
 use Rattle.fe2o3_sasl_wire.specs.declared.sasl_frames.error.Error.{Error}
 use Rattle.fe2o3_sasl_wire.specs.declared.sasl_frames.error.Error.TheVariants as faults
-use Rattle.fe2o3_sasl_wire.specs.Canonical.{canonical}
+use Rattle.fe2o3_sasl_wire.specs.SaslFrames.{canonical, SaslFrame}
 use Rattle.fe2o3_sasl_wire.specs.SaslFrames as frames
-use Rattle.fe2o3_sasl_wire.specs.SaslFrames.{SaslFrame}
 use Rattle.fe2o3_scram.specs.declared.scram_messages.error.ScramErrorKind.{ScramErrorKind}
 use Rattle.fe2o3_scram.specs.declared.scram_messages.error.ScramErrorKind.TheVariants.{Utf8Error, IllegalClientState, ServerSignatureMismatch}
 use Rattle.fe2o3_scram.specs.Texts.{base64_text}
@@ -16,7 +15,7 @@ use Rattle.fe2o3_scram.specs.ClientFinal.{answer_of}
 use Rattle.fe2o3_scram.specs.ClientFirst.{client_first, client_first_bare}
 use Rattle.fe2o3_sasl.specs.Events.{Given, Login, ClientSays, Started, Answered, Reported, Refused, NotImplemented, Scram, Frame, OutOfMemory}
 use Rattle.fe2o3_scram.specs.Hmac.{mechanism_name}
-use Rattle.fe2o3_sasl.specs.Positions.{IsLastOpen, OpenBy}
+use Rattle.fe2o3_sasl.specs.Positions.{OpenBy}
 use Rattle.fe2o3_scram.specs.ServerFinal.{ReadsServerFinal}
 use Rattle.fe2o3_scram.specs.ServerFirst.{Client, ServerFirst, ReadsServerFirst}
 use Rattle.fe2o3_sasl.specs.ServerHistory.{carried, SpellsBody}
@@ -72,8 +71,6 @@ ReadsOutcome login IsOpen (Some text) (Err kind) =
 abbrev pub ClientAnswers : Login → (List ℕ → Type 0) → (Answering → Type 0) → Given → Result SaslFrame Error
     → ClientSays → Type 0
 ClientAnswers login Due IsOpen event (Err fault) says = says ≡ Refused (Frame fault)
-ClientAnswers login Due IsOpen event (Ok (frames.Init mechanism response hostname)) says = says ≡ Refused NotImplemented
-ClientAnswers login Due IsOpen event (Ok (frames.Response text)) says = says ≡ Refused NotImplemented
 ClientAnswers login Due IsOpen event (Ok (frames.Mechanisms names)) says =
     (Contains names (mechanism_name login.version) × (says ≡ says_start login event))
     ⊎ (¬ Contains names (mechanism_name login.version) × (says ≡ Refused NotImplemented))
@@ -84,6 +81,7 @@ ClientAnswers login Due IsOpen event (Ok (frames.Outcome outcomes.Ok more)) says
     (ReadsOutcome login IsOpen more (Ok tt) × (says ≡ Reported outcomes.Ok more))
     ⊎ ((kind : ScramErrorKind) × ReadsOutcome login IsOpen more (Err kind) × (says ≡ Refused (Scram kind)))
 ClientAnswers login Due IsOpen event (Ok (frames.Outcome code more)) says = says ≡ Reported code more
+ClientAnswers login Due IsOpen event (Ok frame) says = says ≡ Refused NotImplemented
 
 -- the replies that memory may be wanting for: those to a mechanisms list with the name, to a challenge, and to
 -- an outcome with data
@@ -108,14 +106,6 @@ abbrev pub ends_answer : ClientSays → Bool
 ends_answer (Started body) = true
 ends_answer (Reported outcomes.Ok more) = true
 ends_answer says = false
-
--- a test that no reply passes
-abbrev pub closes_nothing : ClientSays → Bool
-closes_nothing says = false
-
--- s is the last start before k
-abbrev pub Start : List ClientSays → ℕ → ℕ → Type 0
-Start replies k s = IsLastOpen is_start closes_nothing replies k s
 
 -- this is the nonce text of the event at k
 abbrev pub NonceAt : List Given → ℕ → List ℕ → Type 0
@@ -145,7 +135,3 @@ pub record ClientHistory (login : Login) (events : List Given) (replies : List C
       → (spelled : Result SaslFrame Error) × SpellsBody event.body spelled
       × ((ClientAllocates login spelled × (says ≡ Refused OutOfMemory))
       ⊎ ClientAnswers login (IsDue events replies k) (OpenAnswer login events replies k) event spelled says)
-
--- no reply is want of memory
-abbrev pub ClientComplete : List ClientSays → Type 0
-ClientComplete replies = (k : ℕ) → slice_get replies k ≢ Some (Refused OutOfMemory)

@@ -2,7 +2,7 @@
 -- the code always holds of it.
 use Rattle.std.specs.Prelude.{◌≡◌, ℕ, ◌<◌, ◌^◌, List, length, slice_get, Option, Some}
 use Rattle.std.specs.Str.{IsUtf8}
-use Rattle.fe2o3_sasl_wire.specs.Bytes.{IsBytes}
+use Rattle.fe2o3_sasl_wire.specs.SaslFrames.{IsBytes}
 use Rattle.fe2o3_sasl_wire.specs.declared.amqp_types.SaslCode.{SaslCode}
 use Rattle.fe2o3_sasl_wire.specs.declared.sasl_frames.error.Error.{Error}
 use Rattle.fe2o3_scram.specs.declared.hmac.ScramVersion.{ScramVersion}

@@ -3,19 +3,22 @@ use Rattle.std.specs.Prelude.{◌≡◌, ◌≢◌, ◌⊎◌, ℕ, suc, ◌<◌
 use Rattle.std.specs.List.{filter}
 use Rattle.fe2o3_sasl_wire.specs.declared.amqp_types.SaslCode.TheVariants as outcomes
 use Rattle.fe2o3_sasl_wire.specs.declared.sasl_frames.error.Error.TheVariants as faults
+use Rattle.fe2o3_sasl_wire.specs.SaslFrames.{IsBytes}
 use Rattle.fe2o3_sasl_wire.specs.SaslFrames as frames
-use Rattle.fe2o3_sasl.specs.ClientHistory.{Answering, AnswersAt, OpenAnswer, ClientHistory, ClientComplete, Start, is_start, is_answer, ends_answer}
+use Rattle.fe2o3_sasl.specs.ClientHistory.{Answering, AnswersAt, OpenAnswer, ClientHistory, is_start, is_answer, ends_answer}
 use Rattle.fe2o3_scram.specs.Credentials.{Provider}
 use Rattle.fe2o3_sasl.specs.Events.{Given, AreGiven, Login, IsLogin, IsRecord, ServerSays, Concluded, Failed, ClientSays}
 use Rattle.fe2o3_sasl.specs.Runs.{Runs, AcceptorSteps, ProfileSteps}
 use Rattle.fe2o3_sasl.specs.SaslAcceptor.{acceptor_machine, Acceptor, ScramAcceptor}
 use Rattle.fe2o3_sasl.specs.SaslProfile.{scram_profile, Profile}
 use Rattle.fe2o3_sasl.specs.Positions.{test_at, IsLastOpen}
-use Rattle.fe2o3_sasl.specs.ServerHistory.{Challenging, Accepted, AcceptsAt, Open, ServerHistory, ServerComplete, SpellsBody, is_challenge, is_ok, full_nonce, says_auth}
+use Rattle.fe2o3_sasl.specs.ServerHistory.{Challenging, Accepted, AcceptsAt, Open, ServerHistory, SpellsBody, is_challenge, is_ok, full_nonce, says_auth}
 use Rattle.fe2o3_scram.specs.ScramServer as server_states
 use Rattle.fe2o3_sasl.specs.TwoSides.{Sides, Histories, Takes, Shows, Agree, HasParts, IsPlainInit, client_message, server_message}
-use Rattle.fe2o3_sasl.specs.UnalteredRuns.{UnalteredRun, HoldsLogin, LogsIn, agreed}
-use Rattle.fe2o3_sasl.specs.Audit.{Verdict, JudgesVerifier, JudgesProof}
+use Rattle.fe2o3_sasl.specs.Headline.{VerifierAgrees, EveryServer, EveryClient}
+use Rattle.fe2o3_sasl.specs.UnalteredRuns.{ClientLogsIn, ServerLogsIn}
+use Rattle.fe2o3_sasl.specs.Audit.{Verdict, JudgesVerifier, JudgesProof, Finding, AuditsEvents}
+use Rattle.fe2o3_sasl.specs.Complete.{ClientComplete, ServerComplete}
 
 -- a history without want of memory is a function of the events
 abbrev pub OneServerHistory : Type 0
@@ -88,27 +91,29 @@ AreMatched sides answer accepted =
     ((m n : ℕ) × Takes sides m n accepted × OpenAnswer sides.login sides.client_events sides.client_replies m answer)
     ⊎ ((k n : ℕ) × Shows sides k n answer accepted)
 
+-- two histories that are so matched, over a record that the code holds, with equal AuthMessages
+pub record MatchEqually (sides : Sides) (answer : Answering) (accepted : Accepted) : Type 0 where
+  pub histories : Histories sides
+  pub held : IsRecord accepted.challenge.stored
+  pub matched : AreMatched sides answer accepted
+  pub same : client_message sides.login answer ≡ server_message accepted
+
 -- equal AuthMessages: both sides mean one login
 abbrev pub EqualMessagesAgree : Type 0
-EqualMessagesAgree = (sides : Sides) (answer : Answering) (accepted : Accepted) → Histories sides
-    → IsRecord accepted.challenge.stored
-    → AreMatched sides answer accepted → client_message sides.login answer ≡ server_message accepted
+EqualMessagesAgree = (sides : Sides) (answer : Answering) (accepted : Accepted) → MatchEqually sides answer accepted
     → Agree sides.login sides.provider answer accepted
 
 -- and the init had not three parts, and not four
 abbrev pub NoShortExtensions : Type 0
-NoShortExtensions = (sides : Sides) (answer : Answering) (accepted : Accepted) → Histories sides
-    → IsRecord accepted.challenge.stored
-    → AreMatched sides answer accepted → client_message sides.login answer ≡ server_message accepted
+NoShortExtensions = (sides : Sides) (answer : Answering) (accepted : Accepted) → MatchEqually sides answer accepted
     → ¬ HasParts accepted.challenge.client.bare 3 × ¬ HasParts accepted.challenge.client.bare 4
 
--- each verifier that the client took and the server issued has its verdict: both agree, or the sides' own
--- AuthMessages share one HMAC value
+-- each verifier that the client took and the server issued has its verdict
 abbrev pub TakenVerifiersAreJudged : Type 0
 TakenVerifiersAreJudged = (sides : Sides) (m n : ℕ) (accepted : Accepted) → Histories sides
     → IsRecord accepted.challenge.stored → Takes sides m n accepted
-    → (answer : Answering) × (verdict : Verdict) × OpenAnswer sides.login sides.client_events sides.client_replies m
-    answer × JudgesVerifier sides answer accepted verdict
+    → (agrees : VerifierAgrees sides m accepted) × (verdict : Verdict)
+    × JudgesVerifier sides agrees.answer accepted verdict
 
 -- each proof that the client showed and the server accepted has its verdict
 abbrev pub ShownProofsAreJudged : Type 0
@@ -122,10 +127,24 @@ OneVerdictEach = (sides : Sides) (answer : Answering) (accepted : Accepted) (ver
     → (JudgesVerifier sides answer accepted verdict → JudgesVerifier sides answer accepted other → verdict ≡ other)
     × (JudgesProof sides answer accepted verdict → JudgesProof sides answer accepted other → verdict ≡ other)
 
+-- an audit has one answer, whatever replies it speaks of
+abbrev pub OneAuditEach : Type 0
+OneAuditEach = (login : Login) (client_events : List Given) (provider : Provider) (server_events : List Given)
+    (findings others : List Finding) → AuditsEvents login client_events provider server_events findings
+    → AuditsEvents login client_events provider server_events others → findings ≡ others
+
 -- two positions whose events carry one nonce
 abbrev pub RepeatsNonce : List Given → ℕ → ℕ → Type 0
 RepeatsNonce events i j = (i ≢ j) × ((event again : Given) × (slice_get events i ≡ Some event)
     × (slice_get events j ≡ Some again) × (event.nonce ≡ again.nonce))
+
+-- a test that no reply passes
+abbrev pub closes_nothing : ClientSays → Bool
+closes_nothing says = false
+
+-- s is the last start before k
+abbrev pub Start : List ClientSays → ℕ → ℕ → Type 0
+Start replies k s = IsLastOpen is_start closes_nothing replies k s
 
 -- the answers at these two positions come from two starts with one nonce
 abbrev pub FromTwoStarts : Sides → ℕ → ℕ → Type 0
@@ -166,9 +185,24 @@ RepeatedServerPositions = (sides : Sides) (k n o : ℕ) (accepted other : Accept
     → ((m l : ℕ) → TakesAgreed sides m k n accepted → TakesAgreed sides m l o other → FromTwoChallenges sides n o)
     × (ShowsAgreed sides k n accepted → ShowsAgreed sides k o other → FromTwoChallenges sides n o)
 
--- an unaltered run against the record of the login's own password, which the client can use, logs in, whatever
--- the nonces, where memory was not wanting
-abbrev pub UnalteredRunsLogIn : Type 0
-UnalteredRunsLogIn = (sides : Sides) (salt : List ℕ) (count : ℕ) (run : UnalteredRun sides) → Histories sides
-    → IsLogin sides.login → HoldsLogin sides salt count
-    → ClientComplete sides.client_replies → LogsIn sides (agreed run salt count)
+-- the bodies of the events are bytes
+abbrev pub BodiesAreBytes : List Given → Type 0
+BodiesAreBytes events = (k : ℕ) (event : Given) → slice_get events k ≡ Some event → IsBytes event.body
+
+-- events whose bodies are bytes have a server history without want of memory
+abbrev pub SomeServerHistory : Type 0
+SomeServerHistory = (provider : Provider) (events : List Given) → BodiesAreBytes events
+    → (replies : List ServerSays) × ServerHistory provider events replies × ServerComplete replies
+
+-- likewise a client history
+abbrev pub SomeClientHistory : Type 0
+SomeClientHistory = (login : Login) (events : List Given) → BodiesAreBytes events
+    → (replies : List ClientSays) × ClientHistory login events replies × ClientComplete replies
+
+-- unaltered runs log in: what that gives every history of a client whose login the code holds
+abbrev pub ClientsLogIn : Type 0
+ClientsLogIn = EveryClient (λ login events replies. IsLogin login → ClientLogsIn login events replies)
+
+-- and what it gives every history of a server
+abbrev pub ServersLogIn : Type 0
+ServersLogIn = EveryServer ServerLogsIn

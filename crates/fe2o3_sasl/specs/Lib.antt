@@ -2,6 +2,7 @@ pub mod Events
 pub mod Positions
 pub mod ServerHistory
 pub mod ClientHistory
+pub mod Complete
 pub mod SaslAcceptor
 pub mod SaslProfile
 pub mod Runs
@@ -12,7 +13,6 @@ pub mod UnalteredRuns
 pub mod Laws
 pub mod MechanismLaws
 pub mod Headline
-pub mod Review
 pub mod examples
 pub use Rattle.fe2o3_scram.specs.Texts
 pub use Rattle.fe2o3_scram.specs.Escape

@@ -1,5 +1,8 @@
 -- What is open at a position of a list of replies. Positions count from 0. These words are the project's own;
 -- they take the place of the states of RFC 5802, section 5.
+-- Of any list, by these definitions alone: at most one position is open at a time; a position that was closed is
+-- open at no later one, so two that close never have the same one open; and a reply that neither opens nor closes
+-- leaves open what was open (`positions` in `laws`).
 use Rattle.std.specs.Prelude.{◌≡◌, ℕ, ◌<◌, Bool, true, false, Option, Some, None, List, slice_get}
 
 -- there is a reply, and it passes the test

@@ -1,15 +1,13 @@
 -- What a SCRAM server answers to a list of frame bodies (RFC 5802, section 5; AMQP 1.0, part 5, section 5.3.2).
 -- Nothing here is a state: what is open is a position in the list.
-use Rattle.std.specs.Prelude.{◌≡◌, ◌≢◌, ◌⊎◌, ℕ, Bool, true, false, Option, Some, None, List, ◌++◌, length, slice_get, Result, Ok, Err}
+use Rattle.std.specs.Prelude.{◌≡◌, ◌⊎◌, ℕ, Bool, true, false, Option, Some, None, List, length, slice_get, Result, Ok, Err}
 use Rattle.fe2o3_sasl_wire.specs.declared.amqp_types.SaslCode.TheVariants as outcomes
 use Rattle.fe2o3_sasl_wire.specs.declared.sasl_frames.error.Error.{Error}
 use Rattle.fe2o3_sasl_wire.specs.declared.sasl_frames.error.Error.TheVariants as faults
-use Rattle.fe2o3_sasl_wire.specs.Bodies.{ReadsBody}
-use Rattle.fe2o3_sasl_wire.specs.Canonical.{canonical}
+use Rattle.fe2o3_sasl_wire.specs.SaslFrames.{ReadsBody, canonical, SaslFrame}
 use Rattle.fe2o3_sasl_wire.specs.SaslFrames as frames
-use Rattle.fe2o3_sasl_wire.specs.SaslFrames.{SaslFrame}
 use Rattle.fe2o3_scram.specs.Texts.{base64_text}
-use Rattle.fe2o3_scram.specs.ServerFirst.{server_first_of}
+use Rattle.fe2o3_scram.specs.ServerFirst.{challenge_of}
 use Rattle.fe2o3_scram.specs.ClientFirst.{ClientFirst, ReadsClientFirst}
 use Rattle.fe2o3_scram.specs.Credentials.{Record, Provider, record_at}
 use Rattle.fe2o3_sasl.specs.Events.{Given, ServerSays, Challenged, Concluded, Failed}
@@ -18,19 +16,20 @@ use Rattle.fe2o3_sasl.specs.Positions.{OpenBy}
 use Rattle.fe2o3_scram.specs.ClientFinal.{Server, server_of, ClientFinal, ReadsClientFinal}
 use Rattle.fe2o3_scram.specs.ServerFinal.{server_final_of}
 
--- a challenge: the client-first message that it answers, the nonce that the server adds, and the user's record
+-- what the challenge `challenge_of` is made of: the client-first message that it answers, the nonce that the server
+-- adds, and the user's record
 pub record Challenging : Type 0 where
   pub client : ClientFirst
   pub nonce : List ℕ
   pub stored : Record
 
--- the nonce of both sides
+-- its nonce of both sides
 abbrev pub full_nonce : Challenging → List ℕ
-full_nonce challenge = challenge.client.nonce ++ challenge.nonce
+full_nonce challenge = (challenge_of challenge.client challenge.nonce challenge.stored).nonce
 
 -- its server-first message
 abbrev pub first_message : Challenging → List ℕ
-first_message challenge = server_first_of (full_nonce challenge) challenge.stored
+first_message challenge = (challenge_of challenge.client challenge.nonce challenge.stored).first
 
 -- what a response to it is read against
 abbrev pub server_at : Provider → Challenging → Server
@@ -84,9 +83,6 @@ says_auth = carried (Failed faults.TooLarge) (λ body. Concluded outcomes.Auth b
 -- the reply to a body that spells this, where these challenges are open
 abbrev pub ServerAnswers : Provider → (Challenging → Type 0) → Given → Result SaslFrame Error → ServerSays → Type 0
 ServerAnswers provider IsOpen event (Err fault) says = says ≡ Failed fault
-ServerAnswers provider IsOpen event (Ok (frames.Mechanisms names)) says = says ≡ Failed faults.NotImplemented
-ServerAnswers provider IsOpen event (Ok (frames.Challenge text)) says = says ≡ Failed faults.NotImplemented
-ServerAnswers provider IsOpen event (Ok (frames.Outcome code more)) says = says ≡ Failed faults.NotImplemented
 ServerAnswers provider IsOpen event (Ok (frames.Init mechanism response hostname)) says =
     let Fits = FitsAsInit provider event (frames.Init mechanism response hostname) in
     ((challenge : Challenging) × Fits challenge × (says ≡ says_challenge challenge))
@@ -95,6 +91,7 @@ ServerAnswers provider IsOpen event (Ok (frames.Response text)) says =
     let Fits = FitsAsResponse provider IsOpen (frames.Response text) in
     ((accepted : Accepted) × Fits accepted × (says ≡ says_ok provider accepted))
     ⊎ (((accepted : Accepted) → ¬ Fits accepted) × (says ≡ says_auth))
+ServerAnswers provider IsOpen event (Ok frame) says = says ≡ Failed faults.NotImplemented
 
 -- the replies that memory may be wanting for: those to an init and to a response
 abbrev pub ServerAllocates : Result SaslFrame Error → Type 0
@@ -140,7 +137,3 @@ pub record ServerHistory (provider : Provider) (events : List Given) (replies : 
       → (spelled : Result SaslFrame Error) × SpellsBody event.body spelled
       × ((ServerAllocates spelled × (says ≡ Failed faults.OutOfMemory))
       ⊎ ServerAnswers provider (Open provider events replies k) event spelled says)
-
--- no reply is want of memory
-abbrev pub ServerComplete : List ServerSays → Type 0
-ServerComplete replies = (k : ℕ) → slice_get replies k ≢ Some (Failed faults.OutOfMemory)

@@ -3,15 +3,15 @@
 use Rattle.std.specs.Prelude.{◌≡◌, ◌≢◌, ℕ, Some, List, length, slice_get}
 use Rattle.fe2o3_sasl_wire.specs.declared.amqp_types.SaslCode.TheVariants as outcomes
 use Rattle.fe2o3_scram.specs.declared.hmac.ScramVersion.{ScramVersion}
-use Rattle.fe2o3_scram.specs.ClientFinal.{without_proof, recovered_key}
+use Rattle.fe2o3_scram.specs.ClientFinal.{without_proof}
 use Rattle.fe2o3_scram.specs.ClientFirst.{client_first_bare}
 use Rattle.fe2o3_sasl.specs.ClientHistory.{Answering, AnswersAt, ClientHistory}
 use Rattle.fe2o3_scram.specs.Credentials.{Provider}
 use Rattle.fe2o3_sasl.specs.Events.{Given, Login, ServerSays, Concluded, ClientSays, Answered, Reported}
-use Rattle.fe2o3_scram.specs.Hmac.{digest, hmac_of}
-use Rattle.fe2o3_scram.specs.Keys.{auth_message, client_key, client_proof, server_key}
+use Rattle.fe2o3_scram.specs.Hmac.{hmac_of}
+use Rattle.fe2o3_scram.specs.Keys.{auth_message, client_proof, server_key, client_key}
 use Rattle.fe2o3_scram.specs.Pbkdf2Hi.{salted_of}
-use Rattle.fe2o3_sasl.specs.ServerHistory.{Accepted, AcceptsAt, ServerHistory, server_at, first_message, full_nonce, final_message}
+use Rattle.fe2o3_sasl.specs.ServerHistory.{Accepted, AcceptsAt, ServerHistory, first_message, full_nonce, final_message}
 use Rattle.fe2o3_scram.specs.Texts.{Part, Parts}
 
 -- AuthMessage, of the messages as the client has them
@@ -28,21 +28,14 @@ server_message accepted = auth_message accepted.challenge.client.bare
 abbrev pub salted_at : Login → Answering → List ℕ
 salted_at login answer = salted_of login.version login.password answer.first.salt answer.first.count
 
--- its ClientKey
-abbrev pub client_key_at : Login → Answering → List ℕ
-client_key_at login answer = client_key login.version (salted_at login answer)
-
 -- its ServerKey
 abbrev pub server_key_at : Login → Answering → List ℕ
 server_key_at login answer = server_key login.version (salted_at login answer)
 
 -- its ClientProof
 abbrev pub proof_at : Login → Answering → List ℕ
-proof_at login answer = client_proof login.version (salted_at login answer) (client_message login answer)
-
--- the key that the server recovered from the proof
-abbrev pub recovered_at : Provider → Accepted → List ℕ
-recovered_at provider accepted = recovered_key (server_at provider accepted.challenge) accepted.final
+proof_at login answer = client_proof login.version (client_key login.version (salted_at login answer))
+    (client_message login answer)
 
 -- a login, what a client was given and said, a provider, and what a server was given and said
 pub record Sides : Type 0 where
@@ -52,6 +45,17 @@ pub record Sides : Type 0 where
   pub provider : Provider
   pub server_events : List Given
   pub server_replies : List ServerSays
+
+-- the same, of what either side has
+abbrev pub sides_of : Login → List Given → List ClientSays → Provider → List Given → List ServerSays → Sides
+sides_of login client_events client_replies provider server_events server_replies = record {
+  login = login;
+  client_events = client_events;
+  client_replies = client_replies;
+  provider = provider;
+  server_events = server_events;
+  server_replies = server_replies;
+}
 
 -- what either side said is a history
 pub record Histories (sides : Sides) : Type 0 where
@@ -102,7 +106,8 @@ pub record MacCollision (version : ScramVersion) (key text other_key other_text 
   pub differ : text ≢ other_text
   pub one : hmac_of version key text ≡ hmac_of version other_key other_text
 
--- two keys that differ have one digest: a collision
-pub record HashCollision (version : ScramVersion) (key other_key : List ℕ) : Type 0 where
-  pub differ : key ≢ other_key
-  pub one : digest version key ≡ digest version other_key
+-- the AuthMessages differ, and their HMAC values under these keys are one
+abbrev pub MessagesCollide : Sides → Answering → Accepted → List ℕ → List ℕ → Type 0
+MessagesCollide sides answer accepted client_key server_key =
+    (sides.login.version ≡ sides.provider.version) × MacCollision sides.login.version client_key
+    (client_message sides.login answer) server_key (server_message accepted)

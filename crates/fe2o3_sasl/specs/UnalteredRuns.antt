@@ -2,18 +2,18 @@
 use Rattle.std.specs.Prelude.{◌≡◌, ◌≢◌, ◌≤◌, ℕ, Option, Some, None, List, [], ◌∷◌, ◌++◌, slice_get}
 use Rattle.fe2o3_sasl_wire.specs.declared.amqp_types.SaslCode.TheVariants as outcomes
 use Rattle.fe2o3_sasl_wire.specs.declared.sasl_frames.error.Error.TheVariants as faults
-use Rattle.fe2o3_sasl_wire.specs.Bytes.{IsBytes}
-use Rattle.fe2o3_sasl_wire.specs.Canonical.{canonical}
+use Rattle.fe2o3_sasl_wire.specs.SaslFrames.{IsBytes, canonical}
 use Rattle.fe2o3_sasl_wire.specs.SaslFrames as frames
 use Rattle.fe2o3_scram.specs.Texts.{base64_text}
-use Rattle.fe2o3_sasl.specs.ClientHistory.{Answering, ClientComplete}
-use Rattle.fe2o3_scram.specs.Credentials.{record_at, record_of}
-use Rattle.fe2o3_sasl.specs.Events.{Given, ServerSays, Challenged, Concluded, Failed, ClientSays, Started, Answered, Reported, Refused, Frame}
+use Rattle.fe2o3_sasl.specs.ClientHistory.{ClientHistory}
+use Rattle.fe2o3_scram.specs.Credentials.{Provider, record_at, record_of}
+use Rattle.fe2o3_sasl.specs.Events.{Given, Login, IsLogin, ServerSays, Challenged, Concluded, Failed, ClientSays, Started, Answered, Reported, Refused, Frame}
 use Rattle.fe2o3_scram.specs.Hmac.{mechanism_name}
 use Rattle.fe2o3_scram.specs.SaslprepAscii.{IsPrintable}
-use Rattle.fe2o3_sasl.specs.ServerHistory.{Accepted, ServerComplete}
-use Rattle.fe2o3_sasl.specs.TwoSides.{Sides, Takes, Shows}
-use Rattle.fe2o3_sasl.specs.Audit.{Verdict, Agreed, OfVerifier, OfProof, Lists, IsVerifierFinding, IsProofFinding}
+use Rattle.fe2o3_sasl.specs.ServerHistory.{ServerHistory}
+use Rattle.fe2o3_sasl.specs.TwoSides.{Sides, sides_of}
+use Rattle.fe2o3_sasl.specs.Audit.{Verdict, Agreed, Finding, OfVerifier, OfProof, Audits}
+use Rattle.fe2o3_sasl.specs.Complete.{ClientComplete, ServerComplete}
 
 -- the body that a reply sends
 abbrev pub client_body : Option ClientSays → Option (List ℕ)
@@ -27,29 +27,14 @@ server_body (Some (Challenged body)) = Some body
 server_body (Some (Concluded code body)) = Some body
 server_body says = None
 
--- three events of the client and two of the server: the list of the one mechanism, and from then on what the
--- other side sent
-pub record UnalteredRun (sides : Sides) : Type 0 where
-  pub offer : Given
-  pub challenge : Given
-  pub outcome : Given
-  pub init : Given
-  pub response : Given
-  pub client_events : sides.client_events ≡ offer ∷ challenge ∷ outcome ∷ []
-  pub server_events : sides.server_events ≡ init ∷ response ∷ []
-  pub offered : canonical (frames.Mechanisms (mechanism_name sides.login.version ∷ [])) ≡ Some offer.body
-  pub started : client_body (slice_get sides.client_replies 0) ≡ Some init.body
-  pub challenged : server_body (slice_get sides.server_replies 0) ≡ Some challenge.body
-  pub answered : client_body (slice_get sides.client_replies 1) ≡ Some response.body
-  pub concluded : server_body (slice_get sides.server_replies 1) ≡ Some outcome.body
-
 -- what the other side sent, if it sent a body, arrives as it was sent
 abbrev pub Arrives : Option (List ℕ) → List ℕ → Type 0
 Arrives None body = Unit {0}
 Arrives (Some sent) body = body ≡ sent
 
--- the same, without saying that any reply has a body
-pub record ForwardedRun (sides : Sides) : Type 0 where
+-- three events of the client and two of the server: the list of the one mechanism, and from then on what the
+-- other side sent, where it sent a body
+pub record UnalteredRun (sides : Sides) : Type 0 where
   pub offer : Given
   pub challenge : Given
   pub outcome : Given
@@ -70,7 +55,8 @@ pub record Suffices (sides : Sides) : Type 0 where
   pub client_small : (k : ℕ) → slice_get sides.client_replies k ≢ Some (Refused (Frame faults.TooLarge))
   pub server_small : (k : ℕ) → slice_get sides.server_replies k ≢ Some (Failed faults.TooLarge)
 
--- the provider holds the record of the login's own password, with this salt and this count, and the client can use them
+-- the provider holds the record of the login's own password, with this salt and this count, and the client can
+-- use them
 pub record HoldsLogin (sides : Sides) (salt : List ℕ) (count : ℕ) : Type 0 where
   pub version : sides.provider.version ≡ sides.login.version
   pub stored : record_at sides.provider.records sides.login.user
@@ -87,18 +73,36 @@ agreed {sides} run salt count =
     Agreed sides.login.user client_nonce
     (Some (record { full_nonce = client_nonce ++ base64_text run.init.nonce; salt = salt; iterations = count }))
 
--- the client starts, answers and reports Ok, the server challenges and concludes with Ok; the client's Ok and
--- its answer are found with the server's Ok, and nothing else is; in both findings the sides agree
-pub record LogsIn (sides : Sides) (verdict : Verdict) : Type 0 where
-  pub init : List ℕ
-  pub response : List ℕ
+-- an audit finds the client's Ok and its answer with the server's Ok, and nothing else; in both the sides agree
+abbrev pub agreed_findings : {sides : Sides} → UnalteredRun sides → List ℕ → ℕ → List Finding
+agreed_findings run salt count =
+    record { kind = OfVerifier; client = 2; server = 1; verdict = agreed run salt count }
+    ∷ record { kind = OfProof; client = 1; server = 1; verdict = agreed run salt count } ∷ []
+
+-- the client starts, answers and reports Ok, the server challenges and concludes with Ok, each in the body that
+-- arrived, and these are the findings
+pub record LogsIn {sides : Sides} (run : UnalteredRun sides) (salt : List ℕ) (count : ℕ) : Type 0 where
   pub text : List ℕ
-  pub client : sides.client_replies ≡ Started init ∷ Answered response ∷ Reported outcomes.Ok (Some text) ∷ []
-  pub challenge : List ℕ
-  pub outcome : List ℕ
-  pub server : sides.server_replies ≡ Challenged challenge ∷ Concluded outcomes.Ok outcome ∷ []
-  pub takes : Lists (λ m n. (accepted : Accepted) × Takes sides m n accepted) ((2, 1) ∷ [])
-  pub shows : Lists (λ k n. (answer : Answering) × (accepted : Accepted) × Shows sides k n answer accepted)
-      ((1, 1) ∷ [])
-  pub verifier : IsVerifierFinding sides (record { kind = OfVerifier; client = 2; server = 1; verdict = verdict })
-  pub proof : IsProofFinding sides (record { kind = OfProof; client = 1; server = 1; verdict = verdict })
+  pub client : sides.client_replies
+      ≡ Started run.init.body ∷ Answered run.response.body ∷ Reported outcomes.Ok (Some text) ∷ []
+  pub server : sides.server_replies
+      ≡ Challenged run.challenge.body ∷ Concluded outcomes.Ok run.outcome.body ∷ []
+  pub audit : Audits sides (agreed_findings run salt count)
+
+-- an unaltered run against the record of the login's own password, which the client can use, logs in, whatever
+-- the nonces, where memory suffices and nothing is too large
+abbrev pub LogsInUnaltered : Sides → Type 0
+LogsInUnaltered sides = (salt : List ℕ) (count : ℕ) (run : UnalteredRun sides) → HoldsLogin sides salt count
+    → Suffices sides → LogsIn run salt count
+
+-- what that gives a client's history: it logs in with every server
+abbrev pub ClientLogsIn : Login → List Given → List ClientSays → Type 0
+ClientLogsIn login events replies = (provider : Provider) (server_events : List Given)
+    (server_replies : List ServerSays) → ServerHistory provider server_events server_replies
+    → LogsInUnaltered (sides_of login events replies provider server_events server_replies)
+
+-- what it gives a server's history: every client logs in
+abbrev pub ServerLogsIn : Provider → List Given → List ServerSays → Type 0
+ServerLogsIn provider events replies = (login : Login) (client_events : List Given)
+    (client_replies : List ClientSays) → IsLogin login → ClientHistory login client_events client_replies
+    → LogsInUnaltered (sides_of login client_events client_replies provider events replies)

@@ -3,3 +3,4 @@ pub mod Examples
 pub mod PlainExamples
 pub mod HexExamples
 pub mod ReplyExamples
+pub mod UnalteredExample

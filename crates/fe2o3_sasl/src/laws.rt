@@ -1,31 +1,31 @@
 //! Laws of the definitions. A function with an empty body says nothing but its contract: a
 //! statement about every list of bytes, which the check has proved.
 
-ghost use Rattle.fe2o3_sasl.specs.Headline.{OkOnlyWhereAccepted, OkWhereverAccepted, ReportedOnlyWhereSigned, ReportedWhereverSigned, IssuedVerifiersAgree};
-ghost use Rattle.fe2o3_sasl.specs.Laws.{OneServerHistory, OneClientHistory, AcceptorRunsAreHistories, ProfileRunsAreHistories, OksWithinChallenges, RepeatedResponsesAreRefused, OneResponseOneNonce, RefusalsLeaveOpen, PositionsAreUsedOnce, EqualMessagesAgree, NoShortExtensions, TakenVerifiersAreJudged, ShownProofsAreJudged, OneVerdictEach, RepeatedClientPositions, RepeatedServerPositions, UnalteredRunsLogIn};
 ghost use Rattle.fe2o3_sasl.specs.Hex.{OneBytesOfHex, HexIsReadAgain};
 ghost use Rattle.fe2o3_sasl.specs.MechanismLaws.{OneAcceptorReply, OneProfileReply, OffersAgree, PlainLetsIn, PlainRefuses, AnonymousLetsIn, SomethingIsOffered, NamesDiffer};
 ghost use Rattle.fe2o3_sasl.specs.examples.Examples.{ShiftedTextsPass, RefusalsHaveOneBody, ServersAnswer, ClientsAnswer, ShiftedHistoriesPass};
 ghost use Rattle.fe2o3_sasl.specs.examples.PlainExamples.{GuestsEnter, SwappedWordsFail, WrongPasswordsFail, NamesAloneFail, EmptyInitsFail, ResponsesToPlainFail, GuestsStart, OthersAreNotImplemented, PlainReportsOutcomes, GuestsWantMemory, ExternalStarts, AnonymousAlwaysEnters, MechanismsAreNamed, NamesAreOffered};
 ghost use Rattle.fe2o3_sasl.specs.examples.HexExamples.{DigitsOfBothCases, OtherTextsSpellNothing};
 ghost use Rattle.fe2o3_sasl.specs.examples.ReplyExamples.{OtherMechanismsFail, OtherTextsAreRefused, ClientsWantMemory, LongTextsHaveNoBody, ServersWantMemory, FailuresAreReported, NamesAreFound, FindingsInOrder, UnsentChallenges, UnsentStarts};
+ghost use Rattle.fe2o3_sasl.specs.Headline.{EveryServer, EveryClient, AnswersOkExactly, ReportsOkExactly, TakenVerifiersAgree};
+ghost use Rattle.fe2o3_sasl.specs.Laws.{OneServerHistory, OneClientHistory, SomeServerHistory, SomeClientHistory, AcceptorRunsAreHistories, ProfileRunsAreHistories, OksWithinChallenges, RepeatedResponsesAreRefused, OneResponseOneNonce, RefusalsLeaveOpen, PositionsAreUsedOnce, EqualMessagesAgree, NoShortExtensions, TakenVerifiersAreJudged, ShownProofsAreJudged, OneVerdictEach, OneAuditEach, RepeatedClientPositions, RepeatedServerPositions, ClientsLogIn, ServersLogIn};
+ghost use Rattle.fe2o3_sasl.specs.examples.UnalteredExample.{PremisesCanBeMet};
 
 pub use fe2o3_scram::laws::{
-    base64_texts, clone_of_version, digests, escaped_names, one_answer_each, parts,
-    unaltered_exchanges,
+    base64_texts, clone_of_version, digests, each_text_is_read, escaped_names, one_answer_each,
+    parts, unaltered_exchanges,
 };
 
 /// The headline theorem. Over every list of frame bodies, a SCRAM server answers Ok exactly when a
 /// response fits its open challenge and its proof meets the stored key, which closes the challenge;
 /// a SCRAM client reports Ok exactly on the signature of its open answered challenge; and if that
-/// verifier is one this server issued, both agree on user name and client nonce, or their own
-/// differing AuthMessages share one HMAC value.
+/// verifier is one that a server issued, both agree on user name and client nonce (and, where the init
+/// had two parts, on full nonce, salt and count), or their own differing AuthMessages share one HMAC
+/// value.
 pub fn headline()
-    ensures server_only { OkOnlyWhereAccepted }
-    ensures server_always { OkWhereverAccepted }
-    ensures client_only { ReportedOnlyWhereSigned }
-    ensures client_always { ReportedWhereverSigned }
-    ensures agreement { IssuedVerifiersAgree }
+    ensures server { EveryServer AnswersOkExactly }
+    ensures client { EveryClient ReportsOkExactly }
+    ensures agreement { EveryClient TakenVerifiersAgree }
 {}
 
 /// Where memory is not wanting, a history is a function of its events, on either side.
@@ -42,19 +42,20 @@ pub fn runs_are_histories()
 {}
 
 /// What users of a server rely on, whatever it is given: it never accepts more often than it
-/// challenges, an accepted response that comes again before a new challenge is refused, one response
-/// text under two challenges means one full nonce, and a refusal leaves open what was open.
+/// challenges, an accepted response that comes again before a new challenge is refused, and one
+/// response text under two challenges means one full nonce.
 pub fn servers()
     ensures oks { OksWithinChallenges }
     ensures repeated { RepeatedResponsesAreRefused }
     ensures one_nonce { OneResponseOneNonce }
-    ensures refusals { RefusalsLeaveOpen }
 {}
 
-/// Two Oks of a server never have one open challenge, two reported Oks of a client never one answer,
-/// and two answers never one start.
-pub fn positions_are_used_once()
-    ensures { PositionsAreUsedOnce }
+/// What holds of any list of replies by the definition of "last open", and so says nothing of servers
+/// or clients in particular: two Oks of a server never have one open challenge, two reported Oks of a
+/// client never one answer, two answers never one start; and a refusal leaves open what was open.
+pub fn positions()
+    ensures used_once { PositionsAreUsedOnce }
+    ensures left_open { RefusalsLeaveOpen }
 {}
 
 /// Where a client and a server meet and their AuthMessages are equal, they mean one login, and the
@@ -73,6 +74,12 @@ pub fn verdicts()
     ensures one { OneVerdictEach }
 {}
 
+/// An audit lists the same findings of the same login, provider and lists of events, whatever replies
+/// it speaks of.
+pub fn one_audit_each()
+    ensures { OneAuditEach }
+{}
+
 /// Among agreed findings of one kind, an Ok of a server is matched with two positions of a client only
 /// where the client's nonce was repeated, and a position of a client with two Oks of a server, both
 /// to an init of two parts, only where the server's was.
@@ -82,15 +89,18 @@ pub fn repeated_nonces()
 {}
 
 /// A client logs in where no body is altered on the way, the server holds the record of its password,
-/// that password is printable ASCII, the count is from 1 to the client's limit, and memory suffices.
+/// that password is printable ASCII, the count is from 1 to the client's limit, memory suffices on both
+/// sides, and no frame is too large; an audit of it has exactly two findings, and in both the sides agree.
 pub fn unaltered_runs()
-    ensures { UnalteredRunsLogIn }
+    ensures client { ClientsLogIn }
+    ensures server { ServersLogIn }
 {}
 
 /// What the definitions say of worked examples: the acceptor of PLAIN; a server (if its wrong proof
 /// does not happen to meet the stored key) and a client over lists of events; and a text that is
 /// shifted between two messages, on which both sides agree although they mean two nonces, so that no
-/// more than user name and client nonce can be had there.
+/// more than user name and client nonce can be had there; and an unaltered run that meets each premise
+/// of the law of unaltered runs.
 pub fn worked_examples()
     ensures guests_enter { GuestsEnter }
     ensures wrong_passwords_fail { WrongPasswordsFail }
@@ -102,6 +112,7 @@ pub fn worked_examples()
     ensures servers_answer { ServersAnswer }
     ensures clients_answer { ClientsAnswer }
     ensures shifted_histories_pass { ShiftedHistoriesPass }
+    ensures premises_can_be_met { PremisesCanBeMet }
 {}
 
 /// What holds of every mechanism: each acceptor and each profile has one reply to a frame; a server
@@ -168,4 +179,11 @@ pub fn more_examples()
     ensures servers_want_memory { ServersWantMemory }
     ensures clients_want_memory { ClientsWantMemory }
     ensures findings_in_order { FindingsInOrder }
+{}
+
+/// Over every list of events whose bodies are bytes, each server and each client has a history in which
+/// memory is not wanting: with `one_history_each` it has exactly one.
+pub fn histories_exist()
+    ensures server { SomeServerHistory }
+    ensures client { SomeClientHistory }
 {}

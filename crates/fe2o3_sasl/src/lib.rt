@@ -5,7 +5,6 @@
 #![tactic(auto)]
 
 pub mod laws;
-pub mod review;
 
 pub use fe2o3_scram::credentials::{
     DEFAULT_SCRAM_ITERATIONS, ScramCredentialProvider, SingleScramCredential, StoredPassword,

@@ -1,5 +1,7 @@
 -- What the types of the SASL frames hold, as plain data (AMQP 1.0, part 5, section 5.3.3).
-use Rattle.std.specs.Prelude.{ℕ, List, option_map, string_bytes, IsAscii}
+use Rattle.std.specs.Prelude.{ℕ, ◌==◌, Bool, false, ◌&&◌, List, option_map, bytes_eq, string_bytes, IsAscii}
+use Rattle.std.specs.Option.{option_eq}
+use Rattle.std.specs.Cmp.Lexicographic.{pointwise}
 use Rattle.fe2o3_sasl_wire.specs.declared.amqp_types.symbols.SymbolError.{SymbolError}
 use Rattle.fe2o3_sasl_wire.specs.declared.amqp_types.symbols.SymbolError.TheVariants.{NotAscii, OutOfMemory}
 use Rattle.fe2o3_sasl_wire.specs.declared.amqp_types.Binary.{Binary}
@@ -8,7 +10,7 @@ use Rattle.fe2o3_sasl_wire.specs.declared.amqp_types.SaslInit.{SaslInit}
 use Rattle.fe2o3_sasl_wire.specs.declared.amqp_types.SaslChallenge.{SaslChallenge}
 use Rattle.fe2o3_sasl_wire.specs.declared.amqp_types.SaslResponse.{SaslResponse}
 use Rattle.fe2o3_sasl_wire.specs.declared.amqp_types.SaslOutcome.{SaslOutcome}
-use Rattle.fe2o3_sasl_wire.specs.SaslFrames.{SaslFrame, Mechanisms, Init, Challenge, Response, Outcome}
+use Rattle.fe2o3_sasl_wire.specs.SaslFrames.{SaslFrame, Mechanisms, Init, Challenge, Response, Outcome, outcome_code}
 
 -- why no symbol is made of a text: a byte is not ASCII; there is no memory, and then all are (part 1, section 1.6.21)
 abbrev pub RefusesText : List ℕ → SymbolError → Type 0
@@ -25,7 +27,8 @@ mechanisms_frame mechanisms = Mechanisms mechanisms.sasl_server_mechanisms.0.ite
 
 -- the frame of an init
 abbrev pub init_frame : SaslInit → SaslFrame
-init_frame init = Init init.mechanism (option_map binary_bytes init.initial_response) (option_map string_bytes init.hostname)
+init_frame init =
+    Init init.mechanism (option_map binary_bytes init.initial_response) (option_map string_bytes init.hostname)
 
 -- the frame of a challenge
 abbrev pub challenge_frame : SaslChallenge → SaslFrame
@@ -38,3 +41,14 @@ response_frame response = Response (binary_bytes response.response)
 -- the frame of an outcome
 abbrev pub outcome_frame : SaslOutcome → SaslFrame
 outcome_frame outcome = Outcome outcome.code (option_map binary_bytes outcome.additional_data)
+
+-- whether two frames are equal, field by field: the test that `==` computes
+abbrev pub same_frame : SaslFrame → SaslFrame → Bool
+same_frame (Mechanisms names) (Mechanisms others) = pointwise bytes_eq names others
+same_frame (Init name first host) (Init other next home) =
+    bytes_eq name other && option_eq bytes_eq first next && option_eq bytes_eq host home
+same_frame (Challenge bytes) (Challenge others) = bytes_eq bytes others
+same_frame (Response bytes) (Response others) = bytes_eq bytes others
+same_frame (Outcome code bytes) (Outcome other others) =
+    (outcome_code code == outcome_code other) && option_eq bytes_eq bytes others
+same_frame _ _ = false

@@ -1,4 +1,4 @@
--- Protocol headers (AMQP 1.0, part 2, section 2.2; the protocol ids of TLS and SASL stand in part 5, sections 5.2 and 5.3).
+-- Protocol headers (AMQP 1.0, part 2, section 2.2; for the ids of TLS and SASL, part 5, sections 5.2 and 5.3).
 use Rattle.std.specs.Prelude.{◌≡◌, ◌<◌, ◌≤◌, ℕ, List, [], ◌∷◌, ◌++◌, codes, length, take, drop, Option, Some, None, Result, Ok, Err, MatchResult}
 use Rattle.std.specs.Borrow.{Bor}
 use Rattle.fe2o3_sasl_wire.specs.declared.protocol_header.ProtocolId.{ProtocolId}
@@ -48,12 +48,15 @@ pub record TakesEight (old new : List ℕ) : Type 0 where
   pub enough : 8 ≤ length old
   pub rest : new ≡ drop 8 old
 
--- below eight bytes nothing is taken; else eight are, which are the header's, or no header's and then named by the fault
+-- below eight bytes nothing is taken; else eight are: the header's, or no header's, and then the fault names them
 abbrev pub DecodesBuffer : List ℕ → List ℕ → Result (Option ProtocolHeader) NegotiationError → Type 0
 DecodesBuffer old new (Ok None) = (length old < 8) × (new ≡ old)
 DecodesBuffer old new (Ok (Some header)) = TakesEight old new × (header_bytes header ≡ take 8 old)
-DecodesBuffer old new (Err (ProtocolHeaderMismatch bytes)) = TakesEight old new × (bytes ≡ take 8 old) × IsNoHeader bytes
+DecodesBuffer old new (Err (ProtocolHeaderMismatch bytes)) =
+    TakesEight old new × (bytes ≡ take 8 old) × IsNoHeader bytes
 
 -- a header's bytes are read as that header
 abbrev pub BytesGiveTheHeaderBack : Type 0
-BytesGiveTheHeaderBack = (header : ProtocolHeader) (r : Result ProtocolHeader (List ℕ)) → DecodesHeader (header_bytes header) r → r ≡ Ok header
+BytesGiveTheHeaderBack =
+    (header : ProtocolHeader) (r : Result ProtocolHeader (List ℕ)) → DecodesHeader (header_bytes header) r
+    → r ≡ Ok header

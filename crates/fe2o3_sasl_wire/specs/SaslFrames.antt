@@ -1,13 +1,19 @@
--- The five SASL frames and how their bodies are spelled (AMQP 1.0, part 5, section 5.3).
-use Rattle.std.specs.Prelude.{◌≡◌, ℕ, suc, ◌≤◌, List, [], ◌∷◌, ◌++◌, length, take, Option, Some, None, ◌⊎◌, codes}
-use Rattle.std.specs.Int.{w64, to_be_bytes}
+-- The five SASL frames, the bodies that spell them, what is read and what is written (AMQP 1.0, part 5, section 5.3).
+use Rattle.std.specs.Prelude.{◌≡◌, ℕ, suc, ◌<◌, ◌≤◌, ◌^◌, ◌&&◌, List, [], ◌∷◌, ◌++◌, length, take, drop, slice_index, Option, Some, None, IsSome, Result, Ok, Err, ◌⊎◌, nat_lt, ◌==◌, if◌then◌else◌, codes, IsAscii, IsUtf8}
+use Rattle.std.specs.List.{flat_map, list_all, AllByRecursion}
+use Rattle.std.specs.Int.{w32, w64, to_be_bytes}
 use Rattle.fe2o3_sasl_wire.specs.declared.amqp_types.SaslCode.{SaslCode}
 use Rattle.fe2o3_sasl_wire.specs.declared.amqp_types.SaslCode.TheVariants as sasl_codes
+use Rattle.fe2o3_sasl_wire.specs.declared.sasl_frames.error.Error.{Error}
+use Rattle.fe2o3_sasl_wire.specs.declared.sasl_frames.error.Error.TheVariants as faults
+use Rattle.fe2o3_sasl_wire.specs.declared.sasl_frames.forms.Form.{Form}
+use Rattle.fe2o3_sasl_wire.specs.declared.sasl_frames.forms.Form.TheVariants.{Eight, ThirtyTwo}
 use Rattle.fe2o3_sasl_wire.specs.declared.sasl_frames.forms.Kind.{Kind}
 use Rattle.fe2o3_sasl_wire.specs.declared.sasl_frames.forms.Kind.TheVariants as kinds
-use Rattle.fe2o3_sasl_wire.specs.Encodings.{SpellsBinary, SpellsString, SpellsSymbol, SpellsArray, SpellsList}
 
--- a frame as plain data: the names of the mechanisms; mechanism, initial response and hostname; challenge; response; code and additional data (part 5, section 5.3.3)
+-- ---- frames
+
+-- a frame: mechanisms; mechanism, response and hostname; challenge; response; code and data (part 5, section 5.3.3)
 pub data SaslFrame : Type 0 where
   Mechanisms : List (List ℕ) → SaslFrame
   Init : List ℕ → Option (List ℕ) → Option (List ℕ) → SaslFrame
@@ -69,30 +75,103 @@ fields_of (Challenge bytes) = Binary bytes ∷ []
 fields_of (Response bytes) = Binary bytes ∷ []
 fields_of (Outcome code bytes) = Ubyte (outcome_code code) ∷ optional Binary bytes ∷ []
 
--- a field that is there; one symbol stands for a list of one (part 1, section 1.4, on multiple values)
+-- ---- encodings
+
+-- each number is a byte, as in each list that stands for bytes of the code
+abbrev pub IsBytes : List ℕ → Type 0
+IsBytes bytes = (i : ℕ) → slice_index bytes i < 256
+
+-- what a size, a length or a count is below (part 1, section 1.2)
+abbrev pub limit : Form → ℕ
+limit Eight = 2 ^ 8
+limit ThirtyTwo = 2 ^ 32
+
+-- a size, a length or a count in network byte order (part 1, section 1.2)
+abbrev pub number : Form → ℕ → List ℕ
+number Eight n = n ∷ []
+number ThirtyTwo n = to_be_bytes w32 n
+
+-- the constructor of a form
+abbrev pub choice : ℕ → ℕ → Form → ℕ
+choice short long Eight = short
+choice short long ThirtyTwo = long
+
+-- a length or a size, and then that many bytes (part 1, section 1.2.2)
+abbrev pub content : Form → List ℕ → List ℕ
+content form bytes = number form (length bytes) ++ bytes
+
+-- the constructor of a form, a length or a size, and then that many bytes (part 1, section 1.2.2)
+abbrev pub sized : ℕ → ℕ → Form → List ℕ → List ℕ
+sized short long form bytes = choice short long form ∷ content form bytes
+
+-- what an array's size counts: the count, and one constructor before the elements (part 1, section 1.2.4)
+abbrev pub array_body : Form → Form → List (List ℕ) → List ℕ
+array_body form inner symbols =
+    number form (length symbols) ++ choice 0xa3 0xb3 inner ∷ flat_map (content inner) symbols
+
+-- what a list's size counts: the count and the items (part 1, section 1.2.3)
+abbrev pub list_body : Form → ℕ → List ℕ → List ℕ
+list_body form count items = number form count ++ items
+
+-- ---- which bodies spell a frame
+
+-- a constructor, a length and that many bytes, in either form whatever the length (part 1, section 1.2.2)
+pub record SpellsVariable (short long : ℕ) (bytes b : List ℕ) : Type 0 where
+  pub form : Form
+  pub fits : length bytes < limit form
+  pub whole : b ≡ sized short long form bytes
+
+-- a symbol is ASCII (part 1, section 1.6.21)
+abbrev pub SpellsSymbol : List ℕ → List ℕ → Type 0
+SpellsSymbol bytes b = IsAscii bytes × SpellsVariable 0xa3 0xb3 bytes b
+
+-- a symbol as an element of an array, without its constructor (part 1, section 1.2.4)
+pub record IsElement (form : Form) (symbol : List ℕ) : Type 0 where
+  pub ascii : IsAscii symbol
+  pub fits : length symbol < limit form
+
+-- an array of symbols; the constructor of the elements stands also where there are none (part 1, section 1.6.24)
+pub record SpellsArray (symbols : List (List ℕ)) (b : List ℕ) : Type 0 where
+  pub form : Form
+  pub inner : Form
+  pub each : AllByRecursion (IsElement inner) symbols
+  pub size : length (array_body form inner symbols) < limit form
+  pub count : length symbols < limit form
+  pub whole : b ≡ sized 0xe0 0xf0 form (array_body form inner symbols)
+
+-- a list with a size and a count (part 1, section 1.2.3)
+pub record SpellsSized (count : ℕ) (items b : List ℕ) : Type 0 where
+  pub form : Form
+  pub size : length (list_body form count items) < limit form
+  pub few : count < limit form
+  pub whole : b ≡ sized 0xc0 0xd0 form (list_body form count items)
+
+-- a list: the constructor of the empty list, or a list with a size and a count (part 1, section 1.6.22)
+abbrev pub SpellsList : ℕ → List ℕ → List ℕ → Type 0
+SpellsList count items b = ((count ≡ 0) × (items ≡ []) × (b ≡ 0x45 ∷ [])) ⊎ SpellsSized count items b
+
+-- a field that is there: a binary is any bytes and a string is UTF-8 (part 1, sections 1.6.19 and 1.6.20); one symbol
+-- stands for a list of one (part 1, section 1.4, on multiple values)
 abbrev pub SpellsField : Field → List ℕ → Type 0
 SpellsField Null b = b ≡ 0x40 ∷ []
 SpellsField (Ubyte n) b = b ≡ 0x50 ∷ n ∷ []
-SpellsField (Binary bytes) b = SpellsBinary bytes b
-SpellsField (Text bytes) b = SpellsString bytes b
+SpellsField (Binary bytes) b = SpellsVariable 0xa0 0xb0 bytes b
+SpellsField (Text bytes) b = IsUtf8 bytes × SpellsVariable 0xa1 0xb1 bytes b
 SpellsField (Symbol bytes) b = SpellsSymbol bytes b
 SpellsField (Symbols names) b = ((name : List ℕ) × (names ≡ name ∷ []) × SpellsSymbol name b) ⊎ SpellsArray names b
 
--- none of the fields has a value
-abbrev pub AllNull : List Field → Type 0
-AllNull [] = Unit {0}
-AllNull (field ∷ fields) = (field ≡ Null) × AllNull fields
-
--- so many items, one for each field from the first on; fields without a value may be absent at the end (part 1, section 1.4)
+-- so many items, one for each field from the first on; nulls at the end may be absent (part 1, section 1.4)
 abbrev pub SpellsItems : List Field → ℕ → List ℕ → Type 0
 SpellsItems [] count items = (count ≡ 0) × (items ≡ [])
 SpellsItems (field ∷ fields) count items =
-    (AllNull (field ∷ fields) × (count ≡ 0) × (items ≡ []))
-    ⊎ ((before : ℕ) × (item : List ℕ) × (others : List ℕ) × (count ≡ suc before) × (items ≡ item ++ others) × SpellsField field item × SpellsItems fields before others)
+    (AllByRecursion (λ absent. absent ≡ Null) (field ∷ fields) × (count ≡ 0) × (items ≡ []))
+    ⊎ ((before : ℕ) × (item : List ℕ) × (others : List ℕ) × (count ≡ suc before) × (items ≡ item ++ others)
+    × SpellsField field item × SpellsItems fields before others)
 
 -- the code as smallulong or as ulong, or the name as a symbol (part 1, sections 1.4 and 1.6.6)
 abbrev pub SpellsDescriptor : Kind → List ℕ → Type 0
-SpellsDescriptor kind b = (b ≡ 0x53 ∷ code_of kind ∷ []) ⊎ ((b ≡ 0x80 ∷ to_be_bytes w64 (code_of kind)) ⊎ SpellsSymbol (name_of kind) b)
+SpellsDescriptor kind b =
+    (b ≡ 0x53 ∷ code_of kind ∷ []) ⊎ ((b ≡ 0x80 ∷ to_be_bytes w64 (code_of kind)) ⊎ SpellsSymbol (name_of kind) b)
 
 -- a described list: a zero byte, the descriptor, and the list of the fields (part 1, sections 1.2 and 1.4)
 pub record SpellsValue (frame : SaslFrame) (b : List ℕ) : Type 0 where
@@ -105,7 +184,7 @@ pub record SpellsValue (frame : SaslFrame) (b : List ℕ) : Type 0 where
   pub listed : SpellsList count items fields
   pub whole : b ≡ 0 ∷ descriptor ++ fields
 
--- a body without its size: the data offset 2, the type 1, two bytes of any value, and the described list (part 5, section 5.3.1)
+-- a body without its size: data offset 2, type 1, two bytes of any value, and a described list (part 5, section 5.3.1)
 pub record Spells (frame : SaslFrame) (b : List ℕ) : Type 0 where
   pub third : ℕ
   pub fourth : ℕ
@@ -113,15 +192,109 @@ pub record Spells (frame : SaslFrame) (b : List ℕ) : Type 0 where
   pub spelled : SpellsValue frame value
   pub whole : b ≡ 2 ∷ 1 ∷ third ∷ fourth ∷ value
 
+-- ---- what a body is read as
+
 -- the first n bytes of a body spell the frame
 pub record Begins (body : List ℕ) (frame : SaslFrame) (n : ℕ) : Type 0 where
   pub within : n ≤ length body
   pub spelled : Spells frame (take n body)
 
--- no beginning of the body spells a frame
-abbrev pub NoneBegins : List ℕ → Type 0
-NoneBegins body = (frame : SaslFrame) (n : ℕ) → ¬ (Begins body frame n)
+-- the fault of a body that begins with no frame: NotImplemented where, of four bytes or more, the type is not 1 or the
+-- data offset is not 2 (part 5, section 5.3.1), else DecodeError
+unfoldable pub fault_of : List ℕ → Error
+fault_of body = if nat_lt (length body) 4 then faults.DecodeError
+    else (if slice_index body 1 == 1 && (slice_index body 0 == 2) then faults.DecodeError else faults.NotImplemented)
 
--- some beginning of the body spells a frame
-abbrev pub SomeBegins : List ℕ → Type 0
-SomeBegins body = (frame : SaslFrame) × (n : ℕ) × Begins body frame n
+-- the frame that a beginning of a body spells and the length of that beginning, or the fault where none does
+abbrev pub ReadsBody : List ℕ → Result (SaslFrame × ℕ) Error → Type 0
+ReadsBody body (Ok answer) = Begins body answer.0 answer.1
+ReadsBody body (Err fault) = (fault ≡ fault_of body) × ((frame : SaslFrame) (n : ℕ) → ¬ (Begins body frame n))
+
+-- a beginning of the old bytes spells the frame, and the new bytes are what stood behind it
+abbrev pub TakesFrame : List ℕ → List ℕ → SaslFrame → Type 0
+TakesFrame old new frame = (n : ℕ) × ReadsBody old (Ok (frame, n)) × (new ≡ drop n old)
+
+-- why a body is not decoded: its fault; or there is no memory, and then a beginning spells a frame
+abbrev pub RefusesBody : List ℕ → Error → Type 0
+RefusesBody body faults.OutOfMemory = (frame : SaslFrame) × (n : ℕ) × Begins body frame n
+RefusesBody body fault = ReadsBody body (Err fault)
+
+-- ---- the one body that is written: the shortest forms, and no nulls at the end
+
+-- the form of a length or a size: one byte where it is at most 255 (part 1, section 1.2)
+abbrev pub shortest : ℕ → Form
+shortest n = if nat_lt n 256 then Eight else ThirtyTwo
+
+-- a body with its constructor and its size: one byte for the size where it is at most 255 (part 1, section 1.2)
+abbrev pub compact : ℕ → ℕ → (Form → List ℕ) → List ℕ
+compact short long body = let form = shortest (length (body Eight)) in sized short long form (body form)
+
+-- a binary, a string or a symbol in the form of its length (part 1, section 1.2.2)
+abbrev pub canonical_variable : ℕ → ℕ → List ℕ → List ℕ
+canonical_variable short long bytes = compact short long (λ form. bytes)
+
+-- the form of the elements: one byte where each symbol has at most 255 bytes (part 1, section 1.2.4)
+abbrev pub inner_form : List (List ℕ) → Form
+inner_form names = if list_all (λ name. nat_lt (length name) 256) names then Eight else ThirtyTwo
+
+-- a list of symbols is always an array (part 1, section 1.2.4)
+abbrev pub canonical_array : List (List ℕ) → List ℕ
+canonical_array names = compact 0xe0 0xf0 (λ form. array_body form (inner_form names) names)
+
+-- a field that is written (part 1, section 1.6)
+abbrev pub canonical_field : Field → List ℕ
+canonical_field Null = 0x40 ∷ []
+canonical_field (Ubyte n) = 0x50 ∷ n ∷ []
+canonical_field (Binary bytes) = canonical_variable 0xa0 0xb0 bytes
+canonical_field (Text bytes) = canonical_variable 0xa1 0xb1 bytes
+canonical_field (Symbol bytes) = canonical_variable 0xa3 0xb3 bytes
+canonical_field (Symbols names) = canonical_array names
+
+-- a field before those that are written: a null with none behind it is left out
+abbrev pub with_field : Field → List Field → List Field
+with_field Null [] = []
+with_field field fields = field ∷ fields
+
+-- the fields up to the last one that has a value (part 1, section 1.4)
+abbrev pub written : List Field → List Field
+written [] = []
+written (field ∷ fields) = with_field field (written fields)
+
+-- the items of a frame's list
+abbrev pub items_of : SaslFrame → List ℕ
+items_of frame = flat_map canonical_field (written (fields_of frame))
+
+-- how many items there are
+abbrev pub count_of : SaslFrame → ℕ
+count_of frame = length (written (fields_of frame))
+
+-- a list with a size and a count (part 1, section 1.2.3)
+abbrev pub canonical_list : ℕ → List ℕ → List ℕ
+canonical_list count items = compact 0xc0 0xd0 (λ form. list_body form count items)
+
+-- the body that is written, with the code as smallulong; none where a size, so the list's, is more than 32 bits
+unfoldable pub canonical : SaslFrame → Option (List ℕ)
+canonical frame = if nat_lt (length (list_body ThirtyTwo (count_of frame) (items_of frame))) (2 ^ 32)
+    then Some (2 ∷ 1 ∷ 0 ∷ 0 ∷ 0 ∷ 0x53 ∷ code_of (kind_of frame) ∷ canonical_list (count_of frame) (items_of frame))
+    else None
+
+-- a field's symbols are ASCII and its string is UTF-8
+abbrev pub IsText : Field → Type 0
+IsText (Text bytes) = IsUtf8 bytes
+IsText (Symbol bytes) = IsAscii bytes
+IsText (Symbols names) = AllByRecursion IsAscii names
+IsText _ = Unit {0}
+
+-- a frame's symbols are ASCII and its hostname is UTF-8, as in each frame that the code holds
+abbrev pub HasTexts : SaslFrame → Type 0
+HasTexts frame = AllByRecursion IsText (fields_of frame)
+
+-- new is old with the frame's canonical body at its end
+abbrev pub AppendsCanonical : SaslFrame → List ℕ → List ℕ → Type 0
+AppendsCanonical frame old new = (body : List ℕ) × (canonical frame ≡ Some body) × (new ≡ old ++ body)
+
+-- why a frame is not written: it has no canonical body; or there is no memory, and then it has one
+abbrev pub RefusesFrame : SaslFrame → Error → Type 0
+RefusesFrame frame faults.TooLarge = canonical frame ≡ None
+RefusesFrame frame faults.OutOfMemory = IsSome (canonical frame)
+RefusesFrame frame _ = ⊥

@@ -8,7 +8,6 @@
 pub mod amqp_types;
 pub mod laws;
 pub mod protocol_header;
-pub mod sameness;
 pub mod sasl_frames;
 
 pub use amqp_types::{

@@ -1,13 +1,15 @@
 //! The eight bytes that each side of a connection sends first (AMQP 1.0, part 2, section 2.2). But
 //! for `to_bytes` and `encode`, nothing here takes memory.
 
-ghost use Rattle.std.specs.Prelude.{◌≡◌, ◌↔◌, ◌++◌, IsTrue, IfOk, OnOk, OnErr};
+ghost use Rattle.std.specs.Prelude.{◌≡◌, ◌==◌, ◌↔◌, ◌++◌, ⊤, IsTrue, IfOk, OnOk, OnErr, bytes_eq};
+ghost use Rattle.std.specs.Cmp.{on_per, on_equiv, partial_equiv_from_equiv, nat_eq_equiv};
+ghost use Rattle.std.specs.Cmp.Lexicographic.{nat_list_eq_equiv};
 ghost use Rattle.fe2o3_sasl_wire.specs.declared.protocol_header.ProtocolId.TheVariants.{Amqp, Sasl, Tls};
-ghost use Rattle.fe2o3_sasl_wire.specs.ProtocolHeader.{header_bytes, first_version, DecodesId, DecodesHeader, DecodesSlice, DecodesBuffer};
+ghost use Rattle.fe2o3_sasl_wire.specs.ProtocolHeader.{id_byte, header_bytes, first_version, DecodesId, DecodesHeader, DecodesSlice, DecodesBuffer};
 
 use crate::OutOfMemory;
 use bytes::{Bytes, BytesMut};
-use std::alloc::Global;
+use std::alloc::{AllocError, Global};
 use thiserror::Error;
 
 const PROTOCOL_HEADER_PREFIX: [u8; 4] = *b"AMQP";
@@ -20,7 +22,7 @@ const MINOR: u8 = 0;
 const REVISION: u8 = 0;
 
 /// A protocol header. Every version is read; the constructors write 1.0.0.
-#[derive(Clone, Copy, Debug, PartialEq, Eq)]
+#[derive(Copy, Debug)]
 pub struct ProtocolHeader {
     /// Which protocol follows.
     pub id: ProtocolId,
@@ -33,6 +35,33 @@ pub struct ProtocolHeader {
 
     /// The revision.
     pub revision: u8,
+}
+
+impl Clone for ProtocolHeader {
+    ghost is_clone = { λ header copy. copy ≡ header };
+
+    ghost is_infallible = { λ _. ⊤ };
+
+    fn clone(&self) -> Result<ProtocolHeader, AllocError> {
+        Ok(*self)
+    }
+}
+
+impl PartialEq for ProtocolHeader {
+    ghost eq = { λ left right. bytes_eq (header_bytes left) (header_bytes right) };
+
+    ghost laws = { on_per header_bytes (partial_equiv_from_equiv nat_list_eq_equiv) };
+
+    fn eq(&self, other: &ProtocolHeader) -> bool {
+        self.id == other.id
+            && self.major == other.major
+            && self.minor == other.minor
+            && self.revision == other.revision
+    }
+}
+
+impl Eq for ProtocolHeader {
+    ghost laws = { on_equiv header_bytes nat_list_eq_equiv };
 }
 
 /// The header of AMQP.
@@ -168,7 +197,7 @@ impl TryFrom<Bytes> for ProtocolHeader {
 }
 
 /// Which protocol a header asks for.
-#[derive(Clone, Copy, Debug, PartialEq, Eq)]
+#[derive(Copy, Debug)]
 pub enum ProtocolId {
     /// AMQP.
     Amqp = 0x0,
@@ -178,6 +207,30 @@ pub enum ProtocolId {
 
     /// SASL.
     Sasl = 0x3,
+}
+
+impl Clone for ProtocolId {
+    ghost is_clone = { λ id copy. copy ≡ id };
+
+    ghost is_infallible = { λ _. ⊤ };
+
+    fn clone(&self) -> Result<ProtocolId, AllocError> {
+        Ok(*self)
+    }
+}
+
+impl PartialEq for ProtocolId {
+    ghost eq = { λ left right. id_byte left == id_byte right };
+
+    ghost laws = { on_per id_byte (partial_equiv_from_equiv nat_eq_equiv) };
+
+    fn eq(&self, other: &ProtocolId) -> bool {
+        *self as u8 == *other as u8
+    }
+}
+
+impl Eq for ProtocolId {
+    ghost laws = { on_equiv id_byte nat_eq_equiv };
 }
 
 impl TryFrom<u8> for ProtocolId {
@@ -205,8 +258,18 @@ pub enum NegotiationError {
 }
 
 /// Reads and writes protocol headers.
-#[derive(Clone, Debug, Drop)]
+#[derive(Debug, Drop)]
 pub struct ProtocolHeaderCodec {}
+
+impl Clone for ProtocolHeaderCodec {
+    ghost is_clone = { λ codec copy. copy ≡ codec };
+
+    ghost is_infallible = { λ _. ⊤ };
+
+    fn clone(&self) -> Result<ProtocolHeaderCodec, AllocError> {
+        Ok(ProtocolHeaderCodec {})
+    }
+}
 
 impl ProtocolHeaderCodec {
     /// A codec.

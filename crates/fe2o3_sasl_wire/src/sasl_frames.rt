@@ -1,9 +1,8 @@
 //! The five SASL frames (AMQP 1.0, part 5, section 5.3), without their four-byte size.
 
 ghost use Rattle.std.specs.Prelude.{◌≡◌, IfOk, IfErr, OnOk, OnErr};
-ghost use Rattle.fe2o3_sasl_wire.specs.Bodies.{TakesFrame, RefusesBody};
-ghost use Rattle.fe2o3_sasl_wire.specs.Canonical.{AppendsCanonical, RefusesFrame};
-ghost use Rattle.fe2o3_sasl_wire.specs.OwnedFrames.{owned_frame};
+ghost use Rattle.fe2o3_sasl_wire.specs.SaslFrames.{TakesFrame, RefusesBody, AppendsCanonical, RefusesFrame};
+ghost use Rattle.fe2o3_sasl_wire.specs.Owned.{owned_frame};
 
 mod error;
 mod fields;

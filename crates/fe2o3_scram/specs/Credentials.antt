@@ -3,24 +3,24 @@ use Rattle.std.specs.Prelude.{ℕ, List, [], ◌∷◌, Option, Some, None, if�
 use Rattle.std.specs.Cmp.Lexicographic.{pointwise}
 use Rattle.fe2o3_scram.specs.declared.hmac.ScramVersion.{ScramVersion}
 use Rattle.fe2o3_scram.specs.declared.credentials.StoredPassword.{StoredPassword}
-use Rattle.fe2o3_scram.specs.Keys.{stored_key, server_key}
+use Rattle.fe2o3_scram.specs.Keys.{client_key, stored_key, server_key}
 use Rattle.fe2o3_scram.specs.Pbkdf2Hi.{salted_of}
 
--- what is kept of a password
+-- what is kept of a password (RFC 5802, section 3)
 pub record Record : Type 0 where
   pub salt : List ℕ
   pub count : ℕ
   pub stored_key : List ℕ
   pub server_key : List ℕ
 
--- the record that is made of a password, a salt and a count
+-- the record that is made of a password, a salt and a count (RFC 5802, section 3)
 abbrev pub record_of : ScramVersion → List ℕ → List ℕ → ℕ → Record
 record_of version password salt count =
     let salted = salted_of version password salt count in
     record {
       salt = salt;
       count = count;
-      stored_key = stored_key version salted;
+      stored_key = stored_key version (client_key version salted);
       server_key =
           server_key version salted;
     }
@@ -34,7 +34,7 @@ abbrev pub record_at : Records → List ℕ → Option Record
 record_at [] name = None
 record_at (entry ∷ records) name = if pointwise nat_eq entry.0 name then Some entry.1 else record_at records name
 
--- what a provider means: a version, and a record for each of its users
+-- what a provider means: a version, and a record for each of its users (RFC 5802, section 3)
 pub record Provider : Type 0 where
   pub version : ScramVersion
   pub records : Records

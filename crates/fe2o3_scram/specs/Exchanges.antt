@@ -3,18 +3,18 @@ use Rattle.std.specs.Prelude.{ℕ, List, ◌++◌, ◌≤◌, ◌<◌, ◌^◌, 
 use Rattle.std.specs.Str.{IsUtf8}
 use Rattle.base64.specs.GeneralPurpose.{IsBytes}
 use Rattle.fe2o3_scram.specs.declared.hmac.ScramVersion.{ScramVersion}
-use Rattle.fe2o3_scram.specs.ServerFirst.{server_first_of, ServerFirst, ReadsServerFirst}
+use Rattle.fe2o3_scram.specs.ServerFirst.{client_of, server_first_of, ServerFirst, ReadsServerFirst}
 use Rattle.fe2o3_scram.specs.ClientFinal.{Answer, answer_of, without_proof, Server, server_of, ClientFinal, ReadsClientFinal}
 use Rattle.fe2o3_scram.specs.ClientFirst.{client_first, client_first_bare, ReadsClientFirst}
 use Rattle.fe2o3_scram.specs.Credentials.{Record, record_of}
-use Rattle.fe2o3_scram.specs.Keys.{auth_message, client_proof}
+use Rattle.fe2o3_scram.specs.Keys.{auth_message, client_key, client_proof}
 use Rattle.fe2o3_scram.specs.Pbkdf2Hi.{salted_of}
 use Rattle.fe2o3_scram.specs.ServerFinal.{server_final_of, ReadsServerFinal}
 use Rattle.fe2o3_scram.specs.SaslprepAscii.{IsPrintable}
 use Rattle.fe2o3_scram.specs.Texts.{NoComma}
 
--- what an exchange starts from: the user's name and password, the salt and the count of the record, the
--- client's limit, and the nonces
+-- what an exchange starts from (RFC 5802, section 5): the user's name and password, the salt and the count of the
+-- record, the client's limit, and the nonces
 pub record Exchange : Type 0 where
   pub version : ScramVersion
   pub user : List ℕ
@@ -71,15 +71,14 @@ abbrev pub final_in : Exchange → ClientFinal
 final_in x = record {
   without = without_proof (nonce_in x);
   proof =
-      client_proof x.version (salted_of x.version x.password x.salt x.count)
+      client_proof x.version (client_key x.version (salted_of x.version x.password x.salt x.count))
       (auth_message (bare_in x) (first_in x) (without_proof (nonce_in x)));
 }
 
--- each side accepts what the other wrote
+-- each side accepts what the other wrote (RFC 5802, section 5)
 pub record Succeeds (x : Exchange) : Type 0 where
   pub client_first : ReadsClientFirst (client_first x.user x.client_nonce)
       (Ok (record { user = x.user; nonce = x.client_nonce; bare = bare_in x }))
-  pub server_first : ReadsServerFirst (record { nonce = x.client_nonce; password = x.password; limit = x.limit })
-      (first_in x) (Ok (named_in x))
+  pub server_first : ReadsServerFirst (client_of x.client_nonce x.password x.limit) (first_in x) (Ok (named_in x))
   pub client_final : ReadsClientFinal (server_in x) (answer_in x).0 (Ok (final_in x))
   pub server_final : ReadsServerFinal (answer_in x).1 (server_final_of (server_in x) (final_in x)) (Ok tt)

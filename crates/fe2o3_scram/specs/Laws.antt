@@ -9,10 +9,14 @@ use Rattle.fe2o3_scram.specs.declared.scram_messages.error.ServerScramErrorKind.
 use Rattle.fe2o3_scram.specs.ClientFirst.{ClientFirst, ReadsClientFirst}
 use Rattle.fe2o3_scram.specs.Escape.{escaped}
 use Rattle.fe2o3_scram.specs.Exchanges.{Exchange, IsSound, Succeeds}
-use Rattle.fe2o3_scram.specs.Hmac.{digest, digest_len, hmac_of}
-use Rattle.fe2o3_scram.specs.ClientFinal.{Server, ClientFinal, ReadsClientFinal}
-use Rattle.fe2o3_scram.specs.ServerFinal.{ReadsServerFinal}
+use Rattle.fe2o3_scram.specs.Hmac.{mechanism_name, digest, digest_len, hmac_of}
+use Rattle.fe2o3_scram.specs.ClientFinal.{Server, ClientFinal, ReadsFinalText, ReadsClientFinal}
+use Rattle.fe2o3_scram.specs.ServerFinal.{ReadsSignature, ReadsServerFinal}
 use Rattle.fe2o3_scram.specs.ServerFirst.{Client, ServerFirst, ReadsServerFirst}
+
+-- no two versions have one name
+abbrev pub OneVersion : Type 0
+OneVersion = (version other : ScramVersion) → mechanism_name version ≡ mechanism_name other → version ≡ other
 
 -- a digest is as long as its version says, and holds bytes
 abbrev pub DigestsAreSized : Type 0
@@ -67,11 +71,40 @@ abbrev pub OneClientFinal : Type 0
 OneClientFinal = (server : Server) (text : List ℕ) (answer other : Result ClientFinal ServerScramErrorKind)
     → ReadsClientFinal server text answer → ReadsClientFinal server text other → answer ≡ other
 
+-- so has it before the server looks at its keys
+abbrev pub OneFinalText : Type 0
+OneFinalText = (nonce text : List ℕ) (answer other : Result ClientFinal ServerScramErrorKind)
+    → ReadsFinalText nonce text answer → ReadsFinalText nonce text other → answer ≡ other
+
 -- a server-final message has at most one answer
 abbrev pub OneServerFinal : Type 0
 OneServerFinal = (signature text : List ℕ) (answer other : Result (Unit {0}) ScramErrorKind)
     → ReadsServerFinal signature text answer → ReadsServerFinal signature text other → answer ≡ other
 
+-- so has it before the client looks at the signature that it waits for
+abbrev pub OneSignature : Type 0
+OneSignature = (text : List ℕ) (answer other : Result (List ℕ) ScramErrorKind) → ReadsSignature text answer
+    → ReadsSignature text other → answer ≡ other
+
 -- in an exchange whose messages arrive as they were sent, each side accepts what the other wrote
 abbrev pub UnalteredExchangesSucceed : Type 0
 UnalteredExchangesSucceed = (x : Exchange) → IsSound x → Succeeds x
+
+-- a client-first message has an answer, whatever the text
+abbrev pub SomeClientFirst : Type 0
+SomeClientFirst = (text : List ℕ) → (answer : Result ClientFirst ServerScramErrorKind) × ReadsClientFirst text answer
+
+-- a server-first message has an answer
+abbrev pub SomeServerFirst : Type 0
+SomeServerFirst = (client : Client) (text : List ℕ)
+    → (answer : Result ServerFirst ScramErrorKind) × ReadsServerFirst client text answer
+
+-- a client-final message has an answer
+abbrev pub SomeClientFinal : Type 0
+SomeClientFinal = (server : Server) (text : List ℕ)
+    → (answer : Result ClientFinal ServerScramErrorKind) × ReadsClientFinal server text answer
+
+-- a server-final message has an answer
+abbrev pub SomeServerFinal : Type 0
+SomeServerFinal = (signature text : List ℕ)
+    → (answer : Result (Unit {0}) ScramErrorKind) × ReadsServerFinal signature text answer

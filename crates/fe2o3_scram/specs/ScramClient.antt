@@ -9,17 +9,17 @@ use Rattle.fe2o3_scram.specs.declared.scram_messages.error.ScramErrorKind.TheVar
 use Rattle.fe2o3_scram.specs.Texts.{base64_text}
 use Rattle.fe2o3_scram.specs.ClientFinal.{AnswersServerFirst}
 use Rattle.fe2o3_scram.specs.ClientFirst.{client_first_bare}
-use Rattle.fe2o3_scram.specs.ServerFirst.{Client, ReadsServerFirst}
+use Rattle.fe2o3_scram.specs.ServerFirst.{Client, client_of, ReadsServerFirst}
 use Rattle.fe2o3_scram.specs.ServerFinal.{ReadsServerFinal}
 
--- what a client has sent last, and what it waits for
+-- what a client has sent last, and what it waits for (RFC 5802, section 5)
 pub data ClientState : Type 0 where
   Initial : ClientState
   ClientFirstSent : (nonce : List ℕ) → (bare : List ℕ) → ClientState
   ClientFinalSent : (signature : List ℕ) → ClientState
   Complete : ClientState
 
--- a client: its user and password, its version, the highest count that it accepts, and its state
+-- a client (RFC 5802, section 5): its user and password, its version, the highest count that it accepts, and its state
 pub record ClientSide : Type 0 where
   pub user : List ℕ
   pub password : List ℕ
@@ -45,10 +45,10 @@ started side nonce = with_state side (ClientFirstSent (base64_text nonce)
 
 -- what a client holds against a server-first message
 abbrev pub holding : ClientSide → List ℕ → Client
-holding side nonce = record { nonce = nonce; password = side.password; limit = side.limit }
+holding side nonce = client_of nonce side.password side.limit
 
--- what a client in this state answers to a server-first message, and the client after it: one that has sent its
--- first message answers it, any other refuses it unread, and a refusal changes nothing
+-- what a client in this state answers to a server-first message (RFC 5802, section 5), and the client after it: one
+-- that has sent its first message answers it, any other refuses it unread, and a refusal changes nothing
 abbrev pub AnswersIn : ClientState → ClientSide → List ℕ → Result (List ℕ) ScramErrorKind → ClientSide → Type 0
 AnswersIn (ClientFirstSent nonce bare) side text (Ok message) next =
     (signature : List ℕ) × AnswersServerFirst side.version (holding side nonce) bare text (Ok (message, signature))
@@ -58,8 +58,8 @@ AnswersIn (ClientFirstSent nonce bare) side text (Err fault) next =
 AnswersIn state side text (Ok message) next = ⊥
 AnswersIn state side text (Err fault) next = (fault ≡ IllegalClientState) × (next ≡ side)
 
--- whether a client in this state believes a server-final message, and the client after it: one that has
--- answered tests it, any other refuses it unread, and a refusal changes nothing
+-- whether a client in this state believes a server-final message (RFC 5802, section 5), and the client after it: one
+-- that has answered tests it, any other refuses it unread, and a refusal changes nothing
 abbrev pub BelievesIn : ClientState → ClientSide → List ℕ → Result (Unit {0}) ScramErrorKind → ClientSide → Type 0
 BelievesIn (ClientFinalSent signature) side text (Ok believed) next =
     ReadsServerFinal signature text (Ok believed) × (next ≡ with_state side Complete)

@@ -12,14 +12,14 @@ use Rattle.fe2o3_scram.specs.ClientFinal.{server_of}
 use Rattle.fe2o3_scram.specs.ServerFinal.{AnswersClientFinal}
 use Rattle.fe2o3_scram.specs.declared.scram_server.ScramAuthenticator.{ScramAuthenticator}
 
--- what a server has sent last: an open challenge, or the end of a login
+-- what a server has sent last (RFC 5802, section 5): an open challenge, or the end of a login
 pub data ServerState : Type 0 where
   Initial : ServerState
   ServerFirstSent : (challenge : Challenge) → ServerState
   ServerFinalSent : ServerState
 
--- what a server answers to a client-first message in whatever state, and its state after it: a challenge takes
--- the place of an earlier one, an unknown user and a refusal change nothing
+-- what a server answers to a client-first message in whatever state (RFC 5802, section 5), and its state after it: a
+-- challenge takes the place of an earlier one, an unknown user and a refusal change nothing
 abbrev pub ChallengesFrom : ServerState → Provider → List ℕ → List ℕ → Result (Option (List ℕ)) ServerScramErrorKind
     → ServerState → Type 0
 ChallengesFrom state provider nonce text (Ok (Some message)) next =
@@ -30,8 +30,8 @@ ChallengesFrom state provider nonce text (Ok None) next =
 ChallengesFrom state provider nonce text (Err fault) next =
     AnswersClientFirst provider.records (base64_text nonce) text (Err fault) × (next ≡ state)
 
--- what a server answers to a client-final message, and its state after it: an accepted one closes the
--- challenge, a refused one changes nothing, and without an open challenge it is refused unread
+-- what a server answers to a client-final message (RFC 5802, section 5), and its state after it: an accepted one
+-- closes the challenge, a refused one changes nothing, and without an open challenge it is refused unread
 abbrev pub ConcludesFrom : ServerState → Provider → List ℕ → Result (Option (List ℕ)) ServerScramErrorKind → ServerState
     → Type 0
 ConcludesFrom (ServerFirstSent challenge) provider text (Ok (Some message)) next =

@@ -2,6 +2,9 @@
 use Rattle.std.specs.Prelude.{ℕ, List, [], ◌∷◌, ◌++◌, ◌<◌, codes, Result, ◌≡◌, Option, Some, None, Ok, Err}
 use Rattle.fe2o3_scram.specs.declared.scram_messages.error.ScramErrorKind.{ScramErrorKind}
 use Rattle.fe2o3_scram.specs.declared.scram_messages.error.ScramErrorKind.TheVariants.{InsufficientParts, ExtensionNotSupported, NonceNotFound, ClientNonceMismatch, SaltNotFound, Base64DecodeError, IterationCountNotFound, IterationCountParseError, IterationCountTooLarge, NormalizeError}
+use Rattle.fe2o3_scram.specs.declared.scram_messages.server_first.ServerFirstMessage.{ServerFirstMessage}
+use Rattle.fe2o3_scram.specs.declared.scram_messages.server_first_reading.ServerFirst.{ServerFirst as CodeServerFirst}
+use Rattle.std.specs.Cow.{cow_str_bytes}
 use Rattle.base64.specs.GeneralPurpose.{IsBytes}
 use Rattle.fe2o3_scram.specs.Texts.{base64_text, IsCount, Part, joined}
 use Rattle.fe2o3_scram.specs.Readings.{Reads}
@@ -11,11 +14,15 @@ use Rattle.fe2o3_scram.specs.declared.scram_messages.error.ServerScramErrorKind.
 use Rattle.fe2o3_scram.specs.ClientFirst.{ClientFirst, ReadsClientFirst}
 use Rattle.fe2o3_scram.specs.Credentials.{Record, Records, record_at}
 
--- what a server-first message names: the nonce of both sides, the salt and the iteration count
+-- what a server-first message names (RFC 5802, section 7): the nonce of both sides, the salt and the iteration count
 pub record ServerFirst : Type 0 where
   pub nonce : List ℕ
   pub salt : List ℕ
   pub count : ℕ
+
+-- the values that the code's value holds
+abbrev pub server_first_values : CodeServerFirst → ServerFirst
+server_first_values first = record { nonce = first.nonce.now; salt = first.salt.items; count = first.iterations }
 
 -- the second part is this salt
 abbrev pub HasSalt : List ℕ → List ℕ → Type 0
@@ -25,17 +32,26 @@ HasSalt text salt = IsBytes salt × Part text 1 (codes "s=" ++ base64_text salt)
 abbrev pub HasCount : List ℕ → ℕ → Type 0
 HasCount text count = (digits : List ℕ) × Part text 2 (codes "i=" ++ digits) × IsCount digits count
 
--- the message names these values
+-- the message names these values (RFC 5802, section 5.1)
 pub record NamesServerFirst (text : List ℕ) (first : ServerFirst) : Type 0 where
   pub nonce : Part text 0 (codes "r=" ++ first.nonce)
   pub salt : HasSalt text first.salt
   pub count : HasCount text first.count
 
--- what a client holds against a server-first message: its nonce, its password, and the highest count that it accepts
+-- what a client holds against a server-first message (RFC 5802, section 5): its nonce, its password, and the highest
+-- count that it accepts
 pub record Client : Type 0 where
   pub nonce : List ℕ
   pub password : List ℕ
   pub limit : ℕ
+
+-- a client that holds these
+abbrev pub client_of : List ℕ → List ℕ → ℕ → Client
+client_of nonce password limit = record { nonce = nonce; password = password; limit = limit }
+
+-- the limit of a client that accepts every count: the highest that a message names
+abbrev pub no_limit : ℕ
+no_limit = 4294967295
 
 -- the client's tests of the nonce, in their order
 abbrev pub nonce_tests : List ℕ → List ℕ → List (ScramErrorKind × Type 0)
@@ -70,22 +86,34 @@ abbrev pub server_first_tests : Client → List ℕ → List (ScramErrorKind × 
 server_first_tests client text = nonce_tests client.nonce text
     ++ (salt_tests text ++ (count_tests client.limit text ++ password_tests client.password))
 
--- what the client reads: the first refusal that holds, or the values that are named; parts after the third say nothing
+-- what the client reads (RFC 5802, section 5.1): the first refusal that holds, or the values that are named; parts
+-- after the third say nothing
 unfoldable pub ReadsServerFirst : Client → List ℕ → Result ServerFirst ScramErrorKind → Type 0
 ReadsServerFirst client text answer = Reads (server_first_tests client text) (NamesServerFirst text) answer
 
--- server-first-message: the nonce of both sides, and the salt and the count of the record, in decimal without
--- leading zeros
+-- server-first-message (RFC 5802, section 7): the nonce of both sides, and the salt and the count of the record, in
+-- decimal without leading zeros
 abbrev pub server_first_of : List ℕ → Record → List ℕ
 server_first_of nonce stored =
     joined ((codes "r=" ++ nonce) ∷ (codes "s=" ++ base64_text stored.salt) ∷ (codes "i=" ++ decimal stored.count) ∷ [])
 
--- a challenge: its user, the client's bare message, the server's message, and the nonce of both sides
+-- a challenge (RFC 5802, section 5): its user, the client's bare message, the server's message, and the nonce of
+-- both sides
 pub record Challenge : Type 0 where
   pub user : List ℕ
   pub bare : List ℕ
   pub first : List ℕ
   pub nonce : List ℕ
+
+-- the challenge that the code's value holds
+abbrev pub challenge_values : ServerFirstMessage → Challenge
+challenge_values message = record {
+  user = cow_str_bytes message.username;
+  bare =
+      message.client_first_message_bare.now;
+  first = message.message;
+  nonce = message.client_server_nonce;
+}
 
 -- the challenge to a client-first message that was read, with the server's nonce and the user's record
 abbrev pub challenge_of : ClientFirst → List ℕ → Record → Challenge
@@ -93,8 +121,8 @@ challenge_of client server_nonce stored =
     let nonce = client.nonce ++ server_nonce in
     record { user = client.user; bare = client.bare; first = server_first_of nonce stored; nonce = nonce }
 
--- what the server answers to a client-first message: the first refusal, nothing to a user whom it does not
--- know, or the challenge
+-- what the server answers to a client-first message (RFC 5802, section 5): the first refusal, nothing to a user whom
+-- it does not know, or the challenge
 abbrev pub AnswersClientFirst : Records → List ℕ → List ℕ → Result (Option Challenge) ServerScramErrorKind → Type 0
 AnswersClientFirst records server_nonce text (Ok None) =
     (client : ClientFirst) × ReadsClientFirst text (Ok client) × (record_at records client.user ≡ None)

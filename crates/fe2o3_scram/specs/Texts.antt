@@ -15,14 +15,14 @@ NoComma text = AllByRecursion (λ byte. byte ≢ 44) text
 abbrev pub joined : List (List ℕ) → List ℕ
 joined parts = join_with_byte 44 parts
 
--- the text is these parts, of which no one holds a comma, with single commas between them; the empty text is
--- one empty part
+-- the text is these parts, of which no one holds a comma, with single commas between them (RFC 5802, section 5.1);
+-- the empty text is one empty part
 pub record Parts (text : List ℕ) (parts : List (List ℕ)) : Type 0 where
   pub some : 0 < length parts
   pub apart : AllByRecursion NoComma parts
   pub whole : joined parts ≡ text
 
--- the text has this part at place k, counted from 0
+-- the text has this part at place k, counted from 0 (RFC 5802, section 5.1)
 abbrev pub Part : List ℕ → ℕ → List ℕ → Type 0
 Part text k part = (parts : List (List ℕ)) × Parts text parts × (slice_get parts k ≡ Some part)
 
@@ -42,11 +42,12 @@ alphabet = codes "ABCDEFGHIJKLMNOPQRSTUVWXYZabcdefghijklmnopqrstuvwxyz0123456789
 unfoldable pub base64_text : List ℕ → List ℕ
 base64_text bytes = encode alphabet 61 true bytes
 
--- the text spells these bytes
+-- the text spells these bytes (RFC 4648, section 4)
 abbrev pub IsBase64 : List ℕ → List ℕ → Type 0
 IsBase64 text bytes = IsBytes bytes × (text ≡ base64_text bytes)
 
 -- the text is one or more decimal digits, behind a plus or not, whose value is this count, from 1 to 4294967295
+-- (RFC 5802, section 7, `posit-number`)
 abbrev pub IsCount : List ℕ → ℕ → Type 0
 IsCount text count = (digits : List ℕ) × ((text ≡ digits) ⊎ (text ≡ 43 ∷ digits)) × IsNumeral 10 digits
     × (count ≡ digits_value 10 digits) × (1 ≤ count) × (count < 2 ^ 32)

@@ -2,7 +2,7 @@
 //! statement about every list of bytes, which the check has proved.
 
 ghost use Rattle.std.specs.Prelude.{◌≡◌};
-ghost use Rattle.fe2o3_scram.specs.Laws.{DigestsAreSized, MacsAreSized, OneBytesOfBase64, Base64IsReadAgain, NoCommaInBase64, PartsExist, OneListOfParts, OneEscapedName, NoCommaInEscapedNames, OneClientFirst, OneServerFirst, OneClientFinal, OneServerFinal, UnalteredExchangesSucceed};
+ghost use Rattle.fe2o3_scram.specs.Laws.{OneVersion, OneFinalText, OneSignature, DigestsAreSized, MacsAreSized, OneBytesOfBase64, Base64IsReadAgain, NoCommaInBase64, PartsExist, OneListOfParts, OneEscapedName, NoCommaInEscapedNames, OneClientFirst, OneServerFirst, OneClientFinal, OneServerFinal, SomeClientFirst, SomeServerFirst, SomeClientFinal, SomeServerFinal, UnalteredExchangesSucceed};
 
 use crate::hmac::ScramVersion;
 
@@ -12,6 +12,11 @@ pub fn clone_of_version(version: &ScramVersion) -> ScramVersion
 {
     version.clone().unwrap()
 }
+
+/// No two versions have one mechanism name.
+pub fn mechanism_names()
+    ensures { OneVersion }
+{}
 
 /// Digests and HMAC values have the length of their hash, and hold bytes.
 pub fn digests()
@@ -38,15 +43,26 @@ pub fn escaped_names()
     ensures no_comma { NoCommaInEscapedNames }
 {}
 
-/// Each of the four messages has at most one answer.
+/// Each of the four messages has at most one answer, and the last two have one too before a key or
+/// a signature is looked at.
 pub fn one_answer_each()
     ensures client_first { OneClientFirst }
     ensures server_first { OneServerFirst }
     ensures client_final { OneClientFinal }
+    ensures final_text { OneFinalText }
     ensures server_final { OneServerFinal }
+    ensures signature { OneSignature }
 {}
 
 /// A client and a server that hold the same password log in where nothing is altered on the way.
 pub fn unaltered_exchanges()
     ensures { UnalteredExchangesSucceed }
+{}
+
+/// Each of the four messages has an answer, whatever numbers its text is.
+pub fn each_text_is_read()
+    ensures client_first { SomeClientFirst }
+    ensures server_first { SomeServerFirst }
+    ensures client_final { SomeClientFinal }
+    ensures server_final { SomeServerFinal }
 {}

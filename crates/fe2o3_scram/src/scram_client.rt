@@ -6,6 +6,7 @@ ghost use Rattle.fe2o3_scram.specs.Texts.{base64_text};
 ghost use Rattle.fe2o3_scram.specs.ClientFirst.{client_first};
 ghost use Rattle.fe2o3_scram.specs.ScramClient.{Initial, AnswersIn, BelievesIn, started, state_of};
 ghost use Rattle.fe2o3_scram.specs.Readings.{Gives};
+ghost use Rattle.fe2o3_scram.specs.ServerFirst.{no_limit};
 
 use crate::OutOfMemory;
 use crate::hmac::{Meter, ScramVersion};
@@ -90,7 +91,7 @@ impl ScramClient {
           password = string_bytes password;
           version =
               scram_version;
-          limit = 4294967295;
+          limit = no_limit;
           state = Initial;
         } }
     {
@@ -121,6 +122,13 @@ impl ScramClient {
             iteration_limit: limit,
             state: self.state,
         }
+    }
+
+    /// The version, which names the mechanism that the client logs in by.
+    pub fn version(&self) -> ScramVersion
+        ensures { result ≡ self.now.version }
+    {
+        self.scram
     }
 
     /// The client-first message with a nonce of 32 bytes, which is written in base64.

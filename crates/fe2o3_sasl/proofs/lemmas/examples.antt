@@ -12,3 +12,4 @@ pub mod ServerExampleLemmas
 pub mod ShiftedHistoryLemmas
 pub mod ShiftedTextLemmas
 pub mod UnsentExampleLemmas
+pub mod UnalteredExampleLemmas

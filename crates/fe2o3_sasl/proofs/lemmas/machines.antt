@@ -3,3 +3,4 @@ pub mod MechanismLemmas
 pub mod OneReplyLemmas
 pub mod ServerMachineLemmas
 pub mod ZeroPartLemmas
+pub mod SomeRunLemmas

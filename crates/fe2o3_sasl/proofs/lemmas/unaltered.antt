@@ -1,4 +1,2 @@
-pub mod ForwardedRunLemmas
-pub mod ReviewLemmas
 pub mod UnalteredReplyLemmas
 pub mod UnalteredRunLemmas

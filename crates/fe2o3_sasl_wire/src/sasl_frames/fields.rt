@@ -2,11 +2,10 @@
 
 ghost use Rattle.std.specs.Prelude.{◌≡◌, ◌≤◌, ◌<◌, ◌+◌, ◌^◌, ◌-◌, ◌++◌, length, map, min, option_map, string_bytes};
 ghost use Rattle.std.specs.List.{flat_map};
-ghost use Rattle.fe2o3_sasl_wire.specs.SaslFrames.{code_of, kind_of, fields_of, optional, Binary as BinaryField, Text as TextField};
+ghost use Rattle.fe2o3_sasl_wire.specs.SaslFrames.{code_of, kind_of, fields_of, optional, Binary as BinaryField, Text as TextField, canonical_field, count_of};
 ghost use Rattle.fe2o3_sasl_wire.specs.AmqpTypes.{binary_bytes};
-ghost use Rattle.fe2o3_sasl_wire.specs.Canonical.{canonical_field, count_of};
-ghost use Rattle.fe2o3_sasl_wire.specs.OwnedFrames.{owned_frame};
-ghost use Rattle.fe2o3_sasl_wire.specs.Fields.{shown_field, filled};
+ghost use Rattle.fe2o3_sasl_wire.specs.Owned.{owned_frame};
+ghost use Rattle.fe2o3_sasl_wire.specs.private.Fields.{shown_field, filled};
 
 use crate::amqp_types::{Binary, Symbol};
 use crate::sasl_frames::Frame;

@@ -2,9 +2,9 @@
 
 ghost use Rattle.std.specs.Prelude.{◌≡◌, IsErrOf, option_map};
 ghost use Rattle.fe2o3_sasl_wire.specs.declared.sasl_frames.error.Error.TheVariants.{OutOfMemory, TooLarge};
-ghost use Rattle.fe2o3_sasl_wire.specs.Bodies.{ReadsBody};
-ghost use Rattle.fe2o3_sasl_wire.specs.Reading.{kind_of_code, kind_of_name, descriptor_at, fields_at, value_at};
-ghost use Rattle.fe2o3_sasl_wire.specs.FrameViews.{viewed_frame, viewed_answer};
+ghost use Rattle.fe2o3_sasl_wire.specs.SaslFrames.{ReadsBody};
+ghost use Rattle.fe2o3_sasl_wire.specs.private.Reading.{kind_of_code, kind_of_name, descriptor_at, fields_at, value_at};
+ghost use Rattle.fe2o3_sasl_wire.specs.FrameView.{viewed_frame, viewed_answer};
 
 use crate::amqp_types::SaslCode;
 use crate::sasl_frames::error::Error;
@@ -63,7 +63,7 @@ fn kind_of_code(code: u64) -> Option<Kind>
 }
 
 /// The kind of frame with this name.
-#[tactic(auto, unfolding(crate::specs::Reading::kind_of_name))]
+#[tactic(auto, unfolding(crate::specs::private::Reading::kind_of_name))]
 fn kind_of_name(name: &str) -> Option<Kind>
     ensures { result ≡ kind_of_name name.now }
 {
@@ -83,7 +83,7 @@ fn kind_of_name(name: &str) -> Option<Kind>
 }
 
 /// A descriptor: a code as smallulong or as ulong, or a name.
-#[tactic(auto, unfolding(crate::specs::Reading::descriptor_at))]
+#[tactic(auto, unfolding(crate::specs::private::Reading::descriptor_at))]
 fn descriptor_at(bytes: &[u8]) -> Option<(Kind, &[u8])>
     ensures { option_map (λ x. (x.0, x.1.now)) result ≡ descriptor_at bytes.now }
 {
@@ -108,7 +108,7 @@ fn descriptor_at(bytes: &[u8]) -> Option<(Kind, &[u8])>
 }
 
 /// The frame of this kind that the items are.
-#[tactic(auto, unfolding(crate::specs::Reading::fields_at))]
+#[tactic(auto, unfolding(crate::specs::private::Reading::fields_at))]
 fn fields_at<'a>(kind: Kind, mut items: Items<'a>) -> Option<FrameView<'a>>
     ensures { option_map viewed_frame result ≡ fields_at kind items.entry }
 {
@@ -152,7 +152,7 @@ fn fields_at<'a>(kind: Kind, mut items: Items<'a>) -> Option<FrameView<'a>>
 }
 
 /// A described list.
-#[tactic(auto, unfolding(crate::specs::Reading::value_at))]
+#[tactic(auto, unfolding(crate::specs::private::Reading::value_at))]
 fn value_at(bytes: &[u8]) -> Option<(FrameView<'_>, &[u8])>
     ensures { option_map (λ x. (viewed_frame x.0, x.1.now)) result ≡ value_at bytes.now }
 {

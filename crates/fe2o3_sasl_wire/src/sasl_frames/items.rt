@@ -1,7 +1,7 @@
 //! The items of a list, read from the first on. Nothing here takes memory.
 
 ghost use Rattle.std.specs.Prelude.{◌≡◌, Some, None, option_map, length, ◌==◌, ◌&&◌, if◌then◌else◌};
-ghost use Rattle.fe2o3_sasl_wire.specs.Reading.{required, optional_at, binary_at, symbol_at, string_at, symbols_at, code_at, list_at, null_at, ended};
+ghost use Rattle.fe2o3_sasl_wire.specs.private.Reading.{required, optional_at, binary_at, symbol_at, string_at, symbols_at, code_at, list_at, null_at, ended};
 
 use crate::amqp_types::SaslCode;
 use crate::sasl_frames::forms::{LIST_0, LIST_8, LIST_32, NULL};
@@ -37,7 +37,7 @@ impl<'a> Model for Items<'a> {
 }
 
 /// A list.
-#[tactic(auto, unfolding(crate::specs::Reading::list_at))]
+#[tactic(auto, unfolding(crate::specs::private::Reading::list_at))]
 pub(crate) fn list_at(bytes: &[u8]) -> Option<(Items<'_>, &[u8])>
     ensures { option_map (λ x. (x.0, x.1.now)) result ≡ list_at bytes.now }
 {
@@ -59,7 +59,7 @@ pub(crate) fn list_at(bytes: &[u8]) -> Option<(Items<'_>, &[u8])>
 
 impl<'a> Items<'a> {
     /// The next item, which has to be a binary.
-    #[tactic(auto, unfolding(crate::specs::Reading::required))]
+    #[tactic(auto, unfolding(crate::specs::private::Reading::required))]
     pub(crate) fn binary(&mut self) -> Option<&'a [u8]>
         ensures { option_map (λ x. (x.now, self.new)) result ≡ required binary_at self.old }
     {
@@ -73,7 +73,7 @@ impl<'a> Items<'a> {
     }
 
     /// The next item, which has to be an outcome's code.
-    #[tactic(auto, unfolding(crate::specs::Reading::required))]
+    #[tactic(auto, unfolding(crate::specs::private::Reading::required))]
     pub(crate) fn code(&mut self) -> Option<SaslCode>
         ensures { option_map (λ x. (x, self.new)) result ≡ required code_at self.old }
     {
@@ -87,7 +87,7 @@ impl<'a> Items<'a> {
     }
 
     /// The next item, which has to be a symbol.
-    #[tactic(auto, unfolding(crate::specs::Reading::required))]
+    #[tactic(auto, unfolding(crate::specs::private::Reading::required))]
     pub(crate) fn symbol(&mut self) -> Option<&'a str>
         ensures { option_map (λ x. (x.now, self.new)) result ≡ required symbol_at self.old }
     {
@@ -101,7 +101,7 @@ impl<'a> Items<'a> {
     }
 
     /// The next item, which has to be an array of symbols or one symbol.
-    #[tactic(auto, unfolding(crate::specs::Reading::required))]
+    #[tactic(auto, unfolding(crate::specs::private::Reading::required))]
     pub(crate) fn symbols(&mut self) -> Option<SymbolsView<'a>>
         ensures { option_map (λ x. (x, self.new)) result ≡ required symbols_at self.old }
     {
@@ -115,7 +115,7 @@ impl<'a> Items<'a> {
     }
 
     /// The next item, which may be a binary, null or absent.
-    #[tactic(auto, unfolding(crate::specs::Reading::optional_at))]
+    #[tactic(auto, unfolding(crate::specs::private::Reading::optional_at))]
     pub(crate) fn optional_binary(&mut self) -> Option<Option<&'a [u8]>>
         ensures { option_map (λ x. (option_map (λ y. y.now) x, self.new)) result
             ≡ optional_at binary_at self.old }
@@ -135,7 +135,7 @@ impl<'a> Items<'a> {
     }
 
     /// The next item, which may be a string, null or absent.
-    #[tactic(auto, unfolding(crate::specs::Reading::optional_at))]
+    #[tactic(auto, unfolding(crate::specs::private::Reading::optional_at))]
     pub(crate) fn optional_string(&mut self) -> Option<Option<&'a str>>
         ensures { option_map (λ x. (option_map (λ y. y.now) x, self.new)) result
             ≡ optional_at string_at self.old }

@@ -3,8 +3,8 @@
 ghost use Rattle.std.specs.Prelude.{◌≡◌, option_map, IfOk, IfErr, IsAscii, string_bytes};
 ghost use Rattle.fe2o3_sasl_wire.specs.SaslFrames.{Init};
 ghost use Rattle.fe2o3_sasl_wire.specs.AmqpTypes.{binary_bytes};
-ghost use Rattle.fe2o3_sasl_wire.specs.FrameViews.{viewed_frame, shown};
-ghost use Rattle.fe2o3_sasl_wire.specs.OwnedFrames.{owned_frame, HasAsciiMechanism, RefusesView};
+ghost use Rattle.fe2o3_sasl_wire.specs.FrameView.{viewed_frame, shown};
+ghost use Rattle.fe2o3_sasl_wire.specs.Owned.{owned_frame, HasAsciiMechanism, RefusesView};
 
 use crate::OutOfMemory;
 use crate::amqp_types::{

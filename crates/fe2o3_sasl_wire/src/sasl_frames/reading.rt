@@ -3,7 +3,7 @@
 
 ghost use Rattle.std.specs.Prelude.{◌≡◌, Some, None, option_map, if◌then◌else◌, IfSome, IsAscii};
 ghost use Rattle.std.specs.Str.{is_utf8};
-ghost use Rattle.fe2o3_sasl_wire.specs.Reading.{byte_at, four_at, eight_at, number_at, content_at, form_at, variable_at, element_at, symbol_at, string_at, binary_at, code_at, sasl_code, is_ascii};
+ghost use Rattle.fe2o3_sasl_wire.specs.private.Reading.{byte_at, four_at, eight_at, number_at, content_at, form_at, variable_at, element_at, symbol_at, string_at, binary_at, code_at, sasl_code, is_ascii};
 
 use crate::amqp_types::SaslCode;
 use crate::sasl_frames::forms::{
@@ -60,7 +60,7 @@ pub(crate) fn number_at(form: Form, bytes: &[u8]) -> Option<(u32, &[u8])>
 }
 
 /// A length, and that many bytes.
-#[tactic(auto, unfolding(crate::specs::Reading::content_at))]
+#[tactic(auto, unfolding(crate::specs::private::Reading::content_at))]
 pub(crate) fn content_at(form: Form, bytes: &[u8]) -> Option<(&[u8], &[u8])>
     ensures { option_map (λ x. (x.0.now, x.1.now)) result ≡ content_at form bytes.now }
 {
@@ -86,7 +86,7 @@ pub(crate) fn form_at(short: u8, long: u8, constructor: u8) -> Option<Form>
 }
 
 /// A constructor of either form, a length, and that many bytes.
-#[tactic(auto, unfolding(crate::specs::Reading::variable_at))]
+#[tactic(auto, unfolding(crate::specs::private::Reading::variable_at))]
 pub(crate) fn variable_at(short: u8, long: u8, bytes: &[u8]) -> Option<(&[u8], &[u8])>
     ensures { option_map (λ x. (x.0.now, x.1.now)) result ≡ variable_at short long bytes.now }
 {
@@ -96,7 +96,7 @@ pub(crate) fn variable_at(short: u8, long: u8, bytes: &[u8]) -> Option<(&[u8], &
 }
 
 /// A binary.
-#[tactic(auto, unfolding(crate::specs::Reading::binary_at))]
+#[tactic(auto, unfolding(crate::specs::private::Reading::binary_at))]
 pub(crate) fn binary_at(bytes: &[u8]) -> Option<(&[u8], &[u8])>
     ensures { option_map (λ x. (x.0.now, x.1.now)) result ≡ binary_at bytes.now }
 {
@@ -118,7 +118,7 @@ pub(crate) fn sasl_code(number: u8) -> Option<SaslCode>
 }
 
 /// An outcome's code, as a ubyte.
-#[tactic(auto, unfolding(crate::specs::Reading::code_at))]
+#[tactic(auto, unfolding(crate::specs::private::Reading::code_at))]
 pub(crate) fn code_at(bytes: &[u8]) -> Option<(SaslCode, &[u8])>
     ensures { option_map (λ x. (x.0, x.1.now)) result ≡ code_at bytes.now }
 {
@@ -150,7 +150,7 @@ pub(crate) fn utf8_text(bytes: &[u8]) -> Option<&str>
 }
 
 /// A symbol without its constructor, as it stands in an array.
-#[tactic(auto, unfolding(crate::specs::Reading::element_at))]
+#[tactic(auto, unfolding(crate::specs::private::Reading::element_at))]
 pub(crate) fn element_at(form: Form, bytes: &[u8]) -> Option<(&str, &[u8])>
     ensures ascii { IfSome result (λ x. IsAscii x.0.now) }
     ensures value { option_map (λ x. (x.0.now, x.1.now)) result ≡ element_at form bytes.now }
@@ -161,7 +161,7 @@ pub(crate) fn element_at(form: Form, bytes: &[u8]) -> Option<(&str, &[u8])>
 }
 
 /// A symbol.
-#[tactic(auto, unfolding(crate::specs::Reading::symbol_at))]
+#[tactic(auto, unfolding(crate::specs::private::Reading::symbol_at))]
 pub(crate) fn symbol_at(bytes: &[u8]) -> Option<(&str, &[u8])>
     ensures { option_map (λ x. (x.0.now, x.1.now)) result ≡ symbol_at bytes.now }
 {
@@ -171,7 +171,7 @@ pub(crate) fn symbol_at(bytes: &[u8]) -> Option<(&str, &[u8])>
 }
 
 /// A string.
-#[tactic(auto, unfolding(crate::specs::Reading::string_at))]
+#[tactic(auto, unfolding(crate::specs::private::Reading::string_at))]
 pub(crate) fn string_at(bytes: &[u8]) -> Option<(&str, &[u8])>
     ensures { option_map (λ x. (x.0.now, x.1.now)) result ≡ string_at bytes.now }
 {

@@ -1,7 +1,7 @@
 //! The symbols of a mechanisms frame, read where they stand. Nothing here takes memory.
 
 ghost use Rattle.std.specs.Prelude.{◌≡◌, ◌↔◌, Some, option_map, length, slice_get, IfSome, IsAscii, IsTrue, Contains};
-ghost use Rattle.fe2o3_sasl_wire.specs.Reading.{elements_at, element_at, array_at, one_at, symbols_at};
+ghost use Rattle.fe2o3_sasl_wire.specs.private.Reading.{elements_at, element_at, array_at, one_at, symbols_at};
 
 use crate::sasl_frames::forms::{ARRAY_8, ARRAY_32, Form, SYMBOL_8, SYMBOL_32};
 use crate::sasl_frames::reading::{byte_at, content_at, element_at, form_at, number_at};
@@ -17,8 +17,7 @@ pub struct SymbolsView<'a> {
 
 impl<'a> Model for SymbolsView<'a> {
     ghost use Rattle.std.specs.Prelude.{List, ℕ, IsSome};
-    ghost use Rattle.fe2o3_sasl_wire.specs.Reading.{elements_at};
-    ghost use Rattle.fe2o3_sasl_wire.specs.SymbolsViews.{names_in};
+    ghost use Rattle.fe2o3_sasl_wire.specs.private.Reading.{elements_at, names_in};
 
     ghost Value = { List (List ℕ) };
 
@@ -101,7 +100,7 @@ impl<'a> SymbolsView<'a> {
 }
 
 /// An array behind its constructor.
-#[tactic(auto, unfolding(crate::specs::Reading::array_at))]
+#[tactic(auto, unfolding(crate::specs::private::Reading::array_at))]
 fn array_at(form: Form, bytes: &[u8]) -> Option<(SymbolsView<'_>, &[u8])>
     ensures { option_map (λ x. (x.0, x.1.now)) result ≡ array_at form bytes.now }
 {
@@ -117,7 +116,7 @@ fn array_at(form: Form, bytes: &[u8]) -> Option<(SymbolsView<'_>, &[u8])>
 }
 
 /// A symbol behind its constructor, which stands for a list of one.
-#[tactic(auto, unfolding(crate::specs::Reading::one_at))]
+#[tactic(auto, unfolding(crate::specs::private::Reading::one_at))]
 fn one_at(form: Form, bytes: &[u8]) -> Option<(SymbolsView<'_>, &[u8])>
     ensures { option_map (λ x. (x.0, x.1.now)) result ≡ one_at form bytes.now }
 {
@@ -125,7 +124,7 @@ fn one_at(form: Form, bytes: &[u8]) -> Option<(SymbolsView<'_>, &[u8])>
 }
 
 /// An array of symbols, or one symbol.
-#[tactic(auto, unfolding(crate::specs::Reading::symbols_at))]
+#[tactic(auto, unfolding(crate::specs::private::Reading::symbols_at))]
 pub(crate) fn symbols_at(bytes: &[u8]) -> Option<(SymbolsView<'_>, &[u8])>
     ensures { option_map (λ x. (x.0, x.1.now)) result ≡ symbols_at bytes.now }
 {

@@ -1,5 +1,6 @@
 pub mod DigestLemmas
 pub mod HiRoundLemmas
+pub mod NameLemmas
 pub mod OnePadLemmas
 pub mod PadLoopLemmas
 pub mod XorLoopLemmas

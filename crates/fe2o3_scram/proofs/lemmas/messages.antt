@@ -5,4 +5,5 @@ pub mod ExchangeLemmas
 pub mod OneValueLemmas
 pub mod ServerFinalLemmas
 pub mod ServerFirstLemmas
+pub mod SomeReadingLemmas
 pub mod TestListLemmas

@@ -1,4 +1,4 @@
-use Rattle.fe2o3_sasl.proofs.lemmas.histories.ServerLawLemmas.{oks_within_challenges, repeated_responses_are_refused, one_response_one_nonce, refusals_leave_open}
+use Rattle.fe2o3_sasl.proofs.lemmas.histories.ServerLawLemmas.{oks_within_challenges, repeated_responses_are_refused, one_response_one_nonce}
 use Rattle.fe2o3_sasl.proofs.laws.servers.Goals as goal
 
 pub returns-clause-oks : goal.returns-clause-oks
@@ -9,6 +9,3 @@ returns-clause-repeated c = repeated_responses_are_refused
 
 pub returns-clause-one_nonce : goal.returns-clause-one_nonce
 returns-clause-one_nonce c = one_response_one_nonce
-
-pub returns-clause-refusals : goal.returns-clause-refusals
-returns-clause-refusals c = refusals_leave_open

@@ -1,3 +1,4 @@
+use Rattle.fe2o3_sasl.proofs.lemmas.examples.UnalteredExampleLemmas.{premises_can_be_met}
 use Rattle.fe2o3_sasl.proofs.lemmas.examples.ShiftedHistoryLemmas.{shifted_histories_pass}
 use Rattle.fe2o3_sasl.proofs.lemmas.examples.ClientExampleLemmas.{clients_answer}
 use Rattle.fe2o3_sasl.proofs.lemmas.examples.ServerExampleLemmas.{servers_answer}
@@ -35,3 +36,6 @@ returns-clause-clients_answer c = clients_answer
 
 pub returns-clause-shifted_histories_pass : goal.returns-clause-shifted_histories_pass
 returns-clause-shifted_histories_pass c = shifted_histories_pass
+
+pub returns-clause-premises_can_be_met : goal.returns-clause-premises_can_be_met
+returns-clause-premises_can_be_met c = premises_can_be_met

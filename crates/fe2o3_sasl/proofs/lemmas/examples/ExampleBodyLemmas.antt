@@ -6,14 +6,12 @@ use Rattle.std.proofs.lemmas.List.{length-append}
 use Rattle.fe2o3_sasl_wire.specs.declared.amqp_types.SaslCode.TheVariants as outcomes
 use Rattle.fe2o3_sasl_wire.specs.declared.sasl_frames.forms.Form.{Form}
 use Rattle.fe2o3_sasl_wire.specs.declared.sasl_frames.forms.Form.TheVariants.{Eight, ThirtyTwo}
-use Rattle.fe2o3_sasl_wire.specs.Bodies.{ReadsBody}
-use Rattle.fe2o3_sasl_wire.specs.Canonical.{canonical, canonical_variable, items_of, shortest, HasTexts}
-use Rattle.fe2o3_sasl_wire.specs.Encodings.{width}
+use Rattle.fe2o3_sasl_wire.specs.SaslFrames.{ReadsBody, canonical, canonical_variable, items_of, shortest, HasTexts, SaslFrame}
+use Rattle.fe2o3_sasl_wire.specs.private.Writing.{width}
 use Rattle.fe2o3_sasl_wire.specs.SaslFrames as frames
-use Rattle.fe2o3_sasl_wire.specs.SaslFrames.{SaslFrame}
-use Rattle.fe2o3_sasl_wire.proofs.CanonicalLemmas.{length-content}
-use Rattle.fe2o3_sasl_wire.proofs.EncodingLemmas.{has_body}
-use Rattle.fe2o3_sasl_wire.proofs.LawLemmas.{written_bodies_are_read}
+use Rattle.fe2o3_sasl_wire.proofs.lemmas.writing.CanonicalSpellsLemmas.{length-content}
+use Rattle.fe2o3_sasl_wire.proofs.lemmas.writing.BodyPartsLemmas.{has_body}
+use Rattle.fe2o3_sasl_wire.proofs.lemmas.frames.LawLemmas.{written_bodies_are_read}
 use Rattle.fe2o3_scram.specs.Texts.{base64_text, joined}
 use Rattle.fe2o3_sasl.specs.ClientHistory.{Answering, answer_at}
 use Rattle.fe2o3_sasl.specs.examples.Examples.{client_bytes, server_bytes, client_nonce, server_nonce, both, salt, login, names, values, binds, sends_init, sends_response, sends_ok, body_of, auth_body, RefusalsHaveOneBody}

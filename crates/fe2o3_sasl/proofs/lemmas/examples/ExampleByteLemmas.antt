@@ -6,12 +6,11 @@ use Rattle.std.proofs.lemmas.Option.{none-some, same_Some}
 use Rattle.base64.specs.GeneralPurpose.{IsBytes}
 use Rattle.fe2o3_sasl_wire.specs.declared.sasl_frames.forms.Form.{Form}
 use Rattle.fe2o3_sasl_wire.specs.declared.sasl_frames.forms.Form.TheVariants.{Eight, ThirtyTwo}
-use Rattle.fe2o3_sasl_wire.specs.Canonical.{canonical, canonical_variable, items_of, count_of, shortest}
-use Rattle.fe2o3_sasl_wire.specs.Encodings.{width, limit, number, choice, content}
+use Rattle.fe2o3_sasl_wire.specs.SaslFrames.{canonical, canonical_variable, items_of, count_of, shortest, limit, number, choice, content, SaslFrame, kind_of, code_of}
+use Rattle.fe2o3_sasl_wire.specs.private.Writing.{width}
 use Rattle.fe2o3_sasl_wire.specs.SaslFrames as frames
-use Rattle.fe2o3_sasl_wire.specs.SaslFrames.{SaslFrame, kind_of, code_of}
-use Rattle.fe2o3_sasl_wire.proofs.CanonicalLemmas.{shortest_fits}
-use Rattle.fe2o3_sasl_wire.proofs.EncodingLemmas.{body_parts, body_in_parts}
+use Rattle.fe2o3_sasl_wire.proofs.lemmas.writing.CanonicalSpellsLemmas.{shortest_fits}
+use Rattle.fe2o3_sasl_wire.proofs.lemmas.writing.BodyPartsLemmas.{body_parts, body_in_parts}
 use Rattle.fe2o3_scram.specs.declared.hmac.ScramVersion.TheVariants.{Sha256}
 use Rattle.fe2o3_sasl.specs.ClientHistory.{Answering, answer_at}
 use Rattle.fe2o3_scram.specs.Texts.{base64_text, joined}
@@ -133,15 +132,13 @@ pub is_login : IsLogin login
 is_login = record {
   user = IsUtf8-literal (codes "user") refl;
   password = IsUtf8-literal (codes "pencil") refl;
-  limit =
-      omega arith;
+  limit = omega arith;
 }
 
 pub is_record : IsRecord stored
 is_record = record {
   salt = IsBytes-replicate 32 3 (omega arith);
   count = omega arith;
-  stored_key =
-      IsBytes-digest Sha256 _;
+  stored_key = IsBytes-digest Sha256 _;
   server_key = IsBytes-hmac_of Sha256 _ _;
 }

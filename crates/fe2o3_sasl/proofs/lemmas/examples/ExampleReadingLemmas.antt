@@ -18,7 +18,8 @@ use Rattle.fe2o3_scram.specs.SaslprepAscii.{IsPrintable}
 use Rattle.fe2o3_scram.specs.ServerFinal.{ReadsServerFinal}
 use Rattle.fe2o3_scram.specs.ServerFirst.{HasSalt, HasCount, ReadsServerFirst}
 use Rattle.fe2o3_sasl.specs.ServerHistory.{first_message}
-use Rattle.fe2o3_sasl.specs.TwoSides.{client_key_at, proof_at, client_message}
+use Rattle.fe2o3_sasl.specs.TwoSides.{proof_at, client_message}
+use Rattle.fe2o3_sasl.specs.Audit.{client_key_at}
 use Rattle.fe2o3_scram.proofs.lemmas.texts.AsciiLemmas.{IsUtf8-literal}
 use Rattle.fe2o3_scram.proofs.lemmas.messages.ClientFirstLemmas.{named}
 use Rattle.fe2o3_scram.proofs.lemmas.hashes.DigestLemmas.{length-hmac_of, IsBytes-hmac_of}

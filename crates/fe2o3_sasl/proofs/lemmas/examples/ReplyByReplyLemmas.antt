@@ -40,8 +40,7 @@ pub server_history : (provider : Provider) (events : List Given) (replies : List
     → ServerHistory provider events replies
 server_history provider events replies count rows = record {
   count = count;
-  each =
-      each_pair (ServerRow provider events replies) events replies rows;
+  each = each_pair (ServerRow provider events replies) events replies rows;
 }
 
 abbrev pub ClientRow : Login → List Given → List ClientSays → ℕ → Given → ClientSays → Type 0
@@ -53,6 +52,5 @@ pub client_history : (login : Login) (events : List Given) (replies : List Clien
     → Pairs (ClientRow login events replies) events replies → ClientHistory login events replies
 client_history login events replies count rows = record {
   count = count;
-  each =
-      each_pair (ClientRow login events replies) events replies rows;
+  each = each_pair (ClientRow login events replies) events replies rows;
 }

@@ -5,7 +5,7 @@ use Rattle.std.specs.List.{AllByRecursion}
 use Rattle.std.proofs.lemmas.Option.{none-some}
 use Rattle.fe2o3_sasl_wire.specs.declared.amqp_types.SaslCode.TheVariants as outcomes
 use Rattle.fe2o3_sasl_wire.specs.declared.sasl_frames.error.Error.TheVariants as faults
-use Rattle.fe2o3_sasl_wire.specs.Canonical.{canonical}
+use Rattle.fe2o3_sasl_wire.specs.SaslFrames.{canonical}
 use Rattle.fe2o3_sasl_wire.specs.SaslFrames as frames
 use Rattle.fe2o3_scram.specs.declared.hmac.ScramVersion.TheVariants.{Sha256}
 use Rattle.fe2o3_scram.specs.Texts.{base64_text, joined}
@@ -18,12 +18,12 @@ use Rattle.fe2o3_sasl.specs.Positions.{IsLastOpen}
 use Rattle.fe2o3_scram.specs.ClientFinal.{ClientFinal, Meets, ReadsClientFinal}
 use Rattle.fe2o3_sasl.specs.ServerHistory.{Challenging, Accepted, Open, FitsAt, FitsAsInit, FitsAsResponse, ServerHistory, server_at, carried, says_challenge, says_ok, is_challenge, is_ok}
 use Rattle.fe2o3_sasl.specs.TwoSides.{proof_at, client_message, server_message}
-use Rattle.fe2o3_scram.proofs.lemmas.messages.ClientFinalLemmas.{one_proof}
+use Rattle.fe2o3_scram.proofs.lemmas.messages.ClientFinalLemmas.{one_proof, names_client_final}
 use Rattle.fe2o3_sasl.proofs.lemmas.examples.ExampleBodyLemmas.{challenge_bodied, init_bodied, short_joined, short_names, short_values, short_binds, length-both, response_sent, ok_sent, mechanisms_sent, refusals_have_one_body, spells_body, init_texts, mechanisms_texts}
 use Rattle.fe2o3_sasl.proofs.lemmas.examples.ReplyByReplyLemmas.{server_history}
 use Rattle.fe2o3_sasl.proofs.lemmas.examples.ExampleTextLemmas.{Plain, plain-literal, user_text, nobody_text, IsBytes-replicate}
 use Rattle.fe2o3_sasl.proofs.lemmas.examples.ExampleReadingLemmas.{reads_names, client_joined, server_joined, first_joined, length-proof, IsBytes-proof, proof_meets, has_final, reads_final}
-use Rattle.fe2o3_scram.proofs.lemmas.messages.OneValueLemmas.{one_client_first_value, names_client_final}
+use Rattle.fe2o3_scram.proofs.lemmas.messages.OneValueLemmas.{one_client_first_value}
 use Rattle.fe2o3_sasl.proofs.lemmas.positions.PositionLemmas.{one_open, opens_here, stays_open, was_open}
 use Rattle.fe2o3_sasl.proofs.lemmas.histories.OneServerHistoryLemmas.{one_fits_at}
 
@@ -40,8 +40,7 @@ module _ (more others : List (List ℕ)) (plain : AllByRecursion Plain more) (to
   abbrev pub accepted_as : Accepted
   accepted_as = record {
     challenge = challenge_to;
-    final =
-        record { without = joined (binds both ++ others); proof = proof_at login (answering text nonce) };
+    final = record { without = joined (binds both ++ others); proof = proof_at login (answering text nonce) };
   }
 
   pub init_fits : FitsAsInit provider (arrives server_bytes (sends_init challenge_to.client.bare))
@@ -90,8 +89,7 @@ right = record {
   challenge = challenge;
   final = record {
     without = joined (binds both);
-    proof =
-        proof_at login answer;
+    proof = proof_at login answer;
   };
 }
 

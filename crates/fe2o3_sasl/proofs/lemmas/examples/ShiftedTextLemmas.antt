@@ -44,8 +44,7 @@ agree = record {
   user = refl;
   nonce = refl;
   full_nonce = λ is. absurd (not_plain is);
-  salt =
-      λ is. absurd (not_plain is);
+  salt = λ is. absurd (not_plain is);
   count = λ is. absurd (not_plain is);
 }
 

@@ -4,13 +4,11 @@ use Rattle.std.specs.Prelude.{codes, IsAscii}
 use Rattle.std.proofs.lemmas.List.{append-nil}
 use Rattle.fe2o3_sasl_wire.specs.declared.amqp_types.SaslCode.{SaslCode}
 use Rattle.fe2o3_sasl_wire.specs.declared.sasl_frames.error.Error.{Error}
-use Rattle.fe2o3_sasl_wire.specs.Bodies.{ReadsBody}
-use Rattle.fe2o3_sasl_wire.specs.Canonical.{canonical, HasTexts}
+use Rattle.fe2o3_sasl_wire.specs.SaslFrames.{ReadsBody, canonical, HasTexts, SaslFrame}
 use Rattle.fe2o3_sasl_wire.specs.SaslFrames as frames
-use Rattle.fe2o3_sasl_wire.specs.SaslFrames.{SaslFrame}
-use Rattle.fe2o3_sasl_wire.proofs.BodyLemmas.{begins_once}
-use Rattle.fe2o3_sasl_wire.proofs.LawLemmas.{written_bodies_are_read}
-use Rattle.fe2o3_sasl_wire.proofs.TextLemmas.{IsAscii-from_is_ascii}
+use Rattle.fe2o3_sasl_wire.proofs.lemmas.frames.BodyAnswerLemmas.{begins_once}
+use Rattle.fe2o3_sasl_wire.proofs.lemmas.frames.LawLemmas.{written_bodies_are_read}
+use Rattle.fe2o3_sasl_wire.proofs.lemmas.reading.TextLemmas.{IsAscii-from_is_ascii}
 use Rattle.fe2o3_scram.specs.declared.hmac.ScramVersion.{ScramVersion}
 use Rattle.fe2o3_scram.specs.declared.hmac.ScramVersion.TheVariants.{Sha1, Sha256, Sha512}
 use Rattle.fe2o3_scram.specs.Hmac.{mechanism_name}

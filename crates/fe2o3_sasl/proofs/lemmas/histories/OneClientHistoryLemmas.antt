@@ -8,12 +8,13 @@ use Rattle.fe2o3_sasl_wire.specs.SaslFrames as frames
 use Rattle.fe2o3_sasl_wire.specs.SaslFrames.{SaslFrame}
 use Rattle.fe2o3_scram.specs.declared.scram_messages.error.ScramErrorKind.{ScramErrorKind}
 use Rattle.fe2o3_scram.specs.Texts.{base64_text}
-use Rattle.fe2o3_sasl.specs.ClientHistory.{Answering, client_at, answer_at, says_answer, ReadsChallenge, ReadsOutcome, ClientAnswers, ClientAllocates, is_start, is_answer, ends_answer, NonceAt, IsDue, AnswersAt, OpenAnswer, ClientHistory, ClientComplete}
+use Rattle.fe2o3_sasl.specs.ClientHistory.{Answering, client_at, answer_at, says_answer, ReadsChallenge, ReadsOutcome, ClientAnswers, ClientAllocates, is_start, is_answer, ends_answer, NonceAt, IsDue, AnswersAt, OpenAnswer, ClientHistory}
 use Rattle.fe2o3_sasl.specs.Events.{Given, Login, ClientSays, Refused, Scram, OutOfMemory}
 use Rattle.fe2o3_sasl.specs.Laws.{OneClientHistory}
 use Rattle.fe2o3_scram.specs.ServerFinal.{ReadsServerFinal}
 use Rattle.fe2o3_scram.specs.ServerFirst.{ServerFirst, ReadsServerFirst}
 use Rattle.fe2o3_sasl.specs.ServerHistory.{SpellsBody}
+use Rattle.fe2o3_sasl.specs.Complete.{ClientComplete}
 use Rattle.fe2o3_sasl.proofs.lemmas.positions.OpenStateLemmas.{AreSame, OfOne, AgreeBelow, one_open_by, open_by_agrees}
 use Rattle.fe2o3_sasl.proofs.lemmas.positions.PositionLemmas.{below_or_at, some_at, same_list}
 use Rattle.fe2o3_scram.proofs.lemmas.messages.ServerFinalLemmas.{one_server_final}

@@ -3,9 +3,9 @@ use Rattle.std.proofs.Common.{◌≡◌, ◌≢◌, ℕ, true, false, Option, So
 use Rattle.std.specs.Prelude.{slice_get}
 use Rattle.std.proofs.lemmas.List.{append_cancel_left}
 use Rattle.fe2o3_scram.specs.Texts.{base64_text}
-use Rattle.fe2o3_sasl.specs.ClientHistory.{Answering, AnswersAt, Start, closes_nothing, is_start, is_answer, ends_answer}
+use Rattle.fe2o3_sasl.specs.ClientHistory.{Answering, AnswersAt, is_start, is_answer, ends_answer}
 use Rattle.fe2o3_sasl.specs.Events.{Given, AreGiven, IsRecord, ClientSays}
-use Rattle.fe2o3_sasl.specs.Laws.{RepeatsNonce, FromTwoStarts, FromTwoChallenges, RepeatedClientPositions, RepeatedServerPositions}
+use Rattle.fe2o3_sasl.specs.Laws.{Start, RepeatsNonce, FromTwoStarts, FromTwoChallenges, RepeatedClientPositions, RepeatedServerPositions, closes_nothing}
 use Rattle.fe2o3_sasl.specs.Positions.{test_at, IsLastOpen}
 use Rattle.fe2o3_sasl.specs.ServerHistory.{Challenging, Accepted, AcceptsAt, is_challenge, is_ok, full_nonce}
 use Rattle.fe2o3_sasl.specs.TwoSides.{Sides, IsPlainInit, client_message, server_message}
@@ -44,8 +44,7 @@ start_of replies k s is = record {
   before = is.before;
   opened = is.opened;
   last = is.last;
-  kept =
-      λ i behind before. not_none (slice_get replies i);
+  kept = λ i behind before. not_none (slice_get replies i);
 }
 
 two_starts : (sides : Sides) (k l : ℕ) (answer other : Answering) → AreGiven sides.client_events → k ≢ l

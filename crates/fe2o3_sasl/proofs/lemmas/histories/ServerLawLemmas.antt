@@ -6,17 +6,15 @@ use Rattle.std.proofs.lemmas.Option.{same_Some, slice_get_within}
 use Rattle.fe2o3_sasl_wire.specs.declared.amqp_types.SaslCode.TheVariants as outcomes
 use Rattle.fe2o3_sasl_wire.specs.declared.sasl_frames.error.Error.{Error}
 use Rattle.fe2o3_sasl_wire.specs.declared.sasl_frames.error.Error.TheVariants as faults
-use Rattle.fe2o3_sasl_wire.specs.Canonical.{canonical}
+use Rattle.fe2o3_sasl_wire.specs.SaslFrames.{canonical, SaslFrame}
 use Rattle.fe2o3_sasl_wire.specs.SaslFrames as frames
-use Rattle.fe2o3_sasl_wire.specs.SaslFrames.{SaslFrame}
 use Rattle.fe2o3_scram.specs.Credentials.{Provider}
 use Rattle.fe2o3_sasl.specs.Events.{Given, ServerSays, Challenged, Concluded, Failed}
 use Rattle.fe2o3_sasl.specs.Laws.{OksWithinChallenges, RepeatedResponsesAreRefused, OneResponseOneNonce, RefusalsLeaveOpen}
 use Rattle.fe2o3_sasl.specs.Positions.{test_at, IsLastOpen}
-use Rattle.fe2o3_scram.specs.ClientFinal.{NamesClientFinal}
 use Rattle.fe2o3_sasl.specs.ServerHistory.{Challenging, Accepted, FitsAsResponse, AcceptsAt, Open, ServerAnswers, ServerAllocates, ServerHistory, SpellsBody, is_challenge, is_ok, full_nonce, first_message, says_auth, server_at}
 use Rattle.fe2o3_scram.specs.Texts.{Part}
-use Rattle.fe2o3_scram.proofs.lemmas.messages.OneValueLemmas.{names_client_final}
+use Rattle.fe2o3_scram.proofs.lemmas.messages.ClientFinalLemmas.{NamesAcceptedFinal, names_client_final}
 use Rattle.fe2o3_scram.proofs.lemmas.texts.PartsLemmas.{one_part}
 use Rattle.fe2o3_sasl.proofs.lemmas.positions.PositionLemmas.{some_at, stays_open, was_open}
 use Rattle.fe2o3_sasl.proofs.lemmas.frames.SpellingLemmas.{one_spelling, one_spelled_frame, carried_not}
@@ -61,13 +59,13 @@ pub accepted_response : (provider : Provider) (events : List Given) (replies : L
     (accepted : Accepted) → AcceptsAt provider events replies n accepted
     → (event : Given) × (text : List ℕ) × (slice_get events n ≡ Some event)
     × SpellsBody event.body (Ok (frames.Response text)) × Open provider events replies n accepted.challenge
-    × NamesClientFinal (server_at provider accepted.challenge) text accepted.final
+    × NamesAcceptedFinal (server_at provider accepted.challenge) text accepted.final
 accepted_response P es rs n p h = go h.1 h.3 h.4
   where
     go : (frame : SaslFrame) → SpellsBody h.0.body (Ok frame) → FitsAsResponse P (Open P es rs n) frame p
         → (event : Given) × (text : List ℕ) × (slice_get es n ≡ Some event)
         × SpellsBody event.body (Ok (frames.Response text)) × Open P es rs n p.challenge
-        × NamesClientFinal (server_at P p.challenge) text p.final
+        × NamesAcceptedFinal (server_at P p.challenge) text p.final
     go (frames.Mechanisms names) x k = absurd k
     go (frames.Challenge text) x k = absurd k
     go (frames.Outcome code more) x k = absurd k

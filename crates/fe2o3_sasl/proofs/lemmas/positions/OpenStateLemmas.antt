@@ -51,8 +51,7 @@ module _ {A X : Type 0} (opens closes : A → Bool) where
   pub holds_nothing : (At : ℕ → X → Type 0) → Holds At [] None
   holds_nothing At = record {
     found = λ x e. absurd (none-some x e);
-    only =
-        λ x h. absurd (let b = h.1.before in omega arith);
+    only = λ x h. absurd (let b = h.1.before in omega arith);
   }
 
   -- what the state is after a reply: a value of which `Here` holds, nothing, or what it was

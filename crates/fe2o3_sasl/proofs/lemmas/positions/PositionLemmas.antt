@@ -70,8 +70,7 @@ module _ {A : Type 0} (opens closes : A → Bool) where
     before = omega arith;
     opened = o;
     last = λ i a b. absurd (omega arith);
-    kept =
-        λ i a b. absurd (omega arith);
+    kept = λ i a b. absurd (omega arith);
   }
 
   -- one position is open at most

@@ -5,7 +5,7 @@ use Rattle.std.proofs.lemmas.Option.{same_Some}
 use Rattle.fe2o3_sasl_wire.specs.SaslFrames as frames
 use Rattle.fe2o3_sasl_wire.specs.SaslFrames.{SaslFrame}
 use Rattle.fe2o3_scram.specs.Texts.{base64_text, IsCount, NoComma, Parts, Part, joined}
-use Rattle.fe2o3_scram.specs.ClientFinal.{without_proof, NamesClientFinal}
+use Rattle.fe2o3_scram.specs.ClientFinal.{without_proof}
 use Rattle.fe2o3_scram.specs.ClientFirst.{NamesClientFirst, client_first_bare}
 use Rattle.fe2o3_sasl.specs.ClientHistory.{Answering, AnswersAt, client_at}
 use Rattle.fe2o3_scram.specs.Credentials.{Provider, record_at}
@@ -19,7 +19,8 @@ use Rattle.fe2o3_scram.proofs.lemmas.texts.CountLemmas.{count_of_decimal}
 use Rattle.fe2o3_scram.proofs.lemmas.texts.EscapingLemmas.{no_comma-escaped, one_escaped}
 use Rattle.fe2o3_scram.proofs.lemmas.messages.ExchangeLemmas.{no_comma-decimal, part_of, only_part}
 use Rattle.fe2o3_scram.proofs.lemmas.texts.JoinedTextLemmas.{same_parts, part_in, no_comma-part, two_joined, three_joined, first_two, first_three, with_last}
-use Rattle.fe2o3_scram.proofs.lemmas.messages.OneValueLemmas.{names_client_first, names_server_first, names_client_final}
+use Rattle.fe2o3_scram.proofs.lemmas.messages.OneValueLemmas.{names_client_first, names_server_first}
+use Rattle.fe2o3_scram.proofs.lemmas.messages.ClientFinalLemmas.{NamesAcceptedFinal, names_client_final}
 use Rattle.fe2o3_scram.proofs.lemmas.texts.PartsLemmas.{pieces, Parts-pieces, one_list_of_parts}
 
 -- an answer as the client makes it
@@ -60,7 +61,7 @@ is_challenging provider event (frames.Init mechanism (Some text) hostname) chall
 -- what fits as response answers the challenge that is open, and names its values
 pub fits_open : (provider : Provider) (IsOpen : Challenging → Type 0) (frame : SaslFrame) (accepted : Accepted)
     → FitsAsResponse provider IsOpen frame accepted
-    → IsOpen accepted.challenge × ((text : List ℕ) × NamesClientFinal
+    → IsOpen accepted.challenge × ((text : List ℕ) × NamesAcceptedFinal
     (server_at provider accepted.challenge) text accepted.final)
 fits_open provider IsOpen (frames.Mechanisms names) accepted fits = absurd fits
 fits_open provider IsOpen (frames.Challenge text) accepted fits = absurd fits
@@ -80,7 +81,7 @@ pub record IsAccepted (provider : Provider) (accepted : Accepted) : Type 0 where
   pub event : Given
   pub challenge : IsChallenging provider event accepted.challenge
   pub text : List ℕ
-  pub names : NamesClientFinal (server_at provider accepted.challenge) text accepted.final
+  pub names : NamesAcceptedFinal (server_at provider accepted.challenge) text accepted.final
 
 pub is_accepted : (provider : Provider) (events : List Given) (replies : List ServerSays) (n : ℕ) (accepted : Accepted)
     → AcceptsAt provider events replies n accepted → IsAccepted provider accepted
@@ -90,8 +91,7 @@ is_accepted provider events replies n accepted is =
     record {
       event = at.0;
       challenge = is_challenging provider at.0 at.1 accepted.challenge at.4;
-      text =
-          fits.1.0;
+      text = fits.1.0;
       names = fits.1.1;
     }
 

@@ -5,18 +5,17 @@ use Rattle.std.proofs.lemmas.Option.{slice_get_within}
 use Rattle.fe2o3_sasl_wire.specs.declared.amqp_types.SaslCode.TheVariants as outcomes
 use Rattle.fe2o3_sasl_wire.specs.declared.sasl_frames.error.Error.{Error}
 use Rattle.fe2o3_sasl_wire.specs.declared.sasl_frames.error.Error.TheVariants as faults
-use Rattle.fe2o3_sasl_wire.specs.Canonical.{canonical}
 use Rattle.fe2o3_sasl_wire.specs.SaslFrames as frames
 use Rattle.fe2o3_sasl_wire.specs.SaslFrames.{SaslFrame}
 use Rattle.fe2o3_scram.specs.declared.scram_messages.error.ScramErrorKind.{ScramErrorKind}
-use Rattle.fe2o3_sasl.specs.ClientHistory.{OpenAnswer, IsDue, ClientAnswers, ClientAllocates, ReadsOutcome}
+use Rattle.fe2o3_sasl.specs.ClientHistory.{ClientHistory, OpenAnswer, IsDue, ClientAnswers, ClientAllocates, ReadsOutcome}
 use Rattle.fe2o3_scram.specs.Credentials.{Provider}
-use Rattle.fe2o3_sasl.specs.Events.{Given, Login, ServerSays, Concluded, Failed, ClientSays, Reported, Refused, Scram, OutOfMemory}
-use Rattle.fe2o3_sasl.specs.Headline.{IsOkBody, OkOnlyWhereAccepted, OkWhereverAccepted, SignedAt, ReportedOnlyWhereSigned, ReportedWhereverSigned, IssuedVerifiersAgree}
+use Rattle.fe2o3_sasl.specs.Events.{Given, Login, IsRecord, ServerSays, Concluded, Failed, ClientSays, Reported, Refused, Scram, OutOfMemory}
+use Rattle.fe2o3_sasl.specs.Headline.{AnswersOkExactly, SignedAt, ReportsOkExactly, VerifierAgrees, TakenVerifiersAgree, EveryServer, EveryClient}
 use Rattle.fe2o3_scram.specs.Hmac.{hmac_of}
 use Rattle.fe2o3_sasl.specs.Positions.{test_at}
-use Rattle.fe2o3_sasl.specs.ServerHistory.{Challenging, Accepted, FitsAsResponse, AcceptsAt, Open, ServerAnswers, ServerAllocates, ServerHistory, SpellsBody, carried, final_message, is_ok}
-use Rattle.fe2o3_sasl.specs.TwoSides.{server_message}
+use Rattle.fe2o3_sasl.specs.ServerHistory.{Challenging, Accepted, FitsAsResponse, AcceptsAt, Open, ServerAnswers, ServerAllocates, ServerHistory, SpellsBody, says_ok, is_ok}
+use Rattle.fe2o3_sasl.specs.TwoSides.{Sides, sides_of, Histories, Takes, server_message}
 use Rattle.fe2o3_sasl.proofs.lemmas.histories.OneClientHistoryLemmas.{one_open_answer, one_reading_of_outcome}
 use Rattle.fe2o3_sasl.proofs.lemmas.histories.ReportedOkLemmas.{reported}
 use Rattle.fe2o3_sasl.proofs.lemmas.two_sides.MeetingSidesLemmas.{met, agree, taken_signature}
@@ -27,29 +26,18 @@ use Rattle.fe2o3_sasl.proofs.lemmas.frames.SpellingLemmas.{one_spelling}
 
 -- ---- the server
 
--- what is carried as an Ok has its body
-ok_body : (outcome : Option (List ℕ)) (body : List ℕ) → Concluded outcomes.Ok body
-    ≡ carried (Failed faults.TooLarge) (λ b. Concluded outcomes.Ok b) outcome → outcome ≡ Some body
-ok_body None body is = absurd (cc)
-ok_body (Some other) body is = cc
-
--- an Ok is that of a response that fits
+-- a response that fits is answered with its Ok
 ok_told : (provider : Provider) (IsOpen : Challenging → Type 0) (event : Given) (frame : SaslFrame)
-    (accepted : Accepted) (body : List ℕ) → FitsAsResponse provider IsOpen frame accepted
+    (accepted : Accepted) (says : ServerSays) → FitsAsResponse provider IsOpen frame accepted
     → ((one other : Accepted) → FitsAsResponse provider IsOpen frame one → FitsAsResponse provider IsOpen frame other
-    → one ≡ other) → ServerAnswers provider IsOpen event (Ok frame) (Concluded outcomes.Ok body)
-    → IsOkBody provider accepted body
-ok_told provider IsOpen event (frames.Mechanisms names) accepted body fits one row = absurd fits
-ok_told provider IsOpen event (frames.Challenge text) accepted body fits one row = absurd fits
-ok_told provider IsOpen event (frames.Outcome code more) accepted body fits one row = absurd fits
-ok_told provider IsOpen event (frames.Init mechanism response hostname) accepted body fits one row = absurd fits
-ok_told provider IsOpen event (frames.Response text) accepted body fits one (inl row) =
-    ok_body (canonical (frames.Outcome outcomes.Ok (Some (final_message provider accepted)))) body
-    (subst (λ (other : Accepted). Concluded outcomes.Ok body
-    ≡ carried (Failed faults.TooLarge) (λ b. Concluded outcomes.Ok b)
-    (canonical (frames.Outcome outcomes.Ok (Some (final_message provider other)))))
-    (one row.0 accepted row.1 fits) row.2)
-ok_told provider IsOpen event (frames.Response text) accepted body fits one (inr row) = absurd (row.0 accepted fits)
+    → one ≡ other) → ServerAnswers provider IsOpen event (Ok frame) says → says ≡ says_ok provider accepted
+ok_told provider IsOpen event (frames.Mechanisms names) accepted says fits one row = absurd fits
+ok_told provider IsOpen event (frames.Challenge text) accepted says fits one row = absurd fits
+ok_told provider IsOpen event (frames.Outcome code more) accepted says fits one row = absurd fits
+ok_told provider IsOpen event (frames.Init mechanism response hostname) accepted says fits one row = absurd fits
+ok_told provider IsOpen event (frames.Response text) accepted says fits one (inl row) =
+    row.2 ∙ ap (says_ok provider) (one row.0 accepted row.1 fits)
+ok_told provider IsOpen event (frames.Response text) accepted says fits one (inr row) = absurd (row.0 accepted fits)
 
 -- the table's row at a response that is accepted
 accepted_row : (provider : Provider) (events : List Given) (replies : List ServerSays) (n : ℕ) (accepted : Accepted)
@@ -65,56 +53,35 @@ accepted_row provider events replies n accepted says history accepts at =
     (subst (λ (s : Result SaslFrame Error). ServerAnswers provider
     (Open provider events replies n) accepts.0 s says) spelled told)) row.2
 
-pub ok_only_where_accepted : OkOnlyWhereAccepted
-ok_only_where_accepted provider events replies n body history at =
-    let is = ok_accepts provider events replies n body history at in
-    let accepts = is.1 in
-    let one = one_response provider (Open provider events replies n) (Open provider events replies n)
-    (one_challenge provider events replies n) accepts.1 in
-    let told = ⊎_elim (λ (none : Concluded outcomes.Ok body ≡ Failed faults.OutOfMemory). absurd (cc))
-    (λ (told : ServerAnswers provider (Open provider events replies n) accepts.0 (Ok accepts.1)
-    (Concluded outcomes.Ok body)). ok_told provider (Open provider events replies n) accepts.0 accepts.1 is.0 body
-    accepts.4 one told)
-    (accepted_row provider events replies n is.0 (Concluded outcomes.Ok body) history accepts at) in (
-      (is.0, accepts, told),
-      λ j k opened later also. true≢false
-          (sym (ap (test_at is_ok) at) ∙ also.kept n opened.before later),
-    )
-
--- an outcome that is not too large is sent
-sent_ok : (outcome : Option (List ℕ)) (says : ServerSays)
-    → says ≡ carried (Failed faults.TooLarge) (λ b. Concluded outcomes.Ok b) outcome → says ≢ Failed faults.TooLarge
-    → (body : List ℕ) × (says ≡ Concluded outcomes.Ok body)
-sent_ok None says is fits = absurd (fits is)
-sent_ok (Some body) says is fits = (body, is)
-
-ok_row : (provider : Provider) (IsOpen : Challenging → Type 0) (event : Given) (frame : SaslFrame) (accepted : Accepted)
-    (says : ServerSays) → FitsAsResponse provider IsOpen frame accepted
-    → ServerAnswers provider IsOpen event (Ok frame) says → says ≢ Failed faults.TooLarge
-    → (body : List ℕ) × (says ≡ Concluded outcomes.Ok body)
-ok_row provider IsOpen event (frames.Mechanisms names) accepted says fits row small = absurd fits
-ok_row provider IsOpen event (frames.Challenge text) accepted says fits row small = absurd fits
-ok_row provider IsOpen event (frames.Outcome code more) accepted says fits row small = absurd fits
-ok_row provider IsOpen event (frames.Init mechanism response hostname) accepted says fits row small = absurd fits
-ok_row provider IsOpen event (frames.Response text) accepted says fits (inl row) small =
-    sent_ok (canonical (frames.Outcome outcomes.Ok (Some (final_message provider row.0)))) says row.2 small
-ok_row provider IsOpen event (frames.Response text) accepted says fits (inr row) small = absurd (row.0 accepted fits)
-
-pub ok_wherever_accepted : OkWhereverAccepted
-ok_wherever_accepted provider events replies n accepted says history accepts at memory small =
+-- a response that is accepted is answered with its Ok, but for want of memory
+wherever_accepted : (provider : Provider) (events : List Given) (replies : List ServerSays) (n : ℕ)
+    (accepted : Accepted) (says : ServerSays)
+    → ServerHistory provider events replies → AcceptsAt provider events replies n accepted
+    → slice_get replies n ≡ Some says → says ≢ Failed faults.OutOfMemory → says ≡ says_ok provider accepted
+wherever_accepted provider events replies n accepted says history accepts at memory =
     ⊎_elim (λ (none : says ≡ Failed faults.OutOfMemory). absurd (memory none))
     (λ (told : ServerAnswers provider (Open provider events replies n) accepts.0 (Ok accepts.1) says).
-    let sent = ok_row provider (Open provider events replies n) accepts.0 accepts.1 accepted says accepts.4 told
-    small in
-    let one = one_response provider (Open provider events replies n) (Open provider events replies n)
-    (one_challenge provider events replies n) accepts.1 in (
-      sent.0,
-      sent.1,
-      ok_told provider (Open provider events replies n) accepts.0 accepts.1 accepted sent.0 accepts.4 one
-          (subst (λ (reply : ServerSays). ServerAnswers provider (Open provider events replies n) accepts.0
-          (Ok accepts.1) reply) sent.1 told),
-    ))
+    ok_told provider (Open provider events replies n) accepts.0 accepts.1 accepted says accepts.4
+    (one_response provider (Open provider events replies n) (Open provider events replies n)
+    (one_challenge provider events replies n) accepts.1) told)
     (accepted_row provider events replies n accepted says history accepts at)
+
+pub answers_ok_exactly : EveryServer AnswersOkExactly
+answers_ok_exactly provider events replies history = record {
+  only = λ n body at.
+      let is = ok_accepts provider events replies n body history at in (
+        is.0,
+        is.1,
+        wherever_accepted provider events replies n is.0 (Concluded outcomes.Ok body) history is.1 at
+            not_memory,
+      );
+  closes = λ n j k body is opened later also. true≢false
+      (sym (ap (test_at is_ok) is) ∙ also.kept n opened.before later);
+  wherever = λ n accepted says. wherever_accepted provider events replies n accepted says history;
+}
+  where
+    not_memory : {body : List ℕ} → Concluded outcomes.Ok body ≢ Failed faults.OutOfMemory
+    not_memory same = absurd (cc)
 
 -- ---- the client
 
@@ -127,8 +94,11 @@ signed login events replies m event None at spells reads = absurd reads
 signed login events replies m event (Some text) at spells reads =
     (text, refl, (event, reads.0, at, spells, reads.1, reads.2))
 
-pub reported_only_where_signed : ReportedOnlyWhereSigned
-reported_only_where_signed login events replies m more history at =
+-- a client reports Ok only where the signature is given
+only_where_signed : (login : Login) (events : List Given) (replies : List ClientSays) (m : ℕ) (more : Option (List ℕ))
+    → ClientHistory login events replies → slice_get replies m ≡ Some (Reported outcomes.Ok more)
+    → (text : List ℕ) × (more ≡ Some text) × SignedAt login events replies m text
+only_where_signed login events replies m more history at =
     let event = some_at events m (omega (
       arith,
       history.count,
@@ -144,8 +114,11 @@ reported_only_where_signed login events replies m more history at =
     (λ (s : Result SaslFrame Error). SpellsBody event.0.body s) is.0 row.1) is.1)
     row.2
 
-pub reported_wherever_signed : ReportedWhereverSigned
-reported_wherever_signed login events replies m text says history is at memory =
+-- and wherever it is
+wherever_signed : (login : Login) (events : List Given) (replies : List ClientSays) (m : ℕ) (text : List ℕ)
+    (says : ClientSays) → ClientHistory login events replies → SignedAt login events replies m text
+    → slice_get replies m ≡ Some says → says ≢ Refused OutOfMemory → says ≡ Reported outcomes.Ok (Some text)
+wherever_signed login events replies m text says history is at memory =
     let event = is.0 in
     let row = history.each m event says is.2 at in
     let spelled = one_spelling event.body row.0 (Ok (frames.Outcome outcomes.Ok (Some text))) row.1 is.3 in
@@ -166,18 +139,33 @@ reported_wherever_signed login events replies m text says history is at memory =
     go reads (inr told) = let same = one_reading_of_outcome login (OpenAnswer login events replies m)
         (one_open_answer login events replies m) (Some text) (Ok tt) (Err told.0) reads told.1 in absurd (cc)
 
+pub reports_ok_exactly : EveryClient ReportsOkExactly
+reports_ok_exactly login events replies history = record {
+  only = λ m more. only_where_signed login events replies m more history;
+  wherever = λ m text says. wherever_signed login events replies m text says history;
+}
+
 -- ---- both
 
-pub issued_verifiers_agree : IssuedVerifiersAgree
-issued_verifiers_agree sides m n accepted histories kept takes =
+-- a verifier that the client took and the server issued
+pub verifier_agrees : (sides : Sides) (m n : ℕ) (accepted : Accepted) → Histories sides
+    → IsRecord accepted.challenge.stored → Takes sides m n accepted → VerifierAgrees sides m accepted
+verifier_agrees sides m n accepted histories kept takes =
     let taken = taken_signature sides m n accepted histories takes in
     let meets = met sides taken.0 accepted histories kept (inl (m, n, takes, taken.1)) in
     let signature = taken.2 in
     let its_key = accepted.challenge.stored.server_key in
     let one = signature.one ∙ ap (λ version. hmac_of version its_key (server_message accepted))
-    (sym signature.version) in (
-      taken.0,
-      taken.1,
-      (λ same. agree sides taken.0 accepted meets same),
-      λ differ. (signature.version, record { differ = differ; one = one }),
-    )
+    (sym signature.version) in
+    record {
+      answer = taken.0;
+      opened = taken.1;
+      agrees = λ same. agree sides taken.0 accepted meets same;
+      collides = λ differ. (signature.version, record { differ = differ; one = one });
+    }
+
+pub taken_verifiers_agree : EveryClient TakenVerifiersAgree
+taken_verifiers_agree login events replies history provider server_events server_replies m n accepted server kept
+    takes =
+    verifier_agrees (sides_of login events replies provider server_events server_replies) m n accepted
+    (record { client = history; server = server }) kept takes

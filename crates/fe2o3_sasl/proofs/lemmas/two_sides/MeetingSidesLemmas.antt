@@ -9,7 +9,8 @@ use Rattle.fe2o3_scram.specs.Hmac.{digest_len, hmac_of}
 use Rattle.fe2o3_sasl.specs.Laws.{AreMatched, EqualMessagesAgree, NoShortExtensions}
 use Rattle.fe2o3_scram.specs.Keys.{stored_key}
 use Rattle.fe2o3_sasl.specs.ServerHistory.{Accepted, AcceptsAt, final_message}
-use Rattle.fe2o3_sasl.specs.TwoSides.{Sides, Histories, Takes, Shows, Agree, client_message, server_message, salted_at, client_key_at, server_key_at}
+use Rattle.fe2o3_sasl.specs.TwoSides.{Sides, Histories, Takes, Shows, Agree, client_message, server_message, salted_at, server_key_at}
+use Rattle.fe2o3_sasl.specs.Audit.{client_key_at}
 use Rattle.fe2o3_scram.proofs.lemmas.texts.Base64Lemmas.{one_spelled}
 use Rattle.fe2o3_scram.proofs.lemmas.hashes.DigestLemmas.{length-hmac_of, IsBytes-hmac_of}
 use Rattle.fe2o3_scram.proofs.lemmas.messages.ExchangeLemmas.{length-exclusive_or}
@@ -72,9 +73,9 @@ shown_version sides k n answer accepted shows =
     let version = sides.login.version in
     let salted = salted_at sides.login answer in
     let key = client_key_at sides.login answer in
-    let pad = hmac_of version (stored_key version salted) (client_message sides.login answer) in
+    let pad = hmac_of version (stored_key version key) (client_message sides.login answer) in
     let long : length key ≡ digest_len version = length-hmac_of version salted (codes "Client Key") in
-    let wide : length pad ≡ digest_len version = length-hmac_of version (stored_key version salted)
+    let wide : length pad ≡ digest_len version = length-hmac_of version (stored_key version key)
     (client_message sides.login answer) in
     let sized = (is_accepted sides.provider sides.server_events sides.server_replies n accepted
     shows.ok.accepts).names.sized in
@@ -120,15 +121,15 @@ agree sides answer accepted is same =
       user = messages.user;
       nonce = messages.nonce;
       full_nonce = messages.full;
-      salt =
-          messages.salt;
+      salt = messages.salt;
       count = messages.count;
     }
 
 pub equal_messages_agree : EqualMessagesAgree
-equal_messages_agree sides answer accepted histories kept meet same =
-    agree sides answer accepted (met sides answer accepted histories kept meet) same
+equal_messages_agree sides answer accepted is =
+    agree sides answer accepted (met sides answer accepted is.histories is.held is.matched) is.same
 
 pub no_short_extensions : NoShortExtensions
-no_short_extensions sides answer accepted histories kept meet same = let messages =
-    (met sides answer accepted histories kept meet).same same in (messages.not_three, messages.not_four)
+no_short_extensions sides answer accepted is =
+    let messages = (met sides answer accepted is.histories is.held is.matched).same is.same in
+    (messages.not_three, messages.not_four)

@@ -1,145 +1,194 @@
--- Review: an audit has one answer.
-use Rattle.std.proofs.Common.{◌≡◌, ◌⊎◌, ℕ, ◌<◌, List, [], ◌∷◌, ◌++◌, map, refl, sym, ap, ◌∙◌, subst, arith, inl, inr}
-use Rattle.std.specs.List.{AllByRecursion}
+-- An audit has one answer.
+use Rattle.std.proofs.Common.{◌≡◌, ◌⊎◌, ⊎_elim, ℕ, zero, suc, List, [], ◌∷◌, ◌++◌, map, refl, sym, ap, ◌∙◌, subst, arith, inl, inr}
+use Rattle.std.specs.List.{AllByRecursion, Contains}
 use Rattle.fe2o3_sasl.specs.ClientHistory.{Answering, OpenAnswer, AnswersAt}
 use Rattle.fe2o3_sasl.specs.Events.{ClientSays, ServerSays}
-use Rattle.fe2o3_sasl.specs.Review.{OneAudit, sides_of}
+use Rattle.fe2o3_sasl.specs.Laws.{OneAuditEach}
 use Rattle.fe2o3_sasl.specs.ServerHistory.{Accepted, AcceptsAt}
-use Rattle.fe2o3_sasl.specs.TwoSides.{Sides, Takes, Shows}
-use Rattle.fe2o3_sasl.specs.Audit.{Verdict, Finding, FindingKind, place_of, Before, Ascending, Among, Lists, IsVerifierFinding, IsProofFinding, Audits, JudgesVerifier, JudgesProof}
+use Rattle.fe2o3_sasl.specs.TwoSides.{Sides, sides_of, Takes, Shows}
+use Rattle.fe2o3_sasl.specs.Audit.{Verdict, Finding, FindingKind, place_of, Before, Ascending, Lists, IsVerifierFinding, IsProofFinding, Audits, JudgesVerifier, JudgesProof}
 use Rattle.fe2o3_sasl.proofs.lemmas.histories.OneClientHistoryLemmas.{one_open_answer, one_answers_at, one_client_history}
 use Rattle.fe2o3_sasl.proofs.lemmas.histories.OneServerHistoryLemmas.{one_accepted, one_server_history}
 use Rattle.fe2o3_sasl.proofs.lemmas.two_sides.VerdictLemmas.{one_verdict_each}
 
+-- ---- what a list contains
+
+contains_none : {X : Type 0} (x : X) → Contains [] x → ⊥
+contains_none x (k, within, at) = absurd (omega (arith, within))
+
+contains_first : {X : Type 0} (x : X) (xs : List X) → Contains (x ∷ xs) x
+contains_first x xs = (0, omega arith, refl)
+
+contains_more : {X : Type 0} (x other : X) (xs : List X) → Contains xs other → Contains (x ∷ xs) other
+contains_more x other xs (k, within, at) = (suc k, omega (arith, within), at)
+
+-- an element is the first or one of the others
+contains_cases : {X : Type 0} (x other : X) (xs : List X) → Contains (x ∷ xs) other → (x ≡ other) ⊎ Contains xs other
+contains_cases x other xs (zero, within, at) = inl at
+contains_cases x other xs (suc k, within, at) = inr (k, omega (arith, within), at)
+
 -- ---- ascending lists
 
-not_before : (p : ℕ × ℕ) → Before p p → ⊥
-not_before p (inl l) = absurd (omega (arith, l))
-not_before p (inr l) = absurd (omega (arith, l.1))
+-- no place is before itself
+not_before : (place : ℕ × ℕ) → Before place place → ⊥
+not_before place (inl less) = absurd (omega (arith, less))
+not_before place (inr less) = absurd (omega (arith, less.1))
 
-not_both : (p q : ℕ × ℕ) → Before p q → Before q p → ⊥
-not_both p q (inl a) (inl b) = absurd (omega (arith, a, b))
-not_both p q (inl a) (inr b) = absurd (omega (arith, a, b.0))
-not_both p q (inr a) (inl b) = absurd (omega (arith, a.0, b))
-not_both p q (inr a) (inr b) = absurd (omega (arith, a.1, b.1))
+-- no two are each before the other
+not_both : (left right : ℕ × ℕ) → Before left right → Before right left → ⊥
+not_both left right (inl less) (inl more) = absurd (omega (arith, less, more))
+not_both left right (inl less) (inr more) = absurd (omega (arith, less, more.0))
+not_both left right (inr less) (inl more) = absurd (omega (arith, less.0, more))
+not_both left right (inr less) (inr more) = absurd (omega (arith, less.1, more.1))
 
-among_all : (P : ℕ × ℕ → Type 0) (xs : List (ℕ × ℕ)) (p : ℕ × ℕ) → AllByRecursion P xs → Among p xs → P p
-among_all P [] p all is = absurd is
-among_all P (x ∷ xs) p all (inl e) = subst P e all.0
-among_all P (x ∷ xs) p all (inr is) = among_all P xs p all.1 is
+-- what holds of all elements
+all_of : (P : ℕ × ℕ → Type 0) (places : List (ℕ × ℕ)) (place : ℕ × ℕ) → AllByRecursion P places
+    → Contains places place → P place
+all_of P [] place all is = absurd (contains_none place is)
+all_of P (first ∷ places) place all is = ⊎_elim (λ (same : first ≡ place). subst P same all.0)
+    (λ (further : Contains places place). all_of P places place all.1 further) (contains_cases first place places is)
 
-same_head : (x y : ℕ × ℕ) (xs ys : List (ℕ × ℕ)) → AllByRecursion (Before x) xs → AllByRecursion (Before y) ys
-    → Among x (y ∷ ys) → Among y (x ∷ xs) → x ≡ y
-same_head x y xs ys a b (inl e) also = sym e
-same_head x y xs ys a b (inr is) (inl e) = e
-same_head x y xs ys a b (inr is) (inr too) =
-    absurd (not_both x y (among_all (Before x) xs y a too) (among_all (Before y) ys x b is))
+-- two ascending lists with the same elements have one head
+same_head : (left right : ℕ × ℕ) (lefts rights : List (ℕ × ℕ)) → AllByRecursion (Before left) lefts
+    → AllByRecursion (Before right) rights → (right ≡ left) ⊎ Contains rights left
+    → (left ≡ right) ⊎ Contains lefts right → left ≡ right
+same_head left right lefts rights before after (inl same) back = sym same
+same_head left right lefts rights before after (inr is) (inl same) = same
+same_head left right lefts rights before after (inr is) (inr too) =
+    absurd (not_both left right (all_of (Before left) lefts right before too)
+    (all_of (Before right) rights left after is))
 
-behind : (x y p : ℕ × ℕ) (xs ys : List (ℕ × ℕ)) → x ≡ y → AllByRecursion (Before x) xs → Among p xs → Among p (y ∷ ys)
-    → Among p ys
-behind x y p xs ys e all is (inl f) =
-    absurd (not_before p (subst (λ (q : ℕ × ℕ). Before q p) (e ∙ f) (among_all (Before x) xs p all is)))
-behind x y p xs ys e all is (inr too) = too
+-- and behind it the same elements
+behind : (left right place : ℕ × ℕ) (lefts rights : List (ℕ × ℕ)) → left ≡ right → AllByRecursion (Before left) lefts
+    → Contains lefts place → (right ≡ place) ⊎ Contains rights place → Contains rights place
+behind left right place lefts rights same before is (inl here) = absurd (not_before place
+    (subst (λ (other : ℕ × ℕ). Before other place) (same ∙ here) (all_of (Before left) lefts place before is)))
+behind left right place lefts rights same before is (inr further) = further
 
-one_list : (xs ys : List (ℕ × ℕ)) → Ascending xs → Ascending ys → ((p : ℕ × ℕ) → Among p xs → Among p ys)
-    → ((p : ℕ × ℕ) → Among p ys → Among p xs) → xs ≡ ys
-one_list [] [] a b to from = refl
-one_list [] (y ∷ ys) a b to from = absurd (from y (inl refl))
-one_list (x ∷ xs) [] a b to from = absurd (to x (inl refl))
-one_list (x ∷ xs) (y ∷ ys) a b to from =
-    let e = same_head x y xs ys a.0 b.0 (to x (inl refl)) (from y (inl refl)) in
-    let rest = one_list xs ys a.1 b.1 (λ p is. behind x y p xs ys e a.0 is (to p (inr is)))
-    (λ p is. behind y x p ys xs (sym e) b.0 is (from p (inr is))) in
-    λ i. e i ∷ rest i
+-- so they are one list
+one_list : (lefts rights : List (ℕ × ℕ)) → Ascending lefts → Ascending rights
+    → ((place : ℕ × ℕ) → Contains lefts place → Contains rights place)
+    → ((place : ℕ × ℕ) → Contains rights place → Contains lefts place) → lefts ≡ rights
+one_list [] [] before after to from = refl
+one_list [] (right ∷ rights) before after to from =
+    absurd (contains_none right (from right (contains_first right rights)))
+one_list (left ∷ lefts) [] before after to from = absurd (contains_none left (to left (contains_first left lefts)))
+one_list (left ∷ lefts) (right ∷ rights) before after to from =
+    let forth : (place : ℕ × ℕ) → Contains (left ∷ lefts) place → (right ≡ place) ⊎ Contains rights place =
+    λ place is. contains_cases right place rights (to place is) in
+    let back : (place : ℕ × ℕ) → Contains (right ∷ rights) place → (left ≡ place) ⊎ Contains lefts place =
+    λ place is. contains_cases left place lefts (from place is) in
+    let same = same_head left right lefts rights before.0 after.0 (forth left (contains_first left lefts))
+    (back right (contains_first right rights)) in
+    let rest = one_list lefts rights before.1 after.1
+    (λ place is. behind left right place lefts rights same before.0 is
+    (forth place (contains_more left place lefts is)))
+    (λ place is. behind right left place rights lefts (sym same) after.0 is
+    (back place (contains_more right place rights is))) in
+    λ i. same i ∷ rest i
 
-one_listing : (R : ℕ → ℕ → Type 0) (xs ys : List (ℕ × ℕ)) → Lists R xs → Lists R ys → xs ≡ ys
-one_listing R xs ys a b =
-    one_list xs ys a.ordered b.ordered (λ p is. b.every p.0 p.1 (among_all (λ (q : ℕ × ℕ). R q.0 q.1) xs p a.each is))
-    (λ p is. a.every p.0 p.1 (among_all (λ (q : ℕ × ℕ). R q.0 q.1) ys p b.each is))
+-- two listings of one relation are one list
+one_listing : (R : ℕ → ℕ → Type 0) (places others : List (ℕ × ℕ)) → Lists R places → Lists R others → places ≡ others
+one_listing R places others listing again =
+    let Is = λ (place : ℕ × ℕ). R place.0 place.1 in
+    one_list places others listing.ordered again.ordered
+    (λ place is. again.every place.0 place.1 (all_of Is places place listing.each is))
+    (λ place is. listing.every place.0 place.1 (all_of Is others place again.each is))
 
 -- ---- findings
 
-same_cons : {A : Type 0} (x y : A) (xs ys : List A) → x ∷ xs ≡ y ∷ ys → (x ≡ y) × (xs ≡ ys)
-same_cons x y xs ys e = (cc, cc)
+same_cons : {X : Type 0} (x y : X) (xs ys : List X) → x ∷ xs ≡ y ∷ ys → (x ≡ y) × (xs ≡ ys)
+same_cons x y xs ys same = (cc, cc)
 
-empty_cons : {A : Type 0} (x : A) (xs : List A) → [] ≡ x ∷ xs → ⊥
-empty_cons x xs e = absurd (cc)
+empty_cons : {X : Type 0} (x : X) (xs : List X) → [] ≡ x ∷ xs → ⊥
+empty_cons x xs same = absurd (cc)
 
-one_findings : (Is : Finding → Type 0) → ((f g : Finding) → place_of f ≡ place_of g → Is f → Is g → f ≡ g)
-    → (fs gs : List Finding) → map place_of fs ≡ map place_of gs → AllByRecursion Is fs → AllByRecursion Is gs → fs ≡ gs
-one_findings Is one [] [] e a b = refl
-one_findings Is one [] (g ∷ gs) e a b = absurd (empty_cons (place_of g) (map place_of gs) e)
-one_findings Is one (f ∷ fs) [] e a b = absurd (empty_cons (place_of f) (map place_of fs) (sym e))
-one_findings Is one (f ∷ fs) (g ∷ gs) e a b =
-    let parts = same_cons (place_of f) (place_of g) (map place_of fs) (map place_of gs) e in
-    let first = one f g parts.0 a.0 b.0 in
-    let rest = one_findings Is one fs gs parts.1 a.1 b.1 in
+-- findings with one finding a place, and with the same places
+one_findings : (Is : Finding → Type 0) → ((finding other : Finding) → place_of finding ≡ place_of other → Is finding
+    → Is other → finding ≡ other)
+    → (findings others : List Finding) → map place_of findings ≡ map place_of others → AllByRecursion Is findings
+    → AllByRecursion Is others → findings ≡ others
+one_findings Is one [] [] places are too = refl
+one_findings Is one [] (other ∷ others) places are too =
+    absurd (empty_cons (place_of other) (map place_of others) places)
+one_findings Is one (finding ∷ findings) [] places are too =
+    absurd (empty_cons (place_of finding) (map place_of findings) (sym places))
+one_findings Is one (finding ∷ findings) (other ∷ others) places are too =
+    let both = same_cons (place_of finding) (place_of other) (map place_of findings) (map place_of others) places in
+    let first = one finding other both.0 are.0 too.0 in
+    let rest = one_findings Is one findings others both.1 are.1 too.1 in
     λ i. first i ∷ rest i
 
 abbrev made : FindingKind → ℕ → ℕ → Verdict → Finding
 made kind client server verdict = record { kind = kind; client = client; server = server; verdict = verdict }
 
-one_verifier : (sides : Sides) (f g : Finding) → place_of f ≡ place_of g → IsVerifierFinding sides f
-    → IsVerifierFinding sides g → f ≡ g
-one_verifier sides f g e a b =
-    let kind : f.kind ≡ g.kind = a.0 ∙ sym b.0 in
-    let client : f.client ≡ g.client = ap (λ (p : ℕ × ℕ). p.0) e in
-    let server : f.server ≡ g.server = ap (λ (p : ℕ × ℕ). p.1) e in
-    let answer : b.1.0 ≡ a.1.0 =
-    one_open_answer sides.login sides.client_events sides.client_replies f.client b.1.0 a.1.0
-    (subst (λ (m : ℕ). OpenAnswer sides.login sides.client_events sides.client_replies m b.1.0) (sym client) b.1.3)
-    a.1.3 in
-    let accepted : b.1.1 ≡ a.1.1 =
-    one_accepted sides.provider sides.server_events sides.server_replies f.server b.1.1 a.1.1
-    (subst (λ (n : ℕ). AcceptsAt sides.provider sides.server_events sides.server_replies n b.1.1)
-    (sym server) b.1.2.ok.accepts) a.1.2.ok.accepts in
-    let judges : JudgesVerifier sides a.1.0 a.1.1 g.verdict =
-    subst (λ (x : Answering). JudgesVerifier sides x a.1.1 g.verdict) answer
-    (subst (λ (y : Accepted). JudgesVerifier sides b.1.0 y g.verdict) accepted b.1.4) in
-    let verdict : f.verdict ≡ g.verdict = (one_verdict_each sides a.1.0 a.1.1 f.verdict g.verdict).0 a.1.4 judges in
+-- a place has one verifier's finding
+one_verifier : (sides : Sides) (finding other : Finding) → place_of finding ≡ place_of other
+    → IsVerifierFinding sides finding → IsVerifierFinding sides other → finding ≡ other
+one_verifier sides finding other places is too =
+    let kind : finding.kind ≡ other.kind = is.0 ∙ sym too.0 in
+    let client : finding.client ≡ other.client = ap (λ (place : ℕ × ℕ). place.0) places in
+    let server : finding.server ≡ other.server = ap (λ (place : ℕ × ℕ). place.1) places in
+    let answer : too.1.0 ≡ is.1.0 =
+    one_open_answer sides.login sides.client_events sides.client_replies finding.client too.1.0 is.1.0
+    (subst (λ (m : ℕ). OpenAnswer sides.login sides.client_events sides.client_replies m too.1.0) (sym client) too.1.3)
+    is.1.3 in
+    let accepted : too.1.1 ≡ is.1.1 =
+    one_accepted sides.provider sides.server_events sides.server_replies finding.server too.1.1 is.1.1
+    (subst (λ (n : ℕ). AcceptsAt sides.provider sides.server_events sides.server_replies n too.1.1)
+    (sym server) too.1.2.ok.accepts) is.1.2.ok.accepts in
+    let judges : JudgesVerifier sides is.1.0 is.1.1 other.verdict =
+    subst (λ (x : Answering). JudgesVerifier sides x is.1.1 other.verdict) answer
+    (subst (λ (y : Accepted). JudgesVerifier sides too.1.0 y other.verdict) accepted too.1.4) in
+    let verdict : finding.verdict ≡ other.verdict =
+    (one_verdict_each sides is.1.0 is.1.1 finding.verdict other.verdict).0 is.1.4 judges in
     λ i. made (kind i) (client i) (server i) (verdict i)
 
-one_proof : (sides : Sides) (f g : Finding) → place_of f ≡ place_of g → IsProofFinding sides f → IsProofFinding sides g
-    → f ≡ g
-one_proof sides f g e a b =
-    let kind : f.kind ≡ g.kind = a.0 ∙ sym b.0 in
-    let client : f.client ≡ g.client = ap (λ (p : ℕ × ℕ). p.0) e in
-    let server : f.server ≡ g.server = ap (λ (p : ℕ × ℕ). p.1) e in
-    let answer : b.1.0 ≡ a.1.0 =
-    one_answers_at sides.login sides.client_events sides.client_replies f.client b.1.0 a.1.0
-    (subst (λ (m : ℕ). AnswersAt sides.login sides.client_events sides.client_replies m b.1.0)
-    (sym client) b.1.2.answers) a.1.2.answers in
-    let accepted : b.1.1 ≡ a.1.1 =
-    one_accepted sides.provider sides.server_events sides.server_replies f.server b.1.1 a.1.1
-    (subst (λ (n : ℕ). AcceptsAt sides.provider sides.server_events sides.server_replies n b.1.1)
-    (sym server) b.1.2.ok.accepts) a.1.2.ok.accepts in
-    let judges : JudgesProof sides a.1.0 a.1.1 g.verdict =
-    subst (λ (x : Answering). JudgesProof sides x a.1.1 g.verdict) answer
-    (subst (λ (y : Accepted). JudgesProof sides b.1.0 y g.verdict) accepted b.1.3) in
-    let verdict : f.verdict ≡ g.verdict = (one_verdict_each sides a.1.0 a.1.1 f.verdict g.verdict).1 a.1.3 judges in
+-- and one proof's
+one_proof : (sides : Sides) (finding other : Finding) → place_of finding ≡ place_of other
+    → IsProofFinding sides finding → IsProofFinding sides other → finding ≡ other
+one_proof sides finding other places is too =
+    let kind : finding.kind ≡ other.kind = is.0 ∙ sym too.0 in
+    let client : finding.client ≡ other.client = ap (λ (place : ℕ × ℕ). place.0) places in
+    let server : finding.server ≡ other.server = ap (λ (place : ℕ × ℕ). place.1) places in
+    let answer : too.1.0 ≡ is.1.0 =
+    one_answers_at sides.login sides.client_events sides.client_replies finding.client too.1.0 is.1.0
+    (subst (λ (k : ℕ). AnswersAt sides.login sides.client_events sides.client_replies k too.1.0)
+    (sym client) too.1.2.answers) is.1.2.answers in
+    let accepted : too.1.1 ≡ is.1.1 =
+    one_accepted sides.provider sides.server_events sides.server_replies finding.server too.1.1 is.1.1
+    (subst (λ (n : ℕ). AcceptsAt sides.provider sides.server_events sides.server_replies n too.1.1)
+    (sym server) too.1.2.ok.accepts) is.1.2.ok.accepts in
+    let judges : JudgesProof sides is.1.0 is.1.1 other.verdict =
+    subst (λ (x : Answering). JudgesProof sides x is.1.1 other.verdict) answer
+    (subst (λ (y : Accepted). JudgesProof sides too.1.0 y other.verdict) accepted too.1.3) in
+    let verdict : finding.verdict ≡ other.verdict =
+    (one_verdict_each sides is.1.0 is.1.1 finding.verdict other.verdict).1 is.1.3 judges in
     λ i. made (kind i) (client i) (server i) (verdict i)
 
+-- two audits of the same replies
 one_of_sides : (sides : Sides) (findings others : List Finding) → Audits sides findings → Audits sides others
     → findings ≡ others
-one_of_sides sides findings others a b =
-    let verifiers = one_findings (IsVerifierFinding sides) (one_verifier sides) a.verifiers b.verifiers
-    (one_listing (λ m n. (accepted : Accepted) × Takes sides m n accepted) (map place_of a.verifiers)
-    (map place_of b.verifiers) a.takes b.takes) a.verifier_verdicts b.verifier_verdicts in
-    let proofs = one_findings (IsProofFinding sides) (one_proof sides) a.proofs b.proofs
+one_of_sides sides findings others audit again =
+    let verifiers = one_findings (IsVerifierFinding sides) (one_verifier sides) audit.verifiers again.verifiers
+    (one_listing (λ m n. (accepted : Accepted) × Takes sides m n accepted) (map place_of audit.verifiers)
+    (map place_of again.verifiers) audit.takes again.takes) audit.verifier_verdicts again.verifier_verdicts in
+    let proofs = one_findings (IsProofFinding sides) (one_proof sides) audit.proofs again.proofs
     (one_listing (λ k n. (answer : Answering) × (accepted : Accepted) × Shows sides k n answer accepted)
-    (map place_of a.proofs) (map place_of b.proofs) a.shows b.shows) a.proof_verdicts b.proof_verdicts in
-    a.whole ∙ ((λ i. verifiers i ++ proofs i) ∙ sym b.whole)
+    (map place_of audit.proofs) (map place_of again.proofs) audit.shows again.shows)
+    audit.proof_verdicts again.proof_verdicts in
+    audit.whole ∙ ((λ i. verifiers i ++ proofs i) ∙ sym again.whole)
 
-pub one_audit : OneAudit
-one_audit login client_events provider server_events client_replies other_client server_replies other_server findings
-    others a b =
-    let client = one_client_history login client_events other_client client_replies b.histories.client
-    a.histories.client b.client_complete a.client_complete in
-    let server = one_server_history provider server_events other_server server_replies b.histories.server
-    a.histories.server b.server_complete a.server_complete in
+pub one_audit_each : OneAuditEach
+one_audit_each login client_events provider server_events findings others first again =
+    let audit = first.2 in
+    let other = again.2 in
+    let client = one_client_history login client_events again.0 first.0 other.histories.client audit.histories.client
+    other.client_complete audit.client_complete in
+    let server = one_server_history provider server_events again.1 first.1 other.histories.server
+    audit.histories.server other.server_complete audit.server_complete in
     let moved = subst (λ (replies : List ClientSays). Audits
-    (sides_of login client_events provider server_events replies server_replies) others) client
+    (sides_of login client_events replies provider server_events first.1) others) client
     (subst (λ (replies : List ServerSays). Audits
-    (sides_of login client_events provider server_events other_client replies) others) server b) in
-    one_of_sides (sides_of login client_events provider server_events client_replies server_replies) findings others a
-    moved
+    (sides_of login client_events again.0 provider server_events replies) others) server other) in
+    one_of_sides (sides_of login client_events first.0 provider server_events first.1) findings others audit moved

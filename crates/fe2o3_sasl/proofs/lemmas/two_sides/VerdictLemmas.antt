@@ -5,11 +5,13 @@ use Rattle.fe2o3_scram.specs.Hmac.{digest, digest_len, hmac_of, exclusive_or}
 use Rattle.fe2o3_sasl.specs.Laws.{TakenVerifiersAreJudged, ShownProofsAreJudged, OneVerdictEach}
 use Rattle.fe2o3_sasl.specs.ServerHistory.{Accepted, full_nonce}
 use Rattle.fe2o3_scram.specs.Texts.{Parts}
-use Rattle.fe2o3_sasl.specs.TwoSides.{Sides, Agree, IsPlainInit, client_message, server_message, salted_at, client_key_at, server_key_at, proof_at, recovered_at}
-use Rattle.fe2o3_sasl.specs.Audit.{Parameters, Verdict, Agreed, SameMac, SameHash, OtherKey, AreParameters, AreAgreed, JudgesVerifier, JudgesProof, IsStoredKey}
+use Rattle.fe2o3_sasl.specs.TwoSides.{Sides, Agree, IsPlainInit, client_message, server_message, salted_at, server_key_at, proof_at}
+use Rattle.fe2o3_sasl.specs.Audit.{Parameters, Verdict, Agreed, SameMac, SameHash, OtherKey, AreParameters, AreAgreed, JudgesVerifier, JudgesProof, IsStoredKey, client_key_at, recovered_at}
 use Rattle.fe2o3_scram.proofs.lemmas.hashes.DigestLemmas.{length-hmac_of}
 use Rattle.fe2o3_scram.proofs.lemmas.hashes.OnePadLemmas.{one_pad}
-use Rattle.fe2o3_sasl.proofs.lemmas.two_sides.MeetingSidesLemmas.{OneSignature, Met, taken_signature, met, agree}
+use Rattle.fe2o3_sasl.proofs.lemmas.two_sides.MeetingSidesLemmas.{Met, met, agree}
+use Rattle.fe2o3_sasl.specs.Headline.{VerifierAgrees}
+use Rattle.fe2o3_sasl.proofs.lemmas.two_sides.HeadlineLemmas.{verifier_agrees}
 use Rattle.fe2o3_scram.proofs.lemmas.texts.PartsLemmas.{pieces, Parts-pieces, one_list_of_parts}
 use Rattle.fe2o3_sasl.proofs.lemmas.two_sides.EqualMessageLemmas.{is_accepted}
 
@@ -60,44 +62,34 @@ agreed sides answer accepted same agrees = go (plain_or_not accepted)
       Some (record {
         full_nonce = full_nonce accepted.challenge;
         salt = accepted.challenge.stored.salt;
-        iterations =
-            accepted.challenge.stored.count;
+        iterations = accepted.challenge.stored.count;
       }),
       (same, agrees, refl, refl, (plain, refl, refl, refl)),
     )
     go (inr other) = (None, (same, agrees, refl, refl, other))
 
--- a verifier that was taken has a verdict
-verifier_judged : (sides : Sides) (answer : Answering) (accepted : Accepted) → Met sides answer accepted
-    → OneSignature sides answer accepted → (verdict : Verdict) × JudgesVerifier sides answer accepted verdict
-verifier_judged sides answer accepted is signed =
-    go (same_or_not (client_message sides.login answer) (server_message accepted))
+-- a verifier on which the sides agree or collide has a verdict
+pub verifier_judged : (sides : Sides) (m : ℕ) (accepted : Accepted) (agrees : VerifierAgrees sides m accepted)
+    → (verdict : Verdict) × JudgesVerifier sides agrees.answer accepted verdict
+verifier_judged sides m accepted agrees =
+    go (same_or_not (client_message sides.login agrees.answer) (server_message accepted))
   where
-    go : (client_message sides.login answer ≡ server_message accepted)
-        ⊎ (client_message sides.login answer ≢ server_message accepted)
-        → (verdict : Verdict) × JudgesVerifier sides answer accepted verdict
-    go (inl same) = let values = agreed sides answer accepted same (agree sides answer accepted is same) in
+    go : (client_message sides.login agrees.answer ≡ server_message accepted)
+        ⊎ (client_message sides.login agrees.answer ≢ server_message accepted)
+        → (verdict : Verdict) × JudgesVerifier sides agrees.answer accepted verdict
+    go (inl same) = let values = agreed sides agrees.answer accepted same (agrees.agrees same) in
         (Agreed accepted.challenge.client.user accepted.challenge.client.nonce values.0, values.1)
-    go (inr differ) =
-        let its_key = accepted.challenge.stored.server_key in
-        let one = signed.one ∙ ap (λ version. hmac_of version its_key (server_message accepted)) (sym signed.version) in (
-          SameMac (server_key_at sides.login answer) (client_message sides.login answer) its_key
-              (server_message accepted),
-          (
-            refl,
-            refl,
-            refl,
-            refl,
-            (signed.version, record { differ = differ; one = one }),
-          ),
-        )
+    go (inr differ) = (
+      SameMac (server_key_at sides.login agrees.answer) (client_message sides.login agrees.answer)
+          accepted.challenge.stored.server_key (server_message accepted),
+      (refl, refl, refl, refl, agrees.collides differ),
+    )
 
 pub taken_verifiers_are_judged : TakenVerifiersAreJudged
 taken_verifiers_are_judged sides m n accepted histories kept takes =
-    let taken = taken_signature sides m n accepted histories takes in
-    let verdict = verifier_judged sides taken.0 accepted (met sides taken.0 accepted histories kept
-    (inl (m, n, takes, taken.1))) taken.2 in
-    (taken.0, verdict.0, taken.1, verdict.1)
+    let agrees = verifier_agrees sides m n accepted histories kept takes in
+    let verdict = verifier_judged sides m accepted agrees in
+    (agrees, verdict.0, verdict.1)
 
 -- what a proof says that was shown and accepted
 record Shown (sides : Sides) (answer : Answering) (accepted : Accepted) : Type 0 where
@@ -177,8 +169,7 @@ shown_proofs_are_judged sides k n answer accepted histories kept shows =
     (record {
       met = met sides answer accepted histories kept (inr (k, n, shows));
       one = shows.one;
-      meets =
-          names.meets;
+      meets = names.meets;
     })
 
 -- ---- and no other

@@ -1,17 +1,16 @@
--- What is replied to a body that spells a frame, where the reply has a body or memory is not wanting.
-use Rattle.std.proofs.Common.{◌≡◌, ◌⊎◌, ℕ, List, [], ◌∷◌, Option, Some, None, Bool, refl, sym, ap, ◌∙◌, subst, arith, Result, Ok, Err, inl, inr}
+-- What is replied to a body that spells a frame, where memory is not wanting and nothing is too large.
+use Rattle.std.proofs.Common.{◌≡◌, ◌≢◌, ◌⊎◌, ℕ, List, [], ◌∷◌, Option, Some, None, Bool, refl, sym, ap, ◌∙◌, subst, arith, Result, Ok, Err, inl, inr}
 use Rattle.std.specs.Prelude.{slice_get}
-use Rattle.std.proofs.lemmas.Option.{none-some, same_Some, slice_get_within}
+use Rattle.std.proofs.lemmas.Option.{slice_get_within}
 use Rattle.fe2o3_sasl_wire.specs.declared.amqp_types.SaslCode.TheVariants as outcomes
 use Rattle.fe2o3_sasl_wire.specs.declared.sasl_frames.error.Error.{Error}
 use Rattle.fe2o3_sasl_wire.specs.declared.sasl_frames.error.Error.TheVariants as faults
-use Rattle.fe2o3_sasl_wire.specs.Canonical.{canonical}
+use Rattle.fe2o3_sasl_wire.specs.SaslFrames.{canonical, SaslFrame}
 use Rattle.fe2o3_sasl_wire.specs.SaslFrames as frames
-use Rattle.fe2o3_sasl_wire.specs.SaslFrames.{SaslFrame}
 use Rattle.fe2o3_scram.specs.declared.scram_messages.error.ScramErrorKind.{ScramErrorKind}
 use Rattle.fe2o3_scram.specs.Texts.{base64_text}
 use Rattle.fe2o3_scram.specs.ClientFirst.{client_first}
-use Rattle.fe2o3_sasl.specs.ClientHistory.{Answering, answer_at, client_at, ReadsChallenge, ClientAnswers, ClientAllocates, ClientHistory, ClientComplete, IsDue, OpenAnswer}
+use Rattle.fe2o3_sasl.specs.ClientHistory.{Answering, answer_at, client_at, ReadsChallenge, ClientAnswers, ClientAllocates, ClientHistory, IsDue, OpenAnswer}
 use Rattle.fe2o3_scram.specs.Credentials.{Provider}
 use Rattle.fe2o3_sasl.specs.Events.{Given, Login, ServerSays, Challenged, Concluded, Failed, ClientSays, Started, Answered, Reported, Refused, Frame, OutOfMemory}
 use Rattle.fe2o3_scram.specs.Hmac.{mechanism_name}
@@ -19,8 +18,9 @@ use Rattle.fe2o3_sasl.specs.Positions.{IsLastOpen, OpenBy}
 use Rattle.fe2o3_scram.specs.ClientFinal.{ClientFinal, ReadsClientFinal}
 use Rattle.fe2o3_scram.specs.ServerFinal.{ReadsServerFinal}
 use Rattle.fe2o3_scram.specs.ServerFirst.{ServerFirst, ReadsServerFirst}
-use Rattle.fe2o3_sasl.specs.ServerHistory.{Challenging, Accepted, FitsAsInit, FitsAsResponse, Open, ServerAnswers, ServerAllocates, ServerHistory, ServerComplete, SpellsBody, carried, first_message, final_message, server_at}
+use Rattle.fe2o3_sasl.specs.ServerHistory.{Challenging, Accepted, FitsAsInit, FitsAsResponse, Open, ServerAnswers, ServerAllocates, ServerHistory, SpellsBody, carried, first_message, final_message, server_at}
 use Rattle.fe2o3_sasl.specs.UnalteredRuns.{client_body, server_body, Arrives}
+use Rattle.fe2o3_sasl.specs.Complete.{ClientComplete, ServerComplete}
 use Rattle.fe2o3_scram.proofs.lemmas.messages.OneValueLemmas.{one_server_first_value, one_client_final_value}
 use Rattle.fe2o3_sasl.proofs.lemmas.positions.PositionLemmas.{some_at, one_open}
 use Rattle.fe2o3_scram.proofs.lemmas.messages.ServerFinalLemmas.{one_server_final}
@@ -68,27 +68,29 @@ server_reply provider events replies k event frame history at spells =
           said.0) (one_spelling event.body row.0 (Ok frame) row.1 spells) row.2,
     )
 
--- a reply with a body carries that body
-carries : {A : Type 0} (body_of : Option A → Option (List ℕ)) (too_large : A) (says : List ℕ → A)
-    → body_of (Some too_large) ≡ None → ((bytes : List ℕ) → body_of (Some (says bytes)) ≡ Some bytes)
+-- no reply is too large
+abbrev pub ClientSmall : List ClientSays → Type 0
+ClientSmall replies = (k : ℕ) → slice_get replies k ≢ Some (Refused (Frame faults.TooLarge))
+
+-- likewise of a server
+abbrev pub ServerSmall : List ServerSays → Type 0
+ServerSmall replies = (k : ℕ) → slice_get replies k ≢ Some (Failed faults.TooLarge)
+
+-- a reply that is not too large has a body, and that is what arrives
+sent_as : {A : Type 0} (body_of : Option A → Option (List ℕ)) (too_large : A) (says : List ℕ → A)
+    → ((bytes : List ℕ) → body_of (Some (says bytes)) ≡ Some bytes)
     → (written : Option (List ℕ)) (reply : A) (body : List ℕ) → reply ≡ carried too_large says written
-    → body_of (Some reply) ≡ Some body → (reply ≡ says body) × (written ≡ Some body)
-carries {A} body_of too_large says none some None reply body is has =
-    absurd (none-some body (sym none ∙ (ap (λ (r : A). body_of (Some r)) (sym is) ∙ has)))
-carries {A} body_of too_large says none some (Some bytes) reply body is has =
-    let same = same_Some bytes body (sym (some bytes) ∙ (ap (λ (r : A). body_of (Some r)) (sym is) ∙ has)) in
-    (is ∙ ap says same, ap (λ (b : List ℕ). Some b) same)
+    → reply ≢ too_large → Arrives (body_of (Some reply)) body → (reply ≡ says body) × (written ≡ Some body)
+sent_as body_of too_large says some None reply body is small arrives = absurd (small is)
+sent_as {A} body_of too_large says some (Some bytes) reply body is small arrives =
+    let has : body_of (Some reply) ≡ Some bytes = ap (λ (r : A). body_of (Some r)) is ∙ some bytes in
+    let same : body ≡ bytes = subst (λ (sent : Option (List ℕ)). Arrives sent body) has arrives in
+    (is ∙ ap says (sym same), ap (λ (b : List ℕ). Some b) (sym same))
 
--- a reply without a body has none
-client_bodiless : (says other : ClientSays) (body : List ℕ) → client_body (Some other) ≡ None → says ≡ other
-    → client_body (Some says) ≡ Some body → ⊥
-client_bodiless says other body none is has = none-some body
-    (sym none ∙ (ap (λ (r : ClientSays). client_body (Some r)) (sym is) ∙ has))
-
-server_bodiless : (says other : ServerSays) (body : List ℕ) → server_body (Some other) ≡ None → says ≡ other
-    → server_body (Some says) ≡ Some body → ⊥
-server_bodiless says other body none is has = none-some body
-    (sym none ∙ (ap (λ (r : ServerSays). server_body (Some r)) (sym is) ∙ has))
+-- what arrives of the reply at a position
+arrives_at : {A : Type 0} (body_of : Option A → Option (List ℕ)) (at : Option A) (reply : A) (body : List ℕ)
+    → at ≡ Some reply → Arrives (body_of at) body → Arrives (body_of (Some reply)) body
+arrives_at {A} body_of at reply body is arrives = subst (λ (r : Option A). Arrives (body_of r) body) is arrives
 
 -- the value that is open is that of the position that is open
 pub open_value : {A X : Type 0} (opens closes : A → Bool) (At : ℕ → X → Type 0) (replies : List A) (k j : ℕ) (value : X)
@@ -101,31 +103,33 @@ open_value opens closes At replies k j value is opened =
 start_row : (login : Login) (events : List Given) (replies : List ClientSays) (k : ℕ) (event : Given)
     (says : ClientSays) (body : List ℕ) → ClientRow login events replies k event
     (Ok (frames.Mechanisms (mechanism_name login.version ∷ []))) says
-    → client_body (Some says) ≡ Some body → (says ≡ Started body)
+    → says ≢ Refused OutOfMemory → says ≢ Refused (Frame faults.TooLarge) → Arrives (client_body (Some says)) body
+    → (says ≡ Started body)
     × (canonical (frames.Init (mechanism_name login.version)
     (Some (client_first login.user (base64_text event.nonce))) None) ≡ Some body)
-start_row login events replies k event says body (inl wants) has =
-    absurd (client_bodiless says (Refused OutOfMemory) body refl wants.1 has)
-start_row login events replies k event says body (inr (inl starts)) has =
-    carries client_body (Refused (Frame faults.TooLarge)) (λ (b : List ℕ). Started b) refl (λ bytes. refl)
+start_row login events replies k event says body (inl wants) memory small arrives = absurd (memory wants.1)
+start_row login events replies k event says body (inr (inl starts)) memory small arrives =
+    sent_as client_body (Refused (Frame faults.TooLarge)) (λ (b : List ℕ). Started b) (λ bytes. refl)
     (canonical (frames.Init (mechanism_name login.version)
-    (Some (client_first login.user (base64_text event.nonce))) None)) says body starts.1 has
-start_row login events replies k event says body (inr (inr other)) has =
-    absurd (client_bodiless says _ body refl other.1 has)
+    (Some (client_first login.user (base64_text event.nonce))) None)) says body starts.1 small arrives
+start_row login events replies k event says body (inr (inr other)) memory small arrives =
+    absurd (other.0 (0, omega arith, refl))
 
 -- the list of the one mechanism is answered by a start
 pub client_starts : (login : Login) (events : List Given) (replies : List ClientSays) (k : ℕ) (event : Given)
     (body : List ℕ) → ClientHistory login events replies → slice_get events k ≡ Some event
     → SpellsBody event.body (Ok (frames.Mechanisms (mechanism_name login.version ∷ [])))
-    → client_body (slice_get replies k) ≡ Some body
+    → ClientComplete replies → ClientSmall replies → Arrives (client_body (slice_get replies k)) body
     → (slice_get replies k ≡ Some (Started body))
     × (canonical (frames.Init (mechanism_name login.version)
     (Some (client_first login.user (base64_text event.nonce))) None) ≡ Some body)
-client_starts login events replies k event body history at spells has =
+client_starts login events replies k event body history at spells complete small arrives =
     let reply = client_reply login events replies k event
     (frames.Mechanisms (mechanism_name login.version ∷ [])) history at spells in
-    let step = start_row login events replies k event reply.0 body reply.2 (ap client_body (sym reply.1) ∙ has) in
-    (reply.1 ∙ ap (λ (r : ClientSays). Some r) step.0, step.1)
+    let some = λ (r : ClientSays). Some r in
+    let step = start_row login events replies k event reply.0 body reply.2 (λ e. complete k (reply.1 ∙ ap some e))
+    (λ e. small k (reply.1 ∙ ap some e)) (arrives_at client_body (slice_get replies k) reply.0 body reply.1 arrives) in
+    (reply.1 ∙ ap some step.0, step.1)
 
 -- ---- the server challenges
 
@@ -133,19 +137,20 @@ challenge_row : (provider : Provider) (events : List Given) (replies : List Serv
     (mechanism text : List ℕ) (hostname : Option (List ℕ)) (challenge : Challenging) (says : ServerSays) (body : List ℕ)
     → FitsAsInit provider event (frames.Init mechanism (Some text) hostname) challenge
     → ServerRow provider events replies k event (Ok (frames.Init mechanism (Some text) hostname)) says
-    → server_body (Some says) ≡ Some body
+    → says ≢ Failed faults.OutOfMemory → says ≢ Failed faults.TooLarge → Arrives (server_body (Some says)) body
     → (says ≡ Challenged body) × (canonical (frames.Challenge (first_message challenge)) ≡ Some body)
-challenge_row provider events replies k event mechanism text hostname challenge says body fits (inl wants) has =
-    absurd (server_bodiless says (Failed faults.OutOfMemory) body refl wants.1 has)
-challenge_row provider events replies k event mechanism text hostname challenge says body fits (inr (inl row)) has =
-    let step = carries server_body (Failed faults.TooLarge) (λ (b : List ℕ). Challenged b) refl (λ bytes. refl)
-    (canonical (frames.Challenge (first_message row.0))) says body row.2 has in (
+challenge_row provider events replies k event mechanism text hostname challenge says body fits
+    (inl wants) memory small arrives = absurd (memory wants.1)
+challenge_row provider events replies k event mechanism text hostname challenge says body fits
+    (inr (inl row)) memory small arrives =
+    let step = sent_as server_body (Failed faults.TooLarge) (λ (b : List ℕ). Challenged b) (λ bytes. refl)
+    (canonical (frames.Challenge (first_message row.0))) says body row.2 small arrives in (
       step.0,
       subst (λ (c : Challenging). canonical (frames.Challenge (first_message c)) ≡ Some body)
           (one_fits provider event (frames.Init mechanism (Some text) hostname) row.0 challenge row.1 fits) step.1,
     )
-challenge_row provider events replies k event mechanism text hostname challenge says body fits (inr (inr row)) has =
-    absurd (row.0 challenge fits)
+challenge_row provider events replies k event mechanism text hostname challenge says body fits
+    (inr (inr row)) memory small arrives = absurd (row.0 challenge fits)
 
 -- an init that fits is answered by its challenge
 pub server_challenges : (provider : Provider) (events : List Given) (replies : List ServerSays) (k : ℕ) (event : Given)
@@ -153,14 +158,18 @@ pub server_challenges : (provider : Provider) (events : List Given) (replies : L
     → ServerHistory provider events replies → slice_get events k ≡ Some event
     → SpellsBody event.body (Ok (frames.Init mechanism (Some text) hostname))
     → FitsAsInit provider event (frames.Init mechanism (Some text) hostname) challenge
-    → server_body (slice_get replies k) ≡ Some body → (slice_get replies k ≡ Some (Challenged body))
+    → ServerComplete replies → ServerSmall replies → Arrives (server_body (slice_get replies k)) body
+    → (slice_get replies k ≡ Some (Challenged body))
     × (canonical (frames.Challenge (first_message challenge)) ≡ Some body)
-server_challenges provider events replies k event mechanism text hostname challenge body history at spells fits has =
+server_challenges provider events replies k event mechanism text hostname challenge body history at spells fits complete
+    small arrives =
     let reply = server_reply provider events replies k event
     (frames.Init mechanism (Some text) hostname) history at spells in
+    let some = λ (r : ServerSays). Some r in
     let step = challenge_row provider events replies k event mechanism text hostname challenge reply.0 body fits reply.2
-    (ap server_body (sym reply.1) ∙ has) in
-    (reply.1 ∙ ap (λ (r : ServerSays). Some r) step.0, step.1)
+    (λ e. complete k (reply.1 ∙ ap some e)) (λ e. small k (reply.1 ∙ ap some e))
+    (arrives_at server_body (slice_get replies k) reply.0 body reply.1 arrives) in
+    (reply.1 ∙ ap some step.0, step.1)
 
 -- ---- the client answers
 
@@ -178,23 +187,37 @@ one_answering login Due text answer other one is too =
     let same : other.text ≡ answer.text = too.1 ∙ sym is.1 in
     λ i. answering (nonce i) (same i) (first i)
 
+-- a challenge that is read is not refused
+read_not_refused : (login : Login) (Due : List ℕ → Type 0) (text : List ℕ) (answer : Answering) (kind : ScramErrorKind)
+    → ((nonce : List ℕ) → Due nonce → nonce ≡ answer.nonce)
+    → ReadsChallenge login Due text (Ok answer) → ReadsChallenge login Due text (Err kind) → ⊥
+read_not_refused login Due text answer kind one reads (inl x) = x.0 reads.0
+read_not_refused login Due text answer kind one reads (inr (inl x)) = x.1 answer.nonce reads.2
+read_not_refused login Due text answer kind one reads (inr (inr x)) =
+    differ answer.first (one_server_first (client_at login answer.nonce) text (Ok answer.first) (Err kind) reads.3
+    (subst (λ (n : List ℕ). ReadsServerFirst (client_at login n) text (Err kind)) (one x.1.0 x.1.1) x.1.2))
+  where
+    differ : (first : ServerFirst) → ◌≡◌ {A = Result ServerFirst ScramErrorKind} (Ok first) (Err kind) → ⊥
+    differ first e = absurd (cc)
+
 answer_row : (login : Login) (events : List Given) (replies : List ClientSays) (k : ℕ) (event : Given) (text : List ℕ)
     (answer : Answering) (says : ClientSays) (body : List ℕ)
     → ((nonce : List ℕ) → IsDue events replies k nonce → nonce ≡ answer.nonce)
     → ReadsChallenge login (IsDue events replies k) text (Ok answer)
-    → ClientRow login events replies k event (Ok (frames.Challenge text)) says → client_body (Some says) ≡ Some body
+    → ClientRow login events replies k event (Ok (frames.Challenge text)) says
+    → says ≢ Refused OutOfMemory → says ≢ Refused (Frame faults.TooLarge) → Arrives (client_body (Some says)) body
     → (says ≡ Answered body) × (canonical (frames.Response (answer_at login answer).0) ≡ Some body)
-answer_row login events replies k event text answer says body one reads (inl wants) has =
-    absurd (client_bodiless says (Refused OutOfMemory) body refl wants.1 has)
-answer_row login events replies k event text answer says body one reads (inr (inl row)) has =
-    let step = carries client_body (Refused (Frame faults.TooLarge)) (λ (b : List ℕ). Answered b) refl (λ bytes. refl)
-    (canonical (frames.Response (answer_at login row.0).0)) says body row.2 has in (
+answer_row login events replies k event text answer says body one reads (inl wants) memory small arrives =
+    absurd (memory wants.1)
+answer_row login events replies k event text answer says body one reads (inr (inl row)) memory small arrives =
+    let step = sent_as client_body (Refused (Frame faults.TooLarge)) (λ (b : List ℕ). Answered b) (λ bytes. refl)
+    (canonical (frames.Response (answer_at login row.0).0)) says body row.2 small arrives in (
       step.0,
       subst (λ (a : Answering). canonical (frames.Response (answer_at login a).0) ≡ Some body)
           (one_answering login (IsDue events replies k) text answer row.0 one reads row.1) step.1,
     )
-answer_row login events replies k event text answer says body one reads (inr (inr row)) has =
-    absurd (client_bodiless says _ body refl row.2 has)
+answer_row login events replies k event text answer says body one reads (inr (inr row)) memory small arrives =
+    absurd (read_not_refused login (IsDue events replies k) text answer row.0 one reads row.1)
 
 -- a challenge that is due and is read is answered by its response
 pub client_answers : (login : Login) (events : List Given) (replies : List ClientSays) (k : ℕ) (event : Given)
@@ -202,14 +225,16 @@ pub client_answers : (login : Login) (events : List Given) (replies : List Clien
     → slice_get events k ≡ Some event
     → SpellsBody event.body (Ok (frames.Challenge text)) → ((nonce : List ℕ) → IsDue events replies k nonce
     → nonce ≡ answer.nonce) → ReadsChallenge login (IsDue events replies k) text (Ok answer)
-    → client_body (slice_get replies k) ≡ Some body
+    → ClientComplete replies → ClientSmall replies → Arrives (client_body (slice_get replies k)) body
     → (slice_get replies k ≡ Some (Answered body))
     × (canonical (frames.Response (answer_at login answer).0) ≡ Some body)
-client_answers login events replies k event text answer body history at spells one reads has =
+client_answers login events replies k event text answer body history at spells one reads complete small arrives =
     let reply = client_reply login events replies k event (frames.Challenge text) history at spells in
+    let some = λ (r : ClientSays). Some r in
     let step = answer_row login events replies k event text answer reply.0 body one reads reply.2
-    (ap client_body (sym reply.1) ∙ has) in
-    (reply.1 ∙ ap (λ (r : ClientSays). Some r) step.0, step.1)
+    (λ e. complete k (reply.1 ∙ ap some e)) (λ e. small k (reply.1 ∙ ap some e))
+    (arrives_at client_body (slice_get replies k) reply.0 body reply.1 arrives) in
+    (reply.1 ∙ ap some step.0, step.1)
 
 -- ---- the server accepts
 
@@ -232,21 +257,21 @@ ok_row : (provider : Provider) (events : List Given) (replies : List ServerSays)
     (accepted : Accepted) (says : ServerSays) (body : List ℕ)
     → ((challenge : Challenging) → Open provider events replies k challenge → challenge ≡ accepted.challenge)
     → FitsAsResponse provider (Open provider events replies k) (frames.Response text) accepted
-    → ServerRow provider events replies k event (Ok (frames.Response text)) says → server_body (Some says) ≡ Some body
+    → ServerRow provider events replies k event (Ok (frames.Response text)) says
+    → says ≢ Failed faults.OutOfMemory → says ≢ Failed faults.TooLarge → Arrives (server_body (Some says)) body
     → (says ≡ Concluded outcomes.Ok body)
     × (canonical (frames.Outcome outcomes.Ok (Some (final_message provider accepted))) ≡ Some body)
-ok_row provider events replies k event text accepted says body one fits (inl wants) has =
-    absurd (server_bodiless says (Failed faults.OutOfMemory) body refl wants.1 has)
-ok_row provider events replies k event text accepted says body one fits (inr (inl row)) has =
-    let step = carries server_body (Failed faults.TooLarge) (λ (b : List ℕ). Concluded outcomes.Ok b) refl
-    (λ bytes. refl) (canonical (frames.Outcome outcomes.Ok (Some (final_message provider row.0)))) says body row.2
-    has in (
+ok_row provider events replies k event text accepted says body one fits (inl wants) memory small arrives =
+    absurd (memory wants.1)
+ok_row provider events replies k event text accepted says body one fits (inr (inl row)) memory small arrives =
+    let step = sent_as server_body (Failed faults.TooLarge) (λ (b : List ℕ). Concluded outcomes.Ok b) (λ bytes. refl)
+    (canonical (frames.Outcome outcomes.Ok (Some (final_message provider row.0)))) says body row.2 small arrives in (
       step.0,
       subst (λ (a : Accepted). canonical (frames.Outcome outcomes.Ok (Some (final_message provider a)))
           ≡ Some body) (one_response provider (Open provider events replies k) text accepted row.0 one fits row.1)
           step.1,
     )
-ok_row provider events replies k event text accepted says body one fits (inr (inr row)) has =
+ok_row provider events replies k event text accepted says body one fits (inr (inr row)) memory small arrives =
     absurd (row.0 accepted fits)
 
 -- a response that fits is answered by Ok
@@ -256,13 +281,16 @@ pub server_accepts : (provider : Provider) (events : List Given) (replies : List
     → SpellsBody event.body (Ok (frames.Response text)) → ((challenge : Challenging)
     → Open provider events replies k challenge → challenge ≡ accepted.challenge)
     → FitsAsResponse provider (Open provider events replies k) (frames.Response text) accepted
-    → server_body (slice_get replies k) ≡ Some body → (slice_get replies k ≡ Some (Concluded outcomes.Ok body))
+    → ServerComplete replies → ServerSmall replies → Arrives (server_body (slice_get replies k)) body
+    → (slice_get replies k ≡ Some (Concluded outcomes.Ok body))
     × (canonical (frames.Outcome outcomes.Ok (Some (final_message provider accepted))) ≡ Some body)
-server_accepts provider events replies k event text accepted body history at spells one fits has =
+server_accepts provider events replies k event text accepted body history at spells one fits complete small arrives =
     let reply = server_reply provider events replies k event (frames.Response text) history at spells in
+    let some = λ (r : ServerSays). Some r in
     let step = ok_row provider events replies k event text accepted reply.0 body one fits reply.2
-    (ap server_body (sym reply.1) ∙ has) in
-    (reply.1 ∙ ap (λ (r : ServerSays). Some r) step.0, step.1)
+    (λ e. complete k (reply.1 ∙ ap some e)) (λ e. small k (reply.1 ∙ ap some e))
+    (arrives_at server_body (slice_get replies k) reply.0 body reply.1 arrives) in
+    (reply.1 ∙ ap some step.0, step.1)
 
 -- ---- the client reports
 
@@ -306,136 +334,3 @@ client_reports login events replies k event text answer history complete at spel
     reply.1 ∙ ap (λ (r : ClientSays). Some r)
     (report_row login events replies k event text answer reply.0 one opened reads reply.2
     (λ wants. complete k (reply.1 ∙ ap (λ (r : ClientSays). Some r) wants)))
-
--- ---- each of these replies has a body, where memory is not wanting and nothing is too large
-
-abbrev pub ClientSmall : List ClientSays → Type 0
-ClientSmall replies = (k : ℕ) → ¬ (slice_get replies k ≡ Some (Refused (Frame faults.TooLarge)))
-
-abbrev pub ServerSmall : List ServerSays → Type 0
-ServerSmall replies = (k : ℕ) → ¬ (slice_get replies k ≡ Some (Failed faults.TooLarge))
-
-sent_body : {A : Type 0} (too_large : A) (says : List ℕ → A) (written : Option (List ℕ)) (reply : A)
-    → reply ≡ carried too_large says written → ¬ (reply ≡ too_large) → (body : List ℕ) × (reply ≡ says body)
-sent_body too_large says None reply is small = absurd (small is)
-sent_body too_large says (Some body) reply is small = (body, is)
-
-pub arrives_as : {A : Type 0} (body_of : Option A → Option (List ℕ)) (at : Option A) (sent body : List ℕ)
-    → body_of at ≡ Some sent → Arrives (body_of at) body → body_of at ≡ Some body
-arrives_as body_of at sent body has is = has ∙ ap (λ (b : List ℕ). Some b)
-    (sym (subst (λ (o : Option (List ℕ)). Arrives o body) has is))
-
-start_body : (login : Login) (events : List Given) (replies : List ClientSays) (k : ℕ) (event : Given)
-    (says : ClientSays) → ClientRow login events replies k event
-    (Ok (frames.Mechanisms (mechanism_name login.version ∷ []))) says
-    → ¬ (says ≡ Refused OutOfMemory) → ¬ (says ≡ Refused (Frame faults.TooLarge))
-    → (body : List ℕ) × (says ≡ Started body)
-start_body login events replies k event says (inl wants) complete small = absurd (complete wants.1)
-start_body login events replies k event says (inr (inl starts)) complete small =
-    sent_body (Refused (Frame faults.TooLarge)) (λ (b : List ℕ). Started b) _ says starts.1 small
-start_body login events replies k event says (inr (inr other)) complete small = absurd (other.0 (0, omega arith, refl))
-
-pub client_sends_start : (login : Login) (events : List Given) (replies : List ClientSays) (k : ℕ) (event : Given)
-    → ClientHistory login events replies → slice_get events k ≡ Some event
-    → SpellsBody event.body (Ok (frames.Mechanisms (mechanism_name login.version ∷ []))) → ClientComplete replies
-    → ClientSmall replies → (body : List ℕ) × (slice_get replies k ≡ Some (Started body))
-client_sends_start login events replies k event history at spells complete small =
-    let reply = client_reply login events replies k event
-    (frames.Mechanisms (mechanism_name login.version ∷ [])) history at spells in
-    let some = λ (r : ClientSays). Some r in
-    let row = start_body login events replies k event reply.0 reply.2 (λ e. complete k (reply.1 ∙ ap some e))
-    (λ e. small k (reply.1 ∙ ap some e)) in
-    (row.0, reply.1 ∙ ap some row.1)
-
-challenge_body : (provider : Provider) (events : List Given) (replies : List ServerSays) (k : ℕ) (event : Given)
-    (mechanism text : List ℕ) (hostname : Option (List ℕ)) (challenge : Challenging) (says : ServerSays)
-    → FitsAsInit provider event (frames.Init mechanism (Some text) hostname) challenge
-    → ServerRow provider events replies k event (Ok (frames.Init mechanism (Some text) hostname)) says
-    → ¬ (says ≡ Failed faults.OutOfMemory) → ¬ (says ≡ Failed faults.TooLarge)
-    → (body : List ℕ) × (says ≡ Challenged body)
-challenge_body provider events replies k event mechanism text hostname challenge says fits (inl wants) complete small =
-    absurd (complete wants.1)
-challenge_body provider events replies k event mechanism text hostname challenge says fits
-    (inr (inl row)) complete small = sent_body (Failed faults.TooLarge)
-    (λ (b : List ℕ). Challenged b) _ says row.2 small
-challenge_body provider events replies k event mechanism text hostname challenge says fits
-    (inr (inr row)) complete small = absurd (row.0 challenge fits)
-
-pub server_sends_challenge : (provider : Provider) (events : List Given) (replies : List ServerSays) (k : ℕ)
-    (event : Given) (mechanism text : List ℕ) (hostname : Option (List ℕ)) (challenge : Challenging)
-    → ServerHistory provider events replies → slice_get events k ≡ Some event
-    → SpellsBody event.body (Ok (frames.Init mechanism (Some text) hostname))
-    → FitsAsInit provider event (frames.Init mechanism (Some text) hostname) challenge
-    → ServerComplete replies → ServerSmall replies → (body : List ℕ) × (slice_get replies k ≡ Some (Challenged body))
-server_sends_challenge provider events replies k event mechanism text hostname challenge history at spells fits complete
-    small =
-    let reply = server_reply provider events replies k event
-    (frames.Init mechanism (Some text) hostname) history at spells in
-    let some = λ (r : ServerSays). Some r in
-    let row = challenge_body provider events replies k event mechanism text hostname challenge reply.0 fits reply.2
-    (λ e. complete k (reply.1 ∙ ap some e)) (λ e. small k (reply.1 ∙ ap some e)) in
-    (row.0, reply.1 ∙ ap some row.1)
-
--- a challenge that is read is not refused
-read_not_refused : (login : Login) (Due : List ℕ → Type 0) (text : List ℕ) (answer : Answering) (kind : ScramErrorKind)
-    → ((nonce : List ℕ) → Due nonce → nonce ≡ answer.nonce)
-    → ReadsChallenge login Due text (Ok answer) → ReadsChallenge login Due text (Err kind) → ⊥
-read_not_refused login Due text answer kind one reads (inl x) = x.0 reads.0
-read_not_refused login Due text answer kind one reads (inr (inl x)) = x.1 answer.nonce reads.2
-read_not_refused login Due text answer kind one reads (inr (inr x)) =
-    differ answer.first (one_server_first (client_at login answer.nonce) text (Ok answer.first) (Err kind) reads.3
-    (subst (λ (n : List ℕ). ReadsServerFirst (client_at login n) text (Err kind)) (one x.1.0 x.1.1) x.1.2))
-  where
-    differ : (first : ServerFirst) → ◌≡◌ {A = Result ServerFirst ScramErrorKind} (Ok first) (Err kind) → ⊥
-    differ first e = absurd (cc)
-
-answer_body : (login : Login) (events : List Given) (replies : List ClientSays) (k : ℕ) (event : Given) (text : List ℕ)
-    (answer : Answering) (says : ClientSays)
-    → ((nonce : List ℕ) → IsDue events replies k nonce → nonce ≡ answer.nonce)
-    → ReadsChallenge login (IsDue events replies k) text (Ok answer)
-    → ClientRow login events replies k event (Ok (frames.Challenge text)) says
-    → ¬ (says ≡ Refused OutOfMemory) → ¬ (says ≡ Refused (Frame faults.TooLarge))
-    → (body : List ℕ) × (says ≡ Answered body)
-answer_body login events replies k event text answer says one reads (inl wants) complete small =
-    absurd (complete wants.1)
-answer_body login events replies k event text answer says one reads (inr (inl row)) complete small =
-    sent_body (Refused (Frame faults.TooLarge)) (λ (b : List ℕ). Answered b) _ says row.2 small
-answer_body login events replies k event text answer says one reads (inr (inr row)) complete small =
-    absurd (read_not_refused login (IsDue events replies k) text answer row.0 one reads row.1)
-
-pub client_sends_answer : (login : Login) (events : List Given) (replies : List ClientSays) (k : ℕ) (event : Given)
-    (text : List ℕ) (answer : Answering) → ClientHistory login events replies → slice_get events k ≡ Some event
-    → SpellsBody event.body (Ok (frames.Challenge text)) → ((nonce : List ℕ) → IsDue events replies k nonce
-    → nonce ≡ answer.nonce) → ReadsChallenge login (IsDue events replies k) text (Ok answer)
-    → ClientComplete replies → ClientSmall replies → (body : List ℕ) × (slice_get replies k ≡ Some (Answered body))
-client_sends_answer login events replies k event text answer history at spells one reads complete small =
-    let reply = client_reply login events replies k event (frames.Challenge text) history at spells in
-    let some = λ (r : ClientSays). Some r in
-    let row = answer_body login events replies k event text answer reply.0 one reads reply.2
-    (λ e. complete k (reply.1 ∙ ap some e)) (λ e. small k (reply.1 ∙ ap some e)) in
-    (row.0, reply.1 ∙ ap some row.1)
-
-ok_body : (provider : Provider) (events : List Given) (replies : List ServerSays) (k : ℕ) (event : Given)
-    (text : List ℕ) (accepted : Accepted) (says : ServerSays)
-    → FitsAsResponse provider (Open provider events replies k) (frames.Response text) accepted
-    → ServerRow provider events replies k event (Ok (frames.Response text)) says
-    → ¬ (says ≡ Failed faults.OutOfMemory) → ¬ (says ≡ Failed faults.TooLarge)
-    → (body : List ℕ) × (says ≡ Concluded outcomes.Ok body)
-ok_body provider events replies k event text accepted says fits (inl wants) complete small = absurd (complete wants.1)
-ok_body provider events replies k event text accepted says fits (inr (inl row)) complete small =
-    sent_body (Failed faults.TooLarge) (λ (b : List ℕ). Concluded outcomes.Ok b) _ says row.2 small
-ok_body provider events replies k event text accepted says fits (inr (inr row)) complete small =
-    absurd (row.0 accepted fits)
-
-pub server_sends_ok : (provider : Provider) (events : List Given) (replies : List ServerSays) (k : ℕ) (event : Given)
-    (text : List ℕ) (accepted : Accepted) → ServerHistory provider events replies → slice_get events k ≡ Some event
-    → SpellsBody event.body (Ok (frames.Response text)) → FitsAsResponse provider (Open provider events replies k)
-    (frames.Response text) accepted
-    → ServerComplete replies → ServerSmall replies → (body : List ℕ)
-    × (slice_get replies k ≡ Some (Concluded outcomes.Ok body))
-server_sends_ok provider events replies k event text accepted history at spells fits complete small =
-    let reply = server_reply provider events replies k event (frames.Response text) history at spells in
-    let some = λ (r : ServerSays). Some r in
-    let row = ok_body provider events replies k event text accepted reply.0 fits reply.2
-    (λ e. complete k (reply.1 ∙ ap some e)) (λ e. small k (reply.1 ∙ ap some e)) in
-    (row.0, reply.1 ∙ ap some row.1)

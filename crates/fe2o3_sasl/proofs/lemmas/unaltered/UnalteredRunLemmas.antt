@@ -1,5 +1,5 @@
--- A client and a server that hold the same password log in where no body is altered on the way.
-use Rattle.std.proofs.Common.{◌≡◌, ◌≤◌, ◌<◌, ◌^◌, ℕ, zero, suc, List, [], ◌∷◌, ◌++◌, codes, Some, None, length, refl, sym, ap, ◌∙◌, subst, arith, Result, Ok, inl}
+-- An unaltered run logs in.
+use Rattle.std.proofs.Common.{◌≡◌, ◌≤◌, ◌<◌, ◌^◌, ℕ, zero, suc, List, [], ◌∷◌, ◌++◌, codes, Some, None, length, refl, sym, ap, ◌∙◌, subst, arith, Result, Ok}
 use Rattle.std.specs.Prelude.{slice_get}
 use Rattle.std.specs.Fmt.{decimal}
 use Rattle.std.specs.Str.{IsUtf8}
@@ -9,26 +9,25 @@ use Rattle.std.proofs.lemmas.Str.{IsUtf8-append, IsUtf8-from_ascii}
 use Rattle.base64.specs.GeneralPurpose.{IsBytes}
 use Rattle.fe2o3_sasl_wire.specs.declared.amqp_types.SaslCode.TheVariants as outcomes
 use Rattle.fe2o3_sasl_wire.specs.declared.sasl_frames.error.Error.{Error}
-use Rattle.fe2o3_sasl_wire.specs.Canonical.{canonical}
+use Rattle.fe2o3_sasl_wire.specs.SaslFrames.{canonical, SaslFrame}
 use Rattle.fe2o3_sasl_wire.specs.SaslFrames as frames
-use Rattle.fe2o3_sasl_wire.specs.SaslFrames.{SaslFrame}
 use Rattle.fe2o3_scram.specs.declared.hmac.ScramVersion.{ScramVersion}
 use Rattle.fe2o3_scram.specs.Texts.{base64_text}
 use Rattle.fe2o3_scram.specs.ClientFirst.{client_first}
-use Rattle.fe2o3_sasl.specs.ClientHistory.{Answering, AnswersAt, ReadsChallenge, ClientComplete, IsDue, NonceAt, OpenAnswer, is_start, is_answer, ends_answer}
+use Rattle.fe2o3_sasl.specs.ClientHistory.{Answering, AnswersAt, ReadsChallenge, IsDue, NonceAt, OpenAnswer, is_start, is_answer, ends_answer}
 use Rattle.fe2o3_scram.specs.Escape.{escaped}
 use Rattle.fe2o3_sasl.specs.Events.{Given, Login, IsLogin, ServerSays, Challenged, Concluded, ClientSays, Started, Answered, Reported}
 use Rattle.fe2o3_scram.specs.Exchanges.{Exchange, IsSound, Succeeds, nonce_in, bare_in, record_in, first_in, named_in, answer_in, final_in}
 use Rattle.fe2o3_scram.specs.Hmac.{mechanism_name}
-use Rattle.fe2o3_sasl.specs.Laws.{UnalteredRunsLogIn}
+use Rattle.fe2o3_sasl.specs.Laws.{ClientsLogIn, ServersLogIn}
 use Rattle.fe2o3_sasl.specs.Positions.{test_at, IsLastOpen}
 use Rattle.fe2o3_scram.specs.ClientFinal.{ReadsClientFinal, server_of}
 use Rattle.fe2o3_scram.specs.ServerFinal.{server_final_of, ReadsServerFinal}
 use Rattle.fe2o3_scram.specs.SaslprepAscii.{IsPrintable}
 use Rattle.fe2o3_sasl.specs.ServerHistory.{Challenging, Accepted, FitsAsInit, FitsAsResponse, FitsAt, Open, SpellsBody, final_message, is_challenge, is_ok}
-use Rattle.fe2o3_sasl.specs.TwoSides.{Sides, Histories, IsPlainInit, OkAt, Takes, Shows}
-use Rattle.fe2o3_sasl.specs.UnalteredRuns.{UnalteredRun, HoldsLogin, LogsIn, agreed}
-use Rattle.fe2o3_sasl.specs.Audit.{AreAgreed, Lists}
+use Rattle.fe2o3_sasl.specs.TwoSides.{Sides, sides_of, Histories, IsPlainInit, OkAt, Takes, Shows}
+use Rattle.fe2o3_sasl.specs.UnalteredRuns.{UnalteredRun, Suffices, HoldsLogin, LogsIn, agreed_findings}
+use Rattle.fe2o3_sasl.specs.Audit.{AreAgreed, Lists, Audits}
 use Rattle.fe2o3_scram.proofs.lemmas.texts.AsciiLemmas.{IsUtf8-base64_text, IsUtf8-literal}
 use Rattle.fe2o3_scram.proofs.lemmas.texts.Base64Lemmas.{no_comma-base64_text}
 use Rattle.fe2o3_scram.proofs.lemmas.texts.EscapingLemmas.{no_comma-escaped}
@@ -49,8 +48,7 @@ exchange_of login salt count mine theirs =
       password = login.password;
       salt = salt;
       count = count;
-      limit =
-          login.limit;
+      limit = login.limit;
       client_nonce = base64_text mine;
       server_nonce = base64_text theirs;
     }
@@ -74,8 +72,7 @@ sound_exchange login salt count mine theirs is bytes printable some within = rec
 abbrev challenge_in : Exchange → Challenging
 challenge_in x = record {
   client = record { user = x.user; nonce = x.client_nonce; bare = bare_in x };
-  nonce =
-      x.server_nonce;
+  nonce = x.server_nonce;
   stored = record_in x;
 }
 
@@ -155,9 +152,8 @@ only_ok challenge outcome body (suc (suc n)) at = absurd (cc)
 one_pair : (R : ℕ → ℕ → Type 0) (i j : ℕ) → R i j → ((m n : ℕ) → R m n → (m ≡ i) × (n ≡ j)) → Lists R ((i, j) ∷ [])
 one_pair R i j is only = record {
   each = (is, tt);
-  every = λ m n has. inl (same i j m n (only m n has));
-  ordered =
-      (tt, tt);
+  every = λ m n has. (0, omega arith, same i j m n (only m n has));
+  ordered = (tt, tt);
 }
   where
     same : (i j m n : ℕ) → (m ≡ i) × (n ≡ j) → ◌≡◌ {A = ℕ × ℕ} (i, j) (m, n)
@@ -166,8 +162,7 @@ one_pair R i j is only = record {
 -- ---- the run, event by event
 
 module _ (sides : Sides) (salt : List ℕ) (count : ℕ) (run : UnalteredRun sides) (histories : Histories sides)
-    (login : IsLogin sides.login) (holds : HoldsLogin sides salt count)
-    (complete : ClientComplete sides.client_replies) where
+    (login : IsLogin sides.login) (holds : HoldsLogin sides salt count) (fits : Suffices sides) where
   abbrev exchange : Exchange
   exchange = exchange_of sides.login salt count run.offer.nonce run.init.nonce
 
@@ -200,7 +195,8 @@ module _ (sides : Sides) (salt : List ℕ) (count : ℕ) (run : UnalteredRun sid
   starts : (slice_get sides.client_replies 0 ≡ Some (Started run.init.body))
       × (canonical (init_in exchange) ≡ Some run.init.body)
   starts = client_starts sides.login sides.client_events sides.client_replies 0 run.offer run.init.body histories.client
-      offer_at (spells_mechanisms sides.login.version run.offer.body run.offered) run.started
+      offer_at (spells_mechanisms sides.login.version run.offer.body run.offered) fits.client fits.client_small
+      run.started
 
   init_spelled : SpellsBody run.init.body (Ok (init_in exchange))
   init_spelled = spells_init sides.login.version (client_first sides.login.user exchange.client_nonce) run.init.body
@@ -214,7 +210,8 @@ module _ (sides : Sides) (salt : List ℕ) (count : ℕ) (run : UnalteredRun sid
       × (canonical (frames.Challenge (first_in exchange)) ≡ Some run.challenge.body)
   challenges = server_challenges sides.provider sides.server_events sides.server_replies 0 run.init
       (mechanism_name sides.login.version) (client_first sides.login.user exchange.client_nonce) None
-      (challenge_in exchange) run.challenge.body histories.server init_at init_spelled init_fits run.challenged
+      (challenge_in exchange) run.challenge.body histories.server init_at init_spelled init_fits fits.server
+      fits.server_small run.challenged
 
   challenge_spelled : SpellsBody run.challenge.body (Ok (frames.Challenge (first_in exchange)))
   challenge_spelled = spells_challenge (first_in exchange) run.challenge.body challenges.1
@@ -240,7 +237,7 @@ module _ (sides : Sides) (salt : List ℕ) (count : ℕ) (run : UnalteredRun sid
       × (canonical (frames.Response (answer_in exchange).0) ≡ Some run.response.body)
   answers = client_answers sides.login sides.client_events sides.client_replies 1 run.challenge (first_in exchange)
       (answering_in exchange) run.response.body histories.client challenge_at challenge_spelled one_due challenge_read
-      run.answered
+      fits.client fits.client_small run.answered
 
   response_spelled : SpellsBody run.response.body (Ok (frames.Response (answer_in exchange).0))
   response_spelled = spells_response (answer_in exchange).0 run.response.body answers.1
@@ -281,7 +278,7 @@ module _ (sides : Sides) (salt : List ℕ) (count : ℕ) (run : UnalteredRun sid
       × (canonical (frames.Outcome outcomes.Ok (Some final_sent)) ≡ Some run.outcome.body)
   accepts = server_accepts sides.provider sides.server_events sides.server_replies 1 run.response (answer_in exchange).0
       (accepted_in exchange) run.outcome.body histories.server response_at response_spelled one_open_challenge
-      response_fits run.concluded
+      response_fits fits.server fits.server_small run.concluded
 
   outcome_spelled : SpellsBody run.outcome.body (Ok (frames.Outcome outcomes.Ok (Some final_sent)))
   outcome_spelled = spells_outcome outcomes.Ok final_sent run.outcome.body accepts.1
@@ -321,7 +318,7 @@ module _ (sides : Sides) (salt : List ℕ) (count : ℕ) (run : UnalteredRun sid
 
   reports : slice_get sides.client_replies 2 ≡ Some (Reported outcomes.Ok (Some final_sent))
   reports = client_reports sides.login sides.client_events sides.client_replies 2 run.outcome final_sent
-      (answering_in exchange) histories.client complete outcome_at outcome_spelled one_open_answer open_answer
+      (answering_in exchange) histories.client fits.client outcome_at outcome_spelled one_open_answer open_answer
       verifier_read
 
   -- all replies
@@ -341,8 +338,7 @@ module _ (sides : Sides) (salt : List ℕ) (count : ℕ) (run : UnalteredRun sid
   ok_at = record {
     body = run.outcome.body;
     says = accepts.0;
-    accepts =
-        (run.response, frames.Response (answer_in exchange).0, response_at, response_spelled, response_fits);
+    accepts = (run.response, frames.Response (answer_in exchange).0, response_at, response_spelled, response_fits);
   }
 
   takes : Takes sides 2 1 (accepted_in exchange)
@@ -350,8 +346,7 @@ module _ (sides : Sides) (salt : List ℕ) (count : ℕ) (run : UnalteredRun sid
     text = final_sent;
     reported = reports;
     ok = ok_at;
-    one =
-        (_, only_part final_sent (part_of (codes "v=") (base64_text _) refl (no_comma-base64_text _)), refl);
+    one = (_, only_part final_sent (part_of (codes "v=") (base64_text _) refl (no_comma-base64_text _)), refl);
   }
 
   shows : Shows sides 1 1 (answering_in exchange) (accepted_in exchange)
@@ -385,8 +380,7 @@ module _ (sides : Sides) (salt : List ℕ) (count : ℕ) (run : UnalteredRun sid
       user = refl;
       nonce = refl;
       full_nonce = λ plain. refl;
-      salt =
-          λ plain. refl;
+      salt = λ plain. refl;
       count = λ plain. refl;
     },
     refl,
@@ -394,23 +388,36 @@ module _ (sides : Sides) (salt : List ℕ) (count : ℕ) (run : UnalteredRun sid
     (plain_in exchange sound, refl, refl, refl),
   )
 
-  logs_in : LogsIn sides (agreed run salt count)
-  logs_in = record {
-    init = run.init.body;
-    response = run.response.body;
-    text = final_sent;
-    client = client_list;
-    challenge = run.challenge.body;
-    outcome = run.outcome.body;
-    server = server_list;
+  audit : Audits sides (agreed_findings run salt count)
+  audit = record {
+    verifiers = _ ∷ [];
+    proofs = _ ∷ [];
+    whole = refl;
+    histories = histories;
+    client_complete = fits.client;
+    server_complete = fits.server;
     takes = one_pair (λ m n. (accepted : Accepted) × Takes sides m n accepted) 2 1
         (accepted_in exchange, takes) one_taken;
     shows = one_pair (λ k n. (answer : Answering) × (accepted : Accepted) × Shows sides k n answer accepted) 1 1
         (answering_in exchange, accepted_in exchange, shows) one_shown;
-    verifier = (refl, (answering_in exchange, accepted_in exchange, takes, open_answer, are_agreed));
-    proof = (refl, (answering_in exchange, accepted_in exchange, shows, (refl, are_agreed)));
+    verifier_verdicts = ((refl, (answering_in exchange, accepted_in exchange, takes, open_answer, are_agreed)), tt);
+    proof_verdicts = ((refl, (answering_in exchange, accepted_in exchange, shows, (refl, are_agreed))), tt);
   }
 
-pub unaltered_runs : UnalteredRunsLogIn
-unaltered_runs sides salt count run histories login holds complete =
-    logs_in sides salt count run histories login holds complete
+  logs_in : LogsIn run salt count
+  logs_in = record {
+    text = final_sent;
+    client = client_list;
+    server = server_list;
+    audit = audit;
+  }
+
+pub clients_log_in : ClientsLogIn
+clients_log_in login events replies history is provider server_events server_replies server salt count run holds fits =
+    logs_in (sides_of login events replies provider server_events server_replies) salt count run
+    (record { client = history; server = server }) is holds fits
+
+pub servers_log_in : ServersLogIn
+servers_log_in provider events replies history login client_events client_replies is client salt count run holds fits =
+    logs_in (sides_of login client_events client_replies provider events replies) salt count run
+    (record { client = client; server = history }) is holds fits

@@ -1,7 +1,7 @@
 use Rattle.std.proofs.Common.{length, arith, ap}
-use Rattle.fe2o3_sasl_wire.specs.Canonical.{canonical_field}
-use Rattle.fe2o3_sasl_wire.specs.Fields.{shown_field}
-use Rattle.fe2o3_sasl_wire.proofs.WritingLemmas.{item_room}
+use Rattle.fe2o3_sasl_wire.specs.SaslFrames.{canonical_field}
+use Rattle.fe2o3_sasl_wire.specs.private.Fields.{shown_field}
+use Rattle.fe2o3_sasl_wire.proofs.lemmas.writing.RoomLemmas.{item_room}
 use Rattle.fe2o3_sasl_wire.proofs.sasl_frames.fields.put_items.Goals as goal
 
 pub put_field-requires-clause-fits : goal.put_field-requires-clause-fits

@@ -1,7 +1,7 @@
 use Rattle.std.proofs.Common.{◌≡◌, ◌+◌, ◌++◌, length, take, map}
 use Rattle.std.specs.List.{flat_map}
-use Rattle.fe2o3_sasl_wire.specs.Canonical.{canonical_field}
-use Rattle.fe2o3_sasl_wire.specs.Fields.{shown_field}
+use Rattle.fe2o3_sasl_wire.specs.SaslFrames.{canonical_field}
+use Rattle.fe2o3_sasl_wire.specs.private.Fields.{shown_field}
 use Rattle.fe2o3_sasl_wire.proofs.sasl_frames.fields.put_items.Given as goal
 
 abbrev pub invariant-loop-field : goal.invariant-loop-field

@@ -1,4 +1,4 @@
-use Rattle.fe2o3_sasl_wire.proofs.TextLemmas.{shows_utf8}
+use Rattle.fe2o3_sasl_wire.proofs.lemmas.reading.TextLemmas.{shows_utf8}
 use Rattle.fe2o3_sasl_wire.proofs.sasl_frames.reading.utf8_text.Goals as goal
 
 pub returns : goal.returns

@@ -1,5 +1,5 @@
 use Rattle.std.proofs.Common.{◌≡◌, ◌-◌, ◌^◌, length, take, min}
-use Rattle.fe2o3_sasl_wire.specs.Encodings.{elements}
+use Rattle.fe2o3_sasl_wire.specs.private.Writing.{elements}
 use Rattle.fe2o3_sasl_wire.proofs.sasl_frames.writing.elements_len.Given as goal
 
 abbrev pub invariant-loop-symbol : goal.invariant-loop-symbol

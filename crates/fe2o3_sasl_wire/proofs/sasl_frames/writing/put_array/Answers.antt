@@ -1,8 +1,8 @@
 use Rattle.std.proofs.Common.{◌≡◌, length, arith, ap}
-use Rattle.fe2o3_sasl_wire.specs.Encodings.{elements}
-use Rattle.fe2o3_sasl_wire.specs.Canonical.{inner_form}
-use Rattle.fe2o3_sasl_wire.proofs.CanonicalLemmas.{few_names}
-use Rattle.fe2o3_sasl_wire.proofs.WritingLemmas.{elements_fit, count_fits, each_fits}
+use Rattle.fe2o3_sasl_wire.specs.private.Writing.{elements}
+use Rattle.fe2o3_sasl_wire.specs.SaslFrames.{inner_form}
+use Rattle.fe2o3_sasl_wire.proofs.lemmas.writing.CanonicalSpellsLemmas.{few_names}
+use Rattle.fe2o3_sasl_wire.proofs.lemmas.writing.RoomLemmas.{elements_fit, count_fits, each_fits}
 use Rattle.fe2o3_sasl_wire.proofs.sasl_frames.writing.put_array.Goals as goal
 
 pub overflow_cast-symbols : goal.overflow_cast-symbols
@@ -14,8 +14,10 @@ pub put_number-requires-2-clause-fits : goal.put_number-requires-2-clause-fits
 put_number-requires-2-clause-fits c =
     let names = c.args.symbols.now in
     let fit = elements_fit names c.requires.fits in
-    let same : length (elements c.inner_form-inner.result names) ≡ length (elements (inner_form names) names) = ap (λ inner. length (elements inner names)) c.inner_form-inner.ensures in
-    rw c.shortest-form.ensures (count_fits names c.elements_len-len.result c.requires.fits (omega (arith, c.elements_len-len.ensures)))
+    let same : length (elements c.inner_form-inner.result names) ≡ length (elements (inner_form names) names) =
+    ap (λ inner. length (elements inner names)) c.inner_form-inner.ensures in
+    rw c.shortest-form.ensures (count_fits names c.elements_len-len.result c.requires.fits
+    (omega (arith, c.elements_len-len.ensures)))
 
 pub put_elements-requires-clause-fits : goal.put_elements-requires-clause-fits
 put_elements-requires-clause-fits c = rw c.inner_form-inner.ensures (each_fits c.args.symbols.now c.requires.fits)

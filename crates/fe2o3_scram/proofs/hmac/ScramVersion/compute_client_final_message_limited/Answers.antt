@@ -1,32 +1,21 @@
 use Rattle.std.proofs.Common.{Ok, arith}
 use Rattle.std.proofs.lemmas.Result.{err_from_is_err_and}
-use Rattle.fe2o3_scram.specs.ServerFirst.{Client}
-use Rattle.fe2o3_scram.specs.private.Values.{values_of}
+use Rattle.fe2o3_scram.specs.ServerFirst.{Client, client_of, server_first_values}
 use Rattle.fe2o3_scram.proofs.lemmas.messages.AnswerCostLemmas.{costs_of_answer}
 use Rattle.fe2o3_scram.proofs.hmac.ScramVersion.compute_client_final_message_limited.Goals as goal
 
 pub returns-in_err-answer-clause-cost : goal.returns-in_err-answer-clause-cost
 returns-in_err-answer-clause-cost c =
-    let client : Client = record {
-      nonce = c.args.client_nonce.now;
-      password = c.args.password.now;
-      limit =
-          c.args.limit;
-    } in
+    let client : Client = client_of c.args.client_nonce.now c.args.password.now c.args.limit in
     let from = err_from_is_err_and c.from_residual-in_err-answer.result c.from_residual-in_err-answer.ensures.1 in
     costs_of_answer client c.args.server_first.now c.from_residual-in_err-answer.result
-    (values_of c.in_ok-first.first) c.args.meter.now c.answer.new.meter
-    c.in_ok-first.ensures.reads c.in_ok-first.ensures.count.1 (rw from.1 tt) c.in_err-answer.ensures.memory
+    (server_first_values c.in_ok-first.first) c.args.meter.now c.answer.new.meter
+    c.in_ok-first.ensures.reads c.in_ok-first.ensures.count.1 (rw from.1 tt) c.in_err-answer.ensures.at_most
 
 pub returns-clause-cost : goal.returns-clause-cost
 returns-clause-cost c =
-    let client : Client = record {
-      nonce = c.args.client_nonce.now;
-      password = c.args.password.now;
-      limit =
-          c.args.limit;
-    } in
+    let client : Client = client_of c.args.client_nonce.now c.args.password.now c.args.limit in
     costs_of_answer client c.args.server_first.now (Ok c.in_ok-answer.answer)
-    (values_of c.in_ok-first.first) c.args.meter.now c.answer.new.meter
+    (server_first_values c.in_ok-first.first) c.args.meter.now c.answer.new.meter
     c.in_ok-first.ensures.reads c.in_ok-first.ensures.count.1 c.in_ok-answer.ensures.counted
     (omega (arith, c.in_ok-answer.ensures.counted))

@@ -1,5 +1,5 @@
 use Rattle.std.proofs.Common.{◌-◌}
-use Rattle.fe2o3_sasl_wire.proofs.ElementLemmas.{Seeks}
+use Rattle.fe2o3_sasl_wire.proofs.lemmas.reading.ElementLoopLemmas.{Seeks}
 use Rattle.fe2o3_sasl_wire.proofs.sasl_frames.symbols_view.SymbolsView.contains.Given as goal
 
 abbrev pub invariant-loop : goal.invariant-loop

@@ -1,0 +1,4 @@
+-- The lemmas: what reading and writing do, and what follows of frames.
+pub mod frames
+pub mod reading
+pub mod writing

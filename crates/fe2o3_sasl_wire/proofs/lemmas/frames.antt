@@ -1,0 +1,4 @@
+-- What holds of whole bodies: no spelling begins another, each body has one answer, and the laws.
+pub mod BodyAnswerLemmas
+pub mod LawLemmas
+pub mod PrefixLemmas

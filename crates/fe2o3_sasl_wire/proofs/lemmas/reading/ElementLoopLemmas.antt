@@ -1,0 +1,208 @@
+-- Reading elements one after the other, as a loop does.
+use Rattle.std.proofs.Common.{◌≡◌, ℕ, zero, suc, ◌+◌, ◌-◌, ◌<◌, ◌≤◌, List, [], ◌∷◌, ◌++◌, take, get_or, length, Option, Some, None, refl, sym, ap, ◌∙◌, arith, option_map, slice_get, IsSome, subst, Contains}
+use Rattle.std.proofs.lemmas.Option.{slice_get_within, get_or_from_slice_get}
+use Rattle.std.proofs.lemmas.List.{take_more}
+use Rattle.fe2o3_sasl_wire.specs.declared.sasl_frames.forms.Form.{Form}
+use Rattle.fe2o3_sasl_wire.specs.private.Reading.{◌>>=◌, element_at, elements_at, names_in}
+
+abbrev pub rest_of : Option (List (List ℕ) × List ℕ) → Option (List ℕ)
+rest_of read = option_map (λ x. x.1) read
+
+-- one more element and the others
+abbrev pub with_first : List ℕ → Option (List (List ℕ) × List ℕ) → Option (List (List ℕ) × List ℕ)
+with_first name read = read >>= λ x. Some (name ∷ x.0, x.1)
+
+one_more : (form : Form) (count i : ℕ) (bytes name after : List ℕ) → i < count
+    → element_at form bytes ≡ Some (name, after)
+    → elements_at form (count - i) bytes ≡ with_first name (elements_at form (count - (i + 1)) after)
+unfolding elements_at
+one_more form count i bytes name after lt h =
+    let k : count - i ≡ suc (count - (i + 1)) = omega arith in
+    rw (k, h) refl
+
+stops : (form : Form) (count i : ℕ) (bytes : List ℕ) → i < count → element_at form bytes ≡ None
+    → elements_at form (count - i) bytes ≡ None
+unfolding elements_at
+stops form count i bytes lt h =
+    let k : count - i ≡ suc (count - (i + 1)) = omega arith in
+    rw (k, h) refl
+
+at_end : (form : Form) (count i : ℕ) (bytes : List ℕ) → count ≤ i
+    → elements_at form (count - i) bytes ≡ Some ([], bytes)
+unfolding elements_at
+at_end form count i bytes le =
+    let k : count - i ≡ 0 = omega arith in
+    rw k refl
+
+rest-with_first : (name : List ℕ) (read : Option (List (List ℕ) × List ℕ))
+    → rest_of (with_first name read) ≡ rest_of read
+rest-with_first name None = refl
+rest-with_first name (Some x) = refl
+
+-- what a walk over the elements still does: the bytes after those that are left are the ones after all
+pub record Leaves (form : Form) (left : ℕ) (bytes : List ℕ) (total : Option (List ℕ)) : Type 0 where
+  pub same : rest_of (elements_at form left bytes) ≡ total
+
+pub rest_goes_on : {form : Form} {count i : ℕ} {bytes name after : List ℕ} {total : Option (List ℕ)} → i < count
+    → element_at form bytes ≡ Some (name, after) → Leaves form (count - i) bytes total
+    → Leaves form (count - (i + 1)) after total
+rest_goes_on {form} {count} {i} {bytes} {name} {after} lt read so_far =
+    let others = elements_at form (count - (i + 1)) after in
+    let one = one_more form count i bytes name after lt read in
+    record { same = sym (rest-with_first name others) ∙ sym (ap rest_of one) ∙ so_far.same }
+
+pub rest_stops : {form : Form} {count i : ℕ} {bytes : List ℕ} {total : Option (List ℕ)} → i < count
+    → element_at form bytes ≡ None → Leaves form (count - i) bytes total → None ≡ total
+rest_stops {form} {count} {i} {bytes} lt read so_far =
+    sym (ap rest_of (stops form count i bytes lt read)) ∙ so_far.same
+
+pub rest_at_end : {form : Form} {count i : ℕ} {bytes : List ℕ} {total : Option (List ℕ)} → count ≤ i
+    → Leaves form (count - i) bytes total → Some bytes ≡ total
+rest_at_end {form} {count} {i} {bytes} le so_far = sym (ap rest_of (at_end form count i bytes le)) ∙ so_far.same
+
+-- ---- a view of elements
+
+length_more : (name : List ℕ) (read : Option (List (List ℕ) × List ℕ)) (n : ℕ)
+    → (IsSome read → length (names_in read) ≡ n)
+    → IsSome (with_first name read) → length (names_in (with_first name read)) ≡ suc n
+length_more name None n ih h = absurd cc
+length_more name (Some x) n ih h = ap suc (ih refl)
+
+length_step : (first : Option (List ℕ × List ℕ)) (others : List ℕ → Option (List (List ℕ) × List ℕ)) (n : ℕ)
+    → ((rest : List ℕ) → IsSome (others rest) → length (names_in (others rest)) ≡ n)
+    → IsSome (first >>= λ x. with_first x.0 (others x.1))
+    → length (names_in (first >>= λ x. with_first x.0 (others x.1))) ≡ suc n
+length_step None others n ih h = absurd cc
+length_step (Some x) others n ih h = length_more x.0 (others x.1) n (ih x.1) h
+
+-- as many names as were asked for
+pub length_names : (form : Form) (count : ℕ) (bytes : List ℕ) → IsSome (elements_at form count bytes)
+    → length (names_in (elements_at form count bytes)) ≡ count
+unfolding elements_at
+length_names form zero bytes h = refl
+length_names form (suc n) bytes h =
+    length_step (element_at form bytes) (λ rest. elements_at form n rest) n (λ rest. length_names form n rest) h
+
+-- what an index still finds: the names in what is left, from the place that is left
+pub record Finds (form : Form) (left : ℕ) (bytes : List ℕ) (index : ℕ) (total : Option (List ℕ)) : Type 0 where
+  pub reads : IsSome (elements_at form left bytes)
+  pub same : slice_get (names_in (elements_at form left bytes)) index ≡ total
+
+is_some-with_first : (name : List ℕ) (read : Option (List (List ℕ) × List ℕ)) → IsSome (with_first name read)
+    → IsSome read
+is_some-with_first name None h = absurd cc
+is_some-with_first name (Some x) h = refl
+
+names-with_first : (name : List ℕ) (read : Option (List (List ℕ) × List ℕ)) → IsSome (with_first name read)
+    → names_in (with_first name read) ≡ name ∷ names_in read
+names-with_first name None h = absurd cc
+names-with_first name (Some x) h = refl
+
+pub finds_more : {form : Form} {count i index : ℕ} {bytes name after : List ℕ} {total : Option (List ℕ)} → i < count
+    → i < index → element_at form bytes ≡ Some (name, after)
+    → Finds form (count - i) bytes (index - i) total → Finds form (count - (i + 1)) after (index - (i + 1)) total
+finds_more {form} {count} {i} {index} {bytes} {name} {after} {total} lt far h f =
+    let one = one_more form count i bytes name after lt h in
+    let read = elements_at form (count - (i + 1)) after in
+    let reads : IsSome (with_first name read) = rw one at f.reads in
+    let k : index - i ≡ suc (index - (i + 1)) = omega arith in
+    let same : slice_get (names_in (with_first name read)) (suc (index - (i + 1))) ≡ total = rw (one, k) at f.same in
+    record { reads = is_some-with_first name read reads; same = rw (names-with_first name read reads) at same }
+
+pub finds_here : {form : Form} {count i index : ℕ} {bytes name after : List ℕ} {total : Option (List ℕ)} → i < count
+    → i ≡ index → element_at form bytes ≡ Some (name, after)
+    → Finds form (count - i) bytes (index - i) total → Some name ≡ total
+finds_here {form} {count} {i} {index} {bytes} {name} {after} {total} lt here h f =
+    let one = one_more form count i bytes name after lt h in
+    let read = elements_at form (count - (i + 1)) after in
+    let reads : IsSome (with_first name read) = rw one at f.reads in
+    let k : index - i ≡ 0 = omega arith in
+    let same : slice_get (names_in (with_first name read)) 0 ≡ total = rw (one, k) at f.same in
+    rw (names-with_first name read reads) at same
+
+pub finds_stops : {form : Form} {count i : ℕ} (index : ℕ) {bytes : List ℕ} {total : Option (List ℕ)} → i < count
+    → element_at form bytes ≡ None
+    → Finds form (count - i) bytes (index - i) total → ⊥
+finds_stops {form} {count} {i} index {bytes} {total} lt h f =
+    let none = stops form count i bytes lt h in
+    let k : IsSome {T = List (List ℕ) × List ℕ} None = rw none at f.reads in
+    cc
+
+pub finds_nothing : {form : Form} {count i : ℕ} (index : ℕ) {bytes : List ℕ} {total : Option (List ℕ)} → count ≤ i
+    → Finds form (count - i) bytes (index - i) total → None ≡ total
+finds_nothing {form} {count} {i} index {bytes} {total} le f =
+    sym (ap (λ read. slice_get (names_in read) (index - i)) (at_end form count i bytes le)) ∙ f.same
+
+-- one more item of a list that is copied
+pub take_one_more : (xs : List (List ℕ)) (i : ℕ) {old new : List (List ℕ)} {x : List ℕ} → old ≡ take i xs
+    → slice_get xs i ≡ Some x → new ≡ old ++ x ∷ [] → new ≡ take (i + 1) xs
+take_one_more xs i {old} {new} {x} e f g =
+    let lt = slice_get_within xs i x f in
+    let here : get_or xs i x ≡ x = get_or_from_slice_get xs i x x f in
+    g ∙ ap (λ (t : List (List ℕ)). t ++ x ∷ []) e
+    ∙ sym (take_more xs i x lt ∙ ap (λ (y : List ℕ). take i xs ++ y ∷ []) here)
+
+-- ---- a name among the symbols
+
+-- what is still to be searched: the name is among all symbols exactly where it is among those in what is left
+pub record Seeks (form : Form) (left : ℕ) (bytes name : List ℕ) (all : List (List ℕ)) : Type 0 where
+  pub reads : IsSome (elements_at form left bytes)
+  pub in_rest : Contains all name → Contains (names_in (elements_at form left bytes)) name
+  pub in_all : Contains (names_in (elements_at form left bytes)) name → Contains all name
+
+contains_other : (x name : List ℕ) (xs : List (List ℕ)) → (x ≡ name → ⊥) → Contains (x ∷ xs) name → Contains xs name
+contains_other x name xs ne (zero, lt, e) = absurd (ne e)
+contains_other x name xs ne (suc k, lt, e) = (k, omega (arith, lt), e)
+
+contains_more : (x name : List ℕ) (xs : List (List ℕ)) → Contains xs name → Contains (x ∷ xs) name
+contains_more x name xs (k, lt, e) = (suc k, omega (arith, lt), e)
+
+contains_first : (x name : List ℕ) (xs : List (List ℕ)) → x ≡ name → Contains (x ∷ xs) name
+contains_first x name xs e = (0, omega arith, e)
+
+pub seeks_more : {form : Form} {count i : ℕ} {bytes x after name : List ℕ} {all : List (List ℕ)} → i < count
+    → (x ≡ name → ⊥) → element_at form bytes ≡ Some (x, after)
+    → Seeks form (count - i) bytes name all → Seeks form (count - (i + 1)) after name all
+seeks_more {form} {count} {i} {bytes} {x} {after} {name} {all} lt ne h s =
+    let one = one_more form count i bytes x after lt h in
+    let read = elements_at form (count - (i + 1)) after in
+    let reads : IsSome (with_first x read) = rw one at s.reads in
+    let names : names_in (elements_at form (count - i) bytes) ≡ x ∷ names_in read =
+    ap names_in one ∙ names-with_first x read reads in
+    record {
+      reads = is_some-with_first x read reads;
+      in_rest =
+          λ k. contains_other x name (names_in read) ne
+          (subst (λ (xs : List (List ℕ)). Contains xs name) names (s.in_rest k));
+      in_all =
+          λ k. s.in_all (subst (λ (xs : List (List ℕ)). Contains xs name) (sym names)
+          (contains_more x name (names_in read) k));
+    }
+
+pub seeks_here : {form : Form} {count i : ℕ} {bytes x after name : List ℕ} {all : List (List ℕ)} → i < count
+    → x ≡ name → element_at form bytes ≡ Some (x, after)
+    → Seeks form (count - i) bytes name all → Contains all name
+seeks_here {form} {count} {i} {bytes} {x} {after} {name} {all} lt here h s =
+    let one = one_more form count i bytes x after lt h in
+    let read = elements_at form (count - (i + 1)) after in
+    let reads : IsSome (with_first x read) = rw one at s.reads in
+    let names : names_in (elements_at form (count - i) bytes) ≡ x ∷ names_in read =
+    ap names_in one ∙ names-with_first x read reads in
+    s.in_all (subst (λ (xs : List (List ℕ)). Contains xs name) (sym names) (contains_first x name (names_in read) here))
+
+pub seeks_stops : {form : Form} {count i : ℕ} {bytes name : List ℕ} {all : List (List ℕ)} → i < count
+    → element_at form bytes ≡ None
+    → Seeks form (count - i) bytes name all → ⊥
+seeks_stops {form} {count} {i} {bytes} {name} {all} lt h s =
+    let none = stops form count i bytes lt h in
+    let k : IsSome {T = List (List ℕ) × List ℕ} None = rw none at s.reads in
+    cc
+
+contains_none : (name : List ℕ) → Contains [] name → ⊥
+contains_none name (k, lt, e) = omega (arith, lt)
+
+pub seeks_nothing : {form : Form} {count i : ℕ} {bytes name : List ℕ} {all : List (List ℕ)} → count ≤ i
+    → Seeks form (count - i) bytes name all → Contains all name → ⊥
+seeks_nothing {form} {count} {i} {bytes} {name} {all} le s k =
+    contains_none name (subst (λ (xs : List (List ℕ)). Contains xs name) (ap names_in (at_end form count i bytes le))
+    (s.in_rest k))

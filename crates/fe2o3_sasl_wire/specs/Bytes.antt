@@ -1,6 +1,0 @@
--- What holds of each list that stands for bytes of the code.
-use Rattle.std.specs.Prelude.{ℕ, ◌<◌, List, slice_index}
-
--- each number is a byte
-abbrev pub IsBytes : List ℕ → Type 0
-IsBytes bytes = (i : ℕ) → slice_index bytes i < 256

@@ -1,0 +1,315 @@
+-- Each of the four messages has an answer.
+use Rattle.std.proofs.Common.{◌≡◌, ◌⊎◌, ℕ, ◌<◌, List, [], ◌∷◌, ◌++◌, length, Result, Ok, Err, refl, sym, ◌∙◌, subst, inl, inr, codes}
+use Rattle.std.proofs.lemmas.List.{append_cancel_left}
+use Rattle.fe2o3_scram.specs.declared.scram_messages.error.ScramErrorKind.{ScramErrorKind}
+use Rattle.fe2o3_scram.specs.declared.scram_messages.error.ScramErrorKind.TheVariants.{ServerSignatureMismatch}
+use Rattle.fe2o3_scram.specs.declared.scram_messages.error.ServerScramErrorKind.{ServerScramErrorKind}
+use Rattle.fe2o3_scram.specs.declared.scram_messages.error.ServerScramErrorKind.TheVariants.{XorLengthMismatch, AuthenticationFailed}
+use Rattle.fe2o3_scram.specs.ClientFinal as client_final
+use Rattle.fe2o3_scram.specs.ClientFinal.{Server, ClientFinal, HasBinding, HasProof, Meets, recovered_key, NamesClientFinal, ReadsFinalText, ReadsClientFinal, final_text_tests, binding_tests, spelling_tests}
+use Rattle.fe2o3_scram.specs.ClientFirst.{ClientFirst, BarePart, NamesClientFirst, ReadsClientFirst, client_first_tests}
+use Rattle.fe2o3_scram.specs.Escape.{escaped}
+use Rattle.fe2o3_scram.specs.Hmac.{digest, digest_len}
+use Rattle.fe2o3_scram.specs.Readings.{IsFirst, NoneHolds, Reads}
+use Rattle.fe2o3_scram.specs.ServerFinal.{HasSignature, ReadsSignature, ReadsServerFinal, server_final_tests}
+use Rattle.fe2o3_scram.specs.ServerFirst as server_first
+use Rattle.fe2o3_scram.specs.ServerFirst.{Client, ServerFirst, HasSalt, HasCount, NamesServerFirst, ReadsServerFirst, server_first_tests, salt_tests, count_tests, password_tests}
+use Rattle.fe2o3_scram.specs.Texts.{base64_text, IsBase64, IsCount, Part, LastPart}
+use Rattle.base64.specs.GeneralPurpose.{IsBytes}
+use Rattle.fe2o3_scram.proofs.lemmas.messages.ClientFinalLemmas.{no_proof, has_proof, proof_part, unread_proof, one_proof}
+use Rattle.fe2o3_scram.proofs.lemmas.messages.ServerFirstLemmas.{one_has_count, no_count}
+use Rattle.fe2o3_scram.proofs.lemmas.texts.DecisionLemmas.{Decided, Found, held, found_one, not_or, none_or, some_or, both_or, found_with, of_one_or, less_or, same_number_or, same_or, bytes_or, utf8_or, printable_or, rest_or, begins_or, part_or, part_is_or, attribute_or, attribute_text_or, last_part_or, base64_or, count_or, name_or}
+
+-- ---- lists of tests
+
+-- each of the tests is decided
+abbrev AllDecided : {F : Type 0} → List (F × Type 0) → Type 0
+AllDecided [] = Unit {0}
+AllDecided (test ∷ tests) = Decided test.1 × AllDecided tests
+
+decided-append : {F : Type 0} (tests more : List (F × Type 0)) → AllDecided tests → AllDecided more
+    → AllDecided (tests ++ more)
+decided-append [] more decided too = too
+decided-append (test ∷ tests) more decided too = (decided.0, decided-append tests more decided.1 too)
+
+none-split : {F : Type 0} (tests more : List (F × Type 0)) → NoneHolds (tests ++ more)
+    → NoneHolds tests × NoneHolds more
+none-split [] more none = (tt, none)
+none-split (test ∷ tests) more none = let rest = none-split tests more none.1 in ((none.0, rest.0), rest.1)
+
+-- a first test holds, or none does
+first_or : {F : Type 0} (tests : List (F × Type 0)) → AllDecided tests
+    → ((fault : F) × IsFirst tests fault) ⊎ NoneHolds tests
+first_or [] decided = inr tt
+first_or (test ∷ tests) (inl holds, decided) = inl (test.0, inl (holds, refl))
+first_or {F} (test ∷ tests) (inr fails, decided) = go (first_or tests decided)
+  where
+    go : ((fault : F) × IsFirst tests fault) ⊎ NoneHolds tests
+        → ((fault : F) × IsFirst (test ∷ tests) fault) ⊎ NoneHolds (test ∷ tests)
+    go (inl (fault, first)) = inl (fault, inr (fails, first))
+    go (inr none) = inr (fails, none)
+
+-- where each test is decided, and something is named where none holds, there is an answer
+some_reading : {F V : Type 0} (tests : List (F × Type 0)) (Names : V → Type 0) → AllDecided tests
+    → (NoneHolds tests → (values : V) × Names values) → (answer : Result V F) × Reads tests Names answer
+some_reading {F} {V} tests Names decided named = go (first_or tests decided)
+  where
+    go : ((fault : F) × IsFirst tests fault) ⊎ NoneHolds tests → (answer : Result V F) × Reads tests Names answer
+    go (inl (fault, first)) = (Err fault, first)
+    go (inr none) = let values = named none in (Ok values.0, (none, values.1))
+
+-- ---- the client-first message
+
+-- a message has one text behind its header
+one_bare : (text bare other : List ℕ) → text ≡ codes "n,," ++ bare → text ≡ codes "n,," ++ other → bare ≡ other
+one_bare text bare other is too = append_cancel_left (codes "n,,") bare other (sym is ∙ too)
+
+-- what stands in a part behind the header
+bare_attribute_or : {X : Type 0} (write : X → List ℕ) (text : List ℕ) (k : ℕ) (key : List ℕ)
+    → ((spelling : List ℕ) → Found (λ (x : X). spelling ≡ write x))
+    → Found (λ (x : X). BarePart text k (key ++ write x))
+bare_attribute_or {X} write text k key read = found_with (rest_or (codes "n,,") text) behind (λ x has. (has.0, has.1))
+  where
+    behind : (bare : List ℕ) → text ≡ codes "n,," ++ bare → Found (λ (x : X). BarePart text k (key ++ write x))
+    behind bare header =
+        found_with (attribute_or (λ _. Unit {0}) write bare k key
+        (λ spelling. found_with (read spelling) (λ x is. inl (x, (tt, is))) (λ x is. (x, is.1))))
+        (λ x has. inl (x, (bare, header, has.1)))
+        (λ x has. (
+          x,
+          (
+            tt,
+            subst (λ (behind : List ℕ). Part behind k (key ++ write x))
+                (one_bare text has.0 bare has.1 header) has.2,
+          ),
+        ))
+
+pub some_client_first : (text : List ℕ) → (answer : Result ClientFirst ServerScramErrorKind)
+    × ReadsClientFirst text answer
+unfolding ReadsClientFirst
+some_client_first text =
+    some_reading (client_first_tests text) (NamesClientFirst text)
+    (not_or (utf8_or text), (not_or (begins_or text (codes "n,,")), (none_or user, (none_or nonce, tt))))
+    (λ none. named (found_one user none.1.1.0) (found_one nonce none.1.1.1.0))
+  where
+    user : Found (λ (user : List ℕ). BarePart text 0 (codes "n=" ++ escaped user))
+    user = bare_attribute_or escaped text 0 (codes "n=") name_or
+
+    nonce : Found (λ (nonce : List ℕ). BarePart text 1 (codes "r=" ++ nonce))
+    nonce = bare_attribute_or (λ nonce. nonce) text 1 (codes "r=") (λ spelling. inl (spelling, refl))
+
+    named : (user : List ℕ) × BarePart text 0 (codes "n=" ++ escaped user)
+        → (nonce : List ℕ) × BarePart text 1 (codes "r=" ++ nonce) → (first : ClientFirst) × NamesClientFirst text first
+    named (user, (bare, header, part)) (nonce, (other, too, next)) = (
+      record { user = user; nonce = nonce; bare = bare },
+      record {
+        bare = header;
+        user = part;
+        nonce = subst (λ (behind : List ℕ). Part behind 1 (codes "r=" ++ nonce))
+            (one_bare text other bare too header) next;
+      },
+    )
+
+-- ---- the server-first message
+
+salt_or : (text : List ℕ) → Found (HasSalt text)
+salt_or text = attribute_or IsBytes base64_text text 1 (codes "s=") base64_or
+
+has_count_or : (text : List ℕ) → Found (HasCount text)
+has_count_or text = found_with (attribute_text_or text 2 (codes "i=")) counted (λ count has. (has.0, has.1))
+  where
+    counted : (digits : List ℕ) → Part text 2 (codes "i=" ++ digits) → Found (HasCount text)
+    counted digits is = go (count_or digits)
+      where
+        go : Found (IsCount digits) → Found (HasCount text)
+        go (inl (count, has)) = inl (count, (digits, is, has))
+        go (inr none) = inr (no_count text digits is none)
+
+too_large_or : (text : List ℕ) (limit : ℕ) → Decided ((count : ℕ) × HasCount text count × (limit < count))
+too_large_or text limit = go (has_count_or text)
+  where
+    larger : (count : ℕ) → HasCount text count → Decided (limit < count)
+        → Decided ((count : ℕ) × HasCount text count × (limit < count))
+    larger count has (inl less) = inl (count, has, less)
+    larger count has (inr within) = inr (λ large. within
+        (subst (λ (other : ℕ). limit < other) (one_has_count text large.0 count large.1 has) large.2))
+
+    go : Found (HasCount text) → Decided ((count : ℕ) × HasCount text count × (limit < count))
+    go (inl (count, has)) = larger count has (less_or limit count)
+    go (inr none) = inr (λ large. none large.0 large.1)
+
+nonce_decided : (client_nonce text : List ℕ) → AllDecided (server_first.nonce_tests client_nonce text)
+nonce_decided client_nonce text = (
+  none_or (part_or text 2),
+  (
+    some_or (attribute_text_or text 0 (codes "m=")),
+    (
+      none_or (attribute_text_or text 0 (codes "r=")),
+      (none_or (attribute_text_or text 0 (codes "r=" ++ client_nonce)), tt),
+    ),
+  ),
+)
+
+salt_decided : (text : List ℕ) → AllDecided (salt_tests text)
+salt_decided text = (none_or (attribute_text_or text 1 (codes "s=")), (none_or (salt_or text), tt))
+
+count_decided : (limit : ℕ) (text : List ℕ) → AllDecided (count_tests limit text)
+count_decided limit text = (
+  none_or (attribute_text_or text 2 (codes "i=")),
+  (none_or (has_count_or text), (too_large_or text limit, tt)),
+)
+
+pub some_server_first : (client : Client) (text : List ℕ)
+    → (answer : Result ServerFirst ScramErrorKind) × ReadsServerFirst client text answer
+unfolding ReadsServerFirst
+some_server_first client text =
+    let password = password_tests client.password in
+    let count = count_tests client.limit text ++ password in
+    let salt = salt_tests text ++ count in
+    some_reading (server_first_tests client text) (NamesServerFirst text)
+    (decided-append (server_first.nonce_tests client.nonce text) salt (nonce_decided client.nonce text)
+    (decided-append (salt_tests text) count (salt_decided text)
+    (decided-append (count_tests client.limit text) password (count_decided client.limit text)
+    (not_or (printable_or client.password), tt))))
+    (λ none.
+    let nonce_parts = none-split (server_first.nonce_tests client.nonce text) salt none in
+    let salt_parts = none-split (salt_tests text) count nonce_parts.1 in
+    let count_parts = none-split (count_tests client.limit text) password salt_parts.1 in
+    let named_nonce = found_one (attribute_text_or text 0 (codes "r=")) nonce_parts.0.1.1.0 in
+    let named_salt = found_one (salt_or text) salt_parts.0.1.0 in
+    let named_count = found_one (has_count_or text) count_parts.0.1.0 in (
+      record { nonce = named_nonce.0; salt = named_salt.0; count = named_count.0 },
+      record { nonce = named_nonce.1; salt = named_salt.1; count = named_count.1 },
+    ))
+
+-- ---- the client-final message
+
+binding_or : (text : List ℕ) → Found (HasBinding text)
+binding_or text = attribute_or IsBytes base64_text text 0 (codes "c=") base64_or
+
+this_binding_or : (text binding : List ℕ) → Decided (HasBinding text binding)
+this_binding_or text binding = both_or (bytes_or binding) (part_is_or text 0 (codes "c=" ++ base64_text binding))
+
+proof_part_or : (text : List ℕ) → Decided ((before rest : List ℕ) → ¬ LastPart text before (codes "p=" ++ rest))
+proof_part_or text = go (last_part_or text)
+  where
+    key : (before last : List ℕ) → LastPart text before last → Found (λ (rest : List ℕ). last ≡ codes "p=" ++ rest)
+        → Decided ((before rest : List ℕ) → ¬ LastPart text before (codes "p=" ++ rest))
+    key before last is (inl (rest, begins)) = inr (proof_part text before last rest is begins)
+    key before last is (inr none) = inl (no_proof text before last is (λ begins. none begins.0 begins.1))
+
+    go : ((before : List ℕ) × (part : List ℕ) × LastPart text before part)
+        ⊎ ((before part : List ℕ) → ¬ LastPart text before part)
+        → Decided ((before rest : List ℕ) → ¬ LastPart text before (codes "p=" ++ rest))
+    go (inl (before, part, is)) = key before part is (rest_or (codes "p=") part)
+    go (inr none) = inl (λ before rest. none before (codes "p=" ++ rest))
+
+proof_or : (text : List ℕ) → Found (HasProof text)
+proof_or text = go (last_part_or text)
+  where
+    spelled : (before last spelling : List ℕ) → LastPart text before last → last ≡ codes "p=" ++ spelling
+        → Found (IsBase64 spelling) → Found (HasProof text)
+    spelled before last spelling is begins (inl (proof, spells)) =
+        inl (record { without = before; proof = proof }, has_proof text before last spelling proof is begins spells)
+    spelled before last spelling is begins (inr none) = inr (unread_proof text before last spelling is begins none)
+
+    key : (before last : List ℕ) → LastPart text before last → Found (λ (rest : List ℕ). last ≡ codes "p=" ++ rest)
+        → Found (HasProof text)
+    key before last is (inl (spelling, begins)) = spelled before last spelling is begins (base64_or spelling)
+    key before last is (inr none) =
+        inr (λ final has. no_proof text before last is (λ begins. none begins.0 begins.1) final.without
+        (base64_text final.proof) has.1)
+
+    go : ((before : List ℕ) × (part : List ℕ) × LastPart text before part)
+        ⊎ ((before part : List ℕ) → ¬ LastPart text before part) → Found (HasProof text)
+    go (inl (before, part, is)) = key before part is (rest_or (codes "p=") part)
+    go (inr none) = inr (λ final has. none final.without (codes "p=" ++ base64_text final.proof) has.1)
+
+sized_or : (server : Server) (final : ClientFinal) → Decided (length final.proof ≡ digest_len server.version)
+sized_or server final = same_number_or (length final.proof) (digest_len server.version)
+
+meets_or : (server : Server) (final : ClientFinal) → Decided (Meets server final)
+meets_or server final = same_or (digest server.version (recovered_key server final)) server.stored_key
+
+binding_decided : (text : List ℕ) → AllDecided (binding_tests text)
+binding_decided text = (
+  none_or (attribute_text_or text 0 (codes "c=")),
+  (none_or (binding_or text), (not_or (this_binding_or text (codes "n,,")), tt)),
+)
+
+final_nonce_decided : (nonce text : List ℕ) → AllDecided (client_final.nonce_tests nonce text)
+final_nonce_decided nonce text = (
+  none_or (attribute_text_or text 1 (codes "r=")),
+  (not_or (part_is_or text 1 (codes "r=" ++ nonce)), tt),
+)
+
+spelling_decided : (text : List ℕ) → AllDecided (spelling_tests text)
+spelling_decided text = (proof_part_or text, (none_or (proof_or text), tt))
+
+-- a text has an answer before the keys are looked at
+some_final_text : (nonce text : List ℕ)
+    → (answer : Result ClientFinal ServerScramErrorKind) × ReadsFinalText nonce text answer
+unfolding ReadsFinalText
+some_final_text nonce text =
+    let after_binding = client_final.nonce_tests nonce text ++ spelling_tests text in
+    some_reading (final_text_tests nonce text) (NamesClientFinal nonce text) (
+      not_or (utf8_or text),
+      decided-append (binding_tests text) after_binding (binding_decided text)
+          (decided-append (client_final.nonce_tests nonce text) (spelling_tests text) (final_nonce_decided nonce text)
+          (spelling_decided text)),
+    )
+    (λ none.
+    let binding_parts = none-split (binding_tests text) after_binding none.1 in
+    let nonce_parts = none-split (client_final.nonce_tests nonce text) (spelling_tests text) binding_parts.1 in
+    let final = found_one (proof_or text) nonce_parts.1.1.0 in (
+      final.0,
+      record {
+        binding = held (this_binding_or text (codes "n,,")) binding_parts.0.1.1.0;
+        nonce = held (part_is_or text 1 (codes "r=" ++ nonce)) nonce_parts.0.1.0;
+        proof = final.1;
+      },
+    ))
+
+pub some_client_final : (server : Server) (text : List ℕ)
+    → (answer : Result ClientFinal ServerScramErrorKind) × ReadsClientFinal server text answer
+unfolding ReadsClientFinal
+some_client_final server text = go (some_final_text server.nonce text)
+  where
+    tested : (final : ClientFinal) → ReadsFinalText server.nonce text (Ok final)
+        → Decided (length final.proof ≡ digest_len server.version) → Decided (Meets server final)
+        → (answer : Result ClientFinal ServerScramErrorKind) × ReadsClientFinal server text answer
+    tested final reads (inr other) meets = (Err XorLengthMismatch, inr (final, reads, inl (other, refl)))
+    tested final reads (inl sized) (inl meets) = (Ok final, (reads, sized, meets))
+    tested final reads (inl sized) (inr fails) =
+        (Err AuthenticationFailed, inr (final, reads, inr ((λ other. other sized), inl (fails, refl))))
+
+    go : (answer : Result ClientFinal ServerScramErrorKind) × ReadsFinalText server.nonce text answer
+        → (answer : Result ClientFinal ServerScramErrorKind) × ReadsClientFinal server text answer
+    go (Err fault, reads) = (Err fault, inl reads)
+    go (Ok final, reads) = tested final reads (sized_or server final) (meets_or server final)
+
+-- ---- the server-final message
+
+signature_or : (text : List ℕ) → Found (HasSignature text)
+signature_or text = attribute_or IsBytes base64_text text 0 (codes "v=") base64_or
+
+some_signature : (text : List ℕ) → (answer : Result (List ℕ) ScramErrorKind) × ReadsSignature text answer
+unfolding ReadsSignature
+some_signature text = some_reading (server_final_tests text) (HasSignature text)
+    (not_or (utf8_or text), (none_or (attribute_text_or text 0 (codes "v=")), (none_or (signature_or text), tt)))
+    (λ none. found_one (signature_or text) none.1.1.0)
+
+pub some_server_final : (signature text : List ℕ)
+    → (answer : Result (Unit {0}) ScramErrorKind) × ReadsServerFinal signature text answer
+unfolding ReadsServerFinal
+some_server_final signature text = go (some_signature text)
+  where
+    tested : (other : List ℕ) → ReadsSignature text (Ok other) → Decided (other ≡ signature)
+        → (answer : Result (Unit {0}) ScramErrorKind) × ReadsServerFinal signature text answer
+    tested other reads (inl same) = (Ok tt, subst (λ (named : List ℕ). ReadsSignature text (Ok named)) same reads)
+    tested other reads (inr differ) = (Err ServerSignatureMismatch, inr (other, reads, differ, refl))
+
+    go : (answer : Result (List ℕ) ScramErrorKind) × ReadsSignature text answer
+        → (answer : Result (Unit {0}) ScramErrorKind) × ReadsServerFinal signature text answer
+    go (Err fault, reads) = (Err fault, inl reads)
+    go (Ok other, reads) = tested other reads (same_or other signature)
