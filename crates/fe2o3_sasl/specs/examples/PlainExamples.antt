@@ -28,9 +28,9 @@ abbrev pub EndsInit : Option (List ℕ) → SaslCode → Type 0
 EndsInit response code = (mechanism : List ℕ) (hostname : Option (List ℕ))
     → Ends (frames.Init mechanism response hostname) code
 
--- name and password of the guest, and a part more, end with Ok
+-- name and password of the guest end with Ok, whatever stands before and behind them: an identity to act as is not read
 abbrev pub GuestsEnter : Type 0
-GuestsEnter = EndsInit (Some (0 ∷ codes "guest" ++ 0 ∷ codes "secret" ++ 0 ∷ codes "x")) outcomes.Ok
+GuestsEnter = EndsInit (Some (codes "root" ++ 0 ∷ codes "guest" ++ 0 ∷ codes "secret" ++ 0 ∷ codes "x")) outcomes.Ok
 
 -- the two words in the other order end with Auth
 abbrev pub SwappedWordsFail : Type 0

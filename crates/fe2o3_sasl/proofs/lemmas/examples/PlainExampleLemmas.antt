@@ -22,9 +22,10 @@ plain_secret = no_zero-test (codes "secret") refl
 
 pub guests_enter : GuestsEnter
 guests_enter mechanism hostname nonce =
-    let parts : List (List ℕ) = [] ∷ codes "guest" ∷ codes "secret" ∷ codes "x" ∷ [] in
+    let parts : List (List ℕ) = codes "root" ∷ codes "guest" ∷ codes "secret" ∷ codes "x" ∷ [] in
+    let root = no_zero-test (codes "root") refl in
     let apart : AllByRecursion NoZero parts =
-    (tt, (plain_guest, (plain_secret, (no_zero-test (codes "x") refl, tt)))) in
+    (root, (plain_guest, (plain_secret, (no_zero-test (codes "x") refl, tt)))) in
     (inl (((parts, apart, refl, refl), (parts, apart, refl, refl)), refl), refl)
 
 pub swapped_words_fail : SwappedWordsFail
