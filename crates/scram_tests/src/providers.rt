@@ -2,11 +2,11 @@
 
 use crate::accounts::{Account, Accounts};
 use base64::engine::general_purpose::STANDARD;
-use fe2o3_sasl::credentials::ScramCredentialProvider;
-use fe2o3_sasl::hmac::ScramVersion;
-use fe2o3_sasl::scram_client::ScramClient;
-use fe2o3_sasl::scram_messages::{ScramErrorKind, ServerScramErrorKind};
-use fe2o3_sasl::scram_server::ScramAuthenticator;
+use fe2o3_scram::credentials::ScramCredentialProvider;
+use fe2o3_scram::hmac::ScramVersion;
+use fe2o3_scram::scram_client::ScramClient;
+use fe2o3_scram::scram_messages::{ScramErrorKind, ServerScramErrorKind};
+use fe2o3_scram::scram_server::ScramAuthenticator;
 use std::alloc::Global;
 use std::process::Abort;
 use std::rc::Rc;

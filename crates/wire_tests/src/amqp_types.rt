@@ -1,11 +1,5 @@
 //! The types of the SASL frames (AMQP 1.0, part 5, section 5.3.3).
 
-use fe2o3_sasl_wire::sameness::{
-    copy_of_binary, copy_of_challenge, copy_of_code, copy_of_codec, copy_of_header, copy_of_id,
-    copy_of_init, copy_of_mechanisms, copy_of_outcome, copy_of_response, copy_of_symbol,
-    same_binary, same_challenge, same_code, same_header, same_id, same_init, same_mechanisms,
-    same_outcome, same_response, same_symbol, same_symbols,
-};
 use fe2o3_sasl_wire::{
     Array, Binary, ProtocolHeader, ProtocolHeaderCodec, SaslChallenge, SaslCode, SaslInit,
     SaslMechanisms, SaslOutcome, SaslResponse, Symbol, SymbolError,
@@ -94,44 +88,65 @@ fn outcome(code: SaslCode) -> SaslOutcome {
     }
 }
 
+/// Whether a value equals its clone, and does not equal the other value.
+fn equals_its_clone_alone<T: PartialEq + Clone + Drop>(
+    value: &T,
+    other: &T,
+) -> Result<bool, AllocError> {
+    let copy = value.clone()?;
+    Ok(*value == copy && *value != *other)
+}
+
 #[test]
-fn values_are_equal_by_their_fields(rt: HostRuntime) -> Result<(), Fail> {
+fn binaries_and_symbols_are_equal_by_their_bytes(rt: HostRuntime) -> Result<(), Fail> {
     let alloc = rt.alloc();
     let (one, two) = (binary(alloc, b"1")?, binary(alloc, b"2")?);
-    assert!(rt; same_binary(&one, &copy_of_binary(&one)?) && !same_binary(&one, &two));
+    assert!(rt; equals_its_clone_alone(&one, &two)?);
     let (plain, external) = (symbol(alloc, "PLAIN")?, symbol(alloc, "EXTERNAL")?);
-    assert!(rt; same_symbol(&plain, &copy_of_symbol(&plain)?) && !same_symbol(&plain, &external));
-    let (both, turned) = (
-        two_symbols(alloc, "PLAIN", "EXTERNAL")?,
-        two_symbols(alloc, "EXTERNAL", "PLAIN")?,
-    );
-    assert!(rt; same_symbols(&both, &both.clone()?) && !same_symbols(&both, &turned));
+    assert!(rt; equals_its_clone_alone(&plain, &external)?);
+    Ok(())
+}
+
+#[test]
+fn mechanisms_are_equal_by_their_names(rt: HostRuntime) -> Result<(), Fail> {
     let mechanisms = SaslMechanisms {
-        sasl_server_mechanisms: both,
+        sasl_server_mechanisms: two_symbols(rt.alloc(), "PLAIN", "EXTERNAL")?,
     };
-    let anonymous = SaslMechanisms::anonymous(alloc)?;
-    assert!(rt; same_mechanisms(&mechanisms, &copy_of_mechanisms(&mechanisms)?));
-    assert!(rt; !same_mechanisms(&mechanisms, &anonymous));
-    let (here, there) = (init(alloc, None)?, init(alloc, Some("h"))?);
-    assert!(rt; same_init(&here, &copy_of_init(&here)?) && !same_init(&here, &there));
+    let anonymous = SaslMechanisms::anonymous(rt.alloc())?;
+    assert!(rt; equals_its_clone_alone(&mechanisms, &anonymous)?);
+    Ok(())
+}
+
+#[test]
+fn values_are_equal_by_their_fields(rt: HostRuntime) -> Result<(), Fail> {
+    let (here, there) = (init(rt.alloc(), None)?, init(rt.alloc(), Some("h"))?);
+    assert!(rt; equals_its_clone_alone(&here, &there)?);
     let (done, refused) = (outcome(SaslCode::Ok), outcome(SaslCode::Auth));
-    assert!(rt; same_outcome(&done, &copy_of_outcome(&done)?) && !same_outcome(&done, &refused));
-    let (first, second) = (
-        SaslChallenge { challenge: one },
-        SaslChallenge { challenge: two },
-    );
-    assert!(rt; same_challenge(&first, &copy_of_challenge(&first)?));
-    assert!(rt; !same_challenge(&first, &second));
-    let (first, second) = (
-        SaslResponse {
-            response: first.challenge,
-        },
-        SaslResponse {
-            response: second.challenge,
-        },
-    );
-    assert!(rt; same_response(&first, &copy_of_response(&first)?));
-    assert!(rt; !same_response(&first, &second));
+    assert!(rt; equals_its_clone_alone(&done, &refused)?);
+    Ok(())
+}
+
+/// A challenge of these bytes.
+fn challenge(alloc: Global, bytes: &[u8]) -> Result<SaslChallenge, AllocError> {
+    Ok(SaslChallenge {
+        challenge: binary(alloc, bytes)?,
+    })
+}
+
+/// A response of these bytes.
+fn response(alloc: Global, bytes: &[u8]) -> Result<SaslResponse, AllocError> {
+    Ok(SaslResponse {
+        response: binary(alloc, bytes)?,
+    })
+}
+
+#[test]
+fn challenges_and_responses_are_equal_by_their_bytes(rt: HostRuntime) -> Result<(), Fail> {
+    let alloc = rt.alloc();
+    let (first, second) = (challenge(alloc, b"1")?, challenge(alloc, b"2")?);
+    assert!(rt; equals_its_clone_alone(&first, &second)?);
+    let (first, second) = (response(alloc, b"1")?, response(alloc, b"2")?);
+    assert!(rt; equals_its_clone_alone(&first, &second)?);
     Ok(())
 }
 
@@ -144,11 +159,11 @@ fn plain_values_are_copied_without_memory(rt: HostRuntime) {
         SaslCode::SysPerm,
         SaslCode::SysTemp,
     ] {
-        assert!(rt; same_code(&code, &copy_of_code(&code)));
+        assert!(rt; code == code.clone().unwrap());
     }
-    assert!(rt; !same_code(&SaslCode::Sys, &SaslCode::SysTemp));
+    assert!(rt; SaslCode::Sys != SaslCode::SysTemp);
     let (tls, sasl) = (ProtocolHeader::tls(), ProtocolHeader::sasl());
-    assert!(rt; same_header(&tls, &copy_of_header(&tls)) && !same_header(&tls, &sasl));
-    assert!(rt; same_id(&tls.id, &copy_of_id(&tls.id)) && !same_id(&tls.id, &sasl.id));
-    let _codec = copy_of_codec(&ProtocolHeaderCodec::new());
+    assert!(rt; tls == tls.clone().unwrap() && tls != sasl);
+    assert!(rt; tls.id == tls.id.clone().unwrap() && tls.id != sasl.id);
+    let _codec = ProtocolHeaderCodec::new().clone().unwrap();
 }

@@ -1,8 +1,8 @@
 //! Server-first messages that a client answers or refuses.
 
 use base64::engine::general_purpose::STANDARD;
-use fe2o3_sasl::hmac::{Meter, ScramVersion};
-use fe2o3_sasl::scram_messages::ScramErrorKind;
+use fe2o3_scram::hmac::{Meter, ScramVersion};
+use fe2o3_scram::scram_messages::ScramErrorKind;
 use std::alloc::{AllocError, Global};
 use std::test::Fail;
 

@@ -3,10 +3,10 @@
 ghost use Rattle.std.specs.Prelude.{◌≡◌, ◌≤◌, option_map, nat_eq};
 ghost use Rattle.std.specs.Cmp.Lexicographic.{pointwise};
 ghost use Rattle.std.proofs.Common.{ap};
-ghost use Rattle.fe2o3_sasl.specs.Credentials.{Provider, record_at, kept};
+ghost use Rattle.fe2o3_scram.specs.Credentials.{Provider, record_at, kept};
 
-use fe2o3_sasl::credentials::{ScramCredentialProvider, StoredPassword};
-use fe2o3_sasl::hmac::ScramVersion;
+use fe2o3_scram::credentials::{ScramCredentialProvider, StoredPassword};
+use fe2o3_scram::hmac::ScramVersion;
 use std::alloc::{AllocError, Global};
 use std::marker::Model;
 use std::test::Fail;
@@ -24,7 +24,7 @@ pub struct Account {
 impl Model for Account {
     ghost use Rattle.std.specs.Prelude.{ℕ, List};
     ghost use Rattle.std.specs.String.{string_bytes};
-    ghost use Rattle.fe2o3_sasl.specs.Credentials.{Record};
+    ghost use Rattle.fe2o3_scram.specs.Credentials.{Record};
 
     ghost Value = { List ℕ × Record };
 
@@ -119,7 +119,7 @@ pub struct Accounts {
 }
 
 impl Model for Accounts {
-    ghost use Rattle.fe2o3_sasl.specs.Credentials.{Provider};
+    ghost use Rattle.fe2o3_scram.specs.Credentials.{Provider};
 
     ghost Value = { Provider };
 

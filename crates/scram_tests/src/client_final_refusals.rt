@@ -2,9 +2,9 @@
 
 use crate::messages::{EXCHANGES, SHA_256};
 use base64::engine::general_purpose::STANDARD;
-use fe2o3_sasl::credentials::StoredPassword;
-use fe2o3_sasl::hmac::{Meter, ScramVersion};
-use fe2o3_sasl::scram_messages::ServerScramErrorKind;
+use fe2o3_scram::credentials::StoredPassword;
+use fe2o3_scram::hmac::{Meter, ScramVersion};
+use fe2o3_scram::scram_messages::ServerScramErrorKind;
 use std::alloc::Global;
 use std::process::Abort;
 use std::test::Fail;

@@ -1,11 +1,11 @@
 //! Logins through both machines, message after message.
 
 use crate::accounts::{Account, Accounts};
-use fe2o3_sasl::credentials::{ScramCredentialProvider, SingleScramCredential};
-use fe2o3_sasl::hmac::ScramVersion;
-use fe2o3_sasl::scram_client::ScramClient;
-use fe2o3_sasl::scram_messages::{ScramErrorKind, ServerScramErrorKind};
-use fe2o3_sasl::scram_server::ScramAuthenticator;
+use fe2o3_scram::credentials::{ScramCredentialProvider, SingleScramCredential};
+use fe2o3_scram::hmac::ScramVersion;
+use fe2o3_scram::scram_client::ScramClient;
+use fe2o3_scram::scram_messages::{ScramErrorKind, ServerScramErrorKind};
+use fe2o3_scram::scram_server::ScramAuthenticator;
 use std::alloc::Global;
 use std::process::Abort;
 use std::rc::Rc;

@@ -1,8 +1,8 @@
 //! Client-first messages that a server answers or refuses.
 
 use crate::accounts::{Account, Accounts};
-use fe2o3_sasl::hmac::ScramVersion;
-use fe2o3_sasl::scram_messages::ServerScramErrorKind;
+use fe2o3_scram::hmac::ScramVersion;
+use fe2o3_scram::scram_messages::ServerScramErrorKind;
 use std::alloc::Global;
 use std::test::Fail;
 

@@ -1,8 +1,8 @@
 //! The client's limit on the iteration count.
 
 use crate::messages::SHA_256;
-use fe2o3_sasl::hmac::{Meter, ScramVersion};
-use fe2o3_sasl::scram_messages::ScramErrorKind;
+use fe2o3_scram::hmac::{Meter, ScramVersion};
+use fe2o3_scram::scram_messages::ScramErrorKind;
 use std::alloc::{AllocError, Global};
 use std::test::Fail;
 

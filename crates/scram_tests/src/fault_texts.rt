@@ -1,9 +1,9 @@
 //! The texts of the faults, most of them those of `fe2o3-amqp` 0.18.4.
 
-use fe2o3_sasl::OutOfMemory;
-use fe2o3_sasl::pbkdf2_hi::KeyError;
-use fe2o3_sasl::saslprep_ascii::NormalizeError;
-use fe2o3_sasl::scram_messages::{ScramErrorKind, UnescapeError, XorLengthMismatch};
+use fe2o3_scram::OutOfMemory;
+use fe2o3_scram::pbkdf2_hi::KeyError;
+use fe2o3_scram::saslprep_ascii::NormalizeError;
+use fe2o3_scram::scram_messages::{ScramErrorKind, UnescapeError, XorLengthMismatch};
 use std::test::Fail;
 
 const SCRAM_ERROR_KINDS: [(ScramErrorKind, &str); 16] = [

@@ -1,8 +1,8 @@
 //! The texts of the server's faults, most of them those of `fe2o3-amqp` 0.18.4.
 
-use fe2o3_sasl::OutOfMemory;
-use fe2o3_sasl::pbkdf2_hi::KeyError;
-use fe2o3_sasl::scram_messages::{ServerScramErrorKind, XorLengthMismatch};
+use fe2o3_scram::OutOfMemory;
+use fe2o3_scram::pbkdf2_hi::KeyError;
+use fe2o3_scram::scram_messages::{ServerScramErrorKind, XorLengthMismatch};
 use std::test::Fail;
 
 const SERVER_SCRAM_ERROR_KINDS: [(ServerScramErrorKind, &str); 15] = [

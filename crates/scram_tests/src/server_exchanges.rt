@@ -3,8 +3,8 @@
 use crate::accounts::{Account, Accounts};
 use crate::messages::EXCHANGES;
 use base64::engine::general_purpose::STANDARD;
-use fe2o3_sasl::credentials::ScramCredentialProvider;
-use fe2o3_sasl::hmac::Meter;
+use fe2o3_scram::credentials::ScramCredentialProvider;
+use fe2o3_scram::hmac::Meter;
 use std::test::Fail;
 
 #[test]

@@ -1,6 +1,6 @@
 //! Digests and HMAC values of the RFCs and of FIPS 180-4.
 
-use fe2o3_sasl::hmac::ScramVersion;
+use fe2o3_scram::hmac::ScramVersion;
 use std::test::Fail;
 
 /// The bytes 0x01 to 0x19.

@@ -1,8 +1,8 @@
 //! Server-final messages that a client accepts or refuses.
 
 use base64::engine::general_purpose::STANDARD;
-use fe2o3_sasl::hmac::ScramVersion;
-use fe2o3_sasl::scram_messages::ScramErrorKind;
+use fe2o3_scram::hmac::ScramVersion;
+use fe2o3_scram::scram_messages::ScramErrorKind;
 use std::test::Fail;
 
 /// The signature of the exchange of RFC 7677, section 3, in base64.

@@ -1,6 +1,6 @@
 //! Published SCRAM exchanges.
 
-use fe2o3_sasl::hmac::ScramVersion;
+use fe2o3_scram::hmac::ScramVersion;
 
 /// An exchange of the user `user` with the password `pencil`.
 #[derive(Drop)]

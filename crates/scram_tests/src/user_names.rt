@@ -1,7 +1,7 @@
 //! User names as they are sent.
 
-use fe2o3_sasl::hmac::ScramVersion;
-use fe2o3_sasl::scram_messages::{UnescapeError, escape_username, unescape_username};
+use fe2o3_scram::hmac::ScramVersion;
+use fe2o3_scram::scram_messages::{UnescapeError, escape_username, unescape_username};
 use std::borrow::CowStr;
 use std::test::Fail;
 

@@ -1,8 +1,8 @@
 //! Passwords of printable ASCII.
 
-use fe2o3_sasl::hmac::ScramVersion;
-use fe2o3_sasl::pbkdf2_hi::KeyError;
-use fe2o3_sasl::saslprep_ascii::{NormalizeError, saslprep};
+use fe2o3_scram::hmac::ScramVersion;
+use fe2o3_scram::pbkdf2_hi::KeyError;
+use fe2o3_scram::saslprep_ascii::{NormalizeError, saslprep};
 use std::test::Fail;
 
 const PREPARED: [(&str, bool); 12] = [

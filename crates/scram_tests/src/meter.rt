@@ -3,9 +3,9 @@
 ghost use Rattle.std.specs.Prelude.{◌≤◌};
 
 use crate::messages::{EXCHANGES, Exchange};
-use fe2o3_sasl::OutOfMemory;
-use fe2o3_sasl::hmac::{Meter, ScramVersion};
-use fe2o3_sasl::scram_messages::ScramErrorKind;
+use fe2o3_scram::OutOfMemory;
+use fe2o3_scram::hmac::{Meter, ScramVersion};
+use fe2o3_scram::scram_messages::ScramErrorKind;
 use std::alloc::Global;
 use std::test::Fail;
 

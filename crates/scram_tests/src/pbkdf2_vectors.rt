@@ -1,6 +1,6 @@
 //! Salted passwords, which are PBKDF2 with one block of output.
 
-use fe2o3_sasl::hmac::ScramVersion;
+use fe2o3_scram::hmac::ScramVersion;
 use std::test::Fail;
 
 /// Password, salt, iterations, and the first block of the output or what is given of it.
