@@ -9,7 +9,7 @@ use Rattle.fe2o3_scram.specs.ServerFirst.{Client, ServerFirst, ReadsServerFirst}
 use Rattle.std.specs.Str.{IsUtf8}
 use Rattle.base64.specs.GeneralPurpose.{IsBytes}
 use Rattle.fe2o3_scram.specs.declared.scram_messages.error.ServerScramErrorKind.{ServerScramErrorKind}
-use Rattle.fe2o3_scram.specs.declared.scram_messages.error.ServerScramErrorKind.TheVariants.{Utf8Error, CannotParseClientFinalMessage, Base64DecodeError, InvalidChannelBinding, IncorrectClientFinalNonce, ProofNotFoundInClientFinal, XorLengthMismatch, AuthenticationFailed, OutOfMemory}
+use Rattle.fe2o3_scram.specs.declared.scram_messages.error.ServerScramErrorKind.TheVariants.{Utf8Error, CannotParseClientFinalMessage, Base64DecodeError, InvalidChannelBinding, IncorrectClientFinalNonce, ProofNotFoundInClientFinal, XorLengthMismatch, AuthenticationFailed}
 use Rattle.fe2o3_scram.specs.Credentials.{Record}
 use Rattle.fe2o3_scram.specs.Hmac.{digest, digest_len, hmac_of, exclusive_or}
 use Rattle.fe2o3_scram.specs.Readings.{Reads}

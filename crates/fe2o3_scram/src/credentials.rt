@@ -3,8 +3,7 @@
 ghost use Rattle.std.specs.Prelude.{◌≡◌, ◌↔◌, ◌⊎◌, [], ◌∷◌, IfOk, IfErr, option_map};
 ghost use Rattle.std.specs.String.{string_bytes};
 ghost use Rattle.std.proofs.Common.{ap};
-ghost use Rattle.fe2o3_scram.specs.declared.hmac.ScramVersion.{ScramVersion};
-ghost use Rattle.fe2o3_scram.specs.Credentials.{Records, Provider, record_at, record_of, kept};
+ghost use Rattle.fe2o3_scram.specs.Credentials.{Provider, record_at, record_of, kept};
 ghost use Rattle.fe2o3_scram.specs.SaslprepAscii.{IsPrintable};
 
 use crate::hmac::ScramVersion;
@@ -35,29 +34,25 @@ pub struct StoredPassword<'a> {
 /// A store of credentials: a version, and a finite map from user names to what is kept of their
 /// passwords. User names are plain, and not escaped.
 pub trait ScramCredentialProvider: Clone {
-    ghost version: { Self → ScramVersion };
-
-    ghost records: { Self → Records };
+    /// What the provider means: a version, and a record for each of its users.
+    ghost meaning: { Self → Provider };
 
     /// The version of every record.
     fn scram_version(&self) -> &ScramVersion
-        ensures { result.now ≡ version self.now };
+        ensures { result.now ≡ (meaning self.now).version };
 
     /// What is kept of the user's password.
     fn get_stored_password<'a>(&'a self, username: &str) -> Option<StoredPassword<'a>>
-        ensures { option_map kept result ≡ record_at (records self.now) username.now };
+        ensures { option_map kept result ≡ record_at (meaning self.now).records username.now };
 
-    /// A clone has the same version and the same records.
-    ghost clone_keeps: { (provider copy : Self) → Self.is_clone provider copy
-        → (version copy ≡ version provider) × (records copy ≡ records provider) };
+    /// A clone means the same.
+    ghost clone_keeps: { (provider copy : Self) → Self.is_clone provider copy → meaning copy ≡ meaning provider };
 }
 
 impl<T: ScramCredentialProvider> ScramCredentialProvider for Rc<T> {
-    ghost version = { λ shared. T.version shared.value };
+    ghost meaning = { λ shared. T.meaning shared.value };
 
-    ghost records = { λ shared. T.records shared.value };
-
-    ghost clone_keeps = { λ provider copy same. (ap (λ value. T.version value) same, ap (λ value. T.records value) same) };
+    ghost clone_keeps = { λ provider copy same. ap (λ value. T.meaning value) same };
 
     fn scram_version(&self) -> &ScramVersion {
         let provider: &T = self;
@@ -158,14 +153,9 @@ impl Clone for SingleScramCredential {
 }
 
 impl ScramCredentialProvider for SingleScramCredential {
-    ghost version = { λ credential. credential.version };
+    ghost meaning = { λ credential. credential };
 
-    ghost records = { λ credential. credential.records };
-
-    ghost clone_keeps = { λ provider copy same. (
-      ap (λ (value : Provider). value.version) same,
-      ap (λ (value : Provider). value.records) same,
-    ) };
+    ghost clone_keeps = { λ provider copy same. same };
 
     fn scram_version(&self) -> &ScramVersion {
         &self.scram_version

@@ -88,11 +88,7 @@ impl<C: ScramCredentialProvider> ScramAuthenticator<C> {
         nonce: &[u8; 32],
     ) -> Result<Option<Vec<u8>>, ServerScramErrorKind>
         ensures answer { Gives ServerScramErrorKind.OutOfMemory (option_map (λ message. message.items)) result
-            (λ answer. ChallengesFrom (state_in self.old) (record {
-              version =
-                  C.version (provider_in self.old);
-              records = C.records (provider_in self.old);
-            }) nonce.now
+            (λ answer. ChallengesFrom (state_in self.old) (C.meaning (provider_in self.old)) nonce.now
             client_first_message.now answer (state_in self.new)) }
         ensures provider { provider_in self.new ≡ provider_in self.old }
         ensures err { OnErr result (state_in self.new ≡ state_in self.old) }
@@ -129,11 +125,8 @@ impl<C: ScramCredentialProvider> ScramAuthenticator<C> {
         client_final_message: &[u8],
     ) -> Result<Option<Vec<u8>>, ServerScramErrorKind>
         ensures answer { Gives ServerScramErrorKind.OutOfMemory (option_map (λ message. message.items)) result
-            (λ answer. ConcludesFrom (state_in self.old) (record {
-              version = C.version (provider_in self.old);
-              records =
-                  C.records (provider_in self.old);
-            }) client_final_message.now answer (state_in self.new)) }
+            (λ answer. ConcludesFrom (state_in self.old) (C.meaning (provider_in self.old))
+            client_final_message.now answer (state_in self.new)) }
         ensures provider { provider_in self.new ≡ provider_in self.old }
         ensures err { OnErr result (state_in self.new ≡ state_in self.old) }
     {
@@ -174,7 +167,7 @@ fn challenge<'a, C: ScramCredentialProvider>(
     nonce: &[u8; 32],
 ) -> Result<Option<ServerFirstMessage<'a>>, ServerScramErrorKind>
     ensures { Gives ServerScramErrorKind.OutOfMemory (option_map challenge_values) result
-        (AnswersClientFirst (C.records credentials.now) (base64_text nonce.now) client_first_message.now) }
+        (AnswersClientFirst (C.meaning credentials.now).records (base64_text nonce.now) client_first_message.now) }
 {
     let base64_server_nonce = base64_of(alloc, nonce)?;
     let version = *credentials.scram_version();

@@ -45,7 +45,7 @@ impl ScramVersion {
         credentials: &C,
     ) -> Result<Option<ServerFirstMessage<'a>>, ServerScramErrorKind>
         ensures { Gives ServerScramErrorKind.OutOfMemory (option_map challenge_values) result
-            (AnswersClientFirst (C.records credentials.now) base64_server_nonce.now client_first.now) }
+            (AnswersClientFirst (C.meaning credentials.now).records base64_server_nonce.now client_first.now) }
     {
         let client_first = read_client_first(alloc, client_first)?;
         let Some(stored_password) = credentials.get_stored_password(&client_first.username) else {
