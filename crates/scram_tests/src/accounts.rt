@@ -2,8 +2,7 @@
 
 ghost use Rattle.std.specs.Prelude.{◌≡◌, ◌≤◌, option_map, nat_eq};
 ghost use Rattle.std.specs.Cmp.Lexicographic.{pointwise};
-ghost use Rattle.std.proofs.Common.{ap};
-ghost use Rattle.fe2o3_scram.specs.Credentials.{Provider, record_at, kept};
+ghost use Rattle.fe2o3_scram.specs.Credentials.{record_at, kept};
 
 use fe2o3_scram::credentials::{ScramCredentialProvider, StoredPassword};
 use fe2o3_scram::hmac::ScramVersion;
@@ -155,14 +154,9 @@ impl Clone for Accounts {
 }
 
 impl ScramCredentialProvider for Accounts {
-    ghost version = { λ store. store.version };
+    ghost meaning = { λ store. store };
 
-    ghost records = { λ store. store.records };
-
-    ghost clone_keeps = { λ provider copy same. (
-      ap (λ (value : Provider). value.version) same,
-      ap (λ (value : Provider). value.records) same,
-    ) };
+    ghost clone_keeps = { λ provider copy same. same };
 
     fn scram_version(&self) -> &ScramVersion {
         &self.version

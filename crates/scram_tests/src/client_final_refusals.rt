@@ -1,6 +1,6 @@
 //! Client-final messages that a server accepts or refuses, and the HMAC values that they cost.
 
-use crate::messages::{EXCHANGES, SHA_256};
+use crate::messages::{Exchange, SHA_1, SHA_256, SHA_512};
 use base64::engine::general_purpose::STANDARD;
 use fe2o3_scram::credentials::StoredPassword;
 use fe2o3_scram::hmac::{Meter, ScramVersion};
@@ -25,7 +25,8 @@ const REFUSED: [(&[u8], ServerScramErrorKind); 34] = [
     // Not UTF-8, which is told before all else.
     (b"\xff", ServerScramErrorKind::Utf8Error),
     (
-        b"c=biws,r=rOprNGfwEbeRWgbNEkqO%hvYDpWUa2RaTCAfuxFIlj)hNlF$k0,p=dHzbZapWIk4jUhN+Ute9ytag9zjfMHgsqmmiz7AndVQ=\xff",
+        b"c=biws,r=rOprNGfwEbeRWgbNEkqO%hvYDpWUa2RaTCAfuxFIlj)hNlF$k0,\
+            p=dHzbZapWIk4jUhN+Ute9ytag9zjfMHgsqmmiz7AndVQ=\xff",
         ServerScramErrorKind::Utf8Error,
     ),
     // No channel binding in the first part.
@@ -54,7 +55,8 @@ const REFUSED: [(&[u8], ServerScramErrorKind); 34] = [
     (b"c=", ServerScramErrorKind::InvalidChannelBinding),
     (b"c=eSws", ServerScramErrorKind::InvalidChannelBinding),
     (
-        b"c=biwsYQ==,r=rOprNGfwEbeRWgbNEkqO%hvYDpWUa2RaTCAfuxFIlj)hNlF$k0,p=dHzbZapWIk4jUhN+Ute9ytag9zjfMHgsqmmiz7AndVQ=",
+        b"c=biwsYQ==,r=rOprNGfwEbeRWgbNEkqO%hvYDpWUa2RaTCAfuxFIlj)hNlF$k0,\
+            p=dHzbZapWIk4jUhN+Ute9ytag9zjfMHgsqmmiz7AndVQ=",
         ServerScramErrorKind::InvalidChannelBinding,
     ),
     // No nonce in the second part.
@@ -67,7 +69,8 @@ const REFUSED: [(&[u8], ServerScramErrorKind); 34] = [
         ServerScramErrorKind::CannotParseClientFinalMessage,
     ),
     (
-        b"c=biws,x=y,r=rOprNGfwEbeRWgbNEkqO%hvYDpWUa2RaTCAfuxFIlj)hNlF$k0,p=dHzbZapWIk4jUhN+Ute9ytag9zjfMHgsqmmiz7AndVQ=",
+        b"c=biws,x=y,r=rOprNGfwEbeRWgbNEkqO%hvYDpWUa2RaTCAfuxFIlj)hNlF$k0,\
+            p=dHzbZapWIk4jUhN+Ute9ytag9zjfMHgsqmmiz7AndVQ=",
         ServerScramErrorKind::CannotParseClientFinalMessage,
     ),
     (
@@ -113,7 +116,8 @@ const REFUSED: [(&[u8], ServerScramErrorKind); 34] = [
         ServerScramErrorKind::ProofNotFoundInClientFinal,
     ),
     (
-        b"c=biws,r=rOprNGfwEbeRWgbNEkqO%hvYDpWUa2RaTCAfuxFIlj)hNlF$k0,p=dHzbZapWIk4jUhN+Ute9ytag9zjfMHgsqmmiz7AndVQ=,x=y",
+        b"c=biws,r=rOprNGfwEbeRWgbNEkqO%hvYDpWUa2RaTCAfuxFIlj)hNlF$k0,\
+            p=dHzbZapWIk4jUhN+Ute9ytag9zjfMHgsqmmiz7AndVQ=,x=y",
         ServerScramErrorKind::ProofNotFoundInClientFinal,
     ),
     // A proof that is no base64.
@@ -165,11 +169,13 @@ const REFUSED_PROOFS: [(&[u8], ServerScramErrorKind); 5] = [
     ),
     // The right proof of another text.
     (
-        b"c=biws,r=rOprNGfwEbeRWgbNEkqO%hvYDpWUa2RaTCAfuxFIlj)hNlF$k0,x=y,p=dHzbZapWIk4jUhN+Ute9ytag9zjfMHgsqmmiz7AndVQ=",
+        b"c=biws,r=rOprNGfwEbeRWgbNEkqO%hvYDpWUa2RaTCAfuxFIlj)hNlF$k0,x=y,\
+            p=dHzbZapWIk4jUhN+Ute9ytag9zjfMHgsqmmiz7AndVQ=",
         ServerScramErrorKind::AuthenticationFailed,
     ),
     (
-        b"c=biws,r=rOprNGfwEbeRWgbNEkqO%hvYDpWUa2RaTCAfuxFIlj)hNlF$k0,p=AAAA,p=dHzbZapWIk4jUhN+Ute9ytag9zjfMHgsqmmiz7AndVQ=",
+        b"c=biws,r=rOprNGfwEbeRWgbNEkqO%hvYDpWUa2RaTCAfuxFIlj)hNlF$k0,p=AAAA,\
+            p=dHzbZapWIk4jUhN+Ute9ytag9zjfMHgsqmmiz7AndVQ=",
         ServerScramErrorKind::AuthenticationFailed,
     ),
 ];
@@ -182,7 +188,8 @@ const ACCEPTED: [(&str, &str); 4] = [
         "v=6rriTRBi23WpRR/wtup+mMhUZUn/dB5nLTJRsjl95G4=",
     ),
     (
-        "c=biws,r=rOprNGfwEbeRWgbNEkqO%hvYDpWUa2RaTCAfuxFIlj)hNlF$k0,x=y,p=hiydbhhSdqgYmG6zIHL1YMb5uF7MSWYNIkX/o4C0/3M=",
+        "c=biws,r=rOprNGfwEbeRWgbNEkqO%hvYDpWUa2RaTCAfuxFIlj)hNlF$k0,x=y,\
+            p=hiydbhhSdqgYmG6zIHL1YMb5uF7MSWYNIkX/o4C0/3M=",
         "v=h6KAJEtS1nRZQE66XpJK0s7Xk8dMKi8bR/H2bHBf058=",
     ),
     (
@@ -190,27 +197,40 @@ const ACCEPTED: [(&str, &str); 4] = [
         "v=1AelX1J9p1D2IA+hVfdoinuV5dzflvITPLGAaXqHdsA=",
     ),
     (
-        "c=biws,r=rOprNGfwEbeRWgbNEkqO%hvYDpWUa2RaTCAfuxFIlj)hNlF$k0,p=AAAA,p=D8fbauu+wZ7O8ToIRDO2tRWnYznvkuNQHpDmclPaPDY=",
+        "c=biws,r=rOprNGfwEbeRWgbNEkqO%hvYDpWUa2RaTCAfuxFIlj)hNlF$k0,p=AAAA,\
+            p=D8fbauu+wZ7O8ToIRDO2tRWnYznvkuNQHpDmclPaPDY=",
         "v=gqG5XuajQmM/b9Cmxdly7FNSMZ9NR0JOnfRkeSF7Jag=",
     ),
 ];
 
-/// Refuses each message at the cost that is given.
-fn refuses(
-    rt: &impl Abort,
-    alloc: Global,
-    messages: &[(&[u8], ServerScramErrorKind)],
-    cost: u64,
-) -> Result<(), Fail> {
-    let stored_key = STANDARD.decode(alloc, STORED_KEY.as_bytes())?;
-    let server_key = STANDARD.decode(alloc, SERVER_KEY.as_bytes())?;
-    let stored_password = StoredPassword {
-        salt: b"",
-        iterations: 4096,
-        stored_key: &stored_key,
-        server_key: &server_key,
-    };
-    for (message, wanted) in messages {
+/// Both keys of that exchange.
+#[derive(Drop)]
+struct Keys {
+    stored_key: Vec<u8>,
+    server_key: Vec<u8>,
+}
+
+impl Keys {
+    fn new(alloc: Global) -> Result<Keys, Fail> {
+        Ok(Keys {
+            stored_key: STANDARD.decode(alloc, STORED_KEY.as_bytes())?,
+            server_key: STANDARD.decode(alloc, SERVER_KEY.as_bytes())?,
+        })
+    }
+
+    /// The server's answer to a client-final message of that exchange, and the HMAC values that it
+    /// costs.
+    fn answer(
+        &self,
+        alloc: Global,
+        message: &[u8],
+    ) -> (Result<Vec<u8>, ServerScramErrorKind>, u64) {
+        let stored_password = StoredPassword {
+            salt: b"",
+            iterations: 4096,
+            stored_key: &self.stored_key,
+            server_key: &self.server_key,
+        };
         let mut meter = Meter::new();
         let answer = ScramVersion::Sha256.compute_server_final_message_metered(
             alloc,
@@ -221,8 +241,22 @@ fn refuses(
             &stored_password,
             &mut meter,
         );
+        (answer, meter.count())
+    }
+}
+
+/// Refuses each message at the cost that is given.
+fn refuses(
+    rt: &impl Abort,
+    alloc: Global,
+    messages: &[(&[u8], ServerScramErrorKind)],
+    cost: u64,
+) -> Result<(), Fail> {
+    let keys = Keys::new(alloc)?;
+    for (message, wanted) in messages {
+        let (answer, count) = keys.answer(alloc, message);
         assert_eq!(rt; answer.err(), Some(*wanted), "{message:?}");
-        assert_eq!(rt; meter.count(), cost, "{message:?}");
+        assert_eq!(rt; count, cost, "{message:?}");
     }
     Ok(())
 }
@@ -239,28 +273,11 @@ fn a_wrong_proof_costs_one(rt: HostRuntime) -> Result<(), Fail> {
 
 #[test]
 fn a_right_proof_costs_two(rt: HostRuntime) -> Result<(), Fail> {
-    let alloc = rt.alloc();
-    let stored_key = STANDARD.decode(alloc, STORED_KEY.as_bytes())?;
-    let server_key = STANDARD.decode(alloc, SERVER_KEY.as_bytes())?;
-    let stored_password = StoredPassword {
-        salt: b"",
-        iterations: 4096,
-        stored_key: &stored_key,
-        server_key: &server_key,
-    };
-    for (message, wanted) in ACCEPTED {
-        let mut meter = Meter::new();
-        let answer = ScramVersion::Sha256.compute_server_final_message_metered(
-            alloc,
-            message.as_bytes(),
-            NONCE,
-            CLIENT_FIRST_BARE,
-            SHA_256.server_first.as_bytes(),
-            &stored_password,
-            &mut meter,
-        )?;
-        assert_eq!(rt; str::from_utf8(&answer)?, wanted, "{message}");
-        assert_eq!(rt; meter.count(), 2, "{message}");
+    let keys = Keys::new(rt.alloc())?;
+    for (message, wanted) in &ACCEPTED {
+        let (answer, count) = keys.answer(rt.alloc(), message.as_bytes());
+        assert_eq!(rt; answer?.as_slice(), wanted.as_bytes(), "{message}");
+        assert_eq!(rt; count, 2, "{message}");
     }
     Ok(())
 }
@@ -276,39 +293,57 @@ const ZEROS: [(&str, usize); 4] = [
     ),
 ];
 
-#[test]
-fn a_proof_is_as_long_as_a_digest_of_its_version(rt: HostRuntime) -> Result<(), Fail> {
-    let alloc = rt.alloc();
-    for (exchange, digest_len) in EXCHANGES.into_iter().zip([20, 32, 64]) {
-        let (without_proof, _) = exchange.client_final.rsplit_once(",p=").ok_or("no proof")?;
-        let nonce = without_proof.strip_prefix("c=biws,r=").ok_or("no nonce")?;
-        // No proof of zeros meets this key.
-        let stored_password = StoredPassword {
-            salt: b"",
-            iterations: 4096,
-            stored_key: b"key",
-            server_key: b"key",
+/// Why a server of the exchange refuses a message under a key that no proof of zeros
+/// meets, and the HMAC values that it made.
+fn refusal(
+    alloc: Global,
+    exchange: &Exchange,
+    nonce: &str,
+    message: &str,
+) -> (Option<ServerScramErrorKind>, u64) {
+    let stored_password = StoredPassword {
+        salt: b"",
+        iterations: 4096,
+        stored_key: b"key",
+        server_key: b"key",
+    };
+    let mut meter = Meter::new();
+    let answer = exchange.version.compute_server_final_message_metered(
+        alloc,
+        message.as_bytes(),
+        nonce.as_bytes(),
+        exchange.client_first_bare.as_bytes(),
+        exchange.server_first.as_bytes(),
+        &stored_password,
+        &mut meter,
+    );
+    (answer.err(), meter.count())
+}
+
+/// Refuses proofs of zeros: those of a digest's length as wrong, and the others by their length.
+fn refuses_zeros<R: Abort + AllocGlobal>(
+    rt: &R,
+    exchange: &Exchange,
+    digest_len: usize,
+) -> Result<(), Fail> {
+    let (without_proof, _) = exchange.client_final.rsplit_once(",p=").ok_or("no proof")?;
+    let nonce = without_proof.strip_prefix("c=biws,r=").ok_or("no nonce")?;
+    for (proof, len) in &ZEROS {
+        let message = format!(in rt.alloc(); "{without_proof},p={proof}")?;
+        let wanted = if *len == digest_len {
+            (Some(ServerScramErrorKind::AuthenticationFailed), 1)
+        } else {
+            (Some(ServerScramErrorKind::XorLengthMismatch), 0)
         };
-        for (proof, len) in ZEROS {
-            let message = format!(in alloc; "{without_proof},p={proof}")?;
-            let mut meter = Meter::new();
-            let answer = exchange.version.compute_server_final_message_metered(
-                alloc,
-                message.as_bytes(),
-                nonce.as_bytes(),
-                exchange.client_first_bare.as_bytes(),
-                exchange.server_first.as_bytes(),
-                &stored_password,
-                &mut meter,
-            );
-            let (wanted, cost) = if len == digest_len {
-                (ServerScramErrorKind::AuthenticationFailed, 1)
-            } else {
-                (ServerScramErrorKind::XorLengthMismatch, 0)
-            };
-            assert_eq!(rt; answer.err(), Some(wanted), "{message}");
-            assert_eq!(rt; meter.count(), cost, "{message}");
-        }
+        let refusal = refusal(rt.alloc(), exchange, nonce, &message);
+        assert_eq!(rt; refusal, wanted, "{message}");
     }
     Ok(())
+}
+
+#[test]
+fn a_proof_is_as_long_as_a_digest_of_its_version(rt: HostRuntime) -> Result<(), Fail> {
+    refuses_zeros(&rt, &SHA_1, 20)?;
+    refuses_zeros(&rt, &SHA_256, 32)?;
+    refuses_zeros(&rt, &SHA_512, 64)
 }

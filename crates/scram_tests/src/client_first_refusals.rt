@@ -2,7 +2,7 @@
 
 use crate::accounts::{Account, Accounts};
 use fe2o3_scram::hmac::ScramVersion;
-use fe2o3_scram::scram_messages::ServerScramErrorKind;
+use fe2o3_scram::scram_messages::{ServerFirstMessage, ServerScramErrorKind};
 use std::alloc::Global;
 use std::test::Fail;
 
@@ -130,17 +130,21 @@ fn accounts(alloc: Global) -> Result<Accounts, Fail> {
     Ok(accounts)
 }
 
+/// The server's answer to a message.
+fn answer<'a>(
+    alloc: Global,
+    accounts: &Accounts,
+    message: &'a [u8],
+) -> Result<Option<ServerFirstMessage<'a>>, ServerScramErrorKind> {
+    ScramVersion::Sha1.compute_server_first_message(alloc, message, SERVER_NONCE, accounts)
+}
+
 #[test]
 fn refuses_what_it_cannot_read(rt: HostRuntime) -> Result<(), Fail> {
     let accounts = accounts(rt.alloc())?;
-    for (message, wanted) in REFUSED {
-        let answer = ScramVersion::Sha1.compute_server_first_message(
-            rt.alloc(),
-            message,
-            SERVER_NONCE,
-            &accounts,
-        );
-        assert_eq!(rt; answer.err(), Some(wanted), "{message:?}");
+    for (message, wanted) in &REFUSED {
+        let kind = answer(rt.alloc(), &accounts, message).err();
+        assert_eq!(rt; kind, Some(*wanted), "{message:?}");
     }
     Ok(())
 }
@@ -148,17 +152,12 @@ fn refuses_what_it_cannot_read(rt: HostRuntime) -> Result<(), Fail> {
 #[test]
 fn challenges_the_users_that_it_knows(rt: HostRuntime) -> Result<(), Fail> {
     let accounts = accounts(rt.alloc())?;
-    for (message, user, wanted) in ANSWERED {
-        let answer = ScramVersion::Sha1
-            .compute_server_first_message(rt.alloc(), message, SERVER_NONCE, &accounts)?
-            .ok_or("unknown user")?;
-        assert_eq!(rt; answer.username.as_str(), user, "{message:?}");
-        assert_eq!(rt; str::from_utf8(&answer.message)?, wanted, "{message:?}");
-        assert_eq!(rt;
-            Some(answer.client_first_message_bare.as_bytes()),
-            message.strip_prefix(b"n,,"),
-            "{message:?}"
-        );
+    for (message, user, wanted) in &ANSWERED {
+        let answer = answer(rt.alloc(), &accounts, message)?.ok_or("unknown user")?;
+        let bare = answer.client_first_message_bare.as_bytes();
+        assert_eq!(rt; answer.username.as_str(), *user, "{message:?}");
+        assert_eq!(rt; answer.message.as_slice(), wanted.as_bytes(), "{message:?}");
+        assert_eq!(rt; Some(bare), message.strip_prefix(b"n,,"), "{message:?}");
     }
     Ok(())
 }
@@ -166,13 +165,8 @@ fn challenges_the_users_that_it_knows(rt: HostRuntime) -> Result<(), Fail> {
 #[test]
 fn has_no_answer_for_others(rt: HostRuntime) -> Result<(), Fail> {
     let accounts = accounts(rt.alloc())?;
-    for message in UNKNOWN {
-        let answer = ScramVersion::Sha1.compute_server_first_message(
-            rt.alloc(),
-            message,
-            SERVER_NONCE,
-            &accounts,
-        )?;
+    for message in &UNKNOWN {
+        let answer = answer(rt.alloc(), &accounts, message)?;
         assert!(rt; answer.is_none(), "{message:?}");
     }
     Ok(())

@@ -87,9 +87,9 @@ fn refusal(
 
 #[test]
 fn a_count_above_the_limit_is_refused(rt: HostRuntime) -> Result<(), Fail> {
-    for (count, password, limit, wanted) in LIMITS {
-        let refusal = refusal(rt.alloc(), count, password, limit)?;
-        assert_eq!(rt; refusal, wanted, "{count} at {limit}");
+    for (count, password, limit, wanted) in &LIMITS {
+        let refusal = refusal(rt.alloc(), count, password, *limit)?;
+        assert_eq!(rt; refusal, *wanted, "{count} at {limit}");
     }
     Ok(())
 }

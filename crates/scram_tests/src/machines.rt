@@ -1,24 +1,23 @@
 //! Logins through both machines, message after message.
 
 use crate::accounts::{Account, Accounts};
+use crate::fixed_nonces::{client_final, client_first, server_first};
 use fe2o3_scram::credentials::{ScramCredentialProvider, SingleScramCredential};
 use fe2o3_scram::hmac::ScramVersion;
 use fe2o3_scram::scram_client::ScramClient;
 use fe2o3_scram::scram_messages::{ScramErrorKind, ServerScramErrorKind};
 use fe2o3_scram::scram_server::ScramAuthenticator;
-use std::alloc::Global;
+use std::alloc::{AllocError, Global};
 use std::process::Abort;
 use std::rc::Rc;
 use std::test::Fail;
 
-const CLIENT_FIRST: &str = "n,,n=user,r=AQEBAQEBAQEBAQEBAQEBAQEBAQEBAQEBAQEBAQEBAQE=";
+const CLIENT_FIRST: &str = client_first!("user");
 
-const SERVER_FIRST: &str =
-    "r=AQEBAQEBAQEBAQEBAQEBAQEBAQEBAQEBAQEBAQEBAQE=AgICAgICAgICAgICAgICAgICAgICAgICAgICAgICAgI=,s=AwMDAwMDAwMDAwMDAwMDAwMDAwMDAwMDAwMDAwMDAwM=,i=4096";
+const SERVER_FIRST: &str = server_first!("s=AwMDAwMDAwMDAwMDAwMDAwMDAwMDAwMDAwMDAwMDAwM=,i=4096");
 
 /// Computed with Python's `hashlib` and `hmac`, as is the answer to it.
-const CLIENT_FINAL: &str =
-    "c=biws,r=AQEBAQEBAQEBAQEBAQEBAQEBAQEBAQEBAQEBAQEBAQE=AgICAgICAgICAgICAgICAgICAgICAgICAgICAgICAgI=,p=BCNcOZg0+DjVmOYbquTj+7JaBIvtH0PUtQer0ntwLxQ=";
+const CLIENT_FINAL: &str = client_final!("BCNcOZg0+DjVmOYbquTj+7JaBIvtH0PUtQer0ntwLxQ=");
 
 const SERVER_FINAL: &str = "v=X3wMIzagbJ5+sxd0FRk7lZ5X07UBZA8KFKL41BMrTwo=";
 
@@ -142,9 +141,7 @@ const LOGINS: [(Call, Outcome<&'static str>); 32] = [
     ),
     // A proof of 32 bytes 01.
     (
-        Call::ReadClientFinal(
-            "c=biws,r=AQEBAQEBAQEBAQEBAQEBAQEBAQEBAQEBAQEBAQEBAQE=AgICAgICAgICAgICAgICAgICAgICAgICAgICAgICAgI=,p=AQEBAQEBAQEBAQEBAQEBAQEBAQEBAQEBAQEBAQEBAQE=",
-        ),
+        Call::ReadClientFinal(client_final!("AQEBAQEBAQEBAQEBAQEBAQEBAQEBAQEBAQEBAQEBAQE=")),
         Outcome::ServerRefuses(ServerScramErrorKind::AuthenticationFailed),
     ),
     (
@@ -213,6 +210,28 @@ fn served(answer: Result<Option<Vec<u8>>, ServerScramErrorKind>) -> Outcome<Vec<
     }
 }
 
+/// What came of a call of the client that answers a message.
+fn answered(answer: Result<Vec<u8>, ScramErrorKind>) -> Outcome<Vec<u8>> {
+    match answer {
+        Ok(message) => Outcome::Message(message),
+        Err(kind) => Outcome::ClientRefuses(kind),
+    }
+}
+
+/// What came of the client's last call.
+fn believed(verdict: Result<(), ScramErrorKind>) -> Outcome<Vec<u8>> {
+    match verdict {
+        Ok(()) => Outcome::Believed,
+        Err(kind) => Outcome::ClientRefuses(kind),
+    }
+}
+
+/// The client's first message, with a nonce of 32 bytes 01.
+fn start(alloc: Global, client: &mut ScramClient) -> Result<Outcome<Vec<u8>>, Fail> {
+    let message = client.compute_client_first_message(alloc, &[1; 32])?;
+    Ok(Outcome::Message(message.to_vec(alloc)?))
+}
+
 /// Makes the call, with 32 bytes 01 as the client's nonce and 32 bytes 02 as the server's.
 fn make<C: ScramCredentialProvider + Drop>(
     alloc: Global,
@@ -221,18 +240,11 @@ fn make<C: ScramCredentialProvider + Drop>(
     call: Call,
 ) -> Result<Outcome<Vec<u8>>, Fail> {
     Ok(match call {
-        Call::Start => {
-            let message = client.compute_client_first_message(alloc, &[1; 32])?;
-            Outcome::Message(message.to_vec(alloc)?)
+        Call::Start => start(alloc, client)?,
+        Call::ReadServerFirst(text) => answered(client.compute_client_final_message(alloc, text)),
+        Call::ReadServerFinal(text) => {
+            believed(client.validate_server_final(alloc, text.as_bytes()))
         }
-        Call::ReadServerFirst(text) => match client.compute_client_final_message(alloc, text) {
-            Ok(message) => Outcome::Message(message),
-            Err(kind) => Outcome::ClientRefuses(kind),
-        },
-        Call::ReadServerFinal(text) => match client.validate_server_final(alloc, text.as_bytes()) {
-            Ok(()) => Outcome::Believed,
-            Err(kind) => Outcome::ClientRefuses(kind),
-        },
         Call::ReadClientFirst(text) => {
             served(server.compute_server_first_message(alloc, text.as_bytes(), &[2; 32]))
         }
@@ -243,6 +255,27 @@ fn make<C: ScramCredentialProvider + Drop>(
     })
 }
 
+/// Makes the call on clones of both machines.
+fn make_on_clones<C: ScramCredentialProvider + Drop>(
+    alloc: Global,
+    client: &ScramClient,
+    server: &ScramAuthenticator<C>,
+    call: Call,
+) -> Result<Outcome<Vec<u8>>, Fail> {
+    let mut client = client.clone()?;
+    let mut server = server.clone()?;
+    make(alloc, &mut client, &mut server, call)
+}
+
+/// A client of `user` with the password `pencil`.
+fn client(alloc: Global) -> Result<ScramClient, AllocError> {
+    Ok(ScramClient::new(
+        "user".to_string(alloc)?,
+        "pencil".to_string(alloc)?,
+        ScramVersion::Sha256,
+    ))
+}
+
 /// Makes all calls on a client of `user` and on a server. Before each, the same call is made on
 /// clones, which changes nothing for the machines themselves.
 fn play<C: ScramCredentialProvider + Drop>(
@@ -250,19 +283,13 @@ fn play<C: ScramCredentialProvider + Drop>(
     alloc: Global,
     credentials: C,
 ) -> Result<(), Fail> {
-    let mut client = ScramClient::new(
-        "user".to_string(alloc)?,
-        "pencil".to_string(alloc)?,
-        ScramVersion::Sha256,
-    );
+    let mut client = client(alloc)?;
     let mut server = ScramAuthenticator::new(credentials);
-    for (call, wanted) in LOGINS {
-        let mut same_client = client.clone()?;
-        let mut same_server = server.clone()?;
-        let outcome = make(alloc, &mut same_client, &mut same_server, call)?;
-        assert!(rt; outcome.is(&wanted), "{call:?} on clones: {outcome:?}");
-        let outcome = make(alloc, &mut client, &mut server, call)?;
-        assert!(rt; outcome.is(&wanted), "{call:?}: {outcome:?}");
+    for (call, wanted) in &LOGINS {
+        let outcome = make_on_clones(alloc, &client, &server, *call)?;
+        assert!(rt; outcome.is(wanted), "{call:?} on clones: {outcome:?}");
+        let outcome = make(alloc, &mut client, &mut server, *call)?;
+        assert!(rt; outcome.is(wanted), "{call:?}: {outcome:?}");
     }
     Ok(())
 }
@@ -318,24 +345,26 @@ const CHALLENGES: [(&str, Outcome<&'static str>); 3] = [
     ),
 ];
 
+/// What a new server with these credentials says to a client-first message.
+fn challenge<C: ScramCredentialProvider + Drop>(
+    alloc: Global,
+    credentials: C,
+    message: &str,
+) -> Outcome<Vec<u8>> {
+    let mut server = ScramAuthenticator::new(credentials);
+    served(server.compute_server_first_message(alloc, message.as_bytes(), &[2; 32]))
+}
+
 #[test]
 fn a_shared_credential_gives_the_same_challenge(rt: HostRuntime) -> Result<(), Fail> {
     let alloc = rt.alloc();
     let single = credential(alloc)?;
     let shared = Rc::new(alloc, single.clone()?)?;
-    for (message, wanted) in CHALLENGES {
-        let outcome = served(ScramAuthenticator::new(single.clone()?).compute_server_first_message(
-            alloc,
-            message.as_bytes(),
-            &[2; 32],
-        ));
-        assert!(rt; outcome.is(&wanted), "{message}: {outcome:?}");
-        let outcome = served(ScramAuthenticator::new(shared.clone()?).compute_server_first_message(
-            alloc,
-            message.as_bytes(),
-            &[2; 32],
-        ));
-        assert!(rt; outcome.is(&wanted), "{message}, shared: {outcome:?}");
+    for (message, wanted) in &CHALLENGES {
+        let outcome = challenge(alloc, single.clone()?, message);
+        assert!(rt; outcome.is(wanted), "{message}: {outcome:?}");
+        let outcome = challenge(alloc, shared.clone()?, message);
+        assert!(rt; outcome.is(wanted), "{message}, shared: {outcome:?}");
     }
     Ok(())
 }
@@ -343,12 +372,7 @@ fn a_shared_credential_gives_the_same_challenge(rt: HostRuntime) -> Result<(), F
 #[test]
 fn a_client_keeps_its_limit(rt: HostRuntime) -> Result<(), Fail> {
     let alloc = rt.alloc();
-    let mut client = ScramClient::new(
-        "user".to_string(alloc)?,
-        "pencil".to_string(alloc)?,
-        ScramVersion::Sha256,
-    )
-    .with_iteration_limit(4095);
+    let mut client = client(alloc)?.with_iteration_limit(4095);
     client.compute_client_first_message(alloc, &[1; 32])?;
     let mut same = client.clone()?;
     for _ in 0..2 {

@@ -1,6 +1,7 @@
 //! Records that no password gives, and users with odd names, as a server meets them.
 
 use crate::accounts::{Account, Accounts};
+use crate::fixed_nonces::{client_final, client_first, server_first};
 use base64::engine::general_purpose::STANDARD;
 use fe2o3_scram::credentials::ScramCredentialProvider;
 use fe2o3_scram::hmac::ScramVersion;
@@ -44,12 +45,10 @@ const RECORDS: [OddRecord; 10] = [
         iterations: 4096,
         stored_key: "bSqDc2nsVd+d5pD9odZM6kFNedQ0ntQqYaOXJD2q2NE=",
         server_key: "hinEcAuJjoOQ+aEn5iUnX8Hiq0kkSbIYlC+FV8dUDpU=",
-        client_first: "n,,n=user,r=AQEBAQEBAQEBAQEBAQEBAQEBAQEBAQEBAQEBAQEBAQE=",
-        server_first: "r=AQEBAQEBAQEBAQEBAQEBAQEBAQEBAQEBAQEBAQEBAQE=AgICAgICAgICAgICAgICAgICAgICAgICAgICAgICAgI=,s=AwMDAwMDAwMDAwMDAwMDAwMDAwMDAwMDAwMDAwMDAwM=,i=4096",
-        client_answers: Ok(
-            "c=biws,r=AQEBAQEBAQEBAQEBAQEBAQEBAQEBAQEBAQEBAQEBAQE=AgICAgICAgICAgICAgICAgICAgICAgICAgICAgICAgI=,p=BCNcOZg0+DjVmOYbquTj+7JaBIvtH0PUtQer0ntwLxQ=",
-        ),
-        client_final: "c=biws,r=AQEBAQEBAQEBAQEBAQEBAQEBAQEBAQEBAQEBAQEBAQE=AgICAgICAgICAgICAgICAgICAgICAgICAgICAgICAgI=,p=BCNcOZg0+DjVmOYbquTj+7JaBIvtH0PUtQer0ntwLxQ=",
+        client_first: client_first!("user"),
+        server_first: server_first!("s=AwMDAwMDAwMDAwMDAwMDAwMDAwMDAwMDAwMDAwMDAwM=,i=4096"),
+        client_answers: Ok(client_final!("BCNcOZg0+DjVmOYbquTj+7JaBIvtH0PUtQer0ntwLxQ=")),
+        client_final: client_final!("BCNcOZg0+DjVmOYbquTj+7JaBIvtH0PUtQer0ntwLxQ="),
         server_answers: Ok("v=X3wMIzagbJ5+sxd0FRk7lZ5X07UBZA8KFKL41BMrTwo="),
         client_believes: Some(Ok(())),
     },
@@ -60,12 +59,10 @@ const RECORDS: [OddRecord; 10] = [
         iterations: 4096,
         stored_key: "",
         server_key: "hinEcAuJjoOQ+aEn5iUnX8Hiq0kkSbIYlC+FV8dUDpU=",
-        client_first: "n,,n=no key,r=AQEBAQEBAQEBAQEBAQEBAQEBAQEBAQEBAQEBAQEBAQE=",
-        server_first: "r=AQEBAQEBAQEBAQEBAQEBAQEBAQEBAQEBAQEBAQEBAQE=AgICAgICAgICAgICAgICAgICAgICAgICAgICAgICAgI=,s=AwMDAwMDAwMDAwMDAwMDAwMDAwMDAwMDAwMDAwMDAwM=,i=4096",
-        client_answers: Ok(
-            "c=biws,r=AQEBAQEBAQEBAQEBAQEBAQEBAQEBAQEBAQEBAQEBAQE=AgICAgICAgICAgICAgICAgICAgICAgICAgICAgICAgI=,p=MEN7Cg4yvg4fdaP5X2bkJ7u4hm3g1rhC0m3Uyl3VvGo=",
-        ),
-        client_final: "c=biws,r=AQEBAQEBAQEBAQEBAQEBAQEBAQEBAQEBAQEBAQEBAQE=AgICAgICAgICAgICAgICAgICAgICAgICAgICAgICAgI=,p=MEN7Cg4yvg4fdaP5X2bkJ7u4hm3g1rhC0m3Uyl3VvGo=",
+        client_first: client_first!("no key"),
+        server_first: server_first!("s=AwMDAwMDAwMDAwMDAwMDAwMDAwMDAwMDAwMDAwMDAwM=,i=4096"),
+        client_answers: Ok(client_final!("MEN7Cg4yvg4fdaP5X2bkJ7u4hm3g1rhC0m3Uyl3VvGo=")),
+        client_final: client_final!("MEN7Cg4yvg4fdaP5X2bkJ7u4hm3g1rhC0m3Uyl3VvGo="),
         server_answers: Err(ServerScramErrorKind::AuthenticationFailed),
         client_believes: None,
     },
@@ -76,12 +73,10 @@ const RECORDS: [OddRecord; 10] = [
         iterations: 4096,
         stored_key: "bSqDc2nsVd+d5pD9odZM6kFNedQ0ntQqYaOXJD2q2A==",
         server_key: "hinEcAuJjoOQ+aEn5iUnX8Hiq0kkSbIYlC+FV8dUDpU=",
-        client_first: "n,,n=short key,r=AQEBAQEBAQEBAQEBAQEBAQEBAQEBAQEBAQEBAQEBAQE=",
-        server_first: "r=AQEBAQEBAQEBAQEBAQEBAQEBAQEBAQEBAQEBAQEBAQE=AgICAgICAgICAgICAgICAgICAgICAgICAgICAgICAgI=,s=AwMDAwMDAwMDAwMDAwMDAwMDAwMDAwMDAwMDAwMDAwM=,i=4096",
-        client_answers: Ok(
-            "c=biws,r=AQEBAQEBAQEBAQEBAQEBAQEBAQEBAQEBAQEBAQEBAQE=AgICAgICAgICAgICAgICAgICAgICAgICAgICAgICAgI=,p=88T6Fov+FBncrxRHn3es53BA7XNsfrUOwlEkAh4SsRY=",
-        ),
-        client_final: "c=biws,r=AQEBAQEBAQEBAQEBAQEBAQEBAQEBAQEBAQEBAQEBAQE=AgICAgICAgICAgICAgICAgICAgICAgICAgICAgICAgI=,p=88T6Fov+FBncrxRHn3es53BA7XNsfrUOwlEkAh4SsRY=",
+        client_first: client_first!("short key"),
+        server_first: server_first!("s=AwMDAwMDAwMDAwMDAwMDAwMDAwMDAwMDAwMDAwMDAwM=,i=4096"),
+        client_answers: Ok(client_final!("88T6Fov+FBncrxRHn3es53BA7XNsfrUOwlEkAh4SsRY=")),
+        client_final: client_final!("88T6Fov+FBncrxRHn3es53BA7XNsfrUOwlEkAh4SsRY="),
         server_answers: Err(ServerScramErrorKind::AuthenticationFailed),
         client_believes: None,
     },
@@ -92,12 +87,10 @@ const RECORDS: [OddRecord; 10] = [
         iterations: 4096,
         stored_key: "bSqDc2nsVd+d5pD9odZM6kFNedQ0ntQqYaOXJD2q2NEA",
         server_key: "hinEcAuJjoOQ+aEn5iUnX8Hiq0kkSbIYlC+FV8dUDpU=",
-        client_first: "n,,n=long key,r=AQEBAQEBAQEBAQEBAQEBAQEBAQEBAQEBAQEBAQEBAQE=",
-        server_first: "r=AQEBAQEBAQEBAQEBAQEBAQEBAQEBAQEBAQEBAQEBAQE=AgICAgICAgICAgICAgICAgICAgICAgICAgICAgICAgI=,s=AwMDAwMDAwMDAwMDAwMDAwMDAwMDAwMDAwMDAwMDAwM=,i=4096",
-        client_answers: Ok(
-            "c=biws,r=AQEBAQEBAQEBAQEBAQEBAQEBAQEBAQEBAQEBAQEBAQE=AgICAgICAgICAgICAgICAgICAgICAgICAgICAgICAgI=,p=GVeDEQbG0KBl66GKnMe0TqfYpQVuUuxJJlBzhfH5pp4=",
-        ),
-        client_final: "c=biws,r=AQEBAQEBAQEBAQEBAQEBAQEBAQEBAQEBAQEBAQEBAQE=AgICAgICAgICAgICAgICAgICAgICAgICAgICAgICAgI=,p=GVeDEQbG0KBl66GKnMe0TqfYpQVuUuxJJlBzhfH5pp4=",
+        client_first: client_first!("long key"),
+        server_first: server_first!("s=AwMDAwMDAwMDAwMDAwMDAwMDAwMDAwMDAwMDAwMDAwM=,i=4096"),
+        client_answers: Ok(client_final!("GVeDEQbG0KBl66GKnMe0TqfYpQVuUuxJJlBzhfH5pp4=")),
+        client_final: client_final!("GVeDEQbG0KBl66GKnMe0TqfYpQVuUuxJJlBzhfH5pp4="),
         server_answers: Err(ServerScramErrorKind::AuthenticationFailed),
         client_believes: None,
     },
@@ -108,10 +101,10 @@ const RECORDS: [OddRecord; 10] = [
         iterations: 0,
         stored_key: "+EnWcyX6zwQXe8ZjstxUQFGDHFie9YHUEvLrpEg053w=",
         server_key: "BgYGBgYGBgYGBgYGBgYGBgYGBgYGBgYGBgYGBgYGBgY=",
-        client_first: "n,,n=no count,r=AQEBAQEBAQEBAQEBAQEBAQEBAQEBAQEBAQEBAQEBAQE=",
-        server_first: "r=AQEBAQEBAQEBAQEBAQEBAQEBAQEBAQEBAQEBAQEBAQE=AgICAgICAgICAgICAgICAgICAgICAgICAgICAgICAgI=,s=AwMDAwMDAwMDAwMDAwMDAwMDAwMDAwMDAwMDAwMDAwM=,i=0",
+        client_first: client_first!("no count"),
+        server_first: server_first!("s=AwMDAwMDAwMDAwMDAwMDAwMDAwMDAwMDAwMDAwMDAwM=,i=0"),
         client_answers: Err(ScramErrorKind::IterationCountParseError),
-        client_final: "c=biws,r=AQEBAQEBAQEBAQEBAQEBAQEBAQEBAQEBAQEBAQEBAQE=AgICAgICAgICAgICAgICAgICAgICAgICAgICAgICAgI=,p=1+oIo2F+h4G77f2+WweJAe8xj3SLud0FqHzhzvfuqFg=",
+        client_final: client_final!("1+oIo2F+h4G77f2+WweJAe8xj3SLud0FqHzhzvfuqFg="),
         server_answers: Ok("v=35FNzjE1elhGS23vdJcLbwwGE82zngWn8fP2g/rUCfY="),
         client_believes: None,
     },
@@ -122,12 +115,10 @@ const RECORDS: [OddRecord; 10] = [
         iterations: 4096,
         stored_key: "iLeyRaUwl28MUhEr0z57DoM7YsgYjqHgHowXfOqvH24=",
         server_key: "vjJLGfE5MOa+VS7bscRo3iubp1oOWV/C2+rHzx++/fI=",
-        client_first: "n,,n=no salt,r=AQEBAQEBAQEBAQEBAQEBAQEBAQEBAQEBAQEBAQEBAQE=",
-        server_first: "r=AQEBAQEBAQEBAQEBAQEBAQEBAQEBAQEBAQEBAQEBAQE=AgICAgICAgICAgICAgICAgICAgICAgICAgICAgICAgI=,s=,i=4096",
-        client_answers: Ok(
-            "c=biws,r=AQEBAQEBAQEBAQEBAQEBAQEBAQEBAQEBAQEBAQEBAQE=AgICAgICAgICAgICAgICAgICAgICAgICAgICAgICAgI=,p=RlXkGXEH3fJzfAQIqlBCviypV4aJ3HZ+PoEf7yyOtyI=",
-        ),
-        client_final: "c=biws,r=AQEBAQEBAQEBAQEBAQEBAQEBAQEBAQEBAQEBAQEBAQE=AgICAgICAgICAgICAgICAgICAgICAgICAgICAgICAgI=,p=RlXkGXEH3fJzfAQIqlBCviypV4aJ3HZ+PoEf7yyOtyI=",
+        client_first: client_first!("no salt"),
+        server_first: server_first!("s=,i=4096"),
+        client_answers: Ok(client_final!("RlXkGXEH3fJzfAQIqlBCviypV4aJ3HZ+PoEf7yyOtyI=")),
+        client_final: client_final!("RlXkGXEH3fJzfAQIqlBCviypV4aJ3HZ+PoEf7yyOtyI="),
         server_answers: Ok("v=guARHcmLe79qyd+03vCh9xr2KzwEg2utsenezwb2T+A="),
         client_believes: Some(Ok(())),
     },
@@ -138,12 +129,10 @@ const RECORDS: [OddRecord; 10] = [
         iterations: 4096,
         stored_key: "bSqDc2nsVd+d5pD9odZM6kFNedQ0ntQqYaOXJD2q2NE=",
         server_key: "hinEcAuJjoOQ+aEn5iUnX8Hiq0kkSbIYlC+FV8dUDpU=",
-        client_first: "n,,n=,r=AQEBAQEBAQEBAQEBAQEBAQEBAQEBAQEBAQEBAQEBAQE=",
-        server_first: "r=AQEBAQEBAQEBAQEBAQEBAQEBAQEBAQEBAQEBAQEBAQE=AgICAgICAgICAgICAgICAgICAgICAgICAgICAgICAgI=,s=AwMDAwMDAwMDAwMDAwMDAwMDAwMDAwMDAwMDAwMDAwM=,i=4096",
-        client_answers: Ok(
-            "c=biws,r=AQEBAQEBAQEBAQEBAQEBAQEBAQEBAQEBAQEBAQEBAQE=AgICAgICAgICAgICAgICAgICAgICAgICAgICAgICAgI=,p=zMinMjtC973K+a8cpVJFOuj4WgZfjKe/Db3aV6ksQzc=",
-        ),
-        client_final: "c=biws,r=AQEBAQEBAQEBAQEBAQEBAQEBAQEBAQEBAQEBAQEBAQE=AgICAgICAgICAgICAgICAgICAgICAgICAgICAgICAgI=,p=zMinMjtC973K+a8cpVJFOuj4WgZfjKe/Db3aV6ksQzc=",
+        client_first: client_first!(""),
+        server_first: server_first!("s=AwMDAwMDAwMDAwMDAwMDAwMDAwMDAwMDAwMDAwMDAwM=,i=4096"),
+        client_answers: Ok(client_final!("zMinMjtC973K+a8cpVJFOuj4WgZfjKe/Db3aV6ksQzc=")),
+        client_final: client_final!("zMinMjtC973K+a8cpVJFOuj4WgZfjKe/Db3aV6ksQzc="),
         server_answers: Ok("v=X3qhssxBtfHouWX1I/1bfaNdcBUHXM5JMT5IVRl6Pys="),
         client_believes: Some(Ok(())),
     },
@@ -154,12 +143,10 @@ const RECORDS: [OddRecord; 10] = [
         iterations: 4096,
         stored_key: "bSqDc2nsVd+d5pD9odZM6kFNedQ0ntQqYaOXJD2q2NE=",
         server_key: "hinEcAuJjoOQ+aEn5iUnX8Hiq0kkSbIYlC+FV8dUDpU=",
-        client_first: "n,,n=a=2Cr=3Dx,r=AQEBAQEBAQEBAQEBAQEBAQEBAQEBAQEBAQEBAQEBAQE=",
-        server_first: "r=AQEBAQEBAQEBAQEBAQEBAQEBAQEBAQEBAQEBAQEBAQE=AgICAgICAgICAgICAgICAgICAgICAgICAgICAgICAgI=,s=AwMDAwMDAwMDAwMDAwMDAwMDAwMDAwMDAwMDAwMDAwM=,i=4096",
-        client_answers: Ok(
-            "c=biws,r=AQEBAQEBAQEBAQEBAQEBAQEBAQEBAQEBAQEBAQEBAQE=AgICAgICAgICAgICAgICAgICAgICAgICAgICAgICAgI=,p=wQT8UAas+JtZqhdv1ZWBL/UCaEqWTZiUolog4KLccrA=",
-        ),
-        client_final: "c=biws,r=AQEBAQEBAQEBAQEBAQEBAQEBAQEBAQEBAQEBAQEBAQE=AgICAgICAgICAgICAgICAgICAgICAgICAgICAgICAgI=,p=wQT8UAas+JtZqhdv1ZWBL/UCaEqWTZiUolog4KLccrA=",
+        client_first: client_first!("a=2Cr=3Dx"),
+        server_first: server_first!("s=AwMDAwMDAwMDAwMDAwMDAwMDAwMDAwMDAwMDAwMDAwM=,i=4096"),
+        client_answers: Ok(client_final!("wQT8UAas+JtZqhdv1ZWBL/UCaEqWTZiUolog4KLccrA=")),
+        client_final: client_final!("wQT8UAas+JtZqhdv1ZWBL/UCaEqWTZiUolog4KLccrA="),
         server_answers: Ok("v=zpiwOQ/C1OoITTKc46IJiU+RTAmlF7lR47XEZ+8dn6o="),
         client_believes: Some(Ok(())),
     },
@@ -170,12 +157,10 @@ const RECORDS: [OddRecord; 10] = [
         iterations: 4096,
         stored_key: "bSqDc2nsVd+d5pD9odZM6kFNedQ0ntQqYaOXJD2q2NE=",
         server_key: "",
-        client_first: "n,,n=no server key,r=AQEBAQEBAQEBAQEBAQEBAQEBAQEBAQEBAQEBAQEBAQE=",
-        server_first: "r=AQEBAQEBAQEBAQEBAQEBAQEBAQEBAQEBAQEBAQEBAQE=AgICAgICAgICAgICAgICAgICAgICAgICAgICAgICAgI=,s=AwMDAwMDAwMDAwMDAwMDAwMDAwMDAwMDAwMDAwMDAwM=,i=4096",
-        client_answers: Ok(
-            "c=biws,r=AQEBAQEBAQEBAQEBAQEBAQEBAQEBAQEBAQEBAQEBAQE=AgICAgICAgICAgICAgICAgICAgICAgICAgICAgICAgI=,p=061h4w81o1UnWXiYriiwNfqt6JHKvp4sbvbM/reWrnk=",
-        ),
-        client_final: "c=biws,r=AQEBAQEBAQEBAQEBAQEBAQEBAQEBAQEBAQEBAQEBAQE=AgICAgICAgICAgICAgICAgICAgICAgICAgICAgICAgI=,p=061h4w81o1UnWXiYriiwNfqt6JHKvp4sbvbM/reWrnk=",
+        client_first: client_first!("no server key"),
+        server_first: server_first!("s=AwMDAwMDAwMDAwMDAwMDAwMDAwMDAwMDAwMDAwMDAwM=,i=4096"),
+        client_answers: Ok(client_final!("061h4w81o1UnWXiYriiwNfqt6JHKvp4sbvbM/reWrnk=")),
+        client_final: client_final!("061h4w81o1UnWXiYriiwNfqt6JHKvp4sbvbM/reWrnk="),
         server_answers: Ok("v=qNBxjGZZ4GeCkGEzAqtx+d1g49jG1Ulq3XzSigGTX6Q="),
         client_believes: Some(Err(ScramErrorKind::ServerSignatureMismatch)),
     },
@@ -186,90 +171,127 @@ const RECORDS: [OddRecord; 10] = [
         iterations: 1,
         stored_key: "Oo1xfPwDDxNoDpKclGAtWg9IBDpehB/XYZDLY5HcYZ0=",
         server_key: "0mr1hD6RkP4qPT1WgMcBqXqkOLFxjCixadx0x3hM6f0=",
-        client_first: "n,,n=one round,r=AQEBAQEBAQEBAQEBAQEBAQEBAQEBAQEBAQEBAQEBAQE=",
-        server_first: "r=AQEBAQEBAQEBAQEBAQEBAQEBAQEBAQEBAQEBAQEBAQE=AgICAgICAgICAgICAgICAgICAgICAgICAgICAgICAgI=,s=YWI=,i=1",
-        client_answers: Ok(
-            "c=biws,r=AQEBAQEBAQEBAQEBAQEBAQEBAQEBAQEBAQEBAQEBAQE=AgICAgICAgICAgICAgICAgICAgICAgICAgICAgICAgI=,p=TdyloehsMGrcro5661kbaNK9684BL6DIO2PSwiGUGEA=",
-        ),
-        client_final: "c=biws,r=AQEBAQEBAQEBAQEBAQEBAQEBAQEBAQEBAQEBAQEBAQE=AgICAgICAgICAgICAgICAgICAgICAgICAgICAgICAgI=,p=TdyloehsMGrcro5661kbaNK9684BL6DIO2PSwiGUGEA=",
+        client_first: client_first!("one round"),
+        server_first: server_first!("s=YWI=,i=1"),
+        client_answers: Ok(client_final!("TdyloehsMGrcro5661kbaNK9684BL6DIO2PSwiGUGEA=")),
+        client_final: client_final!("TdyloehsMGrcro5661kbaNK9684BL6DIO2PSwiGUGEA="),
         server_answers: Ok("v=5HSqv0LQnSuG+mBxf7/8hJjqcVeb/zMi/E6UnM4jfv4="),
         client_believes: Some(Ok(())),
     },
 ];
 
+/// The account of a record.
+fn account(alloc: Global, record: &OddRecord) -> Result<Account, Fail> {
+    let salt = STANDARD.decode(alloc, record.salt.as_bytes())?;
+    let stored_key = STANDARD.decode(alloc, record.stored_key.as_bytes())?;
+    let server_key = STANDARD.decode(alloc, record.server_key.as_bytes())?;
+    let (name, iterations) = (record.name, record.iterations);
+    Ok(Account::new(alloc, name, &salt, iterations, &stored_key, &server_key)?)
+}
+
 /// All records in one store.
 fn accounts(alloc: Global) -> Result<Accounts, Fail> {
     let mut accounts = Accounts::new(alloc, ScramVersion::Sha256);
-    for record in RECORDS {
-        accounts.add(Account::new(
-            alloc,
-            record.name,
-            &STANDARD.decode(alloc, record.salt.as_bytes())?,
-            record.iterations,
-            &STANDARD.decode(alloc, record.stored_key.as_bytes())?,
-            &STANDARD.decode(alloc, record.server_key.as_bytes())?,
-        )?)?;
+    for record in &RECORDS {
+        accounts.add(account(alloc, record)?)?;
     }
     Ok(accounts)
 }
 
+/// Whether an answer is the one that was wanted.
+fn is<K: PartialEq>(answer: &Result<Vec<u8>, K>, wanted: &Result<&'static str, K>) -> bool {
+    match (answer, wanted) {
+        (Ok(message), Ok(text)) => message.as_slice() == text.as_bytes(),
+        (Err(kind), Err(other)) => kind == other,
+        _ => false,
+    }
+}
+
+/// A client of the record's user.
+fn client(alloc: Global, record: &OddRecord) -> Result<ScramClient, Fail> {
+    Ok(ScramClient::new(
+        record.name.to_string(alloc)?,
+        "pencil".to_string(alloc)?,
+        ScramVersion::Sha256,
+    ))
+}
+
+/// The client's first message, and the server's.
+fn begin<C: ScramCredentialProvider + Drop, R: Abort + AllocGlobal>(
+    rt: &R,
+    client: &mut ScramClient,
+    server: &mut ScramAuthenticator<C>,
+    record: &OddRecord,
+) -> Result<(), Fail> {
+    let name = record.name;
+    let client_first = client.compute_client_first_message(rt.alloc(), &[1; 32])?;
+    assert_eq!(rt;
+        client_first.as_slice(),
+        record.client_first.as_bytes(),
+        "{name:?}"
+    );
+    let server_first = server
+        .compute_server_first_message(rt.alloc(), &client_first, &[2; 32])?
+        .ok_or("unknown user")?;
+    assert_eq!(rt;
+        server_first.as_slice(),
+        record.server_first.as_bytes(),
+        "{name:?}"
+    );
+    Ok(())
+}
+
+/// The server's answer to the client-final message, and what the client says of it.
+fn end<C: ScramCredentialProvider + Drop, R: Abort + AllocGlobal>(
+    rt: &R,
+    client: &mut ScramClient,
+    server: &mut ScramAuthenticator<C>,
+    record: &OddRecord,
+) -> Result<(), Fail> {
+    let name = record.name;
+    let client_final = record.client_final.as_bytes();
+    let answer = match server.compute_server_final_message(rt.alloc(), client_final) {
+        Ok(Some(message)) => Ok(message),
+        Ok(None) => return Err("no answer".into()),
+        Err(kind) => Err(kind),
+    };
+    assert!(rt; is(&answer, &record.server_answers), "{name:?}: {answer:?}");
+    if let (Ok(server_final), Some(wanted)) = (&answer, record.client_believes) {
+        let believed = client.validate_server_final(rt.alloc(), server_final);
+        assert_eq!(rt; believed, wanted, "{name:?}");
+    }
+    Ok(())
+}
+
 /// Logs in at every record.
-fn log_in<C: ScramCredentialProvider + Drop>(
-    rt: &impl Abort,
-    alloc: Global,
+fn log_in<C: ScramCredentialProvider + Drop, R: Abort + AllocGlobal>(
+    rt: &R,
     credentials: C,
 ) -> Result<(), Fail> {
     let mut server = ScramAuthenticator::new(credentials);
-    for record in RECORDS {
-        let name = record.name;
-        let mut client = ScramClient::new(
-            name.to_string(alloc)?,
-            "pencil".to_string(alloc)?,
-            ScramVersion::Sha256,
+    for record in &RECORDS {
+        let mut client = client(rt.alloc(), record)?;
+        begin(rt, &mut client, &mut server, record)?;
+        let answer = client.compute_client_final_message(rt.alloc(), record.server_first);
+        assert!(rt;
+            is(&answer, &record.client_answers),
+            "{:?}: {answer:?}",
+            record.name
         );
-        let client_first = client.compute_client_first_message(alloc, &[1; 32])?;
-        assert_eq!(rt;
-            str::from_utf8(&client_first)?,
-            record.client_first,
-            "{name:?}"
-        );
-        let server_first = server
-            .compute_server_first_message(alloc, &client_first, &[2; 32])?
-            .ok_or("unknown user")?;
-        let server_first = str::from_utf8(&server_first)?;
-        assert_eq!(rt; server_first, record.server_first, "{name:?}");
-        match client.compute_client_final_message(alloc, server_first) {
-            Ok(client_final) => {
-                let client_final = str::from_utf8(&client_final)?;
-                assert_eq!(rt; Ok(client_final), record.client_answers, "{name:?}");
-            }
-            Err(kind) => assert_eq!(rt; Err(kind), record.client_answers, "{name:?}"),
-        }
-        match server.compute_server_final_message(alloc, record.client_final.as_bytes()) {
-            Ok(answer) => {
-                let answer = answer.ok_or("no answer")?;
-                let server_final = str::from_utf8(&answer)?;
-                assert_eq!(rt; Ok(server_final), record.server_answers, "{name:?}");
-                if let Some(wanted) = record.client_believes {
-                    let believed = client.validate_server_final(alloc, &answer);
-                    assert_eq!(rt; believed, wanted, "{name:?}");
-                }
-            }
-            Err(kind) => assert_eq!(rt; Err(kind), record.server_answers, "{name:?}"),
-        }
+        end(rt, &mut client, &mut server, record)?;
     }
     Ok(())
 }
 
 #[test]
 fn serves_odd_records(rt: HostRuntime) -> Result<(), Fail> {
-    log_in(&rt, rt.alloc(), accounts(rt.alloc())?)
+    log_in(&rt, accounts(rt.alloc())?)
 }
 
 #[test]
 fn serves_odd_records_that_are_shared(rt: HostRuntime) -> Result<(), Fail> {
     let accounts = Rc::new(rt.alloc(), accounts(rt.alloc())?)?;
-    log_in(&rt, rt.alloc(), accounts)
+    log_in(&rt, accounts)
 }
 
 /// Proofs for the records whose stored key has another length than a digest.
@@ -279,65 +301,85 @@ const PROOFS: [&str; 3] = [
     "bSqDc2nsVd+d5pD9odZM6kFNedQ0ntQqYaOXJD2q2NE=",
 ];
 
+/// Begins a login with the nonce `a`.
+fn challenges<R: Abort + AllocGlobal>(
+    rt: &R,
+    server: &mut ScramAuthenticator<Accounts>,
+    name: &str,
+) -> Result<(), Fail> {
+    let message = format!(in rt.alloc(); "n,,n={name},r=a")?;
+    let answer = server.compute_server_first_message(rt.alloc(), message.as_bytes(), &[2; 32])?;
+    assert!(rt; answer.is_some(), "{name}");
+    Ok(())
+}
+
+/// Why the server refuses this proof in that login.
+fn refusal(
+    alloc: Global,
+    server: &mut ScramAuthenticator<Accounts>,
+    proof: &str,
+) -> Result<Option<ServerScramErrorKind>, Fail> {
+    let message = format!(in alloc;
+        "c=biws,r=aAgICAgICAgICAgICAgICAgICAgICAgICAgICAgICAgI=,p={proof}"
+    )?;
+    let answer = server.compute_server_final_message(alloc, message.as_bytes());
+    Ok(answer.err())
+}
+
 #[test]
 fn no_proof_meets_a_key_of_another_length(rt: HostRuntime) -> Result<(), Fail> {
-    let alloc = rt.alloc();
-    let mut server = ScramAuthenticator::new(accounts(alloc)?);
+    let mut server = ScramAuthenticator::new(accounts(rt.alloc())?);
     for name in ["no key", "short key", "long key"] {
-        let client_first = format!(in alloc; "n,,n={name},r=a")?;
-        let server_first = server.compute_server_first_message(
-            alloc,
-            client_first.as_bytes(),
-            &[2; 32],
-        )?;
-        assert!(rt; server_first.is_some(), "{name}");
+        challenges(&rt, &mut server, name)?;
         for proof in PROOFS {
-            let message = format!(in alloc;
-                "c=biws,r=aAgICAgICAgICAgICAgICAgICAgICAgICAgICAgICAgI=,p={proof}"
-            )?;
-            let answer = server.compute_server_final_message(alloc, message.as_bytes());
-            assert_eq!(rt;
-                answer.err(),
-                Some(ServerScramErrorKind::AuthenticationFailed),
-                "{name}: {proof}"
-            );
+            let kind = refusal(rt.alloc(), &mut server, proof)?;
+            let wanted = Some(ServerScramErrorKind::AuthenticationFailed);
+            assert_eq!(rt; kind, wanted, "{name}: {proof}");
         }
     }
+    Ok(())
+}
+
+/// Whether the text is these bytes in base64.
+fn spells(alloc: Global, text: &str, bytes: &[u8]) -> Result<bool, Fail> {
+    let spelt = STANDARD.decode(alloc, text.as_bytes())?;
+    Ok(spelt.as_slice() == bytes)
+}
+
+/// Whether the provider has what the record says.
+fn keeps<C: ScramCredentialProvider>(
+    alloc: Global,
+    provider: &C,
+    record: &OddRecord,
+) -> Result<bool, Fail> {
+    let stored_password = provider
+        .get_stored_password(record.name)
+        .ok_or("no record")?;
+    Ok(
+        stored_password.iterations == record.iterations
+            && spells(alloc, record.salt, stored_password.salt)?
+            && spells(alloc, record.stored_key, stored_password.stored_key)?
+            && spells(alloc, record.server_key, stored_password.server_key)?,
+    )
+}
+
+/// The provider has every record, and no other.
+fn keeps_all<C: ScramCredentialProvider, R: Abort + AllocGlobal>(
+    rt: &R,
+    provider: &C,
+) -> Result<(), Fail> {
+    assert_eq!(rt; *provider.scram_version(), ScramVersion::Sha256);
+    for record in &RECORDS {
+        assert!(rt; keeps(rt.alloc(), provider, record)?, "{:?}", record.name);
+    }
+    assert!(rt; provider.get_stored_password("nobody").is_none());
     Ok(())
 }
 
 #[test]
 fn a_clone_of_a_store_has_its_records(rt: HostRuntime) -> Result<(), Fail> {
     let accounts = accounts(rt.alloc())?;
-    let copy = accounts.clone()?;
-    let shared = Rc::new(rt.alloc(), accounts.clone()?)?.clone()?;
-    assert_eq!(rt; *copy.scram_version(), ScramVersion::Sha256);
-    assert_eq!(rt; *shared.scram_version(), ScramVersion::Sha256);
-    for record in RECORDS {
-        let name = record.name;
-        let of_copy = copy
-            .get_stored_password(name)
-            .ok_or("no record in the copy")?;
-        let of_shared = shared.get_stored_password(name).ok_or("no shared record")?;
-        let salt = STANDARD.decode(rt.alloc(), record.salt.as_bytes())?;
-        let stored_key = STANDARD.decode(rt.alloc(), record.stored_key.as_bytes())?;
-        let server_key = STANDARD.decode(rt.alloc(), record.server_key.as_bytes())?;
-        for stored_password in [of_copy, of_shared] {
-            assert_eq!(rt; stored_password.salt, salt.as_slice(), "{name:?}");
-            assert_eq!(rt; stored_password.iterations, record.iterations, "{name:?}");
-            assert_eq!(rt;
-                stored_password.stored_key,
-                stored_key.as_slice(),
-                "{name:?}"
-            );
-            assert_eq!(rt;
-                stored_password.server_key,
-                server_key.as_slice(),
-                "{name:?}"
-            );
-        }
-    }
-    assert!(rt; copy.get_stored_password("nobody").is_none());
-    assert!(rt; shared.get_stored_password("nobody").is_none());
-    Ok(())
+    keeps_all(&rt, &accounts.clone()?)?;
+    let shared = Rc::new(rt.alloc(), accounts)?;
+    keeps_all(&rt, &shared.clone()?)
 }

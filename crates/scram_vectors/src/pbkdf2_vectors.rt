@@ -99,44 +99,49 @@ const VECTORS: [(ScramVersion, &str, &str, u32, &str); 17] = [
         "password",
         "salt",
         1,
-        "867f70cf1ade02cff3752599a3a53dc4af34c7a669815ae5d513554e1c8cf252c02d470a285a0501bad999bfe943c08f050235d7d68b1da55e63f73b60a57fce",
+        "867f70cf1ade02cff3752599a3a53dc4af34c7a669815ae5d513554e1c8cf252\
+            c02d470a285a0501bad999bfe943c08f050235d7d68b1da55e63f73b60a57fce",
     ),
     (
         ScramVersion::Sha512,
         "password",
         "salt",
         2,
-        "e1d9c16aa681708a45f5c7c4e215ceb66e011a2e9f0040713f18aefdb866d53cf76cab2868a39b9f7840edce4fef5a82be67335c77a6068e04112754f27ccf4e",
+        "e1d9c16aa681708a45f5c7c4e215ceb66e011a2e9f0040713f18aefdb866d53c\
+            f76cab2868a39b9f7840edce4fef5a82be67335c77a6068e04112754f27ccf4e",
     ),
     (
         ScramVersion::Sha512,
         "password",
         "salt",
         4096,
-        "d197b1b33db0143e018b12f3d1d1479e6cdebdcc97c5c0f87f6902e072f457b5143f30602641b3d55cd335988cb36b84376060ecd532e039b742a239434af2d5",
+        "d197b1b33db0143e018b12f3d1d1479e6cdebdcc97c5c0f87f6902e072f457b5\
+            143f30602641b3d55cd335988cb36b84376060ecd532e039b742a239434af2d5",
     ),
     (
         ScramVersion::Sha512,
         "passwordPASSWORDpassword",
         "saltSALTsaltSALTsaltSALTsaltSALTsalt",
         4096,
-        "8c0511f4c6e597c6ac6315d8f0362e225f3c501495ba23b868c005174dc4ee71115b59f9e60cd9532fa33e0f75aefe30225c583a186cd82bd4daea9724a3d3b8",
+        "8c0511f4c6e597c6ac6315d8f0362e225f3c501495ba23b868c005174dc4ee71\
+            115b59f9e60cd9532fa33e0f75aefe30225c583a186cd82bd4daea9724a3d3b8",
     ),
     (
         ScramVersion::Sha512,
         "pass\0word",
         "sa\0lt",
         4096,
-        "9d9e9c4cd21fe4be24d5b8244c759665f39d98fc12a9ca759bb021db3cfadf345844aebe70dd8b2f6966f25f3613e1187bbd24ed2ca43ed13b246e4675be7ab9",
+        "9d9e9c4cd21fe4be24d5b8244c759665f39d98fc12a9ca759bb021db3cfadf34\
+            5844aebe70dd8b2f6966f25f3613e1187bbd24ed2ca43ed13b246e4675be7ab9",
     ),
 ];
 
 #[test]
 fn salts_a_password(rt: HostRuntime) -> Result<(), Fail> {
     let alloc = rt.alloc();
-    for (version, password, salt, iterations, wanted) in VECTORS {
-        assert!(rt; iterations >= 1, "{version:?} {password:?}");
-        let salted = version.h_i(alloc, password.as_bytes(), salt.as_bytes(), iterations)?;
+    for (version, password, salt, iterations, wanted) in &VECTORS {
+        assert!(rt; *iterations >= 1, "{version:?} {password:?}");
+        let salted = version.h_i(alloc, password.as_bytes(), salt.as_bytes(), *iterations)?;
         let salted = hex::encode(alloc, &salted)?;
         assert!(rt;
             salted.starts_with(wanted),

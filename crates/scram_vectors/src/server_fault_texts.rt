@@ -62,8 +62,8 @@ const SERVER_SCRAM_ERROR_KINDS: [(ServerScramErrorKind, &str); 15] = [
 #[test]
 fn texts_of_what_a_server_refuses(rt: HostRuntime) -> Result<(), Fail> {
     let alloc = rt.alloc();
-    for (kind, wanted) in SERVER_SCRAM_ERROR_KINDS {
-        assert_eq!(rt; kind.to_string(alloc)?.as_str(), wanted, "{kind:?}");
+    for (kind, wanted) in &SERVER_SCRAM_ERROR_KINDS {
+        assert_eq!(rt; kind.to_string(alloc)?.as_str(), *wanted, "{kind:?}");
     }
     Ok(())
 }

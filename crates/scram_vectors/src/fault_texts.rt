@@ -58,8 +58,8 @@ const SCRAM_ERROR_KINDS: [(ScramErrorKind, &str); 16] = [
 #[test]
 fn texts_of_refused_messages(rt: HostRuntime) -> Result<(), Fail> {
     let alloc = rt.alloc();
-    for (kind, wanted) in SCRAM_ERROR_KINDS {
-        assert_eq!(rt; kind.to_string(alloc)?.as_str(), wanted, "{kind:?}");
+    for (kind, wanted) in &SCRAM_ERROR_KINDS {
+        assert_eq!(rt; kind.to_string(alloc)?.as_str(), *wanted, "{kind:?}");
     }
     Ok(())
 }

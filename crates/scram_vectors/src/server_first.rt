@@ -55,13 +55,10 @@ const REFUSED: [(&str, ScramErrorKind); 19] = [
 
 #[test]
 fn the_first_fault_is_told_and_costs_nothing(rt: HostRuntime) {
-    for (message, kind) in REFUSED {
+    for (message, kind) in &REFUSED {
         for password in ["pencil", "\t"] {
-            assert_eq!(rt;
-                refusal(rt.alloc(), password, message),
-                (Some(kind), 0),
-                "{message:?}"
-            );
+            let refusal = refusal(rt.alloc(), password, message);
+            assert_eq!(rt; refusal, (Some(*kind), 0), "{message:?}");
         }
     }
 }
@@ -214,7 +211,7 @@ fn messages(
 #[test]
 fn the_proof_covers_the_message_as_it_came(rt: HostRuntime) -> Result<(), Fail> {
     let alloc = rt.alloc();
-    for (salt, count, proof, wanted_signature, wanted_cost) in ACCEPTED {
+    for (salt, count, proof, wanted_signature, wanted_cost) in &ACCEPTED {
         let (server_first, wanted) = messages(alloc, salt, count, proof)?;
         let (client_final, signature, cost) = answer(alloc, &server_first)?;
         assert_eq!(rt;
@@ -222,8 +219,8 @@ fn the_proof_covers_the_message_as_it_came(rt: HostRuntime) -> Result<(), Fail> 
             wanted.as_bytes(),
             "{server_first}"
         );
-        assert_eq!(rt; signature.as_str(), wanted_signature, "{server_first}");
-        assert_eq!(rt; cost, wanted_cost, "{server_first}");
+        assert_eq!(rt; signature.as_str(), *wanted_signature, "{server_first}");
+        assert_eq!(rt; cost, *wanted_cost, "{server_first}");
     }
     Ok(())
 }

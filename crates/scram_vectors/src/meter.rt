@@ -1,11 +1,9 @@
-//! The HMAC values that calls cost.
+//! The HMAC values that salted passwords cost.
 
 ghost use Rattle.std.specs.Prelude.{◌≤◌};
 
-use crate::messages::{EXCHANGES, Exchange};
 use fe2o3_scram::OutOfMemory;
 use fe2o3_scram::hmac::{Meter, ScramVersion};
-use fe2o3_scram::scram_messages::ScramErrorKind;
 use std::alloc::Global;
 use std::test::Fail;
 
@@ -35,28 +33,6 @@ fn a_salted_password_costs_its_iterations(rt: HostRuntime) -> Result<(), Fail> {
         assert_eq!(rt; cost_of_salting(alloc, version, 4096)?, 4096, "{version:?}");
     }
     Ok(())
-}
-
-/// The HMAC values that the client's answer costs.
-fn cost_of_answer(alloc: Global, exchange: &Exchange) -> Result<u64, ScramErrorKind> {
-    let mut meter = Meter::new();
-    exchange.version.compute_client_final_message_metered(
-        alloc,
-        exchange.client_nonce,
-        "pencil",
-        exchange.server_first,
-        exchange.client_first_bare.as_bytes(),
-        &mut meter,
-    )?;
-    Ok(meter.count())
-}
-
-#[test]
-fn an_answer_costs_four_more_than_its_count(rt: HostRuntime) {
-    for exchange in &EXCHANGES {
-        let cost = cost_of_answer(rt.alloc(), exchange);
-        assert_eq!(rt; cost, Ok(4100), "{:?}", exchange.version);
-    }
 }
 
 #[test]

@@ -70,9 +70,9 @@ const MESSAGES: [(&[u8], Result<(), ScramErrorKind>); 18] = [
 fn only_the_signature_is_accepted(rt: HostRuntime) -> Result<(), Fail> {
     let alloc = rt.alloc();
     let signature = STANDARD.decode(alloc, SIGNATURE.as_bytes())?;
-    for (message, wanted) in MESSAGES {
+    for (message, wanted) in &MESSAGES {
         let answer = ScramVersion::Sha256.validate_server_final(alloc, message, &signature);
-        assert_eq!(rt; answer, wanted, "{message:?}");
+        assert_eq!(rt; answer, *wanted, "{message:?}");
     }
     Ok(())
 }
