@@ -38,7 +38,7 @@ server_key_at login answer = server_key login.version (salted_at login answer)
 
 -- its ClientProof
 abbrev pub proof_at : Login → Answering → List ℕ
-proof_at login answer = client_proof login.version (salted_at login answer) (client_message login answer)
+proof_at login answer = client_proof login.version (client_key_at login answer) (client_message login answer)
 
 -- the key that the server recovered from the proof
 abbrev pub recovered_at : Provider → Accepted → List ℕ

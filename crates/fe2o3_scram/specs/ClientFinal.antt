@@ -1,18 +1,19 @@
 -- The client-final message (RFC 5802, section 7), as the client writes it and as the server reads it.
-use Rattle.std.specs.Prelude.{ℕ, List, [], ◌∷◌, ◌++◌, ◌≡◌, codes, Result, Ok, Err, ◌+◌, ◌≤◌, OnOk, ◌≢◌, length}
+use Rattle.std.specs.Prelude.{ℕ, List, [], ◌∷◌, ◌++◌, ◌≡◌, codes, Result, Ok, Err, ◌+◌, ◌≤◌, OnOk, ◌≢◌, ◌⊎◌, length}
 use Rattle.fe2o3_scram.specs.declared.hmac.ScramVersion.{ScramVersion}
 use Rattle.fe2o3_scram.specs.declared.scram_messages.error.ScramErrorKind.{ScramErrorKind}
 use Rattle.fe2o3_scram.specs.Texts.{base64_text, joined, Part, LastPart}
-use Rattle.fe2o3_scram.specs.Keys.{auth_message, client_proof, server_signature}
+use Rattle.fe2o3_scram.specs.Keys.{auth_message, client_key, client_proof, server_key, server_signature, recovered_client_key, MeetsStoredKey}
 use Rattle.fe2o3_scram.specs.Pbkdf2Hi.{salted_of}
 use Rattle.fe2o3_scram.specs.ServerFirst.{Client, ServerFirst, ReadsServerFirst}
 use Rattle.std.specs.Str.{IsUtf8}
 use Rattle.base64.specs.GeneralPurpose.{IsBytes}
 use Rattle.fe2o3_scram.specs.declared.scram_messages.error.ServerScramErrorKind.{ServerScramErrorKind}
 use Rattle.fe2o3_scram.specs.declared.scram_messages.error.ServerScramErrorKind.TheVariants.{Utf8Error, CannotParseClientFinalMessage, Base64DecodeError, InvalidChannelBinding, IncorrectClientFinalNonce, ProofNotFoundInClientFinal, XorLengthMismatch, AuthenticationFailed}
+use Rattle.fe2o3_scram.specs.declared.scram_messages.client_final_reading.ClientFinal.{ClientFinal as CodeClientFinal}
 use Rattle.fe2o3_scram.specs.Credentials.{Record}
-use Rattle.fe2o3_scram.specs.Hmac.{digest, digest_len, hmac_of, exclusive_or}
-use Rattle.fe2o3_scram.specs.Readings.{Reads}
+use Rattle.fe2o3_scram.specs.Hmac.{digest_len}
+use Rattle.fe2o3_scram.specs.Readings.{IsFirst, Reads}
 
 -- client-final-message-without-proof: the GS2 header in base64 and the nonce of both sides
 abbrev pub without_proof : List ℕ → List ℕ
@@ -31,8 +32,8 @@ abbrev pub answer_of : ScramVersion → List ℕ → List ℕ → List ℕ → S
 answer_of version password bare text first =
     let salted = salted_of version password first.salt first.count in
     let auth = auth_message bare text (without_proof first.nonce) in (
-      client_final_of (without_proof first.nonce) (client_proof version salted auth),
-      server_signature version salted auth,
+      client_final_of (without_proof first.nonce) (client_proof version (client_key version salted) auth),
+      server_signature version (server_key version salted) auth,
     )
 
 -- what the client answers to a server-first message: the first refusal that holds, or the answer to what it names
@@ -56,6 +57,10 @@ pub record AnswerCosts {A : Type 0} (client : Client) (text : List ℕ) (result 
 pub record ClientFinal : Type 0 where
   pub without : List ℕ
   pub proof : List ℕ
+
+-- the values that the code's value holds
+abbrev pub client_final_values : CodeClientFinal → ClientFinal
+client_final_values final = record { without = final.without_proof.now; proof = final.proof.items }
 
 -- what a server holds against a client-final message: its version, the two messages before, the nonce of both
 -- sides, and the keys of the record
@@ -87,23 +92,21 @@ HasBinding text binding = IsBytes binding × Part text 0 (codes "c=" ++ base64_t
 abbrev pub HasProof : List ℕ → ClientFinal → Type 0
 HasProof text final = IsBytes final.proof × LastPart text final.without (codes "p=" ++ base64_text final.proof)
 
--- the key that the proof gives away, where it meets the stored key: ClientKey = ClientProof XOR HMAC(StoredKey,
--- AuthMessage)
+-- the key that the proof gives away, where it meets the stored key
 abbrev pub recovered_key : Server → ClientFinal → List ℕ
-recovered_key server final = exclusive_or final.proof (hmac_of server.version server.stored_key
-    (auth_message server.bare server.first final.without))
+recovered_key server final = recovered_client_key server.version server.stored_key final.proof
+    (auth_message server.bare server.first final.without)
 
--- the proof meets the stored key: H(ClientKey) = StoredKey
+-- the proof meets the stored key
 abbrev pub Meets : Server → ClientFinal → Type 0
-Meets server final = digest server.version (recovered_key server final) ≡ server.stored_key
+Meets server final = MeetsStoredKey server.version server.stored_key final.proof
+    (auth_message server.bare server.first final.without)
 
--- the message names these values, and its proof meets the stored key
-pub record NamesClientFinal (server : Server) (text : List ℕ) (final : ClientFinal) : Type 0 where
+-- the message binds no channel, and names the nonce of both sides and these values
+pub record NamesClientFinal (both text : List ℕ) (final : ClientFinal) : Type 0 where
   pub binding : HasBinding text (codes "n,,")
-  pub nonce : Part text 1 (codes "r=" ++ server.nonce)
+  pub nonce : Part text 1 (codes "r=" ++ both)
   pub proof : HasProof text final
-  pub sized : length final.proof ≡ digest_len server.version
-  pub meets : Meets server final
 
 -- the server's tests of the channel binding, in their order
 abbrev pub binding_tests : List ℕ → List (ServerScramErrorKind × Type 0)
@@ -127,19 +130,27 @@ spelling_tests text =
     ∷ (Base64DecodeError, (final : ClientFinal) → ¬ HasProof text final)
     ∷ []
 
--- its tests of the proof, which come after all others
-abbrev pub proof_tests : Server → List ℕ → List (ServerScramErrorKind × Type 0)
-proof_tests server text =
-    (XorLengthMismatch, (final : ClientFinal) → HasProof text final → length final.proof ≢ digest_len server.version)
-    ∷ (AuthenticationFailed, (final : ClientFinal) → HasProof text final → ¬ Meets server final)
+-- all its tests of the text, in their order
+abbrev pub final_text_tests : List ℕ → List ℕ → List (ServerScramErrorKind × Type 0)
+final_text_tests nonce text = (Utf8Error, ¬ IsUtf8 text)
+    ∷ (binding_tests text ++ (nonce_tests nonce text ++ spelling_tests text))
+
+-- what the server reads before it looks at its keys: the first refusal that holds, or the values that are named;
+-- parts between the nonce and the proof stay in what stands before the proof
+unfoldable pub ReadsFinalText : List ℕ → List ℕ → Result ClientFinal ServerScramErrorKind → Type 0
+ReadsFinalText nonce text answer = Reads (final_text_tests nonce text) (NamesClientFinal nonce text) answer
+
+-- its tests of the proof that was read
+abbrev pub proof_tests : Server → ClientFinal → List (ServerScramErrorKind × Type 0)
+proof_tests server final =
+    (XorLengthMismatch, length final.proof ≢ digest_len server.version)
+    ∷ (AuthenticationFailed, ¬ Meets server final)
     ∷ []
 
--- all tests of the server, in their order
-abbrev pub client_final_tests : Server → List ℕ → List (ServerScramErrorKind × Type 0)
-client_final_tests server text = (Utf8Error, ¬ IsUtf8 text)
-    ∷ (binding_tests text ++ (nonce_tests server.nonce text ++ (spelling_tests text ++ proof_tests server text)))
-
--- what the server reads: the first refusal that holds, or the values that are named; parts between the nonce
--- and the proof stay in what stands before the proof
+-- what the server reads: the first refusal of the text or else of its proof, or the values of a text whose proof
+-- meets the stored key
 unfoldable pub ReadsClientFinal : Server → List ℕ → Result ClientFinal ServerScramErrorKind → Type 0
-ReadsClientFinal server text answer = Reads (client_final_tests server text) (NamesClientFinal server text) answer
+ReadsClientFinal server text (Ok final) = ReadsFinalText server.nonce text (Ok final)
+    × (length final.proof ≡ digest_len server.version) × Meets server final
+ReadsClientFinal server text (Err fault) = ReadsFinalText server.nonce text (Err fault)
+    ⊎ ((final : ClientFinal) × ReadsFinalText server.nonce text (Ok final) × IsFirst (proof_tests server final) fault)

@@ -1,8 +1,10 @@
 -- The client-first message (RFC 5802, section 7), as the client writes it and as the server reads it.
 use Rattle.std.specs.Prelude.{ℕ, List, [], ◌∷◌, ◌++◌, ◌≡◌, codes, Result}
+use Rattle.std.specs.Cow.{cow_str_bytes}
 use Rattle.std.specs.Str.{IsUtf8}
 use Rattle.fe2o3_scram.specs.declared.scram_messages.error.ServerScramErrorKind.{ServerScramErrorKind}
 use Rattle.fe2o3_scram.specs.declared.scram_messages.error.ServerScramErrorKind.TheVariants.{Utf8Error, CannotParseGs2Header, CannotParseUsername, CannotParseClientNonce}
+use Rattle.fe2o3_scram.specs.declared.scram_messages.client_first_reading.ClientFirst.{ClientFirst as CodeClientFirst}
 use Rattle.fe2o3_scram.specs.Escape.{escaped}
 use Rattle.fe2o3_scram.specs.Readings.{Reads}
 use Rattle.fe2o3_scram.specs.Texts.{joined, Part, Begins}
@@ -20,6 +22,15 @@ pub record ClientFirst : Type 0 where
   pub user : List ℕ
   pub nonce : List ℕ
   pub bare : List ℕ
+
+-- the values that the code's value holds
+abbrev pub client_first_values : CodeClientFirst → ClientFirst
+client_first_values first = record {
+  user = cow_str_bytes first.username;
+  nonce = first.client_nonce.now;
+  bare =
+      first.client_first_message_bare.now;
+}
 
 -- behind the GS2 header the message has this part at place k
 abbrev pub BarePart : List ℕ → ℕ → List ℕ → Type 0

@@ -3,7 +3,7 @@ use Rattle.std.specs.Prelude.{ℕ, List, [], ◌∷◌, Option, Some, None, if�
 use Rattle.std.specs.Cmp.Lexicographic.{pointwise}
 use Rattle.fe2o3_scram.specs.declared.hmac.ScramVersion.{ScramVersion}
 use Rattle.fe2o3_scram.specs.declared.credentials.StoredPassword.{StoredPassword}
-use Rattle.fe2o3_scram.specs.Keys.{stored_key, server_key}
+use Rattle.fe2o3_scram.specs.Keys.{client_key, stored_key, server_key}
 use Rattle.fe2o3_scram.specs.Pbkdf2Hi.{salted_of}
 
 -- what is kept of a password
@@ -20,7 +20,7 @@ record_of version password salt count =
     record {
       salt = salt;
       count = count;
-      stored_key = stored_key version salted;
+      stored_key = stored_key version (client_key version salted);
       server_key =
           server_key version salted;
     }

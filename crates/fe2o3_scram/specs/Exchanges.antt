@@ -7,7 +7,7 @@ use Rattle.fe2o3_scram.specs.ServerFirst.{server_first_of, ServerFirst, ReadsSer
 use Rattle.fe2o3_scram.specs.ClientFinal.{Answer, answer_of, without_proof, Server, server_of, ClientFinal, ReadsClientFinal}
 use Rattle.fe2o3_scram.specs.ClientFirst.{client_first, client_first_bare, ReadsClientFirst}
 use Rattle.fe2o3_scram.specs.Credentials.{Record, record_of}
-use Rattle.fe2o3_scram.specs.Keys.{auth_message, client_proof}
+use Rattle.fe2o3_scram.specs.Keys.{auth_message, client_key, client_proof}
 use Rattle.fe2o3_scram.specs.Pbkdf2Hi.{salted_of}
 use Rattle.fe2o3_scram.specs.ServerFinal.{server_final_of, ReadsServerFinal}
 use Rattle.fe2o3_scram.specs.SaslprepAscii.{IsPrintable}
@@ -71,7 +71,7 @@ abbrev pub final_in : Exchange → ClientFinal
 final_in x = record {
   without = without_proof (nonce_in x);
   proof =
-      client_proof x.version (salted_of x.version x.password x.salt x.count)
+      client_proof x.version (client_key x.version (salted_of x.version x.password x.salt x.count))
       (auth_message (bare_in x) (first_in x) (without_proof (nonce_in x)));
 }
 

@@ -6,6 +6,8 @@ use Rattle.sha2.specs.Sha256.{sha256}
 use Rattle.sha2.specs.Sha512.{sha512}
 use Rattle.fe2o3_scram.specs.declared.hmac.ScramVersion.{ScramVersion}
 use Rattle.fe2o3_scram.specs.declared.hmac.ScramVersion.TheVariants.{Sha1, Sha256, Sha512}
+use Rattle.fe2o3_scram.specs.declared.hmac.hasher.DigestBytes.{DigestBytes}
+use Rattle.fe2o3_scram.specs.declared.hmac.hasher.DigestBytes.TheVariants.{Sha1 as BytesSha1, Sha256 as BytesSha256, Sha512 as BytesSha512}
 
 -- the name of the SASL mechanism (RFC 5802, section 4; RFC 7677, section 3)
 abbrev pub mechanism_name : ScramVersion → List ℕ
@@ -52,3 +54,15 @@ hmac_of version key message = digest version (masked 0x5c (key_block version key
 -- the exclusive or of two texts of bytes, byte by byte
 unfoldable pub exclusive_or : List ℕ → List ℕ → List ℕ
 exclusive_or left right = map (λ (pair : ℕ × ℕ). bit_xor pair.0 pair.1) (zip left right)
+
+-- the bytes of a digest
+abbrev pub digest_bytes : DigestBytes → List ℕ
+digest_bytes (BytesSha1 bytes) = bytes
+digest_bytes (BytesSha256 bytes) = bytes
+digest_bytes (BytesSha512 bytes) = bytes
+
+-- the version whose digest it is
+abbrev pub version_of : DigestBytes → ScramVersion
+version_of (BytesSha1 bytes) = Sha1
+version_of (BytesSha256 bytes) = Sha256
+version_of (BytesSha512 bytes) = Sha512

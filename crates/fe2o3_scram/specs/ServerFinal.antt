@@ -1,21 +1,20 @@
 -- The server-final message (RFC 5802, section 7), as the server writes it and as the client reads it.
-use Rattle.std.specs.Prelude.{ℕ, List, [], ◌∷◌, ◌++◌, ◌≡◌, ◌≤◌, ◌+◌, codes, Result, Ok, Err}
+use Rattle.std.specs.Prelude.{ℕ, List, [], ◌∷◌, ◌++◌, ◌≡◌, ◌≢◌, ◌⊎◌, ◌≤◌, ◌+◌, codes, Result, Ok, Err}
 use Rattle.std.specs.Str.{IsUtf8}
 use Rattle.base64.specs.GeneralPurpose.{IsBytes}
 use Rattle.fe2o3_scram.specs.declared.scram_messages.error.ServerScramErrorKind.{ServerScramErrorKind}
 use Rattle.fe2o3_scram.specs.declared.scram_messages.error.ServerScramErrorKind.TheVariants.{AuthenticationFailed, OutOfMemory}
 use Rattle.fe2o3_scram.specs.Texts.{base64_text, Part}
 use Rattle.fe2o3_scram.specs.ClientFinal.{Server, ClientFinal, ReadsClientFinal}
-use Rattle.fe2o3_scram.specs.Hmac.{hmac_of}
-use Rattle.fe2o3_scram.specs.Keys.{auth_message}
+use Rattle.fe2o3_scram.specs.Keys.{auth_message, server_signature}
 use Rattle.fe2o3_scram.specs.Readings.{Reads}
 use Rattle.fe2o3_scram.specs.declared.scram_messages.error.ScramErrorKind.{ScramErrorKind}
 use Rattle.fe2o3_scram.specs.declared.scram_messages.error.ScramErrorKind.TheVariants.{Utf8Error, Base64DecodeError, ServerSignatureMismatch}
 
--- server-final-message: HMAC(ServerKey, AuthMessage)
+-- server-final-message: the ServerSignature
 abbrev pub server_final_of : Server → ClientFinal → List ℕ
 server_final_of server final = codes "v=" ++ base64_text
-    (hmac_of server.version server.server_key (auth_message server.bare server.first final.without))
+    (server_signature server.version server.server_key (auth_message server.bare server.first final.without))
 
 -- what the server answers to a client-final message: the first refusal, or the server-final message
 abbrev pub AnswersClientFinal : Server → List ℕ → Result (List ℕ) ServerScramErrorKind → Type 0
@@ -35,16 +34,21 @@ FinalCosts (Err fault) before after = after ≡ before
 abbrev pub HasSignature : List ℕ → List ℕ → Type 0
 HasSignature text signature = IsBytes signature × Part text 0 (codes "v=" ++ base64_text signature)
 
--- the client's tests, for the signature that it waits for, in their order
-abbrev pub server_final_tests : List ℕ → List ℕ → List (ScramErrorKind × Type 0)
-server_final_tests signature text =
+-- the client's tests of the text, in their order
+abbrev pub server_final_tests : List ℕ → List (ScramErrorKind × Type 0)
+server_final_tests text =
     (Utf8Error, ¬ IsUtf8 text)
     ∷ (ServerSignatureMismatch, (rest : List ℕ) → ¬ Part text 0 (codes "v=" ++ rest))
-    ∷ (Base64DecodeError, (bytes : List ℕ) → ¬ HasSignature text bytes)
-    ∷ (ServerSignatureMismatch, ¬ HasSignature text signature)
+    ∷ (Base64DecodeError, (signature : List ℕ) → ¬ HasSignature text signature)
     ∷ []
 
--- what the client reads: the first refusal that holds, or that this is the signature; parts after the first say nothing
+-- what the client reads before it looks at the signature that it waits for: the first refusal that holds, or the
+-- signature that is named; parts after the first say nothing
+unfoldable pub ReadsSignature : List ℕ → Result (List ℕ) ScramErrorKind → Type 0
+ReadsSignature text answer = Reads (server_final_tests text) (HasSignature text) answer
+
+-- what the client reads: the first refusal of the text, that its signature is another one, or that it is this one
 unfoldable pub ReadsServerFinal : List ℕ → List ℕ → Result (Unit {0}) ScramErrorKind → Type 0
-ReadsServerFinal signature text answer = Reads (server_final_tests signature text)
-    (λ _. HasSignature text signature) answer
+ReadsServerFinal signature text (Ok believed) = ReadsSignature text (Ok signature)
+ReadsServerFinal signature text (Err fault) = ReadsSignature text (Err fault)
+    ⊎ ((other : List ℕ) × ReadsSignature text (Ok other) × (other ≢ signature) × (fault ≡ ServerSignatureMismatch))

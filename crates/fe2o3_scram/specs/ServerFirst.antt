@@ -2,6 +2,9 @@
 use Rattle.std.specs.Prelude.{ℕ, List, [], ◌∷◌, ◌++◌, ◌<◌, codes, Result, ◌≡◌, Option, Some, None, Ok, Err}
 use Rattle.fe2o3_scram.specs.declared.scram_messages.error.ScramErrorKind.{ScramErrorKind}
 use Rattle.fe2o3_scram.specs.declared.scram_messages.error.ScramErrorKind.TheVariants.{InsufficientParts, ExtensionNotSupported, NonceNotFound, ClientNonceMismatch, SaltNotFound, Base64DecodeError, IterationCountNotFound, IterationCountParseError, IterationCountTooLarge, NormalizeError}
+use Rattle.fe2o3_scram.specs.declared.scram_messages.server_first.ServerFirstMessage.{ServerFirstMessage}
+use Rattle.fe2o3_scram.specs.declared.scram_messages.server_first_reading.ServerFirst.{ServerFirst as CodeServerFirst}
+use Rattle.std.specs.Cow.{cow_str_bytes}
 use Rattle.base64.specs.GeneralPurpose.{IsBytes}
 use Rattle.fe2o3_scram.specs.Texts.{base64_text, IsCount, Part, joined}
 use Rattle.fe2o3_scram.specs.Readings.{Reads}
@@ -16,6 +19,10 @@ pub record ServerFirst : Type 0 where
   pub nonce : List ℕ
   pub salt : List ℕ
   pub count : ℕ
+
+-- the values that the code's value holds
+abbrev pub server_first_values : CodeServerFirst → ServerFirst
+server_first_values first = record { nonce = first.nonce.now; salt = first.salt.items; count = first.iterations }
 
 -- the second part is this salt
 abbrev pub HasSalt : List ℕ → List ℕ → Type 0
@@ -86,6 +93,16 @@ pub record Challenge : Type 0 where
   pub bare : List ℕ
   pub first : List ℕ
   pub nonce : List ℕ
+
+-- the challenge that the code's value holds
+abbrev pub challenge_values : ServerFirstMessage → Challenge
+challenge_values message = record {
+  user = cow_str_bytes message.username;
+  bare =
+      message.client_first_message_bare.now;
+  first = message.message;
+  nonce = message.client_server_nonce;
+}
 
 -- the challenge to a client-first message that was read, with the server's nonce and the user's record
 abbrev pub challenge_of : ClientFirst → List ℕ → Record → Challenge

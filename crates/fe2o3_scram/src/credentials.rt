@@ -6,7 +6,7 @@ ghost use Rattle.std.proofs.Common.{ap};
 ghost use Rattle.fe2o3_scram.specs.Credentials.{Provider, record_at, record_of, kept};
 ghost use Rattle.fe2o3_scram.specs.SaslprepAscii.{IsPrintable};
 
-use crate::hmac::ScramVersion;
+use crate::hmac::{Meter, ScramVersion};
 use crate::scram_messages::error::ServerScramErrorKind;
 use std::alloc::{AllocError, Global};
 use std::marker::Model;
@@ -123,16 +123,17 @@ impl SingleScramCredential {
             &salt,
             DEFAULT_SCRAM_ITERATIONS,
         )?;
-        let client_key = scram_version.hmac(alloc, &salted_password, b"Client Key")?;
-        let stored_key = scram_version.h(alloc, &client_key)?;
-        let server_key = scram_version.hmac(alloc, &salted_password, b"Server Key")?;
+        let mut meter = Meter::new();
+        let client_key = scram_version.client_key(&salted_password, &mut meter);
+        let stored_key = scram_version.stored_key(client_key.as_slice());
+        let server_key = scram_version.server_key(&salted_password, &mut meter);
         Ok(Self {
             scram_version,
             username,
             salt,
             iterations: DEFAULT_SCRAM_ITERATIONS,
-            stored_key,
-            server_key,
+            stored_key: stored_key.as_slice().to_vec(alloc)?,
+            server_key: server_key.as_slice().to_vec(alloc)?,
         })
     }
 }

@@ -1,6 +1,7 @@
 //! The hashes of SCRAM and HMAC over them (RFC 2104).
 
-ghost use Rattle.std.specs.Prelude.{◌≡◌, IfOk};
+ghost use Rattle.std.specs.Prelude.{◌≡◌, ◌≢◌, IfOk, MatchOption, MatchResult};
+ghost use Rattle.fe2o3_scram.specs.declared.hmac.ScramVersion.{ScramVersion};
 ghost use Rattle.fe2o3_scram.specs.Hmac.{mechanism_name, digest, digest_len, block_len, hmac_of};
 
 pub(crate) mod hasher;
@@ -8,10 +9,13 @@ pub(crate) mod keyed;
 pub(crate) mod meter;
 
 use crate::OutOfMemory;
+pub use crate::hmac::hasher::DigestBytes;
 use crate::hmac::hasher::digest_of;
 use crate::hmac::keyed::HmacKey;
 pub use crate::hmac::meter::Meter;
 use std::alloc::Global;
+use std::str::FromStr;
+use thiserror::Error;
 
 /// The mechanism name of SCRAM with SHA-1.
 pub const SCRAM_SHA_1: &str = "SCRAM-SHA-1";
@@ -21,6 +25,11 @@ pub const SCRAM_SHA_256: &str = "SCRAM-SHA-256";
 
 /// The mechanism name of SCRAM with SHA-512.
 pub const SCRAM_SHA_512: &str = "SCRAM-SHA-512";
+
+/// The name is not that of a SCRAM mechanism which is known here.
+#[derive(Debug, Clone, Copy, PartialEq, Eq, Error)]
+#[error("Unknown SCRAM mechanism")]
+pub struct UnknownMechanism;
 
 /// Which hash a SCRAM mechanism stands on.
 #[derive(Debug, Clone, Copy, PartialEq, Eq)]
@@ -44,6 +53,20 @@ impl ScramVersion {
             ScramVersion::Sha1 => SCRAM_SHA_1,
             ScramVersion::Sha256 => SCRAM_SHA_256,
             ScramVersion::Sha512 => SCRAM_SHA_512,
+        }
+    }
+
+    /// The version of the SASL mechanism with this name, which is compared byte by byte, or `None`
+    /// where it is the name of none of the three.
+    pub fn from_mechanism(name: &str) -> Option<ScramVersion>
+        ensures { MatchOption result ((version : ScramVersion) → mechanism_name version ≢ name.now)
+            (λ version. mechanism_name version ≡ name.now) }
+    {
+        match name {
+            SCRAM_SHA_1 => Some(ScramVersion::Sha1),
+            SCRAM_SHA_256 => Some(ScramVersion::Sha256),
+            SCRAM_SHA_512 => Some(ScramVersion::Sha512),
+            _ => None,
         }
     }
 
@@ -83,5 +106,16 @@ impl ScramVersion {
             ScramVersion::Sha256 => 32,
             ScramVersion::Sha512 => 64,
         }
+    }
+}
+
+impl FromStr for ScramVersion {
+    type Err = UnknownMechanism;
+
+    ghost from_str_gives = { λ name result. MatchResult result (λ version. mechanism_name version ≡ name)
+        (λ _. (version : ScramVersion) → mechanism_name version ≢ name) };
+
+    fn from_str(name: &str) -> Result<Self, UnknownMechanism> {
+        ScramVersion::from_mechanism(name).ok_or(UnknownMechanism)
     }
 }

@@ -11,6 +11,7 @@
 
 pub mod credentials;
 pub mod hmac;
+pub mod keys;
 pub mod laws;
 pub mod pbkdf2_hi;
 pub mod saslprep_ascii;
@@ -22,13 +23,14 @@ mod texts;
 pub use crate::credentials::{
     DEFAULT_SCRAM_ITERATIONS, ScramCredentialProvider, SingleScramCredential, StoredPassword,
 };
-pub use crate::hmac::{Meter, ScramVersion};
+pub use crate::hmac::{DigestBytes, Meter, ScramVersion, UnknownMechanism};
+pub use crate::keys::auth_message;
 pub use crate::pbkdf2_hi::KeyError;
 pub use crate::saslprep_ascii::{NormalizeError, saslprep};
 pub use crate::scram_client::ScramClient;
 pub use crate::scram_messages::{
-    ScramErrorKind, ServerFirstMessage, ServerScramErrorKind, UnescapeError, XorLengthMismatch,
-    escape_username, unescape_username,
+    ClientFinal, ClientFirst, ScramErrorKind, ServerFinal, ServerFirst, ServerFirstMessage,
+    ServerScramErrorKind, UnescapeError, XorLengthMismatch, escape_username, unescape_username,
 };
 pub use crate::scram_server::ScramAuthenticator;
 pub use std::alloc::AllocError as OutOfMemory;

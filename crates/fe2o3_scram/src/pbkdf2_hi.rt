@@ -1,8 +1,7 @@
 //! The salted password: `Hi` of RFC 5802, section 2.2, which is PBKDF2 with one block of output.
 
 ghost use Rattle.std.specs.Prelude.{◌≡◌, ◌≤◌, ◌+◌, ◌^◌, ◌↔◌, IfOk, OnOk, OnErr};
-ghost use Rattle.fe2o3_scram.specs.Hmac.{digest_len};
-ghost use Rattle.fe2o3_scram.specs.private.Hashers.{digest_bytes, version_of};
+ghost use Rattle.fe2o3_scram.specs.Hmac.{digest_len, digest_bytes, version_of};
 ghost use Rattle.fe2o3_scram.specs.Pbkdf2Hi.{round_of, salted_of};
 ghost use Rattle.fe2o3_scram.specs.SaslprepAscii.{IsPrintable};
 ghost use Rattle.fe2o3_scram.specs.declared.pbkdf2_hi.KeyError.TheVariants.{NormalizeError, OutOfMemory};

@@ -123,6 +123,13 @@ impl ScramClient {
         }
     }
 
+    /// The version, which names the mechanism that the client logs in by.
+    pub fn version(&self) -> ScramVersion
+        ensures { result ≡ self.now.version }
+    {
+        self.scram
+    }
+
     /// The client-first message with a nonce of 32 bytes, which is written in base64.
     pub fn compute_client_first_message(
         &mut self,

@@ -3,9 +3,8 @@
 ghost use Rattle.std.specs.Prelude.{◌≡◌, IfOk, OnErr, option_map};
 ghost use Rattle.fe2o3_scram.specs.ScramServer.{provider_in, state_in, Initial, ChallengesFrom, ConcludesFrom, state_of};
 ghost use Rattle.fe2o3_scram.specs.Texts.{base64_text};
-ghost use Rattle.fe2o3_scram.specs.ServerFirst.{AnswersClientFirst};
+ghost use Rattle.fe2o3_scram.specs.ServerFirst.{AnswersClientFirst, challenge_values};
 ghost use Rattle.fe2o3_scram.specs.Readings.{Gives};
-ghost use Rattle.fe2o3_scram.specs.private.Values.{challenge_values};
 
 use crate::OutOfMemory;
 use crate::credentials::ScramCredentialProvider;

@@ -6,8 +6,6 @@ use Rattle.fe2o3_scram.specs.declared.hmac.ScramVersion.{ScramVersion}
 use Rattle.fe2o3_scram.specs.declared.hmac.ScramVersion.TheVariants.{Sha1, Sha256, Sha512}
 use Rattle.fe2o3_scram.specs.declared.hmac.hasher.Hasher.{Hasher}
 use Rattle.fe2o3_scram.specs.declared.hmac.hasher.Hasher.TheVariants.{Sha1 as HasherSha1, Sha256 as HasherSha256, Sha512 as HasherSha512}
-use Rattle.fe2o3_scram.specs.declared.hmac.hasher.DigestBytes.{DigestBytes}
-use Rattle.fe2o3_scram.specs.declared.hmac.hasher.DigestBytes.TheVariants.{Sha1 as BytesSha1, Sha256 as BytesSha256, Sha512 as BytesSha512}
 use Rattle.fe2o3_scram.specs.declared.hmac.keyed.HmacKey.{HmacKey}
 use Rattle.fe2o3_scram.specs.Hmac.{key_block, masked}
 
@@ -17,18 +15,6 @@ HasTaken (HasherSha1 state) Sha1 message = Holds state message
 HasTaken (HasherSha256 state) Sha256 message = Holds256 state message
 HasTaken (HasherSha512 state) Sha512 message = Holds512 state message
 HasTaken hasher version message = ⊥
-
--- the bytes of a digest
-abbrev pub digest_bytes : DigestBytes → List ℕ
-digest_bytes (BytesSha1 bytes) = bytes
-digest_bytes (BytesSha256 bytes) = bytes
-digest_bytes (BytesSha512 bytes) = bytes
-
--- the version whose digests are these arrays
-abbrev pub version_of : DigestBytes → ScramVersion
-version_of (BytesSha1 bytes) = Sha1
-version_of (BytesSha256 bytes) = Sha256
-version_of (BytesSha512 bytes) = Sha512
 
 -- the two hashers have taken in the pads of the key
 abbrev pub IsKeyOf : HmacKey → ScramVersion → List ℕ → Type 0

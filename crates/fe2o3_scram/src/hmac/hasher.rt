@@ -1,23 +1,47 @@
 //! A hasher of any of the three hashes. None of this takes memory.
 
-ghost use Rattle.std.specs.Prelude.{◌≡◌, ◌++◌, ℕ, List, [], length, vec_len};
+ghost use Rattle.std.specs.Prelude.{◌≡◌, ◌≢◌, ◌++◌, ℕ, List, [], length, IfOk, MatchResult};
 ghost use Rattle.fe2o3_scram.specs.declared.hmac.ScramVersion.{ScramVersion};
-ghost use Rattle.fe2o3_scram.specs.Hmac.{digest, exclusive_or};
-ghost use Rattle.fe2o3_scram.specs.private.Hashers.{HasTaken, digest_bytes, version_of};
+ghost use Rattle.fe2o3_scram.specs.Hmac.{digest, digest_len, exclusive_or, digest_bytes, version_of};
+ghost use Rattle.fe2o3_scram.specs.private.Hashers.{HasTaken};
 
 use crate::hmac::ScramVersion;
+use crate::scram_messages::error::XorLengthMismatch;
 use sha2::Digest;
 
-/// A digest of one of the three hashes.
+/// A digest or an HMAC value of one of the three hashes, which may be a secret: it has no `Debug`,
+/// and is compared by its bytes, and not in constant time.
 #[derive(Clone, Copy)]
-pub(crate) enum DigestBytes {
+pub enum DigestBytes {
+    /// 20 bytes of SHA-1.
     Sha1([u8; 20]),
+
+    /// 32 bytes of SHA-256.
     Sha256([u8; 32]),
+
+    /// 64 bytes of SHA-512.
     Sha512([u8; 64]),
 }
 
 impl DigestBytes {
-    /// The bytes of the digest.
+    /// The digest of this version that has these bytes, where they are as many as it has.
+    pub(crate) fn from_slice(
+        version: ScramVersion,
+        bytes: &[u8],
+    ) -> Result<DigestBytes, XorLengthMismatch>
+        ensures bytes { MatchResult result (λ digest. (length bytes.now ≡ digest_len version)
+            × (digest_bytes digest ≡ bytes.now)) (λ _. length bytes.now ≢ digest_len version) }
+        ensures version { IfOk result (λ digest. version_of digest ≡ version) }
+    {
+        let digest = match version {
+            ScramVersion::Sha1 => bytes.try_into().map(DigestBytes::Sha1),
+            ScramVersion::Sha256 => bytes.try_into().map(DigestBytes::Sha256),
+            ScramVersion::Sha512 => bytes.try_into().map(DigestBytes::Sha512),
+        };
+        digest.map_err(|_| XorLengthMismatch)
+    }
+
+    /// The bytes, 20, 32 or 64.
     pub fn as_slice(&self) -> &[u8]
         ensures { result.now ≡ digest_bytes self.now }
     {
@@ -29,7 +53,7 @@ impl DigestBytes {
     }
 
     /// Turns the bits that another digest of the same hash has set.
-    pub fn xor(&mut self, other: &DigestBytes)
+    pub(crate) fn xor(&mut self, other: &DigestBytes)
         requires { version_of self.old ≡ version_of other.now }
         ensures bytes { digest_bytes self.new ≡ exclusive_or (digest_bytes self.old) (digest_bytes other.now) }
         ensures version { version_of self.new ≡ version_of self.old }
@@ -51,16 +75,6 @@ fn xor(lhs: &mut [u8], rhs: &[u8])
     for at in 0..lhs.len() {
         lhs[at] ^= rhs[at];
     }
-}
-
-/// The exclusive or of two strings of one length, byte by byte.
-pub(crate) fn xored(lhs: Vec<u8>, rhs: &[u8]) -> Vec<u8>
-    requires { vec_len lhs ≡ length rhs.now }
-    ensures { result.items ≡ exclusive_or lhs.items rhs.now }
-{
-    let mut sum = lhs;
-    xor(sum.as_mut_slice(), rhs);
-    sum
 }
 
 /// A hasher of one of the three hashes.

@@ -2,8 +2,8 @@
 
 ghost use Rattle.std.specs.Prelude.{◌≡◌, ◌≤◌, ◌<◌, ◌+◌, ◌^◌, ℕ, List, length};
 ghost use Rattle.fe2o3_scram.specs.declared.hmac.ScramVersion.{ScramVersion};
-ghost use Rattle.fe2o3_scram.specs.Hmac.{hmac_of, block_len, masked, zero_filled};
-ghost use Rattle.fe2o3_scram.specs.private.Hashers.{HasTaken, IsKeyOf, digest_bytes, version_of};
+ghost use Rattle.fe2o3_scram.specs.Hmac.{hmac_of, block_len, masked, zero_filled, digest_bytes, version_of};
+ghost use Rattle.fe2o3_scram.specs.private.Hashers.{HasTaken, IsKeyOf};
 
 use crate::hmac::ScramVersion;
 use crate::hmac::hasher::{DigestBytes, Hasher, digest_of};

@@ -1,19 +1,17 @@
 //! The client-final message, which answers a server-first message.
 
-ghost use Rattle.std.specs.Prelude.{◌≡◌, ◌≤◌, ◌<◌, ◌+◌, ◌^◌, IfOk, OnOk, OnErr};
+ghost use Rattle.std.specs.Prelude.{◌≡◌, ◌≤◌, ◌<◌, ◌+◌, ◌^◌, IfOk, IfErr, OnOk, OnErr};
 ghost use Rattle.fe2o3_scram.specs.ClientFinal.{AnswerCosts, without_proof, client_final_of, answer_of, AnswersServerFirst};
-ghost use Rattle.fe2o3_scram.specs.private.Hashers.{digest_bytes};
+ghost use Rattle.fe2o3_scram.specs.Hmac.{digest_bytes};
 ghost use Rattle.fe2o3_scram.specs.Readings.{Gives};
-ghost use Rattle.fe2o3_scram.specs.Keys.{auth_message, client_proof, server_signature};
-ghost use Rattle.fe2o3_scram.specs.private.Values.{values_of};
+ghost use Rattle.fe2o3_scram.specs.ServerFirst.{server_first_values};
 
 use crate::OutOfMemory;
-use crate::hmac::hasher::{DigestBytes, digest_of};
-use crate::hmac::keyed::HmacKey;
 use crate::hmac::{Meter, ScramVersion};
+use crate::keys::auth_message;
 use crate::scram_messages::attributes::{CHANNEL_BINDING_KEY, GS2_HEADER, NONCE_KEY, PROOF_KEY};
 use crate::scram_messages::error::ScramErrorKind;
-use crate::scram_messages::server_first_reading::{ServerFirstValues, read_server_first};
+use crate::scram_messages::server_first_reading::ServerFirst;
 use crate::texts::base64_of;
 use std::alloc::Global;
 
@@ -97,7 +95,7 @@ impl ScramVersion {
         ensures cost { AnswerCosts (record { nonce = client_nonce.now; password = password.now; limit = limit })
             server_first.now result meter.old meter.new }
     {
-        let first = read_server_first(alloc, client_nonce, password, limit, server_first)?;
+        let first = ServerFirst::parse(alloc, client_nonce, password, limit, server_first)?;
         let answer = self.answer(
             alloc,
             password,
@@ -116,15 +114,16 @@ impl ScramVersion {
         password: &str,
         client_first_message_bare: &[u8],
         server_first: &str,
-        first: &ServerFirstValues<'_>,
+        first: &ServerFirst<'_>,
         meter: &mut Meter,
-    ) -> Result<(Vec<u8>, Vec<u8>), OutOfMemory>
+    ) -> Result<(Vec<u8>, Vec<u8>), ScramErrorKind>
         requires some { 1 ≤ first.now.iterations }
         requires meter { meter.old ≤ 2 ^ 63 }
         ensures answer { IfOk result (λ answer. (answer.0.items, answer.1.items)
-            ≡ answer_of self.now password.now client_first_message_bare.now server_first.now (values_of first.now)) }
+            ≡ answer_of self.now password.now client_first_message_bare.now server_first.now (server_first_values first.now)) }
         ensures counted { OnOk result (meter.new ≡ meter.old + (first.now.iterations + 4)) }
-        ensures memory { OnErr result (meter.new ≤ meter.old + (first.now.iterations + 4)) }
+        ensures memory { IfErr result (λ kind. kind ≡ ScramErrorKind.OutOfMemory) }
+        ensures at_most { OnErr result (meter.new ≤ meter.old + (first.now.iterations + 4)) }
     {
         let without_proof = without_proof(alloc, first.nonce)?;
         let auth_message = auth_message(
@@ -140,47 +139,12 @@ impl ScramVersion {
             first.iterations,
             meter,
         )?;
-        let proof = self.compute_client_proof(salted_password.as_slice(), &auth_message, meter);
+        let client_key = self.client_key(salted_password.as_slice(), meter);
+        let proof = self.compute_client_proof(client_key.as_slice(), &auth_message, meter)?;
         let client_final = client_final(alloc, &without_proof, proof.as_slice())?;
-        let signature = self.compute_server_signature(
-            salted_password.as_slice(),
-            &auth_message,
-            meter,
-        );
+        let server_key = self.server_key(salted_password.as_slice(), meter);
+        let signature = self.compute_server_signature(server_key.as_slice(), &auth_message, meter);
         Ok((client_final, signature.as_slice().to_vec(alloc)?))
-    }
-
-    /// The client's proof, which takes two HMAC values.
-    fn compute_client_proof(
-        &self,
-        salted_password: &[u8],
-        auth_message: &[u8],
-        meter: &mut Meter,
-    ) -> DigestBytes
-        requires { meter.old + 2 < 2 ^ 64 }
-        ensures proof { digest_bytes result ≡ client_proof self.now salted_password.now auth_message.now }
-        ensures counted { meter.new ≡ meter.old + 2 }
-    {
-        let mut client_key = HmacKey::new(*self, salted_password).mac(b"Client Key", meter);
-        let stored_key = digest_of(*self, client_key.as_slice());
-        let client_signature = HmacKey::new(*self, stored_key.as_slice()).mac(auth_message, meter);
-        client_key.xor(&client_signature);
-        client_key
-    }
-
-    /// The server's signature, which takes two HMAC values.
-    fn compute_server_signature(
-        &self,
-        salted_password: &[u8],
-        auth_message: &[u8],
-        meter: &mut Meter,
-    ) -> DigestBytes
-        requires { meter.old + 2 < 2 ^ 64 }
-        ensures signature { digest_bytes result ≡ server_signature self.now salted_password.now auth_message.now }
-        ensures counted { meter.new ≡ meter.old + 2 }
-    {
-        let server_key = HmacKey::new(*self, salted_password).mac(b"Server Key", meter);
-        HmacKey::new(*self, server_key.as_slice()).mac(auth_message, meter)
     }
 }
 
@@ -197,24 +161,6 @@ fn client_final(
     buf.push(b',')?;
     buf.extend_from_slice(PROOF_KEY.as_bytes())?;
     buf.extend_from_slice(base64_of(alloc, client_proof)?.as_bytes())?;
-    Ok(buf)
-}
-
-/// The three messages that both sides have seen, as they were sent.
-pub(crate) fn auth_message(
-    alloc: Global,
-    client_first_message_bare: &[u8],
-    server_first_message: &[u8],
-    client_final_message_without_proof: &[u8],
-) -> Result<Vec<u8>, OutOfMemory>
-    ensures { IfOk result (λ text. text.items ≡ auth_message client_first_message_bare.now server_first_message.now
-        client_final_message_without_proof.now) }
-{
-    let mut buf = client_first_message_bare.to_vec(alloc)?;
-    buf.push(b',')?;
-    buf.extend_from_slice(server_first_message)?;
-    buf.push(b',')?;
-    buf.extend_from_slice(client_final_message_without_proof)?;
     Ok(buf)
 }
 

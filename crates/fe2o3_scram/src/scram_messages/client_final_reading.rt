@@ -1,9 +1,8 @@
 //! The client-final message, as the server reads it, up to the test of its proof.
 
 ghost use Rattle.std.specs.Prelude.{◌≢◌, ◌++◌, IfOk, IfErr, OnOk, codes};
-ghost use Rattle.fe2o3_scram.specs.Readings.{IsFirst, NoneHolds};
-ghost use Rattle.fe2o3_scram.specs.ClientFinal.{HasBinding, HasProof, binding_tests, nonce_tests, spelling_tests};
-ghost use Rattle.fe2o3_scram.specs.private.Values.{client_final_values};
+ghost use Rattle.fe2o3_scram.specs.Readings.{Gives, IsFirst, NoneHolds};
+ghost use Rattle.fe2o3_scram.specs.ClientFinal.{HasBinding, HasProof, ReadsFinalText, client_final_values, binding_tests, nonce_tests, spelling_tests};
 ghost use Rattle.fe2o3_scram.specs.Texts.{Part};
 
 use crate::scram_messages::attributes::{CHANNEL_BINDING_KEY, GS2_HEADER, NONCE_KEY, PROOF_KEY};
@@ -11,15 +10,42 @@ use crate::scram_messages::error::ServerScramErrorKind;
 use crate::texts::{after, attribute, bytes_of, last_part};
 use std::alloc::Global;
 
-/// What a client-final message names.
+/// What a client-final message names (RFC 5802, section 7).
 #[derive(Debug, Drop)]
-pub(crate) struct ClientFinalValues<'a> {
+pub struct ClientFinal<'a> {
+    /// What stands before the proof and its comma, as it was sent.
     pub without_proof: &'a str,
+
+    /// The client's proof, of any length.
     pub proof: Vec<u8>,
 }
 
+impl<'a> ClientFinal<'a> {
+    /// Reads a client-final message with the nonce of both sides, up to the test of its proof.
+    ///
+    /// Refused are, in this order: `Utf8Error`; for the channel binding
+    /// `CannotParseClientFinalMessage`, `Base64DecodeError` and `InvalidChannelBinding`; for the
+    /// nonce `CannotParseClientFinalMessage` and `IncorrectClientFinalNonce`; for the proof
+    /// `ProofNotFoundInClientFinal` and `Base64DecodeError`.
+    pub fn parse(
+        alloc: Global,
+        client_server_nonce: &[u8],
+        text: &'a [u8],
+    ) -> Result<Self, ServerScramErrorKind>
+        ensures { Gives ServerScramErrorKind.OutOfMemory client_final_values result
+            (ReadsFinalText client_server_nonce.now text.now) }
+    {
+        let Ok(client_final) = str::from_utf8(text) else {
+            return Err(ServerScramErrorKind::Utf8Error);
+        };
+        test_binding(alloc, client_final)?;
+        test_nonce(client_server_nonce, client_final)?;
+        read_proof(alloc, client_final)
+    }
+}
+
 /// Tests that the client binds no channel.
-pub(crate) fn test_binding(alloc: Global, client_final: &str) -> Result<(), ServerScramErrorKind>
+fn test_binding(alloc: Global, client_final: &str) -> Result<(), ServerScramErrorKind>
     ensures tested { OnOk result (NoneHolds (binding_tests client_final.now)) }
     ensures bound { OnOk result (HasBinding client_final.now (codes "n,,")) }
     ensures err { IfErr result (λ kind. kind ≢ ServerScramErrorKind.OutOfMemory
@@ -38,10 +64,7 @@ pub(crate) fn test_binding(alloc: Global, client_final: &str) -> Result<(), Serv
 }
 
 /// Tests that the nonce is that of the challenge.
-pub(crate) fn test_nonce(
-    client_server_nonce: &[u8],
-    client_final: &str,
-) -> Result<(), ServerScramErrorKind>
+fn test_nonce(client_server_nonce: &[u8], client_final: &str) -> Result<(), ServerScramErrorKind>
     ensures tested { OnOk result (NoneHolds (nonce_tests client_server_nonce.now client_final.now)) }
     ensures same { OnOk result (Part client_final.now 1 (codes "r=" ++ client_server_nonce.now)) }
     ensures err { IfErr result (IsFirst (nonce_tests client_server_nonce.now client_final.now)) }
@@ -56,10 +79,7 @@ pub(crate) fn test_nonce(
 }
 
 /// The proof, and what stands before it.
-pub(crate) fn read_proof(
-    alloc: Global,
-    client_final: &str,
-) -> Result<ClientFinalValues<'_>, ServerScramErrorKind>
+fn read_proof(alloc: Global, client_final: &str) -> Result<ClientFinal<'_>, ServerScramErrorKind>
     ensures tested { IfOk result (λ _. NoneHolds (spelling_tests client_final.now)) }
     ensures named { IfOk result (λ final. HasProof client_final.now (client_final_values final)) }
     ensures err { IfErr result (λ kind. kind ≢ ServerScramErrorKind.OutOfMemory
@@ -74,7 +94,7 @@ pub(crate) fn read_proof(
     let Some(proof) = bytes_of(alloc, base64_proof)? else {
         return Err(ServerScramErrorKind::Base64DecodeError);
     };
-    Ok(ClientFinalValues {
+    Ok(ClientFinal {
         without_proof,
         proof,
     })

@@ -2,23 +2,19 @@
 
 ghost use Rattle.std.specs.Prelude.{◌≡◌, ◌≤◌, ◌<◌, ◌+◌, ◌++◌, ◌^◌, ◌↔◌, ℕ, List, IsTrue, IfOk, codes, vec_len};
 ghost use Rattle.fe2o3_scram.specs.Texts.{base64_text};
-ghost use Rattle.fe2o3_scram.specs.Hmac.{digest, digest_len, exclusive_or, hmac_of};
+ghost use Rattle.fe2o3_scram.specs.Keys.{server_signature};
 ghost use Rattle.fe2o3_scram.specs.Credentials.{kept};
 ghost use Rattle.fe2o3_scram.specs.Readings.{Gives};
-ghost use Rattle.fe2o3_scram.specs.ClientFinal.{server_of};
+ghost use Rattle.fe2o3_scram.specs.ClientFinal.{server_of, client_final_values};
 ghost use Rattle.fe2o3_scram.specs.ServerFinal.{AnswersClientFinal, FinalCosts};
-ghost use Rattle.fe2o3_scram.specs.private.Values.{client_final_values, AnswersProof};
+ghost use Rattle.fe2o3_scram.specs.private.Answers.{AnswersProof};
 
 use crate::OutOfMemory;
 use crate::credentials::StoredPassword;
-use crate::hmac::hasher::{digest_of, xored};
-use crate::hmac::keyed::HmacKey;
 use crate::hmac::{Meter, ScramVersion};
+use crate::keys::auth_message;
 use crate::scram_messages::attributes::VERIFIER_KEY;
-use crate::scram_messages::client_final::auth_message;
-use crate::scram_messages::client_final_reading::{
-    ClientFinalValues, read_proof, test_binding, test_nonce,
-};
+use crate::scram_messages::client_final_reading::ClientFinal;
 use crate::scram_messages::error::ServerScramErrorKind;
 use crate::texts::base64_of;
 use std::alloc::Global;
@@ -67,15 +63,10 @@ impl ScramVersion {
             client_server_nonce.now (kept stored_password.now)) client_final.now) }
         ensures cost { FinalCosts result meter.old meter.new }
     {
-        let Ok(text) = str::from_utf8(client_final) else {
-            return Err(ServerScramErrorKind::Utf8Error);
-        };
-        test_binding(alloc, text)?;
-        test_nonce(client_server_nonce, text)?;
-        let values = read_proof(alloc, text)?;
+        let client_final = ClientFinal::parse(alloc, client_server_nonce, client_final)?;
         self.answer_proof(
             alloc,
-            values,
+            &client_final,
             client_first_message_bare,
             server_first_message,
             stored_password,
@@ -87,58 +78,37 @@ impl ScramVersion {
     fn answer_proof(
         &self,
         alloc: Global,
-        values: ClientFinalValues<'_>,
+        client_final: &ClientFinal<'_>,
         client_first_message_bare: &[u8],
         server_first_message: &[u8],
         stored_password: &StoredPassword<'_>,
         meter: &mut Meter,
     ) -> Result<Vec<u8>, ServerScramErrorKind>
         requires { meter.old ≤ 2 ^ 63 }
-        ensures answer { (nonce : List ℕ)
-            → AnswersProof (server_of self.now client_first_message_bare.now server_first_message.now nonce
-            (kept stored_password.now)) (client_final_values values.entry) result }
+        ensures answer { (nonce : List ℕ) → Gives ServerScramErrorKind.OutOfMemory (λ message. message.items) result
+            (AnswersProof (server_of self.now client_first_message_bare.now server_first_message.now nonce
+            (kept stored_password.now)) (client_final_values client_final.now)) }
         ensures cost { FinalCosts result meter.old meter.new }
     {
-        if values.proof.len() != self.digest_len() {
+        // Before memory is taken for the AuthMessage.
+        if client_final.proof.len() != self.digest_len() {
             return Err(ServerScramErrorKind::XorLengthMismatch);
         }
         let auth_message = auth_message(
             alloc,
             client_first_message_bare,
             server_first_message,
-            values.without_proof.as_bytes(),
+            client_final.without_proof.as_bytes(),
         )?;
         if !self.verify_client_proof(
-            values.proof,
             stored_password.stored_key,
+            &client_final.proof,
             &auth_message,
             meter,
-        ) {
+        )? {
             return Err(ServerScramErrorKind::AuthenticationFailed);
         }
         Ok(self.server_final(alloc, stored_password.server_key, &auth_message, meter)?)
-    }
-
-    /// Whether the proof meets the stored key, which takes one HMAC value.
-    #[tactic(auto, using(crate::proofs::lemmas::hashes::DigestLemmas::sizes))]
-    fn verify_client_proof(
-        &self,
-        client_proof: Vec<u8>,
-        stored_key: &[u8],
-        auth_message: &[u8],
-        meter: &mut Meter,
-    ) -> bool
-        requires sized { vec_len client_proof ≡ digest_len self.now }
-        requires meter { meter.old + 1 < 2 ^ 64 }
-        ensures verdict { IsTrue result
-            ↔ (digest self.now (exclusive_or client_proof.items (hmac_of self.now stored_key.now auth_message.now))
-            ≡ stored_key.now) }
-        ensures counted { meter.new ≡ meter.old + 1 }
-    {
-        // ClientKey := ClientProof XOR HMAC(StoredKey, AuthMessage)
-        let client_signature = HmacKey::new(*self, stored_key).mac(auth_message, meter);
-        let client_key = xored(client_proof, client_signature.as_slice());
-        digest_of(*self, &client_key).as_slice() == stored_key
     }
 
     /// The server-final message, which takes one HMAC value.
@@ -151,10 +121,10 @@ impl ScramVersion {
     ) -> Result<Vec<u8>, OutOfMemory>
         requires { meter.old + 1 < 2 ^ 64 }
         ensures text { IfOk result (λ message. message.items ≡ codes "v="
-            ++ base64_text (hmac_of self.now server_key.now auth_message.now)) }
+            ++ base64_text (server_signature self.now server_key.now auth_message.now)) }
         ensures counted { meter.new ≡ meter.old + 1 }
     {
-        let server_signature = HmacKey::new(*self, server_key).mac(auth_message, meter);
+        let server_signature = self.compute_server_signature(server_key, auth_message, meter);
         let mut buf = VERIFIER_KEY.as_bytes().to_vec(alloc)?;
         buf.extend_from_slice(base64_of(alloc, server_signature.as_slice())?.as_bytes())?;
         Ok(buf)

@@ -1,13 +1,42 @@
 //! The server-final message, as the client reads it.
 
 ghost use Rattle.fe2o3_scram.specs.Readings.{Gives};
-ghost use Rattle.fe2o3_scram.specs.ServerFinal.{ReadsServerFinal};
+ghost use Rattle.fe2o3_scram.specs.ServerFinal.{ReadsServerFinal, ReadsSignature};
 
 use crate::hmac::ScramVersion;
 use crate::scram_messages::attributes::VERIFIER_KEY;
 use crate::scram_messages::error::ScramErrorKind;
 use crate::texts::{attribute, bytes_of};
 use std::alloc::Global;
+
+/// What a server-final message names (RFC 5802, section 7).
+#[derive(Debug, Drop)]
+pub struct ServerFinal {
+    /// The server's signature, of any length.
+    pub signature: Vec<u8>,
+}
+
+impl ServerFinal {
+    /// Reads a server-final message, whose signature is not tested.
+    ///
+    /// Refused are, in this order: `Utf8Error`, `ServerSignatureMismatch` where the first part does
+    /// not begin with `v=`, and `Base64DecodeError`. Parts behind the first say nothing.
+    pub fn parse(alloc: Global, text: &[u8]) -> Result<Self, ScramErrorKind>
+        ensures { Gives ScramErrorKind.OutOfMemory (λ message. message.signature.items) result
+            (ReadsSignature text.now) }
+    {
+        let Ok(server_final) = str::from_utf8(text) else {
+            return Err(ScramErrorKind::Utf8Error);
+        };
+        let Some(base64_signature) = attribute(server_final, 0, VERIFIER_KEY) else {
+            return Err(ScramErrorKind::ServerSignatureMismatch);
+        };
+        let Some(signature) = bytes_of(alloc, base64_signature)? else {
+            return Err(ScramErrorKind::Base64DecodeError);
+        };
+        Ok(ServerFinal { signature })
+    }
+}
 
 impl ScramVersion {
     /// Tests that the server-final message has this signature, which only a server makes that
@@ -21,16 +50,8 @@ impl ScramVersion {
         ensures { Gives ScramErrorKind.OutOfMemory (λ value. value) result
             (ReadsServerFinal server_signature.now server_final.now) }
     {
-        let Ok(text) = str::from_utf8(server_final) else {
-            return Err(ScramErrorKind::Utf8Error);
-        };
-        let Some(base64_signature) = attribute(text, 0, VERIFIER_KEY) else {
-            return Err(ScramErrorKind::ServerSignatureMismatch);
-        };
-        let Some(signature) = bytes_of(alloc, base64_signature)? else {
-            return Err(ScramErrorKind::Base64DecodeError);
-        };
-        if signature.as_slice() == server_signature {
+        let message = ServerFinal::parse(alloc, server_final)?;
+        if message.signature.as_slice() == server_signature {
             Ok(())
         } else {
             Err(ScramErrorKind::ServerSignatureMismatch)

@@ -1,16 +1,15 @@
 //! The server-first message, which challenges a known user.
 
 ghost use Rattle.std.specs.Prelude.{◌≡◌, IfOk, option_map};
-ghost use Rattle.fe2o3_scram.specs.ServerFirst.{AnswersClientFirst, server_first_of};
+ghost use Rattle.fe2o3_scram.specs.ServerFirst.{AnswersClientFirst, challenge_values, server_first_of};
 ghost use Rattle.fe2o3_scram.specs.Credentials.{kept};
 ghost use Rattle.fe2o3_scram.specs.Readings.{Gives};
-ghost use Rattle.fe2o3_scram.specs.private.Values.{challenge_values};
 
 use crate::OutOfMemory;
 use crate::credentials::{ScramCredentialProvider, StoredPassword};
 use crate::hmac::ScramVersion;
 use crate::scram_messages::attributes::{ITERATION_COUNT_KEY, NONCE_KEY, SALT_KEY};
-use crate::scram_messages::client_first_reading::read_client_first;
+use crate::scram_messages::client_first_reading::ClientFirst;
 use crate::scram_messages::error::ServerScramErrorKind;
 use crate::texts::base64_of;
 use bytes::Bytes;
@@ -47,7 +46,7 @@ impl ScramVersion {
         ensures { Gives ServerScramErrorKind.OutOfMemory (option_map challenge_values) result
             (AnswersClientFirst (C.meaning credentials.now).records base64_server_nonce.now client_first.now) }
     {
-        let client_first = read_client_first(alloc, client_first)?;
+        let client_first = ClientFirst::parse(alloc, client_first)?;
         let Some(stored_password) = credentials.get_stored_password(&client_first.username) else {
             return Ok(None);
         };

@@ -2,9 +2,8 @@
 
 ghost use Rattle.std.specs.Prelude.{◌≢◌, ◌≤◌, ◌++◌, IfOk, IfErr, codes};
 ghost use Rattle.fe2o3_scram.specs.Readings.{Gives, IsFirst, NoneHolds};
-ghost use Rattle.fe2o3_scram.specs.ServerFirst.{ReadsServerFirst, HasSalt, HasCount, nonce_tests, salt_tests, count_tests};
+ghost use Rattle.fe2o3_scram.specs.ServerFirst.{ReadsServerFirst, server_first_values, HasSalt, HasCount, nonce_tests, salt_tests, count_tests};
 ghost use Rattle.fe2o3_scram.specs.Texts.{Part};
-ghost use Rattle.fe2o3_scram.specs.private.Values.{values_of};
 
 use crate::saslprep_ascii::saslprep;
 use crate::scram_messages::attributes::{ITERATION_COUNT_KEY, NONCE_KEY, RESERVED_MEXT, SALT_KEY};
@@ -12,38 +11,50 @@ use crate::scram_messages::error::ScramErrorKind;
 use crate::texts::{after, attribute, bytes_of, count_of, part};
 use std::alloc::Global;
 
-/// What a server-first message names.
+/// What a server-first message names (RFC 5802, section 7).
 #[derive(Debug, Drop)]
-pub(crate) struct ServerFirstValues<'a> {
+pub struct ServerFirst<'a> {
+    /// The nonce of both sides.
     pub nonce: &'a str,
+
+    /// The salt, of any length.
     pub salt: Vec<u8>,
+
+    /// The iteration count, which is not 0.
     pub iterations: u32,
 }
 
-/// Reads a server-first message. Memory is taken for the salt alone.
-pub(crate) fn read_server_first<'a>(
-    alloc: Global,
-    client_nonce: &str,
-    password: &str,
-    limit: u32,
-    server_first: &'a str,
-) -> Result<ServerFirstValues<'a>, ScramErrorKind>
-    ensures reads { Gives ScramErrorKind.OutOfMemory values_of result
-        (ReadsServerFirst (record { nonce = client_nonce.now; password = password.now; limit = limit })
-        server_first.now) }
-    ensures count { IfOk result (λ first. (1 ≤ first.iterations) × (first.iterations ≤ limit)) }
-{
-    let nonce = read_nonce(client_nonce, server_first)?;
-    let salt = read_salt(alloc, server_first)?;
-    let iterations = read_count(limit, server_first)?;
-    if saslprep(password).is_err() {
-        return Err(ScramErrorKind::NormalizeError);
+impl<'a> ServerFirst<'a> {
+    /// Reads a server-first message as a client does that has sent this nonce, and accepts no
+    /// iteration count above the limit. Memory is taken for the salt alone.
+    ///
+    /// Refused are, in this order: `InsufficientParts`, `ExtensionNotSupported`, `NonceNotFound`,
+    /// `ClientNonceMismatch`, `SaltNotFound`, `Base64DecodeError`, `IterationCountNotFound`,
+    /// `IterationCountParseError`, `IterationCountTooLarge`, and `NormalizeError` for the password.
+    /// Parts behind the count say nothing.
+    pub fn parse(
+        alloc: Global,
+        client_nonce: &str,
+        password: &str,
+        limit: u32,
+        text: &'a str,
+    ) -> Result<Self, ScramErrorKind>
+        ensures reads { Gives ScramErrorKind.OutOfMemory server_first_values result
+            (ReadsServerFirst (record { nonce = client_nonce.now; password = password.now; limit = limit }) text.now) }
+        ensures count { IfOk result (λ first. (1 ≤ first.iterations) × (first.iterations ≤ limit)) }
+    {
+        let nonce = read_nonce(client_nonce, text)?;
+        let salt = read_salt(alloc, text)?;
+        let iterations = read_count(limit, text)?;
+        if saslprep(password).is_err() {
+            return Err(ScramErrorKind::NormalizeError);
+        }
+        Ok(ServerFirst {
+            nonce,
+            salt,
+            iterations,
+        })
     }
-    Ok(ServerFirstValues {
-        nonce,
-        salt,
-        iterations,
-    })
 }
 
 /// The nonce of both sides.

@@ -72,9 +72,9 @@ shown_version sides k n answer accepted shows =
     let version = sides.login.version in
     let salted = salted_at sides.login answer in
     let key = client_key_at sides.login answer in
-    let pad = hmac_of version (stored_key version salted) (client_message sides.login answer) in
+    let pad = hmac_of version (stored_key version key) (client_message sides.login answer) in
     let long : length key ≡ digest_len version = length-hmac_of version salted (codes "Client Key") in
-    let wide : length pad ≡ digest_len version = length-hmac_of version (stored_key version salted)
+    let wide : length pad ≡ digest_len version = length-hmac_of version (stored_key version key)
     (client_message sides.login answer) in
     let sized = (is_accepted sides.provider sides.server_events sides.server_replies n accepted
     shows.ok.accepts).names.sized in

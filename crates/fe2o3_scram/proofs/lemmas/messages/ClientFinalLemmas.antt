@@ -1,21 +1,19 @@
 -- The reading of a client-final message.
-use Rattle.std.proofs.Common.{◌≡◌, ◌≢◌, ℕ, List, ◌++◌, length, Result, Ok, Err, refl, sym, ◌∙◌, ap, subst, codes, inl, inr}
+use Rattle.std.proofs.Common.{◌≡◌, ◌≢◌, ℕ, List, ◌++◌, length, Result, Ok, Err, refl, sym, ◌∙◌, ap, subst, codes, inl, inr, arith}
 use Rattle.std.specs.Str.{IsUtf8}
-use Rattle.std.specs.declared.alloc.Global.{Global}
-use Rattle.std.specs.Prelude.{Vec, Bool, true, false, IsTrue, nat_eq}
-use Rattle.std.specs.Cmp.Lexicographic.{pointwise, told_text}
+use Rattle.std.specs.Prelude.{IfOk, IfErr}
 use Rattle.fe2o3_scram.specs.declared.scram_messages.error.ServerScramErrorKind.{ServerScramErrorKind}
-use Rattle.fe2o3_scram.specs.declared.scram_messages.error.ServerScramErrorKind.TheVariants.{Utf8Error, OutOfMemory}
+use Rattle.fe2o3_scram.specs.declared.scram_messages.error.ServerScramErrorKind.TheVariants.{Utf8Error, CannotParseClientFinalMessage, Base64DecodeError, InvalidChannelBinding, IncorrectClientFinalNonce, ProofNotFoundInClientFinal, AuthenticationFailed, OutOfMemory}
 use Rattle.fe2o3_scram.specs.Texts.{base64_text, IsBase64, Part, LastPart, Begins}
 use Rattle.fe2o3_scram.specs.Hmac.{digest_len}
 use Rattle.fe2o3_scram.specs.Readings.{IsFirst, NoneHolds, Gives}
-use Rattle.fe2o3_scram.specs.ClientFinal.{Server, ClientFinal, HasBinding, HasProof, Meets, NamesClientFinal, ReadsClientFinal, binding_tests, nonce_tests, spelling_tests, proof_tests, client_final_tests}
-use Rattle.fe2o3_scram.specs.ServerFinal.{AnswersClientFinal}
-use Rattle.fe2o3_scram.specs.private.Values.{key_tests, AnswersProof}
+use Rattle.fe2o3_scram.specs.ClientFinal.{Server, ClientFinal, HasBinding, HasProof, Meets, NamesClientFinal, ReadsFinalText, ReadsClientFinal, binding_tests, nonce_tests, spelling_tests, final_text_tests, proof_tests}
+use Rattle.fe2o3_scram.specs.ServerFinal.{AnswersClientFinal, FinalCosts}
+use Rattle.fe2o3_scram.specs.private.Answers.{AnswersProof}
 use Rattle.fe2o3_scram.proofs.lemmas.texts.Base64Lemmas.{one_spelled}
 use Rattle.fe2o3_scram.proofs.lemmas.texts.LastPartLemmas.{one_last_part}
 use Rattle.fe2o3_scram.proofs.lemmas.texts.PartsLemmas.{one_part}
-use Rattle.fe2o3_scram.proofs.lemmas.messages.TestListLemmas.{NoneHolds-append, IsFirst-front, IsFirst-back, one_reading}
+use Rattle.fe2o3_scram.proofs.lemmas.messages.TestListLemmas.{NoneHolds-append, IsFirst-front, IsFirst-back, one_reading, one_first, first_or_none}
 
 -- the channel binding
 
@@ -85,116 +83,177 @@ one_proof text final other has too =
     let without = same.0 in
     λ i. made (without i) (proof i)
 
--- the tests of the proof that was read are those of the message
-first_of_proof : (server : Server) (text : List ℕ) (final : ClientFinal) (fault : ServerScramErrorKind)
-    → HasProof text final → IsFirst (key_tests server final) fault → IsFirst (proof_tests server text) fault
-first_of_proof server text final fault has (inl first) =
-    inl (
-      λ other too. subst (λ (read : ClientFinal). length read.proof ≢ digest_len server.version)
-          (one_proof text final other has too) first.0,
-      first.1,
-    )
-first_of_proof server text final fault has (inr (sized, inl first)) =
-    inr (
-      λ unsized. sized (unsized final has),
-      inl (
-        λ other too. subst (λ (read : ClientFinal). ¬ Meets server read)
-            (one_proof text final other has too) first.0,
-        first.1,
-      ),
-    )
-first_of_proof server text final fault has (inr (sized, inr first)) = absurd first.1
+-- the tests of the text, in their order
 
-pub none_of_proof : (server : Server) (text : List ℕ) (final : ClientFinal) → HasProof text final
-    → length final.proof ≡ digest_len server.version → Meets server final → NoneHolds (proof_tests server text)
-none_of_proof server text final has sized meets =
-    (λ unsized. unsized final has sized, (λ unmet. unmet final has meets, tt))
+pub not_utf8 : (nonce text : List ℕ) → ¬ IsUtf8 text → ReadsFinalText nonce text (Err Utf8Error)
+unfolding ReadsFinalText
+not_utf8 nonce text fails = inl (fails, refl)
 
--- the parts of the reading make the whole
-
-pub not_utf8 : (server : Server) (text : List ℕ) → ¬ IsUtf8 text → ReadsClientFinal server text (Err Utf8Error)
-unfolding ReadsClientFinal
-not_utf8 server text fails = inl (fails, refl)
-
-module _ (server : Server) (text : List ℕ) (utf8 : IsUtf8 text) where
+module _ (nonce text : List ℕ) (utf8 : IsUtf8 text) where
   pub binding_refused : (fault : ServerScramErrorKind) → IsFirst (binding_tests text) fault
-      → ReadsClientFinal server text (Err fault)
-  unfolding ReadsClientFinal
+      → ReadsFinalText nonce text (Err fault)
+  unfolding ReadsFinalText
   binding_refused fault first = inr (
     λ fails. fails utf8,
-    IsFirst-front (binding_tests text) (nonce_tests server.nonce text
-        ++ (spelling_tests text ++ proof_tests server text)) fault first,
+    IsFirst-front (binding_tests text) (nonce_tests nonce text ++ spelling_tests text) fault first,
   )
 
   pub nonce_refused : (fault : ServerScramErrorKind) → NoneHolds (binding_tests text)
-      → IsFirst (nonce_tests server.nonce text) fault → ReadsClientFinal server text (Err fault)
-  unfolding ReadsClientFinal
-  nonce_refused fault binding first =
-      let rest = spelling_tests text ++ proof_tests server text in
-      inr (
-        λ fails. fails utf8,
-        IsFirst-back (binding_tests text) (nonce_tests server.nonce text ++ rest) fault binding
-            (IsFirst-front (nonce_tests server.nonce text) rest fault first),
-      )
+      → IsFirst (nonce_tests nonce text) fault → ReadsFinalText nonce text (Err fault)
+  unfolding ReadsFinalText
+  nonce_refused fault binding first = inr (
+    λ fails. fails utf8,
+    IsFirst-back (binding_tests text) (nonce_tests nonce text ++ spelling_tests text) fault binding
+        (IsFirst-front (nonce_tests nonce text) (spelling_tests text) fault first),
+  )
 
   pub spelling_refused : (fault : ServerScramErrorKind) → NoneHolds (binding_tests text)
-      → NoneHolds (nonce_tests server.nonce text) → IsFirst (spelling_tests text) fault
-      → ReadsClientFinal server text (Err fault)
-  unfolding ReadsClientFinal
-  spelling_refused fault binding nonce first =
-      let rest = spelling_tests text ++ proof_tests server text in
-      inr (
-        λ fails. fails utf8,
-        IsFirst-back (binding_tests text) (nonce_tests server.nonce text ++ rest) fault binding
-            (IsFirst-back (nonce_tests server.nonce text) rest fault nonce
-            (IsFirst-front (spelling_tests text) (proof_tests server text) fault first)),
-      )
+      → NoneHolds (nonce_tests nonce text) → IsFirst (spelling_tests text) fault → ReadsFinalText nonce text (Err fault)
+  unfolding ReadsFinalText
+  spelling_refused fault binding tested first = inr (
+    λ fails. fails utf8,
+    IsFirst-back (binding_tests text) (nonce_tests nonce text ++ spelling_tests text) fault binding
+        (IsFirst-back (nonce_tests nonce text) (spelling_tests text) fault tested first),
+  )
 
-  -- what the server makes of the proof is its answer to the message
-  pub proof_answered : (final : ClientFinal) (result : Result (Vec ℕ Global) ServerScramErrorKind)
-      → NoneHolds (binding_tests text) → NoneHolds (nonce_tests server.nonce text) → NoneHolds (spelling_tests text)
-      → HasBinding text (codes "n,,") → Part text 1 (codes "r=" ++ server.nonce) → HasProof text final
-      → AnswersProof server final result → Gives OutOfMemory (λ (message : Vec ℕ Global). message.items) result
-      (AnswersClientFinal server text)
-  unfolding ReadsClientFinal
-  proof_answered final (Ok message) binding nonce spelling bound same has answers =
-      let rest = spelling_tests text ++ proof_tests server text in
-      let proof = none_of_proof server text final has answers.0 answers.1 in (
-        final,
-        (
-          (
-            λ fails. fails utf8,
-            NoneHolds-append (binding_tests text) (nonce_tests server.nonce text ++ rest) binding
-                (NoneHolds-append (nonce_tests server.nonce text) rest nonce
-                (NoneHolds-append (spelling_tests text) (proof_tests server text) spelling proof)),
-          ),
-          record { binding = bound; nonce = same; proof = has; sized = answers.0; meets = answers.1 },
-        ),
-        answers.2,
-      )
-  proof_answered final (Err fault) binding nonce spelling bound same has answers =
-      let rest = spelling_tests text ++ proof_tests server text in
-      λ other. inr (
-        λ fails. fails utf8,
-        IsFirst-back (binding_tests text) (nonce_tests server.nonce text ++ rest) fault binding
-            (IsFirst-back (nonce_tests server.nonce text) rest fault nonce
-            (IsFirst-back (spelling_tests text) (proof_tests server text) fault spelling
-            (first_of_proof server text final fault has (answers other)))),
-      )
+  pub text_read : (final : ClientFinal) → NoneHolds (binding_tests text) → NoneHolds (nonce_tests nonce text)
+      → NoneHolds (spelling_tests text) → NamesClientFinal nonce text final → ReadsFinalText nonce text (Ok final)
+  unfolding ReadsFinalText
+  text_read final binding tested spelling names = (
+    (
+      λ fails. fails utf8,
+      NoneHolds-append (binding_tests text) (nonce_tests nonce text ++ spelling_tests text) binding
+          (NoneHolds-append (nonce_tests nonce text) (spelling_tests text) tested spelling),
+    ),
+    names,
+  )
 
-pub one_client_final : (server : Server) (text : List ℕ) (answer other : Result ClientFinal ServerScramErrorKind)
-    → ReadsClientFinal server text answer → ReadsClientFinal server text other → answer ≡ other
-unfolding ReadsClientFinal
-one_client_final server text answer other reads too =
-    one_reading (client_final_tests server text) (NamesClientFinal server text)
+  -- what is read of the proof is what is read of the text, where the tests before it have passed
+  pub text_answered : {A : Type 0} (view : A → ClientFinal) (result : Result A ServerScramErrorKind)
+      → NoneHolds (binding_tests text) → NoneHolds (nonce_tests nonce text) → HasBinding text (codes "n,,")
+      → Part text 1 (codes "r=" ++ nonce) → IfOk result (λ _. NoneHolds (spelling_tests text))
+      → IfOk result (λ final. HasProof text (view final))
+      → IfErr result (λ kind. kind ≢ OutOfMemory → IsFirst (spelling_tests text) kind)
+      → Gives OutOfMemory view result (ReadsFinalText nonce text)
+  text_answered view (Ok final) binding tested bound same spelling has refused =
+      text_read (view final) binding tested spelling (record { binding = bound; nonce = same; proof = has })
+  text_answered view (Err fault) binding tested bound same spelling has refused =
+      λ other. spelling_refused fault binding tested (refused other)
+
+-- the texts of a message that was read
+
+pub names_final_text : (nonce text : List ℕ) (final : ClientFinal) → ReadsFinalText nonce text (Ok final)
+    → NamesClientFinal nonce text final
+unfolding ReadsFinalText
+names_final_text nonce text final reads = reads.1
+
+pub one_final_text : (nonce text : List ℕ) (answer other : Result ClientFinal ServerScramErrorKind)
+    → ReadsFinalText nonce text answer → ReadsFinalText nonce text other → answer ≡ other
+unfolding ReadsFinalText
+one_final_text nonce text answer other reads too =
+    one_reading (final_text_tests nonce text) (NamesClientFinal nonce text)
     (λ final another names them. one_proof text final another names.proof them.proof) answer other reads too
 
--- what a test of two texts has told
-pub told : (equal : Bool) (text other : List ℕ) → equal ≡ pointwise nat_eq text other
-    → (IsTrue equal → text ≡ other) × (text ≡ other → IsTrue equal)
-told true text other is = (λ _. told_text text other true is, λ _. refl)
-told false text other is = (
-  λ wrong. let apart : false ≡ true = wrong in
-      absurd (cc),
-  λ same. absurd (told_text text other false is same),
-)
+-- no test of the text has the fault of a proof
+not_the_proof : (nonce text : List ℕ) → ¬ ReadsFinalText nonce text (Err AuthenticationFailed)
+unfolding ReadsFinalText
+not_the_proof nonce text (inl found) = let wrong : AuthenticationFailed ≡ Utf8Error = found.1 in absurd (cc)
+not_the_proof nonce text (inr (utf8, inl found)) =
+    let wrong : AuthenticationFailed ≡ CannotParseClientFinalMessage = found.1 in absurd (cc)
+not_the_proof nonce text (inr (utf8, inr (begins, inl found))) =
+    let wrong : AuthenticationFailed ≡ Base64DecodeError = found.1 in absurd (cc)
+not_the_proof nonce text (inr (utf8, inr (begins, inr (spelled, inl found)))) =
+    let wrong : AuthenticationFailed ≡ InvalidChannelBinding = found.1 in absurd (cc)
+not_the_proof nonce text (inr (utf8, inr (begins, inr (spelled, inr (bound, inl found))))) =
+    let wrong : AuthenticationFailed ≡ CannotParseClientFinalMessage = found.1 in absurd (cc)
+not_the_proof nonce text (inr (utf8, inr (begins, inr (spelled, inr (bound, inr (named, inl found)))))) =
+    let wrong : AuthenticationFailed ≡ IncorrectClientFinalNonce = found.1 in absurd (cc)
+not_the_proof nonce text (inr (utf8, inr (begins, inr (spelled, inr (bound, inr (named, inr (same, inl found))))))) =
+    let wrong : AuthenticationFailed ≡ ProofNotFoundInClientFinal = found.1 in absurd (cc)
+not_the_proof nonce text
+    (inr (utf8, inr (begins, inr (spelled, inr (bound, inr (named, inr (same, inr (has, inl found)))))))) =
+    let wrong : AuthenticationFailed ≡ Base64DecodeError = found.1 in absurd (cc)
+not_the_proof nonce text
+    (inr (utf8, inr (begins, inr (spelled, inr (bound, inr (named, inr (same, inr (has, inr none)))))))) = absurd none.1
+
+-- a text that is refused costs nothing
+pub text_costs_nothing : (A : Type 0) (nonce text : List ℕ) (fault : ServerScramErrorKind) (count : ℕ)
+    → (fault ≢ OutOfMemory → ReadsFinalText nonce text (Err fault)) → FinalCosts {A = A} (Err fault) count count
+text_costs_nothing A nonce text AuthenticationFailed count refused =
+    absurd (not_the_proof nonce text (refused (λ same. let wrong : AuthenticationFailed ≡ OutOfMemory = same in
+    absurd (cc))))
+text_costs_nothing A nonce text OutOfMemory count refused = omega arith
+text_costs_nothing A nonce text fault count refused = refl
+
+-- the tests of the proof, which come after those of the text
+
+-- what a message names that is accepted
+pub record NamesAcceptedFinal (server : Server) (text : List ℕ) (final : ClientFinal) : Type 0 where
+  pub binding : HasBinding text (codes "n,,")
+  pub nonce : Part text 1 (codes "r=" ++ server.nonce)
+  pub proof : HasProof text final
+  pub sized : length final.proof ≡ digest_len server.version
+  pub meets : Meets server final
+
+module _ (server : Server) (text : List ℕ) where
+  pub text_refused : (fault : ServerScramErrorKind) → ReadsFinalText server.nonce text (Err fault)
+      → ReadsClientFinal server text (Err fault)
+  unfolding ReadsClientFinal
+  text_refused fault refused = inl refused
+
+  -- what the server makes of the proof is its answer to the message
+  pub proof_answered : {A : Type 0} (view : A → List ℕ) (final : ClientFinal) (result : Result A ServerScramErrorKind)
+      → ReadsFinalText server.nonce text (Ok final) → Gives OutOfMemory view result (AnswersProof server final)
+      → Gives OutOfMemory view result (AnswersClientFinal server text)
+  unfolding ReadsClientFinal
+  proof_answered view final (Ok message) reads answers = (final, (reads, answers.0, answers.1), answers.2)
+  proof_answered view final (Err fault) reads answers = λ other. inr (final, reads, answers other)
+
+  pub names_client_final : (final : ClientFinal) → ReadsClientFinal server text (Ok final)
+      → NamesAcceptedFinal server text final
+  unfolding ReadsClientFinal
+  names_client_final final reads =
+      let names = names_final_text server.nonce text final reads.0 in
+      record {
+        binding = names.binding;
+        nonce = names.nonce;
+        proof = names.proof;
+        sized = reads.1;
+        meets = reads.2;
+      }
+
+  -- of one text no proof is accepted and refused
+  one_verdict : (final other : ClientFinal) (fault : ServerScramErrorKind) → ReadsClientFinal server text (Ok final)
+      → ReadsFinalText server.nonce text (Ok other) → IsFirst (proof_tests server other) fault → ⊥
+  unfolding ReadsClientFinal
+  one_verdict final other fault reads too first =
+      let both = one_final_text server.nonce text (Ok final) (Ok other) reads.0 too in
+      let same : final ≡ other = cc in
+      first_or_none (proof_tests server final) fault
+      (subst (λ (read : ClientFinal). IsFirst (proof_tests server read) fault) (sym same) first)
+      (λ unsized. unsized reads.1, (λ unmet. unmet reads.2, tt))
+
+  pub one_client_final : (answer other : Result ClientFinal ServerScramErrorKind) → ReadsClientFinal server text answer
+      → ReadsClientFinal server text other → answer ≡ other
+  unfolding ReadsClientFinal
+  one_client_final (Ok final) (Ok other) reads too =
+      one_final_text server.nonce text (Ok final) (Ok other) reads.0 too.0
+  one_client_final (Ok final) (Err fault) reads (inl refused) =
+      one_final_text server.nonce text (Ok final) (Err fault) reads.0 refused
+  one_client_final (Ok final) (Err fault) reads (inr (other, too, first)) =
+      absurd (one_verdict final other fault reads too first)
+  one_client_final (Err fault) (Ok final) (inl refused) reads =
+      one_final_text server.nonce text (Err fault) (Ok final) refused reads.0
+  one_client_final (Err fault) (Ok final) (inr (other, too, first)) reads =
+      absurd (one_verdict final other fault reads too first)
+  one_client_final (Err fault) (Err other) (inl refused) (inl too) =
+      one_final_text server.nonce text (Err fault) (Err other) refused too
+  one_client_final (Err fault) (Err other) (inl refused) (inr (final, reads, first)) =
+      let both = one_final_text server.nonce text (Err fault) (Ok final) refused reads in absurd (cc)
+  one_client_final (Err fault) (Err other) (inr (final, reads, first)) (inl refused) =
+      let both = one_final_text server.nonce text (Err other) (Ok final) refused reads in absurd (cc)
+  one_client_final (Err fault) (Err other) (inr (final, reads, first)) (inr (another, too, second)) =
+      let both = one_final_text server.nonce text (Ok final) (Ok another) reads too in
+      let same : final ≡ another = cc in
+      ap Err (one_first (proof_tests server another) fault other
+      (subst (λ (read : ClientFinal). IsFirst (proof_tests server read) fault) same first) second)

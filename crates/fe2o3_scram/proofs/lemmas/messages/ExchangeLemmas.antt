@@ -13,24 +13,23 @@ use Rattle.std.proofs.lemmas.Str.{IsUtf8-append}
 use Rattle.std.proofs.lemmas.Str.Parse.{digit_from_value}
 use Rattle.base64.specs.GeneralPurpose.{IsBytes}
 use Rattle.fe2o3_scram.specs.Texts.{base64_text, IsCount, NoComma, Parts, Part, joined}
-use Rattle.fe2o3_scram.specs.ClientFinal.{without_proof, client_final_of, Server, ClientFinal, Meets, NamesClientFinal, ReadsClientFinal, binding_tests, nonce_tests, spelling_tests, proof_tests}
+use Rattle.fe2o3_scram.specs.ClientFinal.{without_proof, client_final_of, Server, ClientFinal, Meets, ReadsClientFinal}
 use Rattle.fe2o3_scram.specs.ClientFirst.{client_first, client_first_bare, ReadsClientFirst}
 use Rattle.fe2o3_scram.specs.Escape.{escaped}
 use Rattle.fe2o3_scram.specs.Exchanges.{Exchange, IsSound, Succeeds, nonce_in, bare_in, first_in, named_in, server_in, final_in, answer_in}
-use Rattle.fe2o3_scram.specs.Hmac.{digest, digest_len, hmac_of, exclusive_or}
-use Rattle.fe2o3_scram.specs.Keys.{auth_message, client_key, stored_key, client_proof}
+use Rattle.fe2o3_scram.specs.Hmac.{digest, digest_len, exclusive_or}
+use Rattle.fe2o3_scram.specs.Keys.{auth_message, client_key, client_signature, stored_key, client_proof}
 use Rattle.fe2o3_scram.specs.Pbkdf2Hi.{salted_of}
 use Rattle.fe2o3_scram.specs.ServerFinal.{server_final_of, ReadsServerFinal}
 use Rattle.fe2o3_scram.specs.ServerFirst.{HasSalt, HasCount, ReadsServerFirst}
 use Rattle.fe2o3_scram.proofs.lemmas.texts.AsciiLemmas.{IsUtf8-base64_text, IsUtf8-literal, IsUtf8-escaped}
 use Rattle.fe2o3_scram.proofs.lemmas.texts.Base64Lemmas.{no_comma-append, no_comma-test, no_comma-base64_text}
-use Rattle.fe2o3_scram.proofs.lemmas.messages.ClientFinalLemmas.{none_of_proof}
+use Rattle.fe2o3_scram.proofs.lemmas.messages.ClientFinalLemmas.{NamesAcceptedFinal, text_read}
 use Rattle.fe2o3_scram.proofs.lemmas.messages.ClientFirstLemmas.{named}
 use Rattle.fe2o3_scram.proofs.lemmas.hashes.DigestLemmas.{IsBytes-nil, IsBytes-cons, length-hmac_of, IsBytes-hmac_of}
 use Rattle.fe2o3_scram.proofs.lemmas.texts.EscapingLemmas.{no_comma-escaped}
 use Rattle.fe2o3_scram.proofs.lemmas.texts.PartsLemmas.{one_part}
-use Rattle.fe2o3_scram.proofs.lemmas.messages.TestListLemmas.{NoneHolds-append}
-use Rattle.fe2o3_scram.proofs.lemmas.messages.ServerFinalLemmas.{same_signature}
+use Rattle.fe2o3_scram.proofs.lemmas.messages.ServerFinalLemmas.{same_signature, signature_read}
 use Rattle.fe2o3_scram.proofs.lemmas.messages.ServerFirstLemmas.{values_read, same_nonce, not_too_large}
 
 -- exclusive ors
@@ -190,26 +189,21 @@ final_text nonce proof utf8 =
 
 -- a message that names its values is read
 pub final_read : (server : Server) (text : List ℕ) (final : ClientFinal) → IsUtf8 text
-    → NamesClientFinal server text final → ReadsClientFinal server text (Ok final)
+    → NamesAcceptedFinal server text final → ReadsClientFinal server text (Ok final)
 unfolding ReadsClientFinal
-final_read server text final utf8 names =
-    let rest = spelling_tests text ++ proof_tests server text in (
-      (
-        λ fails. fails utf8,
-        NoneHolds-append (binding_tests text) (nonce_tests server.nonce text ++ rest) (
-          λ none. none (base64_text (codes "n,,")) names.binding.1,
-          (λ none. none (codes "n,,") names.binding, (λ other. other names.binding, tt)),
-        )
-            (NoneHolds-append (nonce_tests server.nonce text) rest
-            (λ none. none server.nonce names.nonce, (λ other. other names.nonce, tt))
-            (NoneHolds-append (spelling_tests text) (proof_tests server text) (
-              λ none. none final.without (base64_text final.proof) names.proof.1,
-              (λ none. none final names.proof, tt),
-            )
-            (none_of_proof server text final names.proof names.sized names.meets))),
-      ),
-      names,
-    )
+final_read server text final utf8 names = (
+  text_read server.nonce text utf8 final (
+    λ none. none (base64_text (codes "n,,")) names.binding.1,
+    (λ none. none (codes "n,,") names.binding, (λ other. other names.binding, tt)),
+  )
+      (λ none. none server.nonce names.nonce, (λ other. other names.nonce, tt)) (
+        λ none. none final.without (base64_text final.proof) names.proof.1,
+        (λ none. none final names.proof, tt),
+      )
+      (record { binding = names.binding; nonce = names.nonce; proof = names.proof }),
+  names.sized,
+  names.meets,
+)
 
 reads_final : (server : Server) (proof : List ℕ) → NoComma server.nonce → IsUtf8 server.nonce → IsBytes proof
     → length proof ≡ digest_len server.version → Meets server
@@ -240,12 +234,12 @@ reads_client_final x sound =
     let salted = salted_of v x.password x.salt x.count in
     let auth = auth_message (bare_in x) (first_in x) (without_proof (nonce_in x)) in
     let key = client_key v salted in
-    let mac = hmac_of v (stored_key v salted) auth in
+    let mac = client_signature v (stored_key v key) auth in
     let key_long : length key ≡ digest_len v = length-hmac_of v salted (codes "Client Key") in
-    let mac_long : length mac ≡ digest_len v = length-hmac_of v (stored_key v salted) auth in
-    reads_final (server_in x) (client_proof v salted auth) (nonce_plain x sound) (nonce_text x sound)
+    let mac_long : length mac ≡ digest_len v = length-hmac_of v (stored_key v key) auth in
+    reads_final (server_in x) (client_proof v key auth) (nonce_plain x sound) (nonce_text x sound)
     (IsBytes-exclusive_or key mac (IsBytes-hmac_of v salted (codes "Client Key"))
-    (IsBytes-hmac_of v (stored_key v salted) auth))
+    (IsBytes-hmac_of v (stored_key v key) auth))
     (length-exclusive_or key mac (key_long ∙ sym mac_long) ∙ key_long)
     (ap (digest v) (exclusive_or-back key mac (key_long ∙ sym mac_long)))
 
@@ -256,9 +250,10 @@ pub reads_signature : (signature : List ℕ) → IsBytes signature
 reads_signature signature bytes =
     let text = codes "v=" ++ base64_text signature in
     let plain = part_of (codes "v=") (base64_text signature) refl (no_comma-base64_text signature) in
-    same_signature signature text (IsUtf8-append (codes "v=") (base64_text signature) (IsUtf8-literal (codes "v=") refl)
-    (IsUtf8-base64_text signature)) (base64_text signature) signature (_, only_part text plain, refl)
-    (bytes, refl) refl
+    let utf8 = IsUtf8-append (codes "v=") (base64_text signature) (IsUtf8-literal (codes "v=") refl)
+    (IsUtf8-base64_text signature) in
+    same_signature signature text signature (signature_read text utf8 (base64_text signature) signature
+    (_, only_part text plain, refl) (bytes, refl)) refl
 
 reads_server_final : (x : Exchange) → ReadsServerFinal (answer_in x).1 (server_final_of (server_in x) (final_in x))
     (Ok tt)

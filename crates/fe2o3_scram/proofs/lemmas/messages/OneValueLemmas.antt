@@ -3,12 +3,13 @@ use Rattle.std.proofs.Common.{◌≡◌, ℕ, List, Result, Ok}
 use Rattle.fe2o3_scram.specs.declared.scram_messages.error.ScramErrorKind.{ScramErrorKind}
 use Rattle.fe2o3_scram.specs.declared.scram_messages.error.ServerScramErrorKind.{ServerScramErrorKind}
 use Rattle.fe2o3_scram.specs.ClientFirst.{ClientFirst, ReadsClientFirst, NamesClientFirst}
-use Rattle.fe2o3_scram.specs.ClientFinal.{Server, ClientFinal, ReadsClientFinal, NamesClientFinal}
+use Rattle.fe2o3_scram.specs.ClientFinal.{Server, ClientFinal, ReadsClientFinal}
 use Rattle.fe2o3_scram.specs.ServerFinal.{ReadsServerFinal, HasSignature}
 use Rattle.fe2o3_scram.specs.ServerFirst.{Client, ServerFirst, ReadsServerFirst, NamesServerFirst}
 use Rattle.fe2o3_scram.proofs.lemmas.messages.ClientFinalLemmas.{one_client_final}
 use Rattle.fe2o3_scram.proofs.lemmas.messages.ClientFirstLemmas.{one_client_first}
 use Rattle.fe2o3_scram.proofs.lemmas.messages.ServerFirstLemmas.{one_server_first}
+use Rattle.fe2o3_scram.proofs.lemmas.messages.ServerFinalLemmas.{names_signature}
 
 pub names_client_first : (text : List ℕ) (first : ClientFirst) → ReadsClientFirst text (Ok first)
     → NamesClientFirst text first
@@ -20,15 +21,10 @@ pub names_server_first : (client : Client) (text : List ℕ) (first : ServerFirs
 unfolding ReadsServerFirst
 names_server_first client text first reads = reads.1
 
-pub names_client_final : (server : Server) (text : List ℕ) (final : ClientFinal)
-    → ReadsClientFinal server text (Ok final) → NamesClientFinal server text final
-unfolding ReadsClientFinal
-names_client_final server text final reads = reads.1
-
 pub names_server_final : (signature text : List ℕ) (believed : Unit {0}) → ReadsServerFinal signature text (Ok believed)
     → HasSignature text signature
 unfolding ReadsServerFinal
-names_server_final signature text believed reads = reads.1
+names_server_final signature text believed reads = names_signature text signature reads
 
 -- one value each
 pub one_client_first_value : (text : List ℕ) (first other : ClientFirst) → ReadsClientFirst text (Ok first)

@@ -20,7 +20,7 @@ pub IsFirst-back : {F : Type 0} (tests more : List (F × Type 0)) (fault : F) �
 IsFirst-back [] more fault none first = first
 IsFirst-back (test ∷ tests) more fault none first = inr (none.0, IsFirst-back tests more fault none.1 first)
 
-one_first : {F : Type 0} (tests : List (F × Type 0)) (fault other : F) → IsFirst tests fault → IsFirst tests other
+pub one_first : {F : Type 0} (tests : List (F × Type 0)) (fault other : F) → IsFirst tests fault → IsFirst tests other
     → fault ≡ other
 one_first [] fault other first too = absurd first
 one_first (test ∷ tests) fault other (inl first) (inl too) = first.1 ∙ sym too.1
@@ -28,7 +28,7 @@ one_first (test ∷ tests) fault other (inl first) (inr too) = absurd (too.0 fir
 one_first (test ∷ tests) fault other (inr first) (inl too) = absurd (first.0 too.0)
 one_first (test ∷ tests) fault other (inr first) (inr too) = one_first tests fault other first.1 too.1
 
-first_or_none : {F : Type 0} (tests : List (F × Type 0)) (fault : F) → IsFirst tests fault → NoneHolds tests → ⊥
+pub first_or_none : {F : Type 0} (tests : List (F × Type 0)) (fault : F) → IsFirst tests fault → NoneHolds tests → ⊥
 first_or_none [] fault first none = first
 first_or_none (test ∷ tests) fault (inl first) none = none.0 first.0
 first_or_none (test ∷ tests) fault (inr first) none = first_or_none tests fault first.1 none.1

@@ -1,7 +1,6 @@
 use Rattle.std.proofs.Common.{Ok, arith}
 use Rattle.std.proofs.lemmas.Result.{err_from_is_err_and}
-use Rattle.fe2o3_scram.specs.ServerFirst.{Client}
-use Rattle.fe2o3_scram.specs.private.Values.{values_of}
+use Rattle.fe2o3_scram.specs.ServerFirst.{Client, server_first_values}
 use Rattle.fe2o3_scram.proofs.lemmas.messages.AnswerCostLemmas.{costs_of_answer}
 use Rattle.fe2o3_scram.proofs.hmac.ScramVersion.compute_client_final_message_limited.Goals as goal
 
@@ -15,8 +14,8 @@ returns-in_err-answer-clause-cost c =
     } in
     let from = err_from_is_err_and c.from_residual-in_err-answer.result c.from_residual-in_err-answer.ensures.1 in
     costs_of_answer client c.args.server_first.now c.from_residual-in_err-answer.result
-    (values_of c.in_ok-first.first) c.args.meter.now c.answer.new.meter
-    c.in_ok-first.ensures.reads c.in_ok-first.ensures.count.1 (rw from.1 tt) c.in_err-answer.ensures.memory
+    (server_first_values c.in_ok-first.first) c.args.meter.now c.answer.new.meter
+    c.in_ok-first.ensures.reads c.in_ok-first.ensures.count.1 (rw from.1 tt) c.in_err-answer.ensures.at_most
 
 pub returns-clause-cost : goal.returns-clause-cost
 returns-clause-cost c =
@@ -27,6 +26,6 @@ returns-clause-cost c =
           c.args.limit;
     } in
     costs_of_answer client c.args.server_first.now (Ok c.in_ok-answer.answer)
-    (values_of c.in_ok-first.first) c.args.meter.now c.answer.new.meter
+    (server_first_values c.in_ok-first.first) c.args.meter.now c.answer.new.meter
     c.in_ok-first.ensures.reads c.in_ok-first.ensures.count.1 c.in_ok-answer.ensures.counted
     (omega (arith, c.in_ok-answer.ensures.counted))

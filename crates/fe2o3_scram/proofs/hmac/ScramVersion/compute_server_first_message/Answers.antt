@@ -1,6 +1,6 @@
 use Rattle.std.proofs.Common.{rules}
 use Rattle.fe2o3_scram.specs.Credentials.{kept}
-use Rattle.fe2o3_scram.specs.private.Values.{client_first_values}
+use Rattle.fe2o3_scram.specs.ClientFirst.{client_first_values}
 use Rattle.fe2o3_scram.proofs.hmac.ScramVersion.compute_server_first_message.Goals as goal
 
 pub returns : goal.returns

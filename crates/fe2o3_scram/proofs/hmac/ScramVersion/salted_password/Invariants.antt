@@ -1,5 +1,5 @@
 use Rattle.std.proofs.Common.{◌≡◌, ◌+◌}
-use Rattle.fe2o3_scram.specs.private.Hashers.{digest_bytes, version_of}
+use Rattle.fe2o3_scram.specs.Hmac.{digest_bytes, version_of}
 use Rattle.fe2o3_scram.specs.Pbkdf2Hi.{round_of, salted_of}
 use Rattle.fe2o3_scram.proofs.hmac.ScramVersion.salted_password.Given as goal
 

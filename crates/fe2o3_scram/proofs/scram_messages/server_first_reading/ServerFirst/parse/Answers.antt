@@ -2,7 +2,7 @@ use Rattle.std.proofs.Common.{rules}
 use Rattle.std.proofs.lemmas.Result.{err_from_is_err_and}
 use Rattle.fe2o3_scram.specs.ServerFirst.{Client}
 use Rattle.fe2o3_scram.proofs.lemmas.messages.ServerFirstLemmas.{nonce_refused, salt_refused, count_refused, password_refused, values_read}
-use Rattle.fe2o3_scram.proofs.scram_messages.server_first_reading.read_server_first.Goals as goal
+use Rattle.fe2o3_scram.proofs.scram_messages.server_first_reading.ServerFirst.parse.Goals as goal
 
 pub returns-in_err-nonce-clause-reads : goal.returns-in_err-nonce-clause-reads
 returns-in_err-nonce-clause-reads c =
@@ -13,7 +13,7 @@ returns-in_err-nonce-clause-reads c =
           c.args.limit;
     } in
     let from = err_from_is_err_and c.from_residual.result c.from_residual.ensures.1 in
-    rw (from.1, from.2) (λ _. nonce_refused client c.args.server_first.now c.in_err-nonce.field-0.0
+    rw (from.1, from.2) (λ _. nonce_refused client c.args.text.now c.in_err-nonce.field-0.0
     c.in_err-nonce.ensures.err)
 
 pub returns-in_err-salt-clause-reads : goal.returns-in_err-salt-clause-reads
@@ -25,7 +25,7 @@ returns-in_err-salt-clause-reads c =
           c.args.limit;
     } in
     let from = err_from_is_err_and c.from_residual-in_err-salt.result c.from_residual-in_err-salt.ensures.1 in
-    rw (from.1, from.2) (λ other. salt_refused client c.args.server_first.now c.in_err-salt.field-0.0
+    rw (from.1, from.2) (λ other. salt_refused client c.args.text.now c.in_err-salt.field-0.0
     c.in_ok-nonce.ensures.tested (c.in_err-salt.ensures.err other))
 
 pub returns-in_err-iterations-clause-reads : goal.returns-in_err-iterations-clause-reads
@@ -39,7 +39,7 @@ returns-in_err-iterations-clause-reads c =
     let from = err_from_is_err_and c.from_residual-in_err-iterations.result
     c.from_residual-in_err-iterations.ensures.1 in
     rw (from.1, from.2)
-    (λ _. count_refused client c.args.server_first.now c.in_err-iterations.field-0.0 c.in_ok-nonce.ensures.tested
+    (λ _. count_refused client c.args.text.now c.in_err-iterations.field-0.0 c.in_ok-nonce.ensures.tested
     c.in_ok-salt.ensures.tested c.in_err-iterations.ensures.err)
 
 pub returns-then-is_err-clause-reads : goal.returns-then-is_err-clause-reads
@@ -50,7 +50,7 @@ returns-then-is_err-clause-reads c =
       limit =
           c.args.limit;
     } in
-    λ _. password_refused client c.args.server_first.now c.in_ok-nonce.ensures.tested c.in_ok-salt.ensures.tested
+    λ _. password_refused client c.args.text.now c.in_ok-nonce.ensures.tested c.in_ok-salt.ensures.tested
     c.in_ok-iterations.ensures.tested (search rules)
 
 pub returns-clause-reads : goal.returns-clause-reads
@@ -61,7 +61,7 @@ returns-clause-reads c =
       limit =
           c.args.limit;
     } in
-    values_read client c.args.server_first.now (record {
+    values_read client c.args.text.now (record {
       nonce = c.in_ok-nonce.nonce.now;
       salt =
           c.in_ok-salt.salt.items;

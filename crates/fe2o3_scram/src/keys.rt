@@ -1,0 +1,169 @@
+//! The keys, the proof and the signature of SCRAM, under the names of RFC 5802, section 3.
+//!
+//! A side that keeps its keys needs no password: a client makes its proof from the ClientKey, and
+//! a server tests it against the StoredKey and signs by the ServerKey. None of the methods takes
+//! memory, and the meter counts the HMAC values that each makes.
+
+ghost use Rattle.std.specs.Prelude.{◌≡◌, ◌≢◌, ◌<◌, ◌+◌, ◌^◌, ◌↔◌, IsTrue, IfOk, OnOk, OnErr, MatchResult, length};
+ghost use Rattle.fe2o3_scram.specs.Hmac.{digest_bytes, digest_len, exclusive_or};
+ghost use Rattle.fe2o3_scram.specs.Keys.{MeetsStoredKey, auth_message, client_key, client_proof, client_signature, recovered_client_key, server_key, server_signature, stored_key};
+
+use crate::OutOfMemory;
+use crate::hmac::hasher::digest_of;
+use crate::hmac::keyed::HmacKey;
+use crate::hmac::{DigestBytes, Meter, ScramVersion};
+use crate::scram_messages::error::XorLengthMismatch;
+use std::alloc::Global;
+
+/// What the ClientKey is made of.
+const CLIENT_KEY_LABEL: &[u8] = b"Client Key";
+
+/// What the ServerKey is made of.
+const SERVER_KEY_LABEL: &[u8] = b"Server Key";
+
+/// The AuthMessage: the client-first message without its GS2 header, the server-first message, and
+/// the client-final message up to its proof, with commas between them, each as it was sent.
+pub fn auth_message(
+    alloc: Global,
+    client_first_message_bare: &[u8],
+    server_first_message: &[u8],
+    client_final_message_without_proof: &[u8],
+) -> Result<Vec<u8>, OutOfMemory>
+    ensures { IfOk result (λ text. text.items ≡ auth_message client_first_message_bare.now server_first_message.now
+        client_final_message_without_proof.now) }
+{
+    let mut buf = client_first_message_bare.to_vec(alloc)?;
+    buf.push(b',')?;
+    buf.extend_from_slice(server_first_message)?;
+    buf.push(b',')?;
+    buf.extend_from_slice(client_final_message_without_proof)?;
+    Ok(buf)
+}
+
+impl ScramVersion {
+    /// The ClientKey: `HMAC(SaltedPassword, "Client Key")`, one HMAC value.
+    pub fn client_key(&self, salted_password: &[u8], meter: &mut Meter) -> DigestBytes
+        requires { meter.old + 1 < 2 ^ 64 }
+        ensures key { digest_bytes result ≡ client_key self.now salted_password.now }
+        ensures counted { meter.new ≡ meter.old + 1 }
+    {
+        HmacKey::new(*self, salted_password).mac(CLIENT_KEY_LABEL, meter)
+    }
+
+    /// The StoredKey: `H(ClientKey)`, no HMAC value.
+    pub fn stored_key(&self, client_key: &[u8]) -> DigestBytes
+        ensures { digest_bytes result ≡ stored_key self.now client_key.now }
+    {
+        digest_of(*self, client_key)
+    }
+
+    /// The ServerKey: `HMAC(SaltedPassword, "Server Key")`, one HMAC value.
+    pub fn server_key(&self, salted_password: &[u8], meter: &mut Meter) -> DigestBytes
+        requires { meter.old + 1 < 2 ^ 64 }
+        ensures key { digest_bytes result ≡ server_key self.now salted_password.now }
+        ensures counted { meter.new ≡ meter.old + 1 }
+    {
+        HmacKey::new(*self, salted_password).mac(SERVER_KEY_LABEL, meter)
+    }
+
+    /// The ClientProof: the exclusive or of the ClientKey and the ClientSignature, which is
+    /// `HMAC(H(ClientKey), AuthMessage)`. One HMAC value.
+    ///
+    /// A ClientKey that is not as long as a digest is refused, without an HMAC value.
+    pub fn compute_client_proof(
+        &self,
+        client_key: &[u8],
+        auth_message: &[u8],
+        meter: &mut Meter,
+    ) -> Result<DigestBytes, XorLengthMismatch>
+        requires { meter.old + 1 < 2 ^ 64 }
+        ensures proof { MatchResult result (λ proof. (length client_key.now ≡ digest_len self.now)
+            × (digest_bytes proof ≡ client_proof self.now client_key.now auth_message.now))
+            (λ _. length client_key.now ≢ digest_len self.now) }
+        ensures counted { OnOk result (meter.new ≡ meter.old + 1) }
+        ensures uncounted { OnErr result (meter.new ≡ meter.old) }
+    {
+        let stored_key = self.stored_key(client_key);
+        self.signed(client_key, stored_key.as_slice(), auth_message, meter)
+    }
+
+    /// The ClientKey that a server recovers: the exclusive or of the ClientProof and the
+    /// ClientSignature, which is `HMAC(StoredKey, AuthMessage)`. One HMAC value. It is the
+    /// client's where its digest is the StoredKey.
+    ///
+    /// A proof that is not as long as a digest is refused, without an HMAC value.
+    pub fn recovered_client_key(
+        &self,
+        stored_key: &[u8],
+        client_proof: &[u8],
+        auth_message: &[u8],
+        meter: &mut Meter,
+    ) -> Result<DigestBytes, XorLengthMismatch>
+        requires { meter.old + 1 < 2 ^ 64 }
+        ensures key { MatchResult result (λ key. (length client_proof.now ≡ digest_len self.now)
+            × (digest_bytes key ≡ recovered_client_key self.now stored_key.now client_proof.now auth_message.now))
+            (λ _. length client_proof.now ≢ digest_len self.now) }
+        ensures counted { OnOk result (meter.new ≡ meter.old + 1) }
+        ensures uncounted { OnErr result (meter.new ≡ meter.old) }
+    {
+        self.signed(client_proof, stored_key, auth_message, meter)
+    }
+
+    /// Whether the proof meets the StoredKey, that is, whether the recovered ClientKey's digest is
+    /// the StoredKey. One HMAC value. Keys are compared byte by byte, and not in constant time.
+    ///
+    /// A proof that is not as long as a digest is refused, without an HMAC value.
+    pub fn verify_client_proof(
+        &self,
+        stored_key: &[u8],
+        client_proof: &[u8],
+        auth_message: &[u8],
+        meter: &mut Meter,
+    ) -> Result<bool, XorLengthMismatch>
+        requires { meter.old + 1 < 2 ^ 64 }
+        ensures verdict { MatchResult result (λ meets. (length client_proof.now ≡ digest_len self.now)
+            × (IsTrue meets ↔ MeetsStoredKey self.now stored_key.now client_proof.now auth_message.now))
+            (λ _. length client_proof.now ≢ digest_len self.now) }
+        ensures counted { OnOk result (meter.new ≡ meter.old + 1) }
+        ensures uncounted { OnErr result (meter.new ≡ meter.old) }
+    {
+        let client_key = self.recovered_client_key(stored_key, client_proof, auth_message, meter)?;
+        Ok(self.stored_key(client_key.as_slice()).as_slice() == stored_key)
+    }
+
+    /// The ServerSignature: `HMAC(ServerKey, AuthMessage)`, one HMAC value.
+    pub fn compute_server_signature(
+        &self,
+        server_key: &[u8],
+        auth_message: &[u8],
+        meter: &mut Meter,
+    ) -> DigestBytes
+        requires { meter.old + 1 < 2 ^ 64 }
+        ensures signature { digest_bytes result ≡ server_signature self.now server_key.now auth_message.now }
+        ensures counted { meter.new ≡ meter.old + 1 }
+    {
+        HmacKey::new(*self, server_key).mac(auth_message, meter)
+    }
+
+    /// The exclusive or of a text and the ClientSignature: a key becomes its proof, and a proof its
+    /// key.
+    fn signed(
+        &self,
+        text: &[u8],
+        stored_key: &[u8],
+        auth_message: &[u8],
+        meter: &mut Meter,
+    ) -> Result<DigestBytes, XorLengthMismatch>
+        requires { meter.old + 1 < 2 ^ 64 }
+        ensures sum { MatchResult result (λ sum. (length text.now ≡ digest_len self.now)
+            × (digest_bytes sum ≡ exclusive_or text.now (client_signature self.now stored_key.now auth_message.now)))
+            (λ _. length text.now ≢ digest_len self.now) }
+        ensures counted { OnOk result (meter.new ≡ meter.old + 1) }
+        ensures uncounted { OnErr result (meter.new ≡ meter.old) }
+    {
+        let mut sum = DigestBytes::from_slice(*self, text)?;
+        let client_signature = HmacKey::new(*self, stored_key).mac(auth_message, meter);
+        sum.xor(&client_signature);
+        Ok(sum)
+    }
+}
