@@ -60,8 +60,10 @@ fn challenge<R: Abort + AllocGlobal>(
     let server_first = server
         .compute_server_first_message(rt.alloc(), &client_first, &[2; 32])?
         .ok_or("unknown user")?;
-    let client_final =
-        client.compute_client_final_message(rt.alloc(), str::from_utf8(&server_first)?)?;
+    let client_final = client.compute_client_final_message(
+        rt.alloc(),
+        str::from_utf8(&server_first)?,
+    )?;
     Ok((server_first, client_final))
 }
 
@@ -79,7 +81,10 @@ fn logs_in<R: Abort + AllocGlobal>(
         .compute_server_final_message(rt.alloc(), &client_final)?
         .ok_or("no answer")?;
     assert_eq!(rt; str::from_utf8(&server_final)?, login.server_final);
-    assert_eq!(rt; client.validate_server_final(rt.alloc(), &server_final), Ok(()));
+    assert_eq!(rt;
+        client.validate_server_final(rt.alloc(), &server_final),
+        Ok(())
+    );
     Ok(())
 }
 
@@ -109,8 +114,7 @@ fn another_password_is_refused(rt: HostRuntime) -> Result<(), Fail> {
 fn others_are_unknown(rt: HostRuntime) -> Result<(), Fail> {
     let mut server = ScramAuthenticator::new(Users::new(rt.alloc())?);
     for message in ["n,,n=nobody,r=a", "n,,n=,r=a", "n,,n=users,r=a"] {
-        let answer =
-            server.compute_server_first_message(rt.alloc(), message.as_bytes(), &[2; 32])?;
+        let answer = server.compute_server_first_message(rt.alloc(), message.as_bytes(), &[2; 32])?;
         assert!(rt; answer.is_none(), "{message}");
     }
     Ok(())

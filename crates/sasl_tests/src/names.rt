@@ -39,13 +39,17 @@ fn challenge<'a>(
 
 #[test]
 fn a_challenge_has_one_type_by_both_names(rt: HostRuntime) -> Result<(), Fail> {
-    let first: fe2o3_sasl::ServerFirstMessage<'_> =
-        challenge(rt.alloc(), "n,,n=user,r=a")?.ok_or("unknown user")?;
+    let first: fe2o3_sasl::ServerFirstMessage<'_> = challenge(rt.alloc(), "n,,n=user,r=a")?.ok_or(
+        "unknown user",
+    )?;
     assert_eq!(rt;
         str::from_utf8(&first.message)?,
         "r=ab,s=AwMDAwMDAwMDAwMDAwMDAwMDAwMDAwMDAwMDAwMDAwM=,i=4096"
     );
-    assert_eq!(rt; DEFAULT_SCRAM_ITERATIONS, fe2o3_sasl::DEFAULT_SCRAM_ITERATIONS);
+    assert_eq!(rt;
+        DEFAULT_SCRAM_ITERATIONS,
+        fe2o3_sasl::DEFAULT_SCRAM_ITERATIONS
+    );
     Ok(())
 }
 
@@ -54,8 +58,14 @@ fn faults_have_one_type_by_both_names(rt: HostRuntime) {
     assert_eq!(rt; fe2o3_sasl::NormalizeError, NormalizeError);
     assert_eq!(rt; fe2o3_sasl::XorLengthMismatch, XorLengthMismatch);
     assert_eq!(rt; fe2o3_sasl::UnescapeError::Invalid, UnescapeError::Invalid);
-    assert_eq!(rt; fe2o3_sasl::ScramErrorKind::Utf8Error, ScramErrorKind::Utf8Error);
-    assert_eq!(rt; KeyError::from(fe2o3_sasl::OutOfMemory), fe2o3_sasl::KeyError::OutOfMemory);
+    assert_eq!(rt;
+        fe2o3_sasl::ScramErrorKind::Utf8Error,
+        ScramErrorKind::Utf8Error
+    );
+    assert_eq!(rt;
+        KeyError::from(fe2o3_sasl::OutOfMemory),
+        fe2o3_sasl::KeyError::OutOfMemory
+    );
 }
 
 #[test]
