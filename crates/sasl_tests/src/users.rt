@@ -91,6 +91,7 @@ impl Clone for User {
 /// The users `user` and `guest`.
 #[derive(Debug, Drop)]
 pub struct Users {
+    version: ScramVersion,
     user: User,
     guest: User,
 }
@@ -98,12 +99,11 @@ pub struct Users {
 impl Model for Users {
     ghost use Rattle.std.specs.Prelude.{[], ◌∷◌};
     ghost use Rattle.fe2o3_sasl.specs.Credentials.{Provider};
-    ghost use Rattle.fe2o3_sasl.specs.declared.hmac.ScramVersion.{ScramVersion};
 
     ghost Value = { Provider };
 
     ghost view = { λ users. record {
-      version = ScramVersion.Sha256;
+      version = users.version;
       records = users.user ∷ users.guest ∷ [];
     } };
 }
@@ -112,6 +112,7 @@ impl Users {
     /// Both users, with salts of 32 bytes 03 and 04.
     pub fn new(alloc: Global) -> Result<Users, Fail> {
         Ok(Users {
+            version: ScramVersion::Sha256,
             user: User::with_password(alloc, "user", "pencil", [3; 32])?,
             guest: User::with_password(alloc, "guest", "crayon", [4; 32])?,
         })
@@ -123,6 +124,7 @@ impl Clone for Users {
 
     fn clone(&self) -> Result<Users, AllocError> {
         Ok(Users {
+            version: self.version,
             user: self.user.clone()?,
             guest: self.guest.clone()?,
         })
@@ -135,7 +137,7 @@ impl ScramCredentialProvider for Users {
     ghost clone_keeps = { λ users copy same. same };
 
     fn scram_version(&self) -> &ScramVersion {
-        &ScramVersion::Sha256
+        &self.version
     }
 
     fn get_stored_password<'a>(&'a self, username: &str) -> Option<StoredPassword<'a>> {

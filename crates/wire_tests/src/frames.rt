@@ -5,7 +5,7 @@ use crate::bodies::*;
 use bytes::BytesMut;
 use fe2o3_sasl_wire::{
     Array, Binary, Error, Frame, FrameCodec, FrameView, SaslChallenge, SaslCode, SaslInit,
-    SaslMechanisms, SaslOutcome, SaslResponse, view_frame,
+    SaslMechanisms, SaslOutcome, SaslResponse, Symbol, view_frame,
 };
 use std::alloc::Global;
 use std::test::Fail;
@@ -51,32 +51,50 @@ fn writes_the_worked_bodies(rt: HostRuntime) -> Result<(), Fail> {
     for (code, body) in [(SaslCode::Ok, OUTCOME_OK), (SaslCode::Auth, OUTCOME_AUTH)] {
         assert_eq!(rt; encoded(alloc, outcome(code))?.as_str(), body);
     }
-    let init = Frame::Init(SaslInit {
-        mechanism: symbol(alloc, "PLAIN")?,
-        initial_response: Some(binary(alloc, b"\0user\0example")?),
-        hostname: None,
-    });
-    assert_eq!(rt; encoded(alloc, init)?.as_str(), INIT_PLAIN);
-    let init = Frame::Init(SaslInit {
-        mechanism: symbol(alloc, "ANONYMOUS")?,
-        initial_response: None,
-        hostname: Some(String::from_str(alloc, "h")?),
-    });
-    assert_eq!(rt; encoded(alloc, init)?.as_str(), INIT_ANONYMOUS);
-    let mechanisms = Frame::Mechanisms(SaslMechanisms::anonymous(alloc)?);
-    assert_eq!(rt; encoded(alloc, mechanisms)?.as_str(), MECHANISMS_ANONYMOUS);
-    let mechanisms = Frame::Mechanisms(SaslMechanisms {
-        sasl_server_mechanisms: Array(Vec::new(alloc)),
-    });
-    assert_eq!(rt; encoded(alloc, mechanisms)?.as_str(), NO_MECHANISMS);
-    let mechanisms = Frame::Mechanisms(SaslMechanisms {
-        sasl_server_mechanisms: two_symbols(alloc, "PLAIN", "EXTERNAL")?,
-    });
-    assert_eq!(rt; encoded(alloc, mechanisms)?.as_str(), MECHANISMS_TWO);
     let response = Frame::Response(SaslResponse {
         response: binary(alloc, &[7])?,
     });
     assert_eq!(rt; encoded(alloc, response)?.as_str(), RESPONSE_7);
+    Ok(())
+}
+
+#[test]
+fn writes_the_worked_inits(rt: HostRuntime) -> Result<(), Fail> {
+    let alloc = rt.alloc();
+    let plain = Frame::Init(SaslInit {
+        mechanism: symbol(alloc, "PLAIN")?,
+        initial_response: Some(binary(alloc, b"\0user\0example")?),
+        hostname: None,
+    });
+    assert_eq!(rt; encoded(alloc, plain)?.as_str(), INIT_PLAIN);
+    let anonymous = Frame::Init(SaslInit {
+        mechanism: symbol(alloc, "ANONYMOUS")?,
+        initial_response: None,
+        hostname: Some(String::from_str(alloc, "h")?),
+    });
+    assert_eq!(rt; encoded(alloc, anonymous)?.as_str(), INIT_ANONYMOUS);
+    Ok(())
+}
+
+/// The body of a frame with these mechanisms.
+fn offer(alloc: Global, symbols: Array<Symbol>) -> Result<String, Fail> {
+    encoded(
+        alloc,
+        Frame::Mechanisms(SaslMechanisms {
+            sasl_server_mechanisms: symbols,
+        }),
+    )
+}
+
+#[test]
+fn writes_the_worked_lists_of_mechanisms(rt: HostRuntime) -> Result<(), Fail> {
+    let alloc = rt.alloc();
+    let anonymous = Frame::Mechanisms(SaslMechanisms::anonymous(alloc)?);
+    assert_eq!(rt; encoded(alloc, anonymous)?.as_str(), MECHANISMS_ANONYMOUS);
+    let none = offer(alloc, Array(Vec::new(alloc)))?;
+    assert_eq!(rt; none.as_str(), NO_MECHANISMS);
+    let two = offer(alloc, two_symbols(alloc, "PLAIN", "EXTERNAL")?)?;
+    assert_eq!(rt; two.as_str(), MECHANISMS_TWO);
     Ok(())
 }
 
@@ -157,6 +175,12 @@ fn refuses_what_is_no_frame(rt: HostRuntime) -> Result<(), Fail> {
         let body = bytes_of(alloc, digits)?;
         assert_eq!(rt; refusal(alloc, &body)?, fault, "{digits}");
     }
+    Ok(())
+}
+
+#[test]
+fn texts_of_refusals(rt: HostRuntime) -> Result<(), Fail> {
+    let alloc = rt.alloc();
     for (fault, text) in [
         (Error::DecodeError, "Decode Error"),
         (Error::NotImplemented, "AmqpError: NotImplemented"),
