@@ -1,8 +1,7 @@
 //! A client that logs in.
 
 use anyhow::Result;
-use fe2o3_sasl::hmac::ScramVersion;
-use fe2o3_sasl::scram_client::ScramClient;
+use fe2o3_sasl::{ScramClient, ScramVersion};
 use std::alloc::Global;
 
 /// The way to the server.

@@ -1,9 +1,7 @@
 //! A server of one user.
 
 use anyhow::{Context, Result};
-use fe2o3_sasl::credentials::SingleScramCredential;
-use fe2o3_sasl::hmac::ScramVersion;
-use fe2o3_sasl::scram_server::ScramAuthenticator;
+use fe2o3_sasl::{ScramAuthenticator, ScramVersion, SingleScramCredential};
 use std::alloc::Global;
 
 /// A server, and whether it waits for the answer to its challenge.

@@ -1,7 +1,6 @@
 //! `client-final VERSION USER PASSWORD CLIENT-NONCE SERVER-FIRST [LIMIT]`: the client-final message,
 //! and the server-final message that the client would accept.
 
-use crate::command::version_of;
 use crate::stop::Stop;
 use base64::engine::general_purpose::STANDARD;
 use fe2o3_sasl::{Meter, ScramVersion};
@@ -41,7 +40,7 @@ impl<'a> ClientFinal<'a> {
             _ => return None,
         };
         Some(ClientFinal {
-            version: version_of(version)?,
+            version: ScramVersion::from_mechanism(version)?,
             user,
             password,
             client_nonce,

@@ -2,7 +2,6 @@
 
 use crate::client_final::ClientFinal;
 use crate::stop::Stop;
-use fe2o3_sasl::ScramVersion;
 use std::alloc::Global;
 use std::io::Write;
 
@@ -29,15 +28,4 @@ impl<'a> Command<'a> {
             Command::ClientFinal(client_final) => client_final.run(alloc, output),
         }
     }
-}
-
-/// The version whose mechanism has this name.
-pub fn version_of(name: &str) -> Option<ScramVersion> {
-    [
-        ScramVersion::Sha1,
-        ScramVersion::Sha256,
-        ScramVersion::Sha512,
-    ]
-    .into_iter()
-    .find(|version| version.mechanism() == name)
 }

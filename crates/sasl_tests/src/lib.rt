@@ -1,52 +1,10 @@
-//! Tests of the public calls of both libraries. Expected values come from the standards, from
-//! worked examples, and from other programs.
+//! Tests of `fe2o3_sasl` as its users call it: no other library is named here, neither in the code nor
+//! in a contract.
 #![tactic(auto)]
 
 #[cfg(test)]
-mod accounts;
+mod logins;
 #[cfg(test)]
-mod amqp_types;
+mod names;
 #[cfg(test)]
-mod bodies;
-#[cfg(test)]
-mod client_answer;
-#[cfg(test)]
-mod client_final_refusals;
-#[cfg(test)]
-mod client_first_refusals;
-#[cfg(test)]
-mod drought;
-#[cfg(test)]
-mod fault_texts;
-#[cfg(test)]
-mod frames;
-#[cfg(test)]
-mod hmac_vectors;
-#[cfg(test)]
-mod iteration_limit;
-#[cfg(test)]
-mod machines;
-#[cfg(test)]
-mod malicious_bytes;
-#[cfg(test)]
-mod messages;
-#[cfg(test)]
-mod meter;
-#[cfg(test)]
-mod passwords;
-#[cfg(test)]
-mod pbkdf2_vectors;
-#[cfg(test)]
-mod protocol_headers;
-#[cfg(test)]
-mod providers;
-#[cfg(test)]
-mod server_exchanges;
-#[cfg(test)]
-mod server_fault_texts;
-#[cfg(test)]
-mod server_final;
-#[cfg(test)]
-mod server_first;
-#[cfg(test)]
-mod user_names;
+mod users;
