@@ -122,10 +122,6 @@ pub mechanisms_sent : canonical (frames.Mechanisms (codes "SCRAM-SHA-256" ∷ []
 unfolding canonical
 mechanisms_sent = refl
 
-pub auth_sent : canonical (frames.Outcome outcomes.Auth None) ≡ Some auth_body
-unfolding canonical
-auth_sent = refl
-
 pub refusals_have_one_body : RefusalsHaveOneBody
 unfolding canonical
 refusals_have_one_body = refl

@@ -16,29 +16,29 @@ use Rattle.fe2o3_sasl.proofs.lemmas.positions.PositionLemmas.{slice_get-front, s
 server_moves : (provider : Provider) (IsOpen Other : Challenging → Type 0) → AreSame IsOpen Other
     → (event : Given) (spelled : Result SaslFrame Error) (says : ServerSays)
     → ServerAnswers provider IsOpen event spelled says → ServerAnswers provider Other event spelled says
-server_moves P IsOpen Other same event (Err fault) s h = h
-server_moves P IsOpen Other same event (Ok (frames.Mechanisms names)) s h = h
-server_moves P IsOpen Other same event (Ok (frames.Challenge text)) s h = h
-server_moves P IsOpen Other same event (Ok (frames.Outcome code more)) s h = h
-server_moves P IsOpen Other same event (Ok (frames.Init mechanism response hostname)) s h = h
-server_moves P IsOpen Other same event (Ok (frames.Response text)) s (inl h) =
+server_moves provider IsOpen Other same event (Err fault) says h = h
+server_moves provider IsOpen Other same event (Ok (frames.Mechanisms names)) says h = h
+server_moves provider IsOpen Other same event (Ok (frames.Challenge text)) says h = h
+server_moves provider IsOpen Other same event (Ok (frames.Outcome code more)) says h = h
+server_moves provider IsOpen Other same event (Ok (frames.Init mechanism response hostname)) says h = h
+server_moves provider IsOpen Other same event (Ok (frames.Response text)) says (inl h) =
     inl (h.0, (same.0 h.0.challenge h.1.0, h.1.1), h.2)
-server_moves P IsOpen Other same event (Ok (frames.Response text)) s (inr h) =
+server_moves provider IsOpen Other same event (Ok (frames.Response text)) says (inr h) =
     inr (λ p x. h.0 p (same.1 p.challenge x.0, x.1), h.1)
 
 -- what an event fits as stays where the list goes on
 pub fits_same : (provider : Provider) (events more : List Given) (k : ℕ) → k < length events
     → AreSame (FitsAt provider events k) (FitsAt provider (events ++ more) k)
-fits_same P es more k l = (
-  λ c h. (h.0, h.1, slice_get-front es more k l ∙ h.2, h.3, h.4),
-  λ c h. (h.0, h.1, sym (slice_get-front es more k l) ∙ h.2, h.3, h.4),
+fits_same provider events more k l = (
+  λ c h. (h.0, h.1, slice_get-front events more k l ∙ h.2, h.3, h.4),
+  λ c h. (h.0, h.1, sym (slice_get-front events more k l) ∙ h.2, h.3, h.4),
 )
 
 open_same : (provider : Provider) (events more : List Given) (replies others : List ServerSays) (k : ℕ)
     → length replies ≡ length events → k ≤ length replies
     → AreSame (Open provider events replies k) (Open provider (events ++ more) (replies ++ others) k)
-open_same P es more rs others k n l = open_by_front is_challenge is_ok (FitsAt P es)
-    (FitsAt P (es ++ more)) rs others k l (λ j b. fits_same P es more j (omega (arith, n)))
+open_same provider events more replies others k n l = open_by_front is_challenge is_ok (FitsAt provider events)
+    (FitsAt provider (events ++ more)) replies others k l (λ j b. fits_same provider events more j (omega (arith, n)))
 
 -- what a history says of a reply
 abbrev pub Says : Provider → (Challenging → Type 0) → Given → ServerSays → Type 0
@@ -48,11 +48,12 @@ Says provider IsOpen event says = (spelled : Result SaslFrame Error) × SpellsBo
 
 pub says_moves : (provider : Provider) (IsOpen Other : Challenging → Type 0) → AreSame IsOpen Other
     → (event : Given) (says : ServerSays) → Says provider IsOpen event says → Says provider Other event says
-says_moves P IsOpen Other same event says h = (
+says_moves provider IsOpen Other same event says h = (
   h.0,
   h.1,
   ⊎_elim (λ (w : ServerAllocates h.0 × (says ≡ Failed faults.OutOfMemory)). inl w)
-      (λ (w : ServerAnswers P IsOpen event h.0 says). inr (server_moves P IsOpen Other same event h.0 says w)) h.2,
+      (λ (w : ServerAnswers provider IsOpen event h.0 says). inr
+      (server_moves provider IsOpen Other same event h.0 says w)) h.2,
 )
 
 -- the next reply of a history
@@ -60,35 +61,38 @@ pub history_push : (provider : Provider) (events : List Given) (replies : List S
     (says : ServerSays) → ServerHistory provider events replies
     → Says provider (Open provider events replies (length replies)) event says
     → ServerHistory provider (events ++ event ∷ []) (replies ++ says ∷ [])
-history_push P es rs e says h s = record {
-  count = length-append rs (says ∷ []) ∙ (ap (λ n. n + 1) h.count ∙ sym (length-append es (e ∷ [])));
+history_push provider events replies e says h s = record {
+  count = length-append replies (says ∷ []) ∙ (ap (λ n. n + 1) h.count ∙ sym (length-append events (e ∷ [])));
   each = λ k event t at said. ⊎_elim (front k event t at said) (last k event t at said)
-      (below_or_at k (length rs) (within k t said));
+      (below_or_at k (length replies) (within k t said));
 }
   where
-    within : (k : ℕ) (t : ServerSays) → slice_get (rs ++ says ∷ []) k ≡ Some t → k < suc (length rs)
-    within k t said = omega (arith, slice_get_within (rs ++ says ∷ []) k t said, length-append rs (says ∷ []))
+    within : (k : ℕ) (t : ServerSays) → slice_get (replies ++ says ∷ []) k ≡ Some t → k < suc (length replies)
+    within k t said = omega (arith, slice_get_within (replies ++ says ∷ []) k t said, length-append replies (says ∷ []))
 
-    moved : (k : ℕ) (event : Given) (t : ServerSays) → k ≤ length rs → Says P (Open P es rs k) event t
-        → Says P (Open P (es ++ e ∷ []) (rs ++ says ∷ []) k) event t
-    moved k event t l x = says_moves P (Open P es rs k) (Open P (es ++ e ∷ []) (rs ++ says ∷ []) k)
-        (open_same P es (e ∷ []) rs (says ∷ []) k h.count l) event t x
+    moved : (k : ℕ) (event : Given) (t : ServerSays) → k ≤ length replies
+        → Says provider (Open provider events replies k) event t
+        → Says provider (Open provider (events ++ e ∷ []) (replies ++ says ∷ []) k) event t
+    moved k event t l x = says_moves provider (Open provider events replies k)
+        (Open provider (events ++ e ∷ []) (replies ++ says ∷ []) k)
+        (open_same provider events (e ∷ []) replies (says ∷ []) k h.count l) event t x
 
-    front : (k : ℕ) (event : Given) (t : ServerSays) → slice_get (es ++ e ∷ []) k ≡ Some event
-        → slice_get (rs ++ says ∷ []) k ≡ Some t → k < length rs
-        → Says P (Open P (es ++ e ∷ []) (rs ++ says ∷ []) k) event t
+    front : (k : ℕ) (event : Given) (t : ServerSays) → slice_get (events ++ e ∷ []) k ≡ Some event
+        → slice_get (replies ++ says ∷ []) k ≡ Some t → k < length replies
+        → Says provider (Open provider (events ++ e ∷ []) (replies ++ says ∷ []) k) event t
     front k event t at said l = moved k event t (omega arith)
-        (h.each k event t (sym (slice_get-front es (e ∷ []) k (omega (arith, h.count))) ∙ at)
-        (sym (slice_get-front rs (says ∷ []) k l) ∙ said))
+        (h.each k event t (sym (slice_get-front events (e ∷ []) k (omega (arith, h.count))) ∙ at)
+        (sym (slice_get-front replies (says ∷ []) k l) ∙ said))
 
-    last : (k : ℕ) (event : Given) (t : ServerSays) → slice_get (es ++ e ∷ []) k ≡ Some event
-        → slice_get (rs ++ says ∷ []) k ≡ Some t → k ≡ length rs
-        → Says P (Open P (es ++ e ∷ []) (rs ++ says ∷ []) k) event t
+    last : (k : ℕ) (event : Given) (t : ServerSays) → slice_get (events ++ e ∷ []) k ≡ Some event
+        → slice_get (replies ++ says ∷ []) k ≡ Some t → k ≡ length replies
+        → Says provider (Open provider (events ++ e ∷ []) (replies ++ says ∷ []) k) event t
     last k event t at said n =
-        let x : e ≡ event = same_Some e event (sym (slice_get-behind es e [])
-        ∙ (ap (slice_get (es ++ e ∷ [])) (sym h.count ∙ sym n) ∙ at)) in
-        let y : says ≡ t = same_Some says t (sym (slice_get-behind rs says [])
-        ∙ (ap (slice_get (rs ++ says ∷ [])) (sym n) ∙ said)) in
-        let z = subst (λ (k : ℕ). Says P (Open P es rs k) e says) (sym n) s in
-        moved k event t (omega arith) (subst (λ (t : ServerSays). Says P (Open P es rs k) event t) y
-        (subst (λ (x : Given). Says P (Open P es rs k) x says) x z))
+        let x : e ≡ event = same_Some e event (sym (slice_get-behind events e [])
+        ∙ (ap (slice_get (events ++ e ∷ [])) (sym h.count ∙ sym n) ∙ at)) in
+        let y : says ≡ t = same_Some says t (sym (slice_get-behind replies says [])
+        ∙ (ap (slice_get (replies ++ says ∷ [])) (sym n) ∙ said)) in
+        let z = subst (λ (k : ℕ). Says provider (Open provider events replies k) e says) (sym n) s in
+        moved k event t (omega arith)
+        (subst (λ (t : ServerSays). Says provider (Open provider events replies k) event t) y
+        (subst (λ (x : Given). Says provider (Open provider events replies k) x says) x z))

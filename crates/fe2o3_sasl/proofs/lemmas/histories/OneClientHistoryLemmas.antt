@@ -123,7 +123,7 @@ one_reading_of_challenge login Due one text answer other = go answer other
 pub one_reading_of_outcome : (login : Login) (IsOpen : Answering → Type 0) → OfOne IsOpen
     → (more : Option (List ℕ)) (answer other : Result (Unit {0}) ScramErrorKind) → ReadsOutcome login IsOpen more answer
     → ReadsOutcome login IsOpen more other → answer ≡ other
-one_reading_of_outcome login IsOpen one None (Ok a) b h k = absurd h
+one_reading_of_outcome login IsOpen one None (Ok a) other h k = absurd h
 one_reading_of_outcome login IsOpen one None (Err a) (Ok b) h k = absurd k
 one_reading_of_outcome login IsOpen one None (Err a) (Err b) h k = ap Err (h ∙ sym k)
 one_reading_of_outcome login IsOpen one (Some text) answer other h k = go answer other h k
@@ -152,46 +152,51 @@ pub one_client_answer : (login : Login) (Due : List ℕ → Type 0) (IsOpen : An
     → (event : Given) (spelled : Result SaslFrame Error) (says other : ClientSays)
     → ClientAnswers login Due IsOpen event spelled says → ClientAnswers login Due IsOpen event spelled other
     → says ≡ other
-one_client_answer login Due IsOpen due opened event (Err fault) s t h k = h ∙ sym k
-one_client_answer login Due IsOpen due opened event (Ok (frames.Init mechanism response hostname)) s t h k = h ∙ sym k
-one_client_answer login Due IsOpen due opened event (Ok (frames.Response text)) s t h k = h ∙ sym k
-one_client_answer login Due IsOpen due opened event (Ok (frames.Mechanisms names)) s t (inl h) (inl k) = h.1 ∙ sym k.1
-one_client_answer login Due IsOpen due opened event (Ok (frames.Mechanisms names)) s t (inl h) (inr k) =
+one_client_answer login Due IsOpen due opened event (Err fault) says other h k = h ∙ sym k
+one_client_answer login Due IsOpen due opened event (Ok (frames.Init mechanism response hostname)) says other h k =
+    h ∙ sym k
+one_client_answer login Due IsOpen due opened event (Ok (frames.Response text)) says other h k = h ∙ sym k
+one_client_answer login Due IsOpen due opened event (Ok (frames.Mechanisms names)) says other (inl h) (inl k) =
+    h.1 ∙ sym k.1
+one_client_answer login Due IsOpen due opened event (Ok (frames.Mechanisms names)) says other (inl h) (inr k) =
     absurd (k.0 h.0)
-one_client_answer login Due IsOpen due opened event (Ok (frames.Mechanisms names)) s t (inr h) (inl k) =
+one_client_answer login Due IsOpen due opened event (Ok (frames.Mechanisms names)) says other (inr h) (inl k) =
     absurd (h.0 k.0)
-one_client_answer login Due IsOpen due opened event (Ok (frames.Mechanisms names)) s t (inr h) (inr k) = h.1 ∙ sym k.1
-one_client_answer login Due IsOpen due opened event (Ok (frames.Challenge text)) s t h k = go h k
+one_client_answer login Due IsOpen due opened event (Ok (frames.Mechanisms names)) says other (inr h) (inr k) =
+    h.1 ∙ sym k.1
+one_client_answer login Due IsOpen due opened event (Ok (frames.Challenge text)) says other h k = go h k
   where
     same : (a b : Result Answering ScramErrorKind) → ReadsChallenge login Due text a → ReadsChallenge login Due text b
         → a ≡ b
     same a b x y = one_reading_of_challenge login Due due text a b x y
 
-    go : ClientAnswers login Due IsOpen event (Ok (frames.Challenge text)) s
-        → ClientAnswers login Due IsOpen event (Ok (frames.Challenge text)) t → s ≡ t
+    go : ClientAnswers login Due IsOpen event (Ok (frames.Challenge text)) says
+        → ClientAnswers login Due IsOpen event (Ok (frames.Challenge text)) other → says ≡ other
     go (inl h) (inl k) = let e = same (Ok h.0) (Ok k.0) h.1 k.1 in let d : h.0 ≡ k.0 = cc in
         h.2 ∙ (ap (says_answer login) d ∙ sym k.2)
     go (inl h) (inr k) = let e = same (Ok h.0) (Err k.0) h.1 k.1 in absurd (cc)
     go (inr h) (inl k) = let e = same (Err h.0) (Ok k.0) h.1 k.1 in absurd (cc)
     go (inr h) (inr k) = let e = same (Err h.0) (Err k.0) h.1 k.1 in let d : h.0 ≡ k.0 = cc in
         h.2 ∙ (ap (λ (x : ScramErrorKind). Refused (Scram x)) d ∙ sym k.2)
-one_client_answer login Due IsOpen due opened event (Ok (frames.Outcome outcomes.Ok more)) s t h k = go h k
+one_client_answer login Due IsOpen due opened event (Ok (frames.Outcome outcomes.Ok more)) says other h k = go h k
   where
     same : (a b : Result (Unit {0}) ScramErrorKind) → ReadsOutcome login IsOpen more a
         → ReadsOutcome login IsOpen more b → a ≡ b
     same a b x y = one_reading_of_outcome login IsOpen opened more a b x y
 
-    go : ClientAnswers login Due IsOpen event (Ok (frames.Outcome outcomes.Ok more)) s
-        → ClientAnswers login Due IsOpen event (Ok (frames.Outcome outcomes.Ok more)) t → s ≡ t
+    go : ClientAnswers login Due IsOpen event (Ok (frames.Outcome outcomes.Ok more)) says
+        → ClientAnswers login Due IsOpen event (Ok (frames.Outcome outcomes.Ok more)) other → says ≡ other
     go (inl h) (inl k) = h.1 ∙ sym k.1
     go (inl h) (inr k) = let e = same (Ok tt) (Err k.0) h.0 k.1 in absurd (cc)
     go (inr h) (inl k) = let e = same (Err h.0) (Ok tt) h.1 k.0 in absurd (cc)
     go (inr h) (inr k) = let e = same (Err h.0) (Err k.0) h.1 k.1 in let d : h.0 ≡ k.0 = cc in
         h.2 ∙ (ap (λ (x : ScramErrorKind). Refused (Scram x)) d ∙ sym k.2)
-one_client_answer login Due IsOpen due opened event (Ok (frames.Outcome outcomes.Auth more)) s t h k = h ∙ sym k
-one_client_answer login Due IsOpen due opened event (Ok (frames.Outcome outcomes.Sys more)) s t h k = h ∙ sym k
-one_client_answer login Due IsOpen due opened event (Ok (frames.Outcome outcomes.SysPerm more)) s t h k = h ∙ sym k
-one_client_answer login Due IsOpen due opened event (Ok (frames.Outcome outcomes.SysTemp more)) s t h k = h ∙ sym k
+one_client_answer login Due IsOpen due opened event (Ok (frames.Outcome outcomes.Auth more)) says other h k = h ∙ sym k
+one_client_answer login Due IsOpen due opened event (Ok (frames.Outcome outcomes.Sys more)) says other h k = h ∙ sym k
+one_client_answer login Due IsOpen due opened event (Ok (frames.Outcome outcomes.SysPerm more)) says other h k =
+    h ∙ sym k
+one_client_answer login Due IsOpen due opened event (Ok (frames.Outcome outcomes.SysTemp more)) says other h k =
+    h ∙ sym k
 
 -- ---- what is due and what is open
 

@@ -26,31 +26,31 @@ ok_fits : (provider : Provider) (IsOpen : Challenging → Type 0) (event : Given
     (body : List ℕ) → ServerAnswers provider IsOpen event spelled (Concluded outcomes.Ok body)
     → (frame : SaslFrame) × (spelled ≡ Ok frame) × ((accepted : Accepted)
     × FitsAsResponse provider IsOpen frame accepted)
-ok_fits P IsOpen e (Err fault) body h = absurd (cc)
-ok_fits P IsOpen e (Ok (frames.Mechanisms names)) body h = absurd (cc)
-ok_fits P IsOpen e (Ok (frames.Challenge text)) body h = absurd (cc)
-ok_fits P IsOpen e (Ok (frames.Outcome code more)) body h = absurd (cc)
-ok_fits P IsOpen e (Ok (frames.Init mechanism response hostname)) body (inl h) =
+ok_fits provider IsOpen event (Err fault) body h = absurd (cc)
+ok_fits provider IsOpen event (Ok (frames.Mechanisms names)) body h = absurd (cc)
+ok_fits provider IsOpen event (Ok (frames.Challenge text)) body h = absurd (cc)
+ok_fits provider IsOpen event (Ok (frames.Outcome code more)) body h = absurd (cc)
+ok_fits provider IsOpen event (Ok (frames.Init mechanism response hostname)) body (inl h) =
     absurd (carried_not (Failed faults.TooLarge) (λ b. Challenged b) (canonical (frames.Challenge (first_message h.0)))
     (Concluded outcomes.Ok body) (λ x. cc) (λ b x. cc) (sym h.2))
-ok_fits P IsOpen e (Ok (frames.Init mechanism response hostname)) body (inr h) =
+ok_fits provider IsOpen event (Ok (frames.Init mechanism response hostname)) body (inr h) =
     absurd (carried_not (Failed faults.TooLarge) (λ b. Concluded outcomes.Auth b)
     (canonical (frames.Outcome outcomes.Auth None)) (Concluded outcomes.Ok body) (λ x. cc) (λ b x. cc) (sym h.1))
-ok_fits P IsOpen e (Ok (frames.Response text)) body (inl h) = (frames.Response text, refl, (h.0, h.1))
-ok_fits P IsOpen e (Ok (frames.Response text)) body (inr h) =
+ok_fits provider IsOpen event (Ok (frames.Response text)) body (inl h) = (frames.Response text, refl, (h.0, h.1))
+ok_fits provider IsOpen event (Ok (frames.Response text)) body (inr h) =
     absurd (carried_not (Failed faults.TooLarge) (λ b. Concluded outcomes.Auth b)
     (canonical (frames.Outcome outcomes.Auth None)) (Concluded outcomes.Ok body) (λ x. cc) (λ b x. cc) (sym h.1))
 
 pub ok_accepts : (provider : Provider) (events : List Given) (replies : List ServerSays) (n : ℕ) (body : List ℕ)
     → ServerHistory provider events replies → slice_get replies n ≡ Some (Concluded outcomes.Ok body)
     → (accepted : Accepted) × AcceptsAt provider events replies n accepted
-ok_accepts P es rs n body h a =
-    let e = some_at es n (omega (arith, h.count, slice_get_within rs n (Concluded outcomes.Ok body) a)) in
+ok_accepts provider events replies n body h a =
+    let e = some_at events n (omega (arith, h.count, slice_get_within replies n (Concluded outcomes.Ok body) a)) in
     let x = h.each n e.0 (Concluded outcomes.Ok body) e.1 a in
     ⊎_elim (λ (w : ServerAllocates x.0 × (Concluded outcomes.Ok body ≡ Failed faults.OutOfMemory)). let y = w.1 in
     absurd (cc))
-    (λ (w : ServerAnswers P (Open P es rs n) e.0 x.0 (Concluded outcomes.Ok body)).
-    let f = ok_fits P (Open P es rs n) e.0 x.0 body w in
+    (λ (w : ServerAnswers provider (Open provider events replies n) e.0 x.0 (Concluded outcomes.Ok body)).
+    let f = ok_fits provider (Open provider events replies n) e.0 x.0 body w in
     (f.2.0, (e.0, f.0, e.1, subst (λ (s : Result SaslFrame Error). SpellsBody e.0.body s) f.1 x.1, f.2.1)))
     x.2
 
@@ -60,18 +60,19 @@ pub accepted_response : (provider : Provider) (events : List Given) (replies : L
     → (event : Given) × (text : List ℕ) × (slice_get events n ≡ Some event)
     × SpellsBody event.body (Ok (frames.Response text)) × Open provider events replies n accepted.challenge
     × NamesAcceptedFinal (server_at provider accepted.challenge) text accepted.final
-accepted_response P es rs n p h = go h.1 h.3 h.4
+accepted_response provider events replies n accepted h = go h.1 h.3 h.4
   where
-    go : (frame : SaslFrame) → SpellsBody h.0.body (Ok frame) → FitsAsResponse P (Open P es rs n) frame p
-        → (event : Given) × (text : List ℕ) × (slice_get es n ≡ Some event)
-        × SpellsBody event.body (Ok (frames.Response text)) × Open P es rs n p.challenge
-        × NamesAcceptedFinal (server_at P p.challenge) text p.final
+    go : (frame : SaslFrame) → SpellsBody h.0.body (Ok frame)
+        → FitsAsResponse provider (Open provider events replies n) frame accepted
+        → (event : Given) × (text : List ℕ) × (slice_get events n ≡ Some event)
+        × SpellsBody event.body (Ok (frames.Response text)) × Open provider events replies n accepted.challenge
+        × NamesAcceptedFinal (server_at provider accepted.challenge) text accepted.final
     go (frames.Mechanisms names) x k = absurd k
     go (frames.Challenge text) x k = absurd k
     go (frames.Outcome code more) x k = absurd k
     go (frames.Init mechanism response hostname) x k = absurd k
     go (frames.Response text) x k =
-        (h.0, text, h.2, x, k.0, names_client_final (server_at P p.challenge) text p.final k.1)
+        (h.0, text, h.2, x, k.0, names_client_final (server_at provider accepted.challenge) text accepted.final k.1)
 
 -- ---- Oks and challenges
 
@@ -125,42 +126,43 @@ record Counted (replies : List ServerSays) (k : ℕ) : Type 0 where
 counted_step : (replies : List ServerSays) (k : ℕ) → (test_at is_ok (slice_get replies k) ≡ true
     → (j : ℕ) × IsLastOpen is_challenge is_ok replies k j) → Counted replies k → (c o : Bool)
     → test_at is_challenge (slice_get replies k) ≡ c → test_at is_ok (slice_get replies k) ≡ o → Counted replies (suc k)
-counted_step rs k opens h true true p q = absurd (not_both (slice_get rs k) p q)
-counted_step rs k opens h true false p q =
+counted_step replies k opens h true true p q = absurd (not_both (slice_get replies k) p q)
+counted_step replies k opens h true false p q =
     let within = h.within in
-    let oks = passing-suc is_ok rs k ∙ ap (λ (b : Bool). length (filter is_ok (take k rs)) + cond b 1 0) q in
-    let challenges = passing-suc is_challenge rs k
-    ∙ ap (λ (b : Bool). length (filter is_challenge (take k rs)) + cond b 1 0) p in
+    let oks = passing-suc is_ok replies k ∙ ap (λ (b : Bool). length (filter is_ok (take k replies)) + cond b 1 0) q in
+    let challenges = passing-suc is_challenge replies k
+    ∙ ap (λ (b : Bool). length (filter is_challenge (take k replies)) + cond b 1 0) p in
     record { within = omega (arith, oks, challenges, within); more = λ j x. omega (arith, oks, challenges, within) }
-counted_step rs k opens h false true p q =
+counted_step replies k opens h false true p q =
     let x = opens q in
     let less = h.more x.0 x.1 in
-    let oks = passing-suc is_ok rs k ∙ ap (λ (b : Bool). length (filter is_ok (take k rs)) + cond b 1 0) q in
-    let challenges = passing-suc is_challenge rs k
-    ∙ ap (λ (b : Bool). length (filter is_challenge (take k rs)) + cond b 1 0) p in
+    let oks = passing-suc is_ok replies k ∙ ap (λ (b : Bool). length (filter is_ok (take k replies)) + cond b 1 0) q in
+    let challenges = passing-suc is_challenge replies k
+    ∙ ap (λ (b : Bool). length (filter is_challenge (take k replies)) + cond b 1 0) p in
     record {
       within = omega (arith, oks, challenges, less);
-      more = λ j y. let z = was_open is_challenge is_ok rs k j p y in
+      more = λ j y. let z = was_open is_challenge is_ok replies k j p y in
           absurd (true≢false (sym q ∙ y.kept k z.before (omega arith)));
     }
-counted_step rs k opens h false false p q =
+counted_step replies k opens h false false p q =
     let within = h.within in
-    let oks = passing-suc is_ok rs k ∙ ap (λ (b : Bool). length (filter is_ok (take k rs)) + cond b 1 0) q in
-    let challenges = passing-suc is_challenge rs k
-    ∙ ap (λ (b : Bool). length (filter is_challenge (take k rs)) + cond b 1 0) p in
+    let oks = passing-suc is_ok replies k ∙ ap (λ (b : Bool). length (filter is_ok (take k replies)) + cond b 1 0) q in
+    let challenges = passing-suc is_challenge replies k
+    ∙ ap (λ (b : Bool). length (filter is_challenge (take k replies)) + cond b 1 0) p in
     record {
       within = omega (arith, oks, challenges, within);
-      more = λ j y. let less = h.more j (was_open is_challenge is_ok rs k j p y) in
+      more = λ j y. let less = h.more j (was_open is_challenge is_ok replies k j p y) in
           omega (arith, oks, challenges, less);
     }
 
 counted : (provider : Provider) (events : List Given) (replies : List ServerSays)
     → ServerHistory provider events replies → (k : ℕ) → Counted replies k
-counted P es rs h zero = record { within = omega arith; more = λ j o. absurd (omega (arith, o.before)) }
-counted P es rs h (suc k) =
-    counted_step rs k (λ q. let x = ok_at (slice_get rs k) q in let y = ok_accepts P es rs k x.0 h x.1 in let z =
-    (accepted_response P es rs k y.0 y.1).4 in (z.0, z.1)) (counted P es rs h k)
-    (test_at is_challenge (slice_get rs k)) (test_at is_ok (slice_get rs k)) refl refl
+counted provider events replies h zero = record { within = omega arith; more = λ j o. absurd (omega (arith, o.before)) }
+counted provider events replies h (suc k) =
+    counted_step replies k (λ q. let x = ok_at (slice_get replies k) q in let y =
+    ok_accepts provider events replies k x.0 h x.1 in let z =
+    (accepted_response provider events replies k y.0 y.1).4 in (z.0, z.1)) (counted provider events replies h k)
+    (test_at is_challenge (slice_get replies k)) (test_at is_ok (slice_get replies k)) refl refl
 
 pub oks_within_challenges : OksWithinChallenges
 oks_within_challenges P es rs k h = (counted P es rs h k).within
@@ -170,16 +172,16 @@ oks_within_challenges P es rs k h = (counted P es rs h k).within
 unfit_response : (provider : Provider) (IsOpen : Challenging → Type 0) (event : Given) (text : List ℕ)
     (says : ServerSays) → ((challenge : Challenging) → ¬ IsOpen challenge)
     → ServerAnswers provider IsOpen event (Ok (frames.Response text)) says → says ≡ says_auth
-unfit_response P IsOpen event text says none (inl x) = absurd (none x.0.challenge x.1.0)
-unfit_response P IsOpen event text says none (inr x) = x.1
+unfit_response provider IsOpen event text says none (inl x) = absurd (none x.0.challenge x.1.0)
+unfit_response provider IsOpen event text says none (inr x) = x.1
 
 none_open : (replies : List ServerSays) (n k j : ℕ) (body : List ℕ) → n < k
     → slice_get replies n ≡ Some (Concluded outcomes.Ok body)
     → ((i : ℕ) → n < i → i < k → test_at is_challenge (slice_get replies i) ≡ false)
     → IsLastOpen is_challenge is_ok replies k j → ⊥
-none_open rs n k j body l a none o =
+none_open replies n k j body l a none o =
     ⊎_elim (λ (x : n < j). true≢false (sym o.opened ∙ none j x o.before))
-    (⊎_elim (λ (x : n ≡ j). not_both (slice_get rs n) (ap (λ (z : ℕ). test_at is_challenge (slice_get rs z)) x
+    (⊎_elim (λ (x : n ≡ j). not_both (slice_get replies n) (ap (λ (z : ℕ). test_at is_challenge (slice_get replies z)) x
     ∙ o.opened) (ap (test_at is_ok) a))
     (λ (x : j < n). true≢false (sym (ap (test_at is_ok) a) ∙ o.kept n x l)))
     (three n j)
@@ -207,12 +209,12 @@ accepted_nonce : (provider : Provider) (events : List Given) (replies : List Ser
     (text : List ℕ) (accepted : Accepted)
     → slice_get events n ≡ Some event → SpellsBody event.body (Ok (frames.Response text))
     → AcceptsAt provider events replies n accepted → Part text 1 (codes "r=" ++ full_nonce accepted.challenge)
-accepted_nonce P es rs n event text p at spells h =
-    let s = accepted_response P es rs n p h in
+accepted_nonce provider events replies n event text accepted at spells h =
+    let s = accepted_response provider events replies n accepted h in
     let one : s.0 ≡ event = same_Some s.0 event (sym s.2 ∙ at) in
     let texts : s.1 ≡ text = same_text s.1 text (one_spelled_frame event.body (frames.Response s.1)
     (frames.Response text) (subst (λ (e : Given). SpellsBody e.body (Ok (frames.Response s.1))) one s.3) spells) in
-    subst (λ (z : List ℕ). Part z 1 (codes "r=" ++ full_nonce p.challenge)) texts s.5.nonce
+    subst (λ (z : List ℕ). Part z 1 (codes "r=" ++ full_nonce accepted.challenge)) texts s.5.nonce
 
 pub one_response_one_nonce : OneResponseOneNonce
 one_response_one_nonce P es rs n k e f text p q x y spells too h i =

@@ -126,10 +126,6 @@ one_conclusion server_states.ServerFinalSent provider text (Err fault) (Err kind
 
 -- ---- an acceptor
 
--- a reply and what is after it
-abbrev AcceptorTurn : Type 0
-AcceptorTurn = SaslFrame × Acceptor
-
 -- both of one turn of the server
 turn_taken : (provider : Provider) (frame : List ℕ → SaslFrame) (turn again : ServerTurn) (reply other : SaslFrame)
     (next last : Acceptor) → turn ≡ again

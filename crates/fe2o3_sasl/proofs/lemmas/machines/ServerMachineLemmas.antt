@@ -58,7 +58,7 @@ idle : (provider : Provider) (held : Option Challenging) (event : Given) (spelle
     → Shown held state
     → (ServerAllocates spelled × (says ≡ Failed faults.OutOfMemory))
     ⊎ ServerAnswers provider (λ c. held ≡ Some c) event spelled says → Stepped provider held event spelled says next
-idle P held event spelled says state next c o e shown answers =
+idle provider held event spelled says state next c o e shown answers =
     record { after = held; answers = answers; turns = inr (inr (c, o, refl)); shown = subst (Shown held) (sym e) shown }
 
 -- where the machine leaves the state, what is sent leaves it too
@@ -81,13 +81,13 @@ auth_init : (provider : Provider) (held : Option Challenging) (event : Given) (m
     → reply ≡ ends_with outcomes.Auth → moved ≡ state
     → Sends (Failed faults.TooLarge) (server_says reply) (canonical reply) state moved says next
     → Stepped provider held event (Ok (frames.Init mechanism response hostname)) says next
-auth_init P held event mechanism response hostname says state moved next reply shown unfit r m h =
+auth_init provider held event mechanism response hostname says state moved next reply shown unfit r m h =
     let g = subst (λ (f : SaslFrame). Sends (Failed faults.TooLarge) (server_says f)
     (canonical f) state moved says next) r h in
     let e : says ≡ says_auth = (sent (Failed faults.TooLarge) (λ b. Concluded outcomes.Auth b)
     (canonical (frames.Outcome outcomes.Auth None)) state moved says next g).0 in
     let i = auth_idle (canonical (frames.Outcome outcomes.Auth None)) says e in
-    idle P held event (Ok (frames.Init mechanism response hostname)) says state next i.0 i.1
+    idle provider held event (Ok (frames.Init mechanism response hostname)) says state next i.0 i.1
     (stays (Failed faults.TooLarge) (λ b. Concluded outcomes.Auth b)
     (canonical (frames.Outcome outcomes.Auth None)) state moved says next m g) shown (inr (inr (unfit, e)))
 
@@ -98,13 +98,13 @@ auth_response : (provider : Provider) (held : Option Challenging) (event : Given
     → reply ≡ ends_with outcomes.Auth → moved ≡ state
     → Sends (Failed faults.TooLarge) (server_says reply) (canonical reply) state moved says next
     → Stepped provider held event (Ok (frames.Response text)) says next
-auth_response P held event text says state moved next reply shown unfit r m h =
+auth_response provider held event text says state moved next reply shown unfit r m h =
     let g = subst (λ (f : SaslFrame). Sends (Failed faults.TooLarge) (server_says f)
     (canonical f) state moved says next) r h in
     let e : says ≡ says_auth = (sent (Failed faults.TooLarge) (λ b. Concluded outcomes.Auth b)
     (canonical (frames.Outcome outcomes.Auth None)) state moved says next g).0 in
     let i = auth_idle (canonical (frames.Outcome outcomes.Auth None)) says e in
-    idle P held event (Ok (frames.Response text)) says state next i.0 i.1
+    idle provider held event (Ok (frames.Response text)) says state next i.0 i.1
     (stays (Failed faults.TooLarge) (λ b. Concluded outcomes.Auth b)
     (canonical (frames.Outcome outcomes.Auth None)) state moved says next m g) shown (inr (inr (unfit, e)))
 
@@ -116,9 +116,9 @@ challenge_step : (provider : Provider) (held : Option Challenging) (event : Give
     → Sends (Failed faults.TooLarge) (λ b. Challenged b) body state moved says next
     → ServerAnswers provider (λ c. held ≡ Some c) event (Ok frame) says
     → Stepped provider held event (Ok frame) says next
-challenge_step P held event frame c None says state moved next shown fits m h answers =
-    idle P held event (Ok frame) says state next (ap is_challenge h.0) (ap is_ok h.0) h.1 shown (inr answers)
-challenge_step P held event frame c (Some body) says state moved next shown fits m h answers =
+challenge_step provider held event frame c None says state moved next shown fits m h answers =
+    idle provider held event (Ok frame) says state next (ap is_challenge h.0) (ap is_ok h.0) h.1 shown (inr answers)
+challenge_step provider held event frame c (Some body) says state moved next shown fits m h answers =
     record {
       after = Some c;
       answers = inr answers;
@@ -133,9 +133,9 @@ ok_step : (provider : Provider) (held : Option Challenging) (event : Given) (fra
     → Sends (Failed faults.TooLarge) (λ b. Concluded outcomes.Ok b) body state moved says next
     → ServerAnswers provider (λ c. held ≡ Some c) event (Ok frame) says
     → Stepped provider held event (Ok frame) says next
-ok_step P held event frame None says state moved next shown m h answers =
-    idle P held event (Ok frame) says state next (ap is_challenge h.0) (ap is_ok h.0) h.1 shown (inr answers)
-ok_step P held event frame (Some body) says state moved next shown m h answers =
+ok_step provider held event frame None says state moved next shown m h answers =
+    idle provider held event (Ok frame) says state next (ap is_challenge h.0) (ap is_ok h.0) h.1 shown (inr answers)
+ok_step provider held event frame (Some body) says state moved next shown m h answers =
     record {
       after = None;
       answers = inr answers;
@@ -154,10 +154,12 @@ init_step : (provider : Provider) (held : Option Challenging) (event : Given) (m
     → reply ≡ server_frame (λ message. frames.Challenge message) answer
     → Sends (Failed faults.TooLarge) (server_says reply) (canonical reply) state moved says next
     → Stepped provider held event (Ok (frames.Init mechanism (Some text) hostname)) says next
-init_step P held event mechanism text hostname says state moved next reply (Ok (Some message)) shown name from r h =
+init_step provider held event mechanism text hostname says state moved next reply
+    (Ok (Some message)) shown name from r h =
     let challenge = from.0 in
     let c : Challenging = record { client = from.1.0; nonce = base64_text event.nonce; stored = from.1.1 } in
-    let fits : FitsAsInit P event (frames.Init mechanism (Some text) hostname) c = (name, from.1.2, from.1.3, refl) in
+    let fits : FitsAsInit provider event (frames.Init mechanism (Some text) hostname) c =
+    (name, from.1.2, from.1.3, refl) in
     let made : challenge ≡ challenge_of c.client c.nonce c.stored = from.1.4 in
     let first : message ≡ first_message c = from.2 ∙ ap (λ (x : Challenge). x.first) made in
     let frame : reply ≡ frames.Challenge (first_message c) = r ∙ ap (λ (t : List ℕ). frames.Challenge t) first in
@@ -165,24 +167,24 @@ init_step P held event mechanism text hostname says state moved next reply (Ok (
     (canonical f) state moved says next) frame h in
     let e = (sent (Failed faults.TooLarge) (λ b. Challenged b)
     (canonical (frames.Challenge (first_message c))) state moved says next g).0 in
-    challenge_step P held event (frames.Init mechanism (Some text) hostname) c
+    challenge_step provider held event (frames.Init mechanism (Some text) hostname) c
     (canonical (frames.Challenge (first_message c))) says state moved next shown fits
     (from.3 ∙ ap (λ (x : Challenge). ServerFirstSent x) made) g (inl (c, fits, e))
-init_step P held event mechanism text hostname says state moved next reply (Ok None) shown name from r h =
-    auth_init P held event mechanism (Some text) hostname says state moved next reply shown
+init_step provider held event mechanism text hostname says state moved next reply (Ok None) shown name from r h =
+    auth_init provider held event mechanism (Some text) hostname says state moved next reply shown
     (λ c fits. none-some c.stored
-    (sym from.0.2 ∙ (ap (λ (first : ClientFirst). record_at P.records first.user)
+    (sym from.0.2 ∙ (ap (λ (first : ClientFirst). record_at provider.records first.user)
     (one_client_first_value text from.0.0 c.client from.0.1 fits.1) ∙ fits.2)))
     r from.1 h
-init_step P held event mechanism text hostname says state moved next reply (Err fault) shown name from r h =
-    auth_init P held event mechanism (Some text) hostname says state moved next reply shown (λ c fits. let e =
+init_step provider held event mechanism text hostname says state moved next reply (Err fault) shown name from r h =
+    auth_init provider held event mechanism (Some text) hostname says state moved next reply shown (λ c fits. let e =
     one_client_first text (Err fault) (Ok c.client) from.0 fits.1 in absurd (cc)) r from.1 h
 
 -- the server reads a response against the challenge that is open
 same_server : (provider : Provider) (c : Challenging) (stored : Record)
     → record_at provider.records c.client.user ≡ Some c.stored → record_at provider.records c.client.user ≡ Some stored
     → stored ≡ c.stored
-same_server P c stored h k = same_Some stored c.stored (sym k ∙ h)
+same_server provider c stored h k = same_Some stored c.stored (sym k ∙ h)
 
 response_step : (provider : Provider) (c : Challenging) (event : Given) (text : List ℕ) (says : ServerSays)
     (moved next : ServerState) (reply : SaslFrame) (answer : Result (Option (List ℕ)) ServerScramErrorKind)
@@ -192,43 +194,47 @@ response_step : (provider : Provider) (c : Challenging) (event : Given) (text : 
     → Sends (Failed faults.TooLarge) (server_says reply) (canonical reply)
     (ServerFirstSent (challenge_of c.client c.nonce c.stored)) moved says next
     → Stepped provider (Some c) event (Ok (frames.Response text)) says next
-response_step P c event text says moved next reply (Ok (Some message)) known from r h =
-    let stored = same_server P c from.0 known from.1 in
+response_step provider c event text says moved next reply (Ok (Some message)) known from r h =
+    let stored = same_server provider c from.0 known from.1 in
     let final = from.2.0 in
     let p : Accepted = record { challenge = c; final = final } in
-    let reads : ReadsClientFinal (server_at P c) text (Ok final) =
-    subst (λ (x : Record). ReadsClientFinal (server_of P.version c.client.bare (first_message c) (full_nonce c) x)
+    let reads : ReadsClientFinal (server_at provider c) text (Ok final) =
+    subst (λ (x : Record). ReadsClientFinal (server_of provider.version c.client.bare (first_message c)
+    (full_nonce c) x)
     text (Ok final)) stored from.2.1 in
-    let said : message ≡ final_message P p = from.2.2 ∙ ap
+    let said : message ≡ final_message provider p = from.2.2 ∙ ap
     (λ (x : Record). Rattle.fe2o3_scram.specs.ServerFinal.server_final_of
-    (server_of P.version c.client.bare (first_message c) (full_nonce c) x) final) stored in
-    let frame : reply ≡ frames.Outcome outcomes.Ok (Some (final_message P p)) =
+    (server_of provider.version c.client.bare (first_message c) (full_nonce c) x) final) stored in
+    let frame : reply ≡ frames.Outcome outcomes.Ok (Some (final_message provider p)) =
     r ∙ ap (λ (t : List ℕ). frames.Outcome outcomes.Ok (Some t)) said in
     let g = subst (λ (f : SaslFrame). Sends (Failed faults.TooLarge) (server_says f) (canonical f)
     (ServerFirstSent (challenge_of c.client c.nonce c.stored)) moved says next) frame h in
     let e = (sent (Failed faults.TooLarge) (λ b. Concluded outcomes.Ok b)
-    (canonical (frames.Outcome outcomes.Ok (Some (final_message P p))))
+    (canonical (frames.Outcome outcomes.Ok (Some (final_message provider p))))
     (ServerFirstSent (challenge_of c.client c.nonce c.stored)) moved says next g).0 in
-    ok_step P (Some c) event (frames.Response text) (canonical (frames.Outcome outcomes.Ok (Some (final_message P p))))
+    ok_step provider (Some c) event (frames.Response text)
+    (canonical (frames.Outcome outcomes.Ok (Some (final_message provider p))))
     says (ServerFirstSent (challenge_of c.client c.nonce c.stored)) moved next refl from.3 g
     (inl (p, (refl, reads), e))
-response_step P c event text says moved next reply (Ok None) known from r h = absurd from
-response_step P c event text says moved next reply (Err fault) known from r h =
-    auth_response P (Some c) event text says (ServerFirstSent (challenge_of c.client c.nonce c.stored)) moved next reply
+response_step provider c event text says moved next reply (Ok None) known from r h = absurd from
+response_step provider c event text says moved next reply (Err fault) known from r h =
+    auth_response provider (Some c) event text says (ServerFirstSent (challenge_of c.client c.nonce c.stored)) moved
+    next reply
     refl (λ p fits. unfit p fits from.0) r from.1 h
   where
-    unfit : (p : Accepted) → FitsAsResponse P (λ d. Some c ≡ Some d) (frames.Response text) p
-        → ((stored : Record) × (record_at P.records c.client.user ≡ Some stored)
-        × ReadsClientFinal (server_of P.version c.client.bare (first_message c) (full_nonce c) stored) text (Err fault))
-        ⊎ ((record_at P.records c.client.user ≡ None) × (fault ≡ AuthenticationFailed)) → ⊥
+    unfit : (p : Accepted) → FitsAsResponse provider (λ d. Some c ≡ Some d) (frames.Response text) p
+        → ((stored : Record) × (record_at provider.records c.client.user ≡ Some stored)
+        × ReadsClientFinal (server_of provider.version c.client.bare (first_message c) (full_nonce c) stored) text
+        (Err fault))
+        ⊎ ((record_at provider.records c.client.user ≡ None) × (fault ≡ AuthenticationFailed)) → ⊥
     unfit p fits (inl x) =
-        let stored = same_server P c x.0 known x.1 in
+        let stored = same_server provider c x.0 known x.1 in
         let same : c ≡ p.challenge = same_Some c p.challenge fits.0 in
-        let refused : ReadsClientFinal (server_at P p.challenge) text (Err fault) =
-        subst (λ (d : Challenging). ReadsClientFinal (server_at P d) text (Err fault)) same
-        (subst (λ (r : Record). ReadsClientFinal (server_of P.version c.client.bare (first_message c)
+        let refused : ReadsClientFinal (server_at provider p.challenge) text (Err fault) =
+        subst (λ (d : Challenging). ReadsClientFinal (server_at provider d) text (Err fault)) same
+        (subst (λ (r : Record). ReadsClientFinal (server_of provider.version c.client.bare (first_message c)
         (full_nonce c) r) text (Err fault)) stored x.2) in
-        let e = one_client_final (server_at P p.challenge) text (Err fault) (Ok p.final) refused fits.1 in
+        let e = one_client_final (server_at provider p.challenge) text (Err fault) (Ok p.final) refused fits.1 in
         cc
     unfit p fits (inr x) = none-some c.stored (sym x.0 ∙ known)
 
@@ -239,15 +245,15 @@ closed_step : (provider : Provider) (event : Given) (text : List ℕ) (says : Se
     → reply ≡ server_frame (λ message. frames.Outcome outcomes.Ok (Some message)) answer
     → Sends (Failed faults.TooLarge) (server_says reply) (canonical reply) state moved says next
     → Stepped provider None event (Ok (frames.Response text)) says next
-closed_step P event text says (ServerFirstSent challenge) moved next reply answer shown from r h =
+closed_step provider event text says (ServerFirstSent challenge) moved next reply answer shown from r h =
     absurd (shown challenge refl)
-closed_step P event text says Initial moved next reply (Ok message) shown from r h = absurd from
-closed_step P event text says Initial moved next reply (Err fault) shown from r h =
-    auth_response P None event text says Initial moved next reply shown
+closed_step provider event text says Initial moved next reply (Ok message) shown from r h = absurd from
+closed_step provider event text says Initial moved next reply (Err fault) shown from r h =
+    auth_response provider None event text says Initial moved next reply shown
     (λ p fits. none-some p.challenge fits.0) r from.1 h
-closed_step P event text says ServerFinalSent moved next reply (Ok message) shown from r h = absurd from
-closed_step P event text says ServerFinalSent moved next reply (Err fault) shown from r h =
-    auth_response P None event text says ServerFinalSent moved next reply shown
+closed_step provider event text says ServerFinalSent moved next reply (Ok message) shown from r h = absurd from
+closed_step provider event text says ServerFinalSent moved next reply (Err fault) shown from r h =
+    auth_response provider None event text says ServerFinalSent moved next reply shown
     (λ p fits. none-some p.challenge fits.0) r from.1 h
 
 -- ---- one step
@@ -272,24 +278,24 @@ gives_init : (provider : Provider) (held : Option Challenging) (event : Given) (
     → machine provider state event.nonce (frames.Init mechanism response hostname) reply moved
     → Sends (Failed faults.TooLarge) (server_says reply) (canonical reply) state moved says next
     → Stepped provider held event (Ok (frames.Init mechanism response hostname)) says next
-gives_init P held event mechanism None hostname says state moved next reply shown m h =
-    auth_init P held event mechanism None hostname says state moved next reply shown (λ c fits. fits) m.0 m.1 h
-gives_init P held event mechanism (Some text) hostname says state moved next reply shown (inl m) h =
-    auth_init P held event mechanism (Some text) hostname says state moved next reply shown
+gives_init provider held event mechanism None hostname says state moved next reply shown m h =
+    auth_init provider held event mechanism None hostname says state moved next reply shown (λ c fits. fits) m.0 m.1 h
+gives_init provider held event mechanism (Some text) hostname says state moved next reply shown (inl m) h =
+    auth_init provider held event mechanism (Some text) hostname says state moved next reply shown
     (λ c fits. m.0 fits.0) m.1 m.2 h
-gives_init P held event mechanism (Some text) hostname says state moved next reply shown (inr m) h =
-    init_step P held event mechanism text hostname says state moved next reply m.1.0 shown m.0 m.1.1 m.1.2 h
+gives_init provider held event mechanism (Some text) hostname says state moved next reply shown (inr m) h =
+    init_step provider held event mechanism text hostname says state moved next reply m.1.0 shown m.0 m.1.1 m.1.2 h
 
 gives_response : (provider : Provider) (held : Option Challenging) (event : Given) (text : List ℕ) (says : ServerSays)
     (state moved next : ServerState) (reply : SaslFrame) → Shown held state → Known provider held
     → machine provider state event.nonce (frames.Response text) reply moved
     → Sends (Failed faults.TooLarge) (server_says reply) (canonical reply) state moved says next
     → Stepped provider held event (Ok (frames.Response text)) says next
-gives_response P None event text says state moved next reply shown known m h =
-    closed_step P event text says state moved next reply m.0 shown m.1 m.2 h
-gives_response P (Some c) event text says state moved next reply shown known m h =
-    response_step P c event text says moved next reply m.0 (known c refl)
-    (subst (λ (s : ServerState). ConcludesFrom s P text m.0 moved) shown m.1) m.2
+gives_response provider None event text says state moved next reply shown known m h =
+    closed_step provider event text says state moved next reply m.0 shown m.1 m.2 h
+gives_response provider (Some c) event text says state moved next reply shown known m h =
+    response_step provider c event text says moved next reply m.0 (known c refl)
+    (subst (λ (s : ServerState). ConcludesFrom s provider text m.0 moved) shown m.1) m.2
     (subst (λ (s : ServerState). Sends (Failed faults.TooLarge) (server_says reply)
     (canonical reply) s moved says next) shown h)
 
@@ -297,37 +303,39 @@ gives_response P (Some c) event text says state moved next reply shown known m h
 stepped : (provider : Provider) (held : Option Challenging) (event : Given) (spelled : Result SaslFrame Error)
     (says : ServerSays) (state next : ServerState) → Shown held state → Known provider held
     → AcceptorGives (machine provider) state event spelled says next → Stepped provider held event spelled says next
-stepped P held event (Err fault) says state next shown known h =
-    idle P held event (Err fault) says state next (ap is_challenge h.0) (ap is_ok h.0) h.1 shown (inr h.0)
-stepped P held event (Ok (frames.Mechanisms names)) says state next shown known h =
-    idle P held event (Ok (frames.Mechanisms names)) says state next (ap is_challenge h.0) (ap is_ok h.0) h.1 shown
+stepped provider held event (Err fault) says state next shown known h =
+    idle provider held event (Err fault) says state next (ap is_challenge h.0) (ap is_ok h.0) h.1 shown (inr h.0)
+stepped provider held event (Ok (frames.Mechanisms names)) says state next shown known h =
+    idle provider held event (Ok (frames.Mechanisms names)) says state next (ap is_challenge h.0)
+    (ap is_ok h.0) h.1 shown
     (inr h.0)
-stepped P held event (Ok (frames.Challenge text)) says state next shown known h =
-    idle P held event (Ok (frames.Challenge text)) says state next (ap is_challenge h.0) (ap is_ok h.0) h.1 shown
+stepped provider held event (Ok (frames.Challenge text)) says state next shown known h =
+    idle provider held event (Ok (frames.Challenge text)) says state next (ap is_challenge h.0) (ap is_ok h.0) h.1 shown
     (inr h.0)
-stepped P held event (Ok (frames.Outcome code more)) says state next shown known h =
-    idle P held event (Ok (frames.Outcome code more)) says state next (ap is_challenge h.0) (ap is_ok h.0) h.1 shown
+stepped provider held event (Ok (frames.Outcome code more)) says state next shown known h =
+    idle provider held event (Ok (frames.Outcome code more)) says state next (ap is_challenge h.0)
+    (ap is_ok h.0) h.1 shown
     (inr h.0)
-stepped P held event (Ok (frames.Init mechanism response hostname)) says state next shown known (inl h) =
-    idle P held event (Ok (frames.Init mechanism response hostname)) says state next (ap is_challenge h.0)
+stepped provider held event (Ok (frames.Init mechanism response hostname)) says state next shown known (inl h) =
+    idle provider held event (Ok (frames.Init mechanism response hostname)) says state next (ap is_challenge h.0)
     (ap is_ok h.0) h.1 shown (inl (tt, h.0))
-stepped P held event (Ok (frames.Init mechanism response hostname)) says state next shown known (inr h) =
-    gives_init P held event mechanism response hostname says state h.1 next h.0 shown h.2 h.3
-stepped P held event (Ok (frames.Response text)) says state next shown known (inl h) =
-    idle P held event (Ok (frames.Response text)) says state next (ap is_challenge h.0) (ap is_ok h.0) h.1 shown
+stepped provider held event (Ok (frames.Init mechanism response hostname)) says state next shown known (inr h) =
+    gives_init provider held event mechanism response hostname says state h.1 next h.0 shown h.2 h.3
+stepped provider held event (Ok (frames.Response text)) says state next shown known (inl h) =
+    idle provider held event (Ok (frames.Response text)) says state next (ap is_challenge h.0) (ap is_ok h.0) h.1 shown
     (inl (tt, h.0))
-stepped P held event (Ok (frames.Response text)) says state next shown known (inr h) =
-    gives_response P held event text says state h.1 next h.0 shown known h.2 h.3
+stepped provider held event (Ok (frames.Response text)) says state next shown known (inr h) =
+    gives_response provider held event text says state h.1 next h.0 shown known h.2 h.3
 
 -- ---- the run
 
 -- the record of what is open is the provider's
 known : (provider : Provider) (events : List Given) (replies : List ServerSays) (held : Option Challenging)
     → Holds is_challenge is_ok (FitsAt provider events) replies held → Known provider held
-known P es rs held holds c e = let o = holds.found c e in stored o.2.0 o.2.1 o.2.4
+known provider events replies held holds c e = let o = holds.found c e in stored o.2.0 o.2.1 o.2.4
   where
-    stored : (event : Given) (frame : SaslFrame) → FitsAsInit P event frame c
-        → record_at P.records c.client.user ≡ Some c.stored
+    stored : (event : Given) (frame : SaslFrame) → FitsAsInit provider event frame c
+        → record_at provider.records c.client.user ≡ Some c.stored
     stored event (frames.Mechanisms names) h = absurd h
     stored event (frames.Challenge text) h = absurd h
     stored event (frames.Response text) h = absurd h
@@ -340,35 +348,40 @@ runs_on : (provider : Provider) (events more : List Given) (replies others : Lis
     → Holds is_challenge is_ok (FitsAt provider events) replies held → Shown held state
     → Runs (AcceptorSteps (machine provider)) state more others last
     → ServerHistory provider (events ++ more) (replies ++ others)
-runs_on P es [] rs others held state last h holds shown run =
-    subst (λ (x : List Given). ServerHistory P x (rs ++ others)) (sym (append-nil es))
-    (subst (λ (x : List ServerSays). ServerHistory P es (rs ++ x)) (sym run.0)
-    (subst (λ (x : List ServerSays). ServerHistory P es x) (sym (append-nil rs)) h))
-runs_on P es (e ∷ more) rs others held state last h holds shown run =
+runs_on provider events [] replies others held state last h holds shown run =
+    subst (λ (x : List Given). ServerHistory provider x (replies ++ others)) (sym (append-nil events))
+    (subst (λ (x : List ServerSays). ServerHistory provider events (replies ++ x)) (sym run.0)
+    (subst (λ (x : List ServerSays). ServerHistory provider events x) (sym (append-nil replies)) h))
+runs_on provider events (e ∷ more) replies others held state last h holds shown run =
     let says = run.0 in
     let spelled = run.3.0 in
-    let step = stepped P held e spelled says state run.1 shown (known P es rs held holds) run.3.2 in
-    let told : Says P (Open P es rs (length rs)) e says =
-    says_moves P (λ c. held ≡ Some c) (Open P es rs (length rs)) (holds.found, holds.only) e says
+    let step = stepped provider held e spelled says state run.1 shown
+    (known provider events replies held holds) run.3.2 in
+    let told : Says provider (Open provider events replies (length replies)) e says =
+    says_moves provider (λ c. held ≡ Some c) (Open provider events replies (length replies))
+    (holds.found, holds.only) e says
     (spelled, run.3.1, step.answers) in
-    let pushed = history_push P es rs e says h told in
-    let there : slice_get (es ++ e ∷ []) (length rs) ≡ Some e =
-    ap (slice_get (es ++ e ∷ [])) h.count ∙ slice_get-behind es e [] in
+    let pushed = history_push provider events replies e says h told in
+    let there : slice_get (events ++ e ∷ []) (length replies) ≡ Some e =
+    ap (slice_get (events ++ e ∷ [])) h.count ∙ slice_get-behind events e [] in
     let turns = turned spelled says step.after there run.3.1 step.turns in
-    let kept = holds_push is_challenge is_ok (FitsAt P es) (FitsAt P (es ++ e ∷ [])) rs says held step.after
-    (λ j b. fits_same P es (e ∷ []) j (omega (arith, h.count)))
-    (one_fits_at P (es ++ e ∷ []) (length rs)) holds turns in
-    let rest = runs_on P (es ++ e ∷ []) more (rs ++ says ∷ []) run.2 step.after run.1 last pushed kept step.shown
+    let kept = holds_push is_challenge is_ok (FitsAt provider events)
+    (FitsAt provider (events ++ e ∷ [])) replies says held step.after
+    (λ j b. fits_same provider events (e ∷ []) j (omega (arith, h.count)))
+    (one_fits_at provider (events ++ e ∷ []) (length replies)) holds turns in
+    let rest = runs_on provider (events ++ e ∷ []) more (replies ++ says ∷ []) run.2 step.after run.1 last pushed kept
+    step.shown
     run.5 in
-    subst (λ (x : List ServerSays). ServerHistory P (es ++ e ∷ more) (rs ++ x)) (sym run.4)
-    (subst (λ (x : List Given). ServerHistory P x (rs ++ says ∷ run.2)) (append_assoc es (e ∷ []) more)
-    (subst (λ (x : List ServerSays). ServerHistory P ((es ++ e ∷ []) ++ more) x)
-    (append_assoc rs (says ∷ []) run.2) rest))
+    subst (λ (x : List ServerSays). ServerHistory provider (events ++ e ∷ more) (replies ++ x)) (sym run.4)
+    (subst (λ (x : List Given). ServerHistory provider x (replies ++ says ∷ run.2)) (append_assoc events (e ∷ []) more)
+    (subst (λ (x : List ServerSays). ServerHistory provider ((events ++ e ∷ []) ++ more) x)
+    (append_assoc replies (says ∷ []) run.2) rest))
   where
     turned : (spelled : Result SaslFrame Error) (says : ServerSays) (after : Option Challenging)
-        → slice_get (es ++ e ∷ []) (length rs) ≡ Some e → SpellsBody e.body spelled
-        → Turns is_challenge is_ok (λ c. (frame : SaslFrame) × (spelled ≡ Ok frame) × FitsAsInit P e frame c) held says
-        after → Turns is_challenge is_ok (FitsAt P (es ++ e ∷ []) (length rs)) held says after
+        → slice_get (events ++ e ∷ []) (length replies) ≡ Some e → SpellsBody e.body spelled
+        → Turns is_challenge is_ok (λ c. (frame : SaslFrame) × (spelled ≡ Ok frame) × FitsAsInit provider e frame c)
+        held says
+        after → Turns is_challenge is_ok (FitsAt provider (events ++ e ∷ []) (length replies)) held says after
     turned spelled says after there spells (inl t) =
         inl (
           t.0,
@@ -392,22 +405,23 @@ runs_on P es (e ∷ more) rs others held state last h holds shown run =
 stated : (provider : Provider) (state : ServerState) (nonce : List ℕ) (frame reply : SaslFrame) (next : Acceptor)
     → acceptor_machine (ScramAcceptor provider state) nonce frame reply next
     → (after : ServerState) × (next ≡ ScramAcceptor provider after) × machine provider state nonce frame reply after
-stated P s n (frames.Init mechanism (Some text) hostname) r next (inl x) = (s, x.2, inl (x.0, x.1, refl))
-stated P s n (frames.Init mechanism (Some text) hostname) r next (inr x) =
+stated provider state nonce (frames.Init mechanism (Some text) hostname) reply next (inl x) =
+    (state, x.2, inl (x.0, x.1, refl))
+stated provider state nonce (frames.Init mechanism (Some text) hostname) reply next (inr x) =
     (x.1.1, x.1.4, inr (x.0, (x.1.0, x.1.2, x.1.3)))
-stated P s n (frames.Init mechanism None hostname) r next x = (s, x.1, (x.0, refl))
-stated P s n (frames.Response text) r next x = (x.1, x.4, (x.0, x.2, x.3))
-stated P s n (frames.Mechanisms names) r next x = absurd x
-stated P s n (frames.Challenge text) r next x = absurd x
-stated P s n (frames.Outcome code more) r next x = absurd x
+stated provider state nonce (frames.Init mechanism None hostname) reply next x = (state, x.1, (x.0, refl))
+stated provider state nonce (frames.Response text) reply next x = (x.1, x.4, (x.0, x.2, x.3))
+stated provider state nonce (frames.Mechanisms names) reply next x = absurd x
+stated provider state nonce (frames.Challenge text) reply next x = absurd x
+stated provider state nonce (frames.Outcome code more) reply next x = absurd x
 
 sends_back : (body : Option (List ℕ)) (says_body : List ℕ → ServerSays) (provider : Provider)
     (state after : ServerState) (moved next : Acceptor) (says : ServerSays) → moved ≡ ScramAcceptor provider after
     → Sends (Failed faults.TooLarge) says_body body (ScramAcceptor provider state) moved says next
     → (last : ServerState) × (next ≡ ScramAcceptor provider last)
     × Sends (Failed faults.TooLarge) says_body body state after says last
-sends_back None says_body P s after moved next says e h = (s, h.1, (h.0, refl))
-sends_back (Some body) says_body P s after moved next says e h = (after, h.1 ∙ e, (h.0, refl))
+sends_back None says_body provider state after moved next says e h = (state, h.1, (h.0, refl))
+sends_back (Some body) says_body provider state after moved next says e h = (after, h.1 ∙ e, (h.0, refl))
 
 step_back : (provider : Provider) (state : ServerState) (event : Given) (frame reply : SaslFrame)
     (moved next : Acceptor) (says : ServerSays) → acceptor_machine
@@ -417,9 +431,9 @@ step_back : (provider : Provider) (state : ServerState) (event : Given) (frame r
     → (last : ServerState) × (next ≡ ScramAcceptor provider last)
     × ((reply : SaslFrame) × (moved : ServerState) × machine provider state event.nonce frame reply moved
     × Sends (Failed faults.TooLarge) (server_says reply) (canonical reply) state moved says last)
-step_back P s event frame reply moved next says m h =
-    let x = stated P s event.nonce frame reply moved m in
-    let b = sends_back (canonical reply) (server_says reply) P s x.0 moved next says x.1 h in
+step_back provider state event frame reply moved next says m h =
+    let x = stated provider state event.nonce frame reply moved m in
+    let b = sends_back (canonical reply) (server_says reply) provider state x.0 moved next says x.1 h in
     (b.0, b.1, (reply, x.0, x.2, b.2))
 
 gives_back : (provider : Provider) (state : ServerState) (event : Given) (spelled : Result SaslFrame Error)
@@ -427,25 +441,26 @@ gives_back : (provider : Provider) (state : ServerState) (event : Given) (spelle
     (ScramAcceptor provider state) event spelled says next
     → (last : ServerState) × (next ≡ ScramAcceptor provider last)
     × AcceptorGives (machine provider) state event spelled says last
-gives_back P s event (Err fault) says next h = (s, h.1, (h.0, refl))
-gives_back P s event (Ok (frames.Mechanisms names)) says next h = (s, h.1, (h.0, refl))
-gives_back P s event (Ok (frames.Challenge text)) says next h = (s, h.1, (h.0, refl))
-gives_back P s event (Ok (frames.Outcome code more)) says next h = (s, h.1, (h.0, refl))
-gives_back P s event (Ok (frames.Init mechanism response hostname)) says next (inl h) = (s, h.1, inl (h.0, refl))
-gives_back P s event (Ok (frames.Init mechanism response hostname)) says next (inr h) =
-    let b = step_back P s event (frames.Init mechanism response hostname) h.0 h.1 next says h.2 h.3 in
+gives_back provider state event (Err fault) says next h = (state, h.1, (h.0, refl))
+gives_back provider state event (Ok (frames.Mechanisms names)) says next h = (state, h.1, (h.0, refl))
+gives_back provider state event (Ok (frames.Challenge text)) says next h = (state, h.1, (h.0, refl))
+gives_back provider state event (Ok (frames.Outcome code more)) says next h = (state, h.1, (h.0, refl))
+gives_back provider state event (Ok (frames.Init mechanism response hostname)) says next (inl h) =
+    (state, h.1, inl (h.0, refl))
+gives_back provider state event (Ok (frames.Init mechanism response hostname)) says next (inr h) =
+    let b = step_back provider state event (frames.Init mechanism response hostname) h.0 h.1 next says h.2 h.3 in
     (b.0, b.1, inr b.2)
-gives_back P s event (Ok (frames.Response text)) says next (inl h) = (s, h.1, inl (h.0, refl))
-gives_back P s event (Ok (frames.Response text)) says next (inr h) =
-    let b = step_back P s event (frames.Response text) h.0 h.1 next says h.2 h.3 in (b.0, b.1, inr b.2)
+gives_back provider state event (Ok (frames.Response text)) says next (inl h) = (state, h.1, inl (h.0, refl))
+gives_back provider state event (Ok (frames.Response text)) says next (inr h) =
+    let b = step_back provider state event (frames.Response text) h.0 h.1 next says h.2 h.3 in (b.0, b.1, inr b.2)
 
 runs_back : (provider : Provider) (state : ServerState) (events : List Given) (replies : List ServerSays)
     (last : Acceptor) → Runs (AcceptorSteps acceptor_machine) (ScramAcceptor provider state) events replies last
     → (end : ServerState) × Runs (AcceptorSteps (machine provider)) state events replies end
-runs_back P s [] replies last h = (s, (h.0, refl))
-runs_back P s (event ∷ events) replies last h =
-    let g = gives_back P s event h.3.0 h.0 h.1 h.3.2 in
-    let r = runs_back P g.0 events h.2 last
+runs_back provider state [] replies last h = (state, (h.0, refl))
+runs_back provider state (event ∷ events) replies last h =
+    let g = gives_back provider state event h.3.0 h.0 h.1 h.3.2 in
+    let r = runs_back provider g.0 events h.2 last
     (subst (λ (x : Acceptor). Runs (AcceptorSteps acceptor_machine) x events h.2 last) g.1 h.5) in
     (r.0, (h.0, g.0, h.2, (h.3.0, h.3.1, g.2), h.4, r.1))
 

@@ -11,11 +11,6 @@ pub exclusive_or-nil : (right : List ℕ) → exclusive_or [] right ≡ []
 unfolding exclusive_or
 exclusive_or-nil right = refl
 
-pub exclusive_or-cons : (x y : ℕ) (left right : List ℕ)
-    → exclusive_or (x ∷ left) (y ∷ right) ≡ bit_xor x y ∷ exclusive_or left right
-unfolding exclusive_or
-exclusive_or-cons x y left right = refl
-
 pub xored_to-zero : (left right : List ℕ) → left ≡ xored_to left right 0
 xored_to-zero left right = sym (ap (λ front. front ++ left) (exclusive_or-nil []))
 

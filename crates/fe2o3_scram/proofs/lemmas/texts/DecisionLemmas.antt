@@ -67,16 +67,6 @@ pub found_with : {X Y : Type 0} {P : X → Type 0} {Q : Y → Type 0} → Found 
 found_with (inl found) then back = then found.0 found.1
 found_with (inr none) then back = inr (λ y holds. let has = back y holds in none has.0 has.1)
 
--- what one thing at most has is asked of that thing
-pub of_one_or : {X : Type 0} {P Q : X → Type 0} → ((x y : X) → P x → P y → x ≡ y) → Found P → ((x : X) → Decided (Q x))
-    → Decided ((x : X) → P x → ¬ Q x)
-of_one_or {X} {P} {Q} one (inr none) asked = inl (λ x has. absurd (none x has))
-of_one_or {X} {P} {Q} one (inl found) asked = go (asked found.0)
-  where
-    go : Decided (Q found.0) → Decided ((x : X) → P x → ¬ Q x)
-    go (inl holds) = inr (λ none. none found.0 found.1 holds)
-    go (inr fails) = inl (λ x has holds. fails (subst Q (one x found.0 has found.1) holds))
-
 each_or : {X : Type 0} {P : X → Type 0} → ((x : X) → Decided (P x)) → (xs : List X) → Decided (AllByRecursion P xs)
 each_or asked [] = inl tt
 each_or asked (x ∷ xs) = both_or (asked x) (each_or asked xs)

@@ -199,14 +199,6 @@ no_equals-index [] none = tt
 no_equals-index (b ∷ text) none =
     (none 0 (omega arith), no_equals-index text (λ i below. none (suc i) (omega (arith, below))))
 
-pub has_equals : (text : List ℕ) → (i : ℕ) × (i < length text) × (get_or text i 0 ≡ 61) → ¬ NoEquals text
-has_equals text found none = at text found.0 none found.1 found.2
-  where
-    at : (text : List ℕ) (i : ℕ) → NoEquals text → i < length text → get_or text i 0 ≢ 61
-    at [] i none below = absurd (omega (arith, below))
-    at (b ∷ text) zero none below = none.0
-    at (b ∷ text) (suc i) none below = let less : i < length text = omega (arith, below) in at text i none.1 less
-
 -- what a search that found nothing says of each byte
 pub not_contained : (text : List ℕ) (byte : ℕ) (found : Bool) → found ≡ false
     → ((i : ℕ) → i < length text → get_or text i 0 ≡ byte → found ≡ true) → (i : ℕ) → i < length text
