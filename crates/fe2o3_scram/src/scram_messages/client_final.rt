@@ -26,7 +26,8 @@ impl ScramVersion {
         client_first_message_bare: &[u8],
     ) -> Result<(Vec<u8>, Vec<u8>), ScramErrorKind>
         ensures { Gives ScramErrorKind.OutOfMemory answer_values result
-            (AnswersServerFirst self.now (client_of client_nonce.now password.now no_limit) client_first_message_bare.now server_first.now) }
+            (AnswersServerFirst self.now (client_of client_nonce.now password.now no_limit)
+            client_first_message_bare.now server_first.now) }
     {
         self.compute_client_final_message_metered(
             alloc,
@@ -50,7 +51,8 @@ impl ScramVersion {
     ) -> Result<(Vec<u8>, Vec<u8>), ScramErrorKind>
         requires { meter.old ≤ 2 ^ 63 }
         ensures answer { Gives ScramErrorKind.OutOfMemory answer_values result
-            (AnswersServerFirst self.now (client_of client_nonce.now password.now no_limit) client_first_message_bare.now server_first.now) }
+            (AnswersServerFirst self.now (client_of client_nonce.now password.now no_limit)
+            client_first_message_bare.now server_first.now) }
         ensures cost { AnswerCosts (client_of client_nonce.now password.now no_limit)
             server_first.now result meter.old meter.new }
     {
@@ -109,7 +111,8 @@ impl ScramVersion {
         requires some { 1 ≤ first.now.iterations }
         requires meter { meter.old ≤ 2 ^ 63 }
         ensures answer { IfOk result (λ answer. answer_values answer
-            ≡ answer_of self.now password.now client_first_message_bare.now server_first.now (server_first_values first.now)) }
+            ≡ answer_of self.now password.now client_first_message_bare.now server_first.now
+            (server_first_values first.now)) }
         ensures counted { OnOk result (meter.new ≡ meter.old + (first.now.iterations + 4)) }
         ensures memory { IfErr result (λ kind. kind ≡ ScramErrorKind.OutOfMemory) }
         ensures at_most { OnErr result (meter.new ≤ meter.old + (first.now.iterations + 4)) }
