@@ -9,16 +9,17 @@ pub mod laws;
 pub use fe2o3_scram::credentials::{
     DEFAULT_SCRAM_ITERATIONS, ScramCredentialProvider, SingleScramCredential, StoredPassword,
 };
-pub use fe2o3_scram::hmac::{Meter, ScramVersion};
+pub use fe2o3_scram::hmac::{DigestBytes, Meter, ScramVersion, UnknownMechanism};
+pub use fe2o3_scram::keys::auth_message;
 pub use fe2o3_scram::pbkdf2_hi::KeyError;
 pub use fe2o3_scram::saslprep_ascii::{NormalizeError, saslprep};
 pub use fe2o3_scram::scram_client::ScramClient;
 pub use fe2o3_scram::scram_messages::{
-    ScramErrorKind, ServerFirstMessage, ServerScramErrorKind, UnescapeError, XorLengthMismatch,
-    escape_username, unescape_username,
+    ClientFinal, ClientFirst, ScramErrorKind, ServerFinal, ServerFirst, ServerFirstMessage,
+    ServerScramErrorKind, UnescapeError, XorLengthMismatch, escape_username, unescape_username,
 };
 pub use fe2o3_scram::scram_server::ScramAuthenticator;
 pub use fe2o3_scram::{
-    credentials, hmac, pbkdf2_hi, saslprep_ascii, scram_client, scram_messages, scram_server,
+    credentials, hmac, keys, pbkdf2_hi, saslprep_ascii, scram_client, scram_messages, scram_server,
 };
 pub use std::alloc::AllocError as OutOfMemory;

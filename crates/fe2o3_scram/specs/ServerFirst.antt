@@ -109,8 +109,7 @@ pub record Challenge : Type 0 where
 abbrev pub challenge_values : ServerFirstMessage → Challenge
 challenge_values message = record {
   user = cow_str_bytes message.username;
-  bare =
-      message.client_first_message_bare.now;
+  bare = message.client_first_message_bare.now;
   first = message.message;
   nonce = message.client_server_nonce;
 }
