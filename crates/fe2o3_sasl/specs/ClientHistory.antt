@@ -17,7 +17,7 @@ use Rattle.fe2o3_sasl.specs.Events.{Given, Login, ClientSays, Started, Answered,
 use Rattle.fe2o3_scram.specs.Hmac.{mechanism_name}
 use Rattle.fe2o3_sasl.specs.Positions.{OpenBy}
 use Rattle.fe2o3_scram.specs.ServerFinal.{ReadsServerFinal}
-use Rattle.fe2o3_scram.specs.ServerFirst.{Client, ServerFirst, ReadsServerFirst}
+use Rattle.fe2o3_scram.specs.ServerFirst.{Client, ServerFirst, ReadsServerFirst, client_of}
 use Rattle.fe2o3_sasl.specs.ServerHistory.{carried, SpellsBody}
 
 -- an answer: the client's nonce, the server-first message, and what that names
@@ -28,7 +28,7 @@ pub record Answering : Type 0 where
 
 -- what the client holds against a server-first message
 abbrev pub client_at : Login → List ℕ → Client
-client_at login nonce = record { nonce = nonce; password = login.password; limit = login.limit }
+client_at login nonce = client_of nonce login.password login.limit
 
 -- its client-final message, and the signature that it waits for
 abbrev pub answer_at : Login → Answering → List ℕ × List ℕ
