@@ -29,11 +29,18 @@ impl<W: Write> Printed<'_, W> {
 }
 
 impl<W: Write> Connection for Printed<'_, W> {
-    fn exchange(&mut self, message: &[u8]) -> Result<Vec<u8>> {
-        self.print(message)?;
-        let answer = self.server.answer(self.alloc, message)?;
-        self.print(&answer)?;
-        Ok(answer)
+    fn start(&mut self, client_first: &[u8]) -> Result<Vec<u8>> {
+        self.print(client_first)?;
+        let challenge = self.server.challenge(self.alloc, client_first)?;
+        self.print(&challenge)?;
+        Ok(challenge)
+    }
+
+    fn respond(&mut self, client_final: &[u8]) -> Result<Vec<u8>> {
+        self.print(client_final)?;
+        let outcome = self.server.conclude(self.alloc, client_final)?;
+        self.print(&outcome)?;
+        Ok(outcome)
     }
 }
 

@@ -4,11 +4,11 @@ use anyhow::{Context, Result};
 use fe2o3_sasl::{ScramAuthenticator, ScramVersion, SingleScramCredential};
 use std::alloc::Global;
 
-/// A server, and whether it waits for the answer to its challenge.
+/// A server for one connection. What it waits for, the authenticator knows: an unknown user and a
+/// refused message leave it as it was.
 #[derive(Drop)]
 pub struct Server {
     authenticator: ScramAuthenticator<SingleScramCredential>,
-    has_challenged: bool,
 }
 
 impl Server {
@@ -19,21 +19,24 @@ impl Server {
         let credential = SingleScramCredential::new(alloc, username, "pencil", version, [3; 32])?;
         Ok(Server {
             authenticator: ScramAuthenticator::new(credential),
-            has_challenged: false,
         })
     }
 
-    /// Answers the client's first message with a challenge, and its final one with a signature. A
-    /// nonce is made of random bytes, here of a fixed one.
-    pub fn answer(&mut self, alloc: Global, message: &[u8]) -> Result<Vec<u8>> {
-        let answer = if self.has_challenged {
-            self.authenticator
-                .compute_server_final_message(alloc, message)?
-        } else {
-            self.authenticator
-                .compute_server_first_message(alloc, message, &[2; 32])?
-        };
-        self.has_challenged = true;
-        answer.context("unknown user")
+    /// Answers the client's first message with a challenge. A nonce is made of random bytes, here of
+    /// a fixed one.
+    pub fn challenge(&mut self, alloc: Global, client_first: &[u8]) -> Result<Vec<u8>> {
+        let nonce = [2; 32];
+        let challenge = self
+            .authenticator
+            .compute_server_first_message(alloc, client_first, &nonce)?;
+        challenge.context("unknown user")
+    }
+
+    /// Answers the client's response with the signature, where its proof is right.
+    pub fn conclude(&mut self, alloc: Global, client_final: &[u8]) -> Result<Vec<u8>> {
+        let signature = self
+            .authenticator
+            .compute_server_final_message(alloc, client_final)?;
+        signature.context("no answer")
     }
 }
