@@ -70,7 +70,7 @@ impl Outcome<Vec<u8>> {
 }
 
 /// The calls of two logins, with stray ones between them.
-const LOGINS: [(Call, Outcome<&'static str>); 32] = [
+static LOGINS: [(Call, Outcome<&'static str>); 32] = [
     // No client-first message was sent, which is told before the text is read.
     (
         Call::ReadServerFirst(SERVER_FIRST),
@@ -276,6 +276,27 @@ fn client(alloc: Global) -> Result<ScramClient, AllocError> {
     ))
 }
 
+/// Makes the call on clones, and then on the machines themselves.
+fn step<C: ScramCredentialProvider + Drop>(
+    rt: &impl Abort,
+    alloc: Global,
+    client: &mut ScramClient,
+    server: &mut ScramAuthenticator<C>,
+    call: Call,
+    wanted: &Outcome<&'static str>,
+) -> Result<(), Fail> {
+    let outcome = make_on_clones(alloc, client, server, call)?;
+    assert!(rt; outcome.is(wanted), "{call:?} on clones: {outcome:?}");
+    let outcome = make(alloc, client, server, call)?;
+    assert!(rt; outcome.is(wanted), "{call:?}: {outcome:?}");
+    Ok(())
+}
+
+/// The calls of the logins. No proof looks into them.
+fn logins() -> &'static [(Call, Outcome<&'static str>)] {
+    &LOGINS
+}
+
 /// Makes all calls on a client of `user` and on a server. Before each, the same call is made on
 /// clones, which changes nothing for the machines themselves.
 fn play<C: ScramCredentialProvider + Drop>(
@@ -285,11 +306,8 @@ fn play<C: ScramCredentialProvider + Drop>(
 ) -> Result<(), Fail> {
     let mut client = client(alloc)?;
     let mut server = ScramAuthenticator::new(credentials);
-    for (call, wanted) in &LOGINS {
-        let outcome = make_on_clones(alloc, &client, &server, *call)?;
-        assert!(rt; outcome.is(wanted), "{call:?} on clones: {outcome:?}");
-        let outcome = make(alloc, &mut client, &mut server, *call)?;
-        assert!(rt; outcome.is(wanted), "{call:?}: {outcome:?}");
+    for (call, wanted) in logins() {
+        step(rt, alloc, &mut client, &mut server, *call, wanted)?;
     }
     Ok(())
 }

@@ -37,7 +37,7 @@ struct OddRecord {
 }
 
 /// Keys, proofs and signatures were computed with Python's `hashlib` and `hmac`.
-const RECORDS: [OddRecord; 10] = [
+static RECORDS: [OddRecord; 10] = [
     // A plain record.
     OddRecord {
         name: "user",
@@ -180,6 +180,11 @@ const RECORDS: [OddRecord; 10] = [
     },
 ];
 
+/// The records. No proof looks into them.
+fn records() -> &'static [OddRecord] {
+    &RECORDS
+}
+
 /// The account of a record.
 fn account(alloc: Global, record: &OddRecord) -> Result<Account, Fail> {
     let salt = STANDARD.decode(alloc, record.salt.as_bytes())?;
@@ -192,7 +197,7 @@ fn account(alloc: Global, record: &OddRecord) -> Result<Account, Fail> {
 /// All records in one store.
 fn accounts(alloc: Global) -> Result<Accounts, Fail> {
     let mut accounts = Accounts::new(alloc, ScramVersion::Sha256);
-    for record in &RECORDS {
+    for record in records() {
         accounts.add(account(alloc, record)?)?;
     }
     Ok(accounts)
@@ -269,7 +274,7 @@ fn log_in<C: ScramCredentialProvider + Drop, R: Abort + AllocGlobal>(
     credentials: C,
 ) -> Result<(), Fail> {
     let mut server = ScramAuthenticator::new(credentials);
-    for record in &RECORDS {
+    for record in records() {
         let mut client = client(rt.alloc(), record)?;
         begin(rt, &mut client, &mut server, record)?;
         let answer = client.compute_client_final_message(rt.alloc(), record.server_first);
@@ -369,7 +374,7 @@ fn keeps_all<C: ScramCredentialProvider, R: Abort + AllocGlobal>(
     provider: &C,
 ) -> Result<(), Fail> {
     assert_eq!(rt; *provider.scram_version(), ScramVersion::Sha256);
-    for record in &RECORDS {
+    for record in records() {
         assert!(rt; keeps(rt.alloc(), provider, record)?, "{:?}", record.name);
     }
     assert!(rt; provider.get_stored_password("nobody").is_none());
