@@ -9,6 +9,7 @@ ghost use Rattle.fe2o3_scram.specs.SaslprepAscii.{IsPrintable};
 use crate::hmac::{Meter, ScramVersion};
 use crate::scram_messages::error::ServerScramErrorKind;
 use std::alloc::{AllocError, Global};
+use std::fmt;
 use std::marker::Model;
 use std::rc::Rc;
 
@@ -16,7 +17,7 @@ use std::rc::Rc;
 pub const DEFAULT_SCRAM_ITERATIONS: u32 = 4096;
 
 /// What is kept of a password, borrowed from a provider.
-#[derive(Debug, Drop)]
+#[derive(Drop)]
 pub struct StoredPassword<'a> {
     /// The salt, of any length.
     pub salt: &'a [u8],
@@ -29,6 +30,17 @@ pub struct StoredPassword<'a> {
 
     /// ServerKey := HMAC(SaltedPassword, "Server Key")
     pub server_key: &'a [u8],
+}
+
+impl fmt::Debug for StoredPassword<'_> {
+    /// The iteration count alone: who has the keys can play the server.
+    fn fmt<W: fmt::Write>(&self, f: &mut fmt::Formatter<W>) -> fmt::Result {
+        write!(
+            f,
+            "StoredPassword {{ iterations: {}, .. }}",
+            self.iterations
+        )
+    }
 }
 
 /// A store of credentials: a version, and a finite map from user names to what is kept of their
@@ -66,7 +78,7 @@ impl<T: ScramCredentialProvider> ScramCredentialProvider for Rc<T> {
 }
 
 /// The credential of one user.
-#[derive(Debug, Drop)]
+#[derive(Drop)]
 pub struct SingleScramCredential {
     scram_version: ScramVersion,
     username: String,
@@ -135,6 +147,17 @@ impl SingleScramCredential {
             stored_key: stored_key.as_slice().to_vec(alloc)?,
             server_key: server_key.as_slice().to_vec(alloc)?,
         })
+    }
+}
+
+impl fmt::Debug for SingleScramCredential {
+    /// The version, the user name and the iteration count: who has the keys can play the server.
+    fn fmt<W: fmt::Write>(&self, f: &mut fmt::Formatter<W>) -> fmt::Result {
+        write!(
+            f,
+            "SingleScramCredential {{ scram_version: {:?}, username: {:?}, iterations: {}, .. }}",
+            self.scram_version, self.username, self.iterations
+        )
     }
 }
 

@@ -14,10 +14,11 @@ use crate::scram_messages::error::ScramErrorKind;
 use crate::texts::base64_of;
 use bytes::Bytes;
 use std::alloc::{AllocError, Global};
+use std::fmt;
 use std::marker::Model;
 
 /// What a client has sent last, and what it waits for.
-#[derive(Debug, Drop)]
+#[derive(Drop)]
 enum ScramClientState {
     Initial,
     ClientFirstSent {
@@ -57,7 +58,7 @@ impl ScramClientState {
 /// A client of one user. The calls come in the order `compute_client_first_message`,
 /// `compute_client_final_message`, `validate_server_final`, and the first starts afresh at any
 /// time. A call that is refused leaves the client as it was.
-#[derive(Debug, Drop)]
+#[derive(Drop)]
 pub struct ScramClient {
     username: String,
     password: String,
@@ -204,6 +205,17 @@ impl ScramClient {
             }
             _ => Err(ScramErrorKind::IllegalClientState),
         }
+    }
+}
+
+impl fmt::Debug for ScramClient {
+    /// The user name, the version and the limit, without the password and the state.
+    fn fmt<W: fmt::Write>(&self, f: &mut fmt::Formatter<W>) -> fmt::Result {
+        write!(
+            f,
+            "ScramClient {{ username: {:?}, scram: {:?}, iteration_limit: {}, .. }}",
+            self.username, self.scram, self.iteration_limit
+        )
     }
 }
 

@@ -13,9 +13,10 @@ use crate::scram_messages::error::ServerScramErrorKind;
 use crate::texts::base64_of;
 use bytes::Bytes;
 use std::alloc::{AllocError, Global};
+use std::fmt;
 
 /// What a server has sent last.
-#[derive(Debug, Drop)]
+#[derive(Drop)]
 enum ScramAuthenticatorState {
     Initial,
     ServerFirstSent {
@@ -53,7 +54,7 @@ impl ScramAuthenticatorState {
 /// A server over a store of credentials. A client-first message opens a challenge, in place of an
 /// earlier one, and an accepted client-final message closes it. A call that is refused leaves the
 /// authenticator as it was.
-#[derive(Debug, Drop)]
+#[derive(Drop)]
 pub struct ScramAuthenticator<C: ScramCredentialProvider> {
     credentials: C,
     state: ScramAuthenticatorState,
@@ -176,6 +177,14 @@ fn challenge<'a, C: ScramCredentialProvider>(
         &base64_server_nonce,
         credentials,
     )
+}
+
+impl<C: ScramCredentialProvider> fmt::Debug for ScramAuthenticator<C> {
+    /// The version, without the store of credentials and the state.
+    fn fmt<W: fmt::Write>(&self, f: &mut fmt::Formatter<W>) -> fmt::Result {
+        let version = *self.credentials.scram_version();
+        write!(f, "ScramAuthenticator {{ scram_version: {version:?}, .. }}")
+    }
 }
 
 impl<C: ScramCredentialProvider> Clone for ScramAuthenticator<C> {

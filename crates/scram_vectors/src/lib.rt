@@ -4,6 +4,8 @@
 #![tactic(auto)]
 
 #[cfg(test)]
+mod debug_texts;
+#[cfg(test)]
 mod fault_texts;
 #[cfg(test)]
 mod hmac_vectors;
