@@ -11,7 +11,7 @@ use std::io::{Cursor, Write};
 use std::test::Fail;
 
 /// Command lines with what they print and the status that they end with.
-const RUNS: [(&str, &str, u8); 36] = [
+static RUNS: [(&str, &str, u8); 36] = [
     // The published exchanges.
     (
         "sasl_lab client-final SCRAM-SHA-256 user pencil rOprNGfwEbeRWgbNEkqO \
@@ -241,18 +241,18 @@ fn words_of(alloc: Global, line: &str) -> Result<Vec<String>, AllocError> {
 #[test]
 fn prints_the_messages_or_why_not(rt: HostRuntime) -> Result<(), Fail> {
     let alloc = rt.alloc();
-    for (line, wanted, wanted_status) in RUNS {
+    for (line, wanted, wanted_status) in &RUNS {
         let words = words_of(alloc, line)?;
         let mut output = Vec::new(alloc);
         let status = lab(alloc, &words, &mut Cursor::new(b""), &mut output);
-        assert_eq!(rt; str::from_utf8(&output)?, wanted, "{line:?}");
-        assert_eq!(rt; status, wanted_status, "{line:?}");
+        assert_eq!(rt; str::from_utf8(&output)?, *wanted, "{line:?}");
+        assert_eq!(rt; status, *wanted_status, "{line:?}");
     }
     Ok(())
 }
 
 /// Each refusal of a SCRAM message, with the last line.
-const REFUSALS: [(ScramErrorKind, &str); 16] = [
+static REFUSALS: [(ScramErrorKind, &str); 16] = [
     (ScramErrorKind::Utf8Error, "refused Utf8Error\n"),
     (
         ScramErrorKind::InsufficientParts,
@@ -307,10 +307,10 @@ const REFUSALS: [(ScramErrorKind, &str); 16] = [
 #[test]
 fn names_each_refusal(rt: HostRuntime) -> Result<(), Fail> {
     let alloc = rt.alloc();
-    for (kind, wanted) in REFUSALS {
+    for (kind, wanted) in &REFUSALS {
         let mut output = Vec::new(alloc);
-        assert_eq!(rt; Stop::from(kind).end(&mut output), 1, "{kind:?}");
-        assert_eq!(rt; str::from_utf8(&output)?, wanted);
+        assert_eq!(rt; Stop::from(*kind).end(&mut output), 1, "{kind:?}");
+        assert_eq!(rt; str::from_utf8(&output)?, *wanted);
     }
     let mut output = Vec::new(alloc);
     assert_eq!(rt; Stop::Input.end(&mut output), 1);

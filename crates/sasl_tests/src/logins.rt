@@ -20,7 +20,7 @@ struct Login {
 }
 
 /// Computed with Python's `hashlib` and `hmac`.
-const LOGINS: [Login; 2] = [
+static LOGINS: [Login; 2] = [
     Login {
         name: "user",
         password: "pencil",

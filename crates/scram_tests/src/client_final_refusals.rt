@@ -21,7 +21,7 @@ const STORED_KEY: &str = "WG5d8oPm3OtcPnkdi4Uo7BkeZkBFzpcXkuLmtbsT4qY=";
 const SERVER_KEY: &str = "wfPLwcE6nTWhTAmQ7tl2KeoiWGPlZqQxSrmfPwDl2dU=";
 
 /// Messages that are refused before any HMAC value is made, and why.
-const REFUSED: [(&[u8], ServerScramErrorKind); 34] = [
+static REFUSED: [(&[u8], ServerScramErrorKind); 34] = [
     // Not UTF-8, which is told before all else.
     (b"\xff", ServerScramErrorKind::Utf8Error),
     (
@@ -153,7 +153,7 @@ const REFUSED: [(&[u8], ServerScramErrorKind); 34] = [
 ];
 
 /// Messages that are refused by their proof, which takes one HMAC value.
-const REFUSED_PROOFS: [(&[u8], ServerScramErrorKind); 5] = [
+static REFUSED_PROOFS: [(&[u8], ServerScramErrorKind); 5] = [
     // Other proofs of the right length: 32 bytes 01, zeros, the right one but for its last bit.
     (
         b"c=biws,r=rOprNGfwEbeRWgbNEkqO%hvYDpWUa2RaTCAfuxFIlj)hNlF$k0,p=AQEBAQEBAQEBAQEBAQEBAQEBAQEBAQEBAQEBAQEBAQE=",
@@ -182,7 +182,7 @@ const REFUSED_PROOFS: [(&[u8], ServerScramErrorKind); 5] = [
 
 /// Messages that are accepted, and the answers. The first pair is that of RFC 7677, section 3, and
 /// the others have further parts before the proof, computed with Python's `hmac`.
-const ACCEPTED: [(&str, &str); 4] = [
+static ACCEPTED: [(&str, &str); 4] = [
     (
         "c=biws,r=rOprNGfwEbeRWgbNEkqO%hvYDpWUa2RaTCAfuxFIlj)hNlF$k0,p=dHzbZapWIk4jUhN+Ute9ytag9zjfMHgsqmmiz7AndVQ=",
         "v=6rriTRBi23WpRR/wtup+mMhUZUn/dB5nLTJRsjl95G4=",
@@ -283,7 +283,7 @@ fn a_right_proof_costs_two(rt: HostRuntime) -> Result<(), Fail> {
 }
 
 /// Zeros in base64, and how many.
-const ZEROS: [(&str, usize); 4] = [
+static ZEROS: [(&str, usize); 4] = [
     ("", 0),
     ("AAAAAAAAAAAAAAAAAAAAAAAAAAA=", 20),
     ("AAAAAAAAAAAAAAAAAAAAAAAAAAAAAAAAAAAAAAAAAAA=", 32),

@@ -12,7 +12,7 @@ const SERVER_NONCE: &str = "3rfcNHYJY1ZVvWVs7j";
 const SALT: &[u8] = b"\x41\x25\xc2\x47\xe4\x3a\xb1\xe9\x3c\x6d\xff\x76";
 
 /// Messages that are refused, and why.
-const REFUSED: [(&[u8], ServerScramErrorKind); 28] = [
+static REFUSED: [(&[u8], ServerScramErrorKind); 28] = [
     // Not UTF-8, which is told before all else.
     (b"\xff", ServerScramErrorKind::Utf8Error),
     (b"y,,n=user,r=a\xff", ServerScramErrorKind::Utf8Error),
@@ -69,7 +69,7 @@ const REFUSED: [(&[u8], ServerScramErrorKind); 28] = [
 ];
 
 /// Messages that are answered: the name of the user, and the server-first message.
-const ANSWERED: [(&[u8], &str, &str); 6] = [
+static ANSWERED: [(&[u8], &str, &str); 6] = [
     (
         b"n,,n=user,r=fyko+d2lbbFgONRv9qkxdawL",
         "user",
@@ -105,7 +105,7 @@ const ANSWERED: [(&[u8], &str, &str); 6] = [
 ];
 
 /// Messages of users who have no account.
-const UNKNOWN: [&[u8]; 8] = [
+static UNKNOWN: [&[u8]; 8] = [
     b"n,,n=nobody,r=a",
     b"n,,n=,r=a",
     b"n,,n=use,r=a",

@@ -8,7 +8,7 @@ use std::test::Fail;
 
 /// The count in a server-first message, the password, the limit, and the refusal with the HMAC values
 /// that were made.
-const LIMITS: [(&str, &str, u32, (Option<ScramErrorKind>, u64)); 12] = [
+static LIMITS: [(&str, &str, u32, (Option<ScramErrorKind>, u64)); 12] = [
     ("4096", "pencil", 4096, (None, 4100)),
     ("4096", "pencil", 4097, (None, 4100)),
     ("4096", "pencil", 4294967295, (None, 4100)),

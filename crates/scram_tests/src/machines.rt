@@ -349,7 +349,7 @@ fn logs_in_with_one_of_many_accounts(rt: HostRuntime) -> Result<(), Fail> {
 }
 
 /// Client-first messages, and what a server says that knows `user` alone.
-const CHALLENGES: [(&str, Outcome<&'static str>); 3] = [
+static CHALLENGES: [(&str, Outcome<&'static str>); 3] = [
     ("n,,n=nobody,r=a", Outcome::UnknownUser),
     (
         "n,,n=user",

@@ -47,4 +47,4 @@ pub const SHA_512: Exchange = Exchange {
 };
 
 /// All three.
-pub const EXCHANGES: [Exchange; 3] = [SHA_1, SHA_256, SHA_512];
+pub static EXCHANGES: [Exchange; 3] = [SHA_1, SHA_256, SHA_512];

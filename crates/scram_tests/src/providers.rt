@@ -300,7 +300,7 @@ fn serves_odd_records_that_are_shared(rt: HostRuntime) -> Result<(), Fail> {
 }
 
 /// Proofs for the records whose stored key has another length than a digest.
-const PROOFS: [&str; 3] = [
+static PROOFS: [&str; 3] = [
     "AAAAAAAAAAAAAAAAAAAAAAAAAAAAAAAAAAAAAAAAAAA=",
     "MTExMTExMTExMTExMTExMTExMTExMTExMTExMTExMTE=",
     "bSqDc2nsVd+d5pD9odZM6kFNedQ0ntQqYaOXJD2q2NE=",
@@ -336,7 +336,7 @@ fn no_proof_meets_a_key_of_another_length(rt: HostRuntime) -> Result<(), Fail> {
     let mut server = ScramAuthenticator::new(accounts(rt.alloc())?);
     for name in ["no key", "short key", "long key"] {
         challenges(&rt, &mut server, name)?;
-        for proof in PROOFS {
+        for proof in &PROOFS {
             let kind = refusal(rt.alloc(), &mut server, proof)?;
             let wanted = Some(ServerScramErrorKind::AuthenticationFailed);
             assert_eq!(rt; kind, wanted, "{name}: {proof}");

@@ -6,7 +6,7 @@ use fe2o3_scram::saslprep_ascii::NormalizeError;
 use fe2o3_scram::scram_messages::{ScramErrorKind, UnescapeError, XorLengthMismatch};
 use std::test::Fail;
 
-const SCRAM_ERROR_KINDS: [(ScramErrorKind, &str); 16] = [
+static SCRAM_ERROR_KINDS: [(ScramErrorKind, &str); 16] = [
     (ScramErrorKind::Utf8Error, "Invalid UTF-8"),
     (ScramErrorKind::InsufficientParts, "InsufficientParts"),
     (

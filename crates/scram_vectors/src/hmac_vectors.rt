@@ -9,7 +9,7 @@ const COUNTING: &[u8; 25] =
     b"\x01\x02\x03\x04\x05\x06\x07\x08\x09\x0a\x0b\x0c\x0d\x0e\x0f\x10\x11\x12\x13\x14\x15\x16\x17\x18\x19";
 
 /// The test cases of RFC 2202, section 3: key, data and HMAC-SHA-1.
-const RFC_2202: [(&str, &[u8], &[u8], &str); 7] = [
+static RFC_2202: [(&str, &[u8], &[u8], &str); 7] = [
     (
         "1",
         &[0x0b; 20],
@@ -56,7 +56,7 @@ const RFC_2202: [(&str, &[u8], &[u8], &str); 7] = [
 
 /// The test cases of RFC 4231, section 4: key, data, HMAC-SHA-256 and HMAC-SHA-512. Case 5 has
 /// truncated values and is left out.
-const RFC_4231: [(&str, &[u8], &[u8], &str, &str); 6] = [
+static RFC_4231: [(&str, &[u8], &[u8], &str, &str); 6] = [
     (
         "1",
         &[0x0b; 20],
@@ -136,7 +136,7 @@ fn hmac_of_sha_256_and_sha_512(rt: HostRuntime) -> Result<(), Fail> {
 
 /// The HMAC of `what do ya want for nothing?` under a key of so many bytes 0x61, which fills a block
 /// or is one byte longer. Computed with Python's `hmac`.
-const KEYS_OF_A_BLOCK: [(ScramVersion, &[u8], &str); 6] = [
+static KEYS_OF_A_BLOCK: [(ScramVersion, &[u8], &str); 6] = [
     (
         ScramVersion::Sha1,
         &[0x61; 64],
@@ -196,7 +196,7 @@ fn a_key_longer_than_a_block_stands_for_its_digest(rt: HostRuntime) -> Result<()
 }
 
 /// The digests of `abc`, of the examples to FIPS 180-4.
-const DIGESTS: [(ScramVersion, &str, &str); 3] = [
+static DIGESTS: [(ScramVersion, &str, &str); 3] = [
     (
         ScramVersion::Sha1,
         "SCRAM-SHA-1",

@@ -5,7 +5,7 @@ use fe2o3_scram::scram_client::ScramClient;
 use std::test::Fail;
 
 /// A name, and its version if it has one.
-const NAMES: [(&str, Option<ScramVersion>); 8] = [
+static NAMES: [(&str, Option<ScramVersion>); 8] = [
     ("SCRAM-SHA-1", Some(ScramVersion::Sha1)),
     ("SCRAM-SHA-256", Some(ScramVersion::Sha256)),
     ("SCRAM-SHA-512", Some(ScramVersion::Sha512)),

@@ -5,7 +5,7 @@ use fe2o3_scram::pbkdf2_hi::KeyError;
 use fe2o3_scram::saslprep_ascii::{NormalizeError, saslprep};
 use std::test::Fail;
 
-const PREPARED: [(&str, bool); 12] = [
+static PREPARED: [(&str, bool); 12] = [
     ("", true),
     ("pencil", true),
     (" ", true),
@@ -22,9 +22,9 @@ const PREPARED: [(&str, bool); 12] = [
 
 #[test]
 fn printable_ascii_stays_as_it_is(rt: HostRuntime) {
-    for (password, is_printable) in PREPARED {
-        let wanted = if is_printable {
-            Ok(password)
+    for (password, is_printable) in &PREPARED {
+        let wanted = if *is_printable {
+            Ok(*password)
         } else {
             Err(NormalizeError)
         };

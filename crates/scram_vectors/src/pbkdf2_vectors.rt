@@ -9,7 +9,7 @@ use std::test::Fail;
 /// bytes of output, of which the first block stands here, and its sixth has 16, which begin a block.
 /// The first two of SHA-256 begin the vectors of RFC 7914, section 11. The others were computed with
 /// Python's `hashlib.pbkdf2_hmac`.
-const VECTORS: [(ScramVersion, &str, &str, u32, &str); 17] = [
+static VECTORS: [(ScramVersion, &str, &str, u32, &str); 17] = [
     (
         ScramVersion::Sha1,
         "password",

@@ -5,7 +5,7 @@ use fe2o3_scram::pbkdf2_hi::KeyError;
 use fe2o3_scram::scram_messages::{ServerScramErrorKind, XorLengthMismatch};
 use std::test::Fail;
 
-const SERVER_SCRAM_ERROR_KINDS: [(ServerScramErrorKind, &str); 15] = [
+static SERVER_SCRAM_ERROR_KINDS: [(ServerScramErrorKind, &str); 15] = [
     (ServerScramErrorKind::Utf8Error, "Invalid UTF-8"),
     (
         ServerScramErrorKind::CannotParseGs2Header,

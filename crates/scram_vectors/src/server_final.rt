@@ -8,7 +8,7 @@ use std::test::Fail;
 /// The signature of the exchange of RFC 7677, section 3, in base64.
 const SIGNATURE: &str = "6rriTRBi23WpRR/wtup+mMhUZUn/dB5nLTJRsjl95G4=";
 
-const MESSAGES: [(&[u8], Result<(), ScramErrorKind>); 18] = [
+static MESSAGES: [(&[u8], Result<(), ScramErrorKind>); 18] = [
     (b"v=6rriTRBi23WpRR/wtup+mMhUZUn/dB5nLTJRsjl95G4=", Ok(())),
     (
         b"v=6rriTRBi23WpRR/wtup+mMhUZUn/dB5nLTJRsjl95G4=,x=y",

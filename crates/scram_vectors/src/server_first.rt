@@ -21,7 +21,7 @@ fn refusal(alloc: Global, password: &str, message: &str) -> (Option<ScramErrorKi
 }
 
 /// Messages that are refused whatever the password.
-const REFUSED: [(&str, ScramErrorKind); 19] = [
+static REFUSED: [(&str, ScramErrorKind); 19] = [
     // Fewer than three parts, which is told before a mandatory extension.
     ("", ScramErrorKind::InsufficientParts),
     ("r=a,s=b", ScramErrorKind::InsufficientParts),
@@ -65,12 +65,12 @@ fn the_first_fault_is_told_and_costs_nothing(rt: HostRuntime) {
 
 /// No whole byte, no padding, too little of it, set bits behind the last byte, more text behind the
 /// padding, a blank, and a letter of another alphabet.
-const NO_SALTS: [&str; 7] = ["A", "AA", "AA=", "AB==", "AA==A", " AA==", "A-_A"];
+static NO_SALTS: [&str; 7] = ["A", "AA", "AA=", "AB==", "AA==A", " AA==", "A-_A"];
 
 #[test]
 fn a_salt_is_base64(rt: HostRuntime) -> Result<(), Fail> {
     let alloc = rt.alloc();
-    for salt in NO_SALTS {
+    for salt in &NO_SALTS {
         let message = format!(in alloc; "r=nonce,s={salt},i=1")?;
         let wanted = (Some(ScramErrorKind::Base64DecodeError), 0);
         assert_eq!(rt; refusal(alloc, "pencil", &message), wanted, "{message:?}");
@@ -78,7 +78,7 @@ fn a_salt_is_base64(rt: HostRuntime) -> Result<(), Fail> {
     Ok(())
 }
 
-const NO_COUNTS: [&str; 13] = [
+static NO_COUNTS: [&str; 13] = [
     "0",
     "+0",
     "00",
@@ -97,7 +97,7 @@ const NO_COUNTS: [&str; 13] = [
 #[test]
 fn a_count_is_a_number_above_zero(rt: HostRuntime) -> Result<(), Fail> {
     let alloc = rt.alloc();
-    for count in NO_COUNTS {
+    for count in &NO_COUNTS {
         let message = format!(in alloc; "r=nonce,s=AA==,i={count}")?;
         for password in ["pencil", "\t"] {
             let wanted = (Some(ScramErrorKind::IterationCountParseError), 0);
@@ -122,7 +122,7 @@ fn a_password_is_printable_ascii(rt: HostRuntime) {
 /// Salts and counts that the client of RFC 7677, section 3, accepts, with its proof and the server's
 /// signature in base64, and the HMAC values that the answer costs. Proofs and signatures were computed
 /// with Python's `hmac` and `hashlib`.
-const ACCEPTED: [(&str, &str, &str, &str, u64); 7] = [
+static ACCEPTED: [(&str, &str, &str, &str, u64); 7] = [
     // A count with a plus, and with a zero before it.
     (
         "W22ZaJ0SNY7soEsUEjb6gQ==",

@@ -6,7 +6,7 @@ use std::borrow::CowStr;
 use std::test::Fail;
 
 /// A name and how it is sent (RFC 5802, section 5.1).
-const NAMES: [(&str, &str); 9] = [
+static NAMES: [(&str, &str); 9] = [
     ("", ""),
     ("user", "user"),
     ("caf\u{e9}", "caf\u{e9}"),
@@ -21,11 +21,11 @@ const NAMES: [(&str, &str); 9] = [
 #[test]
 fn commas_and_equals_signs_are_escaped(rt: HostRuntime) -> Result<(), Fail> {
     let alloc = rt.alloc();
-    for (name, sent) in NAMES {
+    for (name, sent) in &NAMES {
         let escaped = escape_username(alloc, name.as_bytes())?;
         assert_eq!(rt; escaped.as_slice(), sent.as_bytes(), "{name:?}");
         let read = unescape_username(alloc, sent)?;
-        assert_eq!(rt; read.as_str(), name, "{sent:?}");
+        assert_eq!(rt; read.as_str(), *name, "{sent:?}");
         let is_borrowed = matches!(&read, CowStr::Borrowed(_));
         assert_eq!(rt; is_borrowed, !sent.contains('='), "{sent:?}");
     }
@@ -37,13 +37,13 @@ fn commas_and_equals_signs_are_escaped(rt: HostRuntime) -> Result<(), Fail> {
     Ok(())
 }
 
-const INVALID: [&str; 13] = [
+static INVALID: [&str; 13] = [
     ",", "a,b", "=", "==", "a=2", "a=", "a=2cb", "a=3db", "=2D", "=3C", "=2C=", "=2C,", "a=20b",
 ];
 
 #[test]
 fn other_texts_are_no_names(rt: HostRuntime) {
-    for text in INVALID {
+    for text in &INVALID {
         let is_invalid = matches!(
             &unescape_username(rt.alloc(), text),
             Err(UnescapeError::Invalid)
