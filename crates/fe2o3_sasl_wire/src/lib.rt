@@ -15,5 +15,5 @@ pub use amqp_types::{
     Symbol, SymbolError,
 };
 pub use protocol_header::{NegotiationError, ProtocolHeader, ProtocolHeaderCodec, ProtocolId};
-pub use sasl_frames::{Error, Frame, FrameCodec, FrameView, SymbolsView, view_frame};
+pub use sasl_frames::{Error, Frame, FrameCodec, FrameView, SymbolsIter, SymbolsView, view_frame};
 pub use std::alloc::AllocError as OutOfMemory;

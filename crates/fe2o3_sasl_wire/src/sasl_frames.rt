@@ -20,7 +20,7 @@ pub use error::Error;
 use fields::{code_of, count_of, fields_of, items_len, put_items};
 pub use frame_view::{FrameView, view_frame};
 use std::alloc::Global;
-pub use symbols_view::SymbolsView;
+pub use symbols_view::{SymbolsIter, SymbolsView};
 use writing::{put_number, put_start, shortest, width};
 
 /// How many words of four bytes stand before the value of a frame, its size among them (AMQP 1.0,

@@ -48,10 +48,7 @@ fn owned_symbols(alloc: Global, symbols: &SymbolsView<'_>) -> Result<Array<Symbo
     ensures { IfOk result (λ array. array.0.items ≡ symbols.now) }
 {
     let mut owned = Vec::with_capacity(alloc, symbols.len())?;
-    for index in 0..symbols.len() {
-        let Some(text) = symbols.get(index) else {
-            unreachable!()
-        };
+    for text in symbols.iter() {
         owned.push(Symbol::of_ascii(alloc, text)?)?;
     }
     Ok(Array(owned))

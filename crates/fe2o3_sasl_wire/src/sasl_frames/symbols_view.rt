@@ -1,6 +1,7 @@
 //! The symbols of a mechanisms frame, read where they stand. Nothing here takes memory.
 
-ghost use Rattle.std.specs.Prelude.{◌≡◌, ◌↔◌, Some, option_map, length, slice_get, IfSome, IsAscii, IsTrue, Contains};
+ghost use Rattle.std.specs.Prelude.{◌≡◌, ◌↔◌, [], Some, option_map, length, slice_get, IfSome, IsAscii, IsTrue, Contains};
+ghost use Rattle.std.specs.List.{AllByRecursion};
 ghost use Rattle.fe2o3_sasl_wire.specs.private.Reading.{elements_at, element_at, array_at, one_at, symbols_at};
 
 use crate::sasl_frames::forms::{ARRAY_8, ARRAY_32, Form, SYMBOL_8, SYMBOL_32};
@@ -65,7 +66,26 @@ impl<'a> SymbolsView<'a> {
         self.count as usize
     }
 
-    /// The symbol at an index, from 0.
+    /// Whether there is no symbol.
+    pub fn is_empty(&self) -> bool
+        ensures { IsTrue result ↔ (self.now ≡ []) }
+    {
+        self.count == 0
+    }
+
+    /// The symbols from the first to the last, each once. Each step takes one symbol's time.
+    pub fn iter(&self) -> SymbolsIter<'a>
+        ensures symbols { result ≡ self.now }
+        ensures ascii { AllByRecursion IsAscii self.now }
+    {
+        SymbolsIter {
+            form: self.form,
+            count: self.count,
+            elements: self.elements,
+        }
+    }
+
+    /// The symbol at an index, from 0, read over all before it: `iter` walks them in one pass.
     pub fn get(&self, index: usize) -> Option<&'a str>
         ensures value { option_map (λ x. x.now) result ≡ slice_get self.now index }
         ensures ascii { IfSome result (λ x. IsAscii x.now) }
@@ -96,6 +116,47 @@ impl<'a> SymbolsView<'a> {
             rest = after;
         }
         false
+    }
+}
+
+/// The symbols of a view that are still to come. It keeps the bytes of those alone.
+#[derive(Drop)]
+pub struct SymbolsIter<'a> {
+    form: Form,
+    count: u32,
+    elements: &'a [u8],
+}
+
+impl<'a> Model for SymbolsIter<'a> {
+    ghost use Rattle.std.specs.Prelude.{List, ℕ, IsSome};
+    ghost use Rattle.fe2o3_sasl_wire.specs.private.Reading.{elements_at, names_in};
+
+    ghost Value = { List (List ℕ) };
+
+    ghost view = { λ symbols. names_in (elements_at symbols.form symbols.count symbols.elements.now) };
+
+    ghost invariant = { λ symbols. IsSome (elements_at symbols.form symbols.count symbols.elements.now) };
+}
+
+impl<'a> Iterator for SymbolsIter<'a> {
+    ghost use Rattle.std.specs.Iterator.{YieldsFirstRef, item_count};
+
+    type Item = &'a str;
+
+    ghost next_gives = { YieldsFirstRef (λ left. left) };
+
+    ghost remaining = { item_count (λ left. left) };
+
+    fn next(&mut self) -> Option<&'a str> {
+        if self.count == 0 {
+            return None;
+        }
+        let Some((symbol, after)) = element_at(self.form, self.elements) else {
+            unreachable!()
+        };
+        self.count -= 1;
+        self.elements = after;
+        Some(symbol)
     }
 }
 

@@ -1,9 +1,12 @@
 -- Reading elements one after the other, as a loop does.
-use Rattle.std.proofs.Common.{◌≡◌, ℕ, zero, suc, ◌+◌, ◌-◌, ◌<◌, ◌≤◌, List, [], ◌∷◌, ◌++◌, take, get_or, length, Option, Some, None, refl, sym, ap, ◌∙◌, arith, option_map, slice_get, IsSome, subst, Contains}
-use Rattle.std.proofs.lemmas.Option.{slice_get_within, get_or_from_slice_get}
-use Rattle.std.proofs.lemmas.List.{take_more}
+use Rattle.std.proofs.Common.{◌≡◌, ℕ, zero, suc, ◌+◌, ◌-◌, ◌<◌, ◌≤◌, List, [], ◌∷◌, length, cond, Option, Some, None, refl, sym, ap, ◌∙◌, arith, option_map, slice_get, IsSome, subst, Contains}
+use Rattle.std.specs.Prelude.{◌↔◌, nat_eq, IsTrue, IsAscii}
+use Rattle.std.specs.List.{AllByRecursion}
+use Rattle.std.proofs.lemmas.Bool.{eqb-true}
 use Rattle.fe2o3_sasl_wire.specs.declared.sasl_frames.forms.Form.{Form}
-use Rattle.fe2o3_sasl_wire.specs.private.Reading.{◌>>=◌, element_at, elements_at, names_in}
+use Rattle.fe2o3_sasl_wire.specs.private.Reading.{◌>>=◌, content_at, is_ascii, element_at, elements_at, names_in}
+use Rattle.fe2o3_sasl_wire.proofs.lemmas.reading.TextLemmas.{IsAscii-from_is_ascii}
+use Rattle.fe2o3_sasl_wire.proofs.lemmas.reading.StepLemmas.{bind_some, when_some, some_is}
 
 abbrev pub rest_of : Option (List (List ℕ) × List ℕ) → Option (List ℕ)
 rest_of read = option_map (λ x. x.1) read
@@ -83,6 +86,22 @@ length_names form zero bytes h = refl
 length_names form (suc n) bytes h =
     length_step (element_at form bytes) (λ rest. elements_at form n rest) n (λ rest. length_names form n rest) h
 
+pub walk_ends : (form : Form) (count : ℕ) (bytes : List ℕ) → count ≡ 0 → names_in (elements_at form count bytes) ≡ []
+unfolding elements_at
+walk_ends form count bytes none = rw none refl
+
+-- no name exactly where none was asked for
+pub no_names : (form : Form) (count : ℕ) (bytes : List ℕ) → IsSome (elements_at form count bytes)
+    → (IsTrue (nat_eq count 0)) ↔ (names_in (elements_at form count bytes) ≡ [])
+no_names form count bytes reads = (
+  λ none. walk_ends form count bytes (eqb-true count 0 none),
+  λ none. is_zero count (sym (length_names form count bytes reads) ∙ ap length none),
+)
+  where
+    is_zero : (n : ℕ) → n ≡ 0 → IsTrue (nat_eq n 0)
+    is_zero zero e = refl
+    is_zero (suc n) e = absurd cc
+
 -- what an index still finds: the names in what is left, from the place that is left
 pub record Finds (form : Form) (left : ℕ) (bytes : List ℕ) (index : ℕ) (total : Option (List ℕ)) : Type 0 where
   pub reads : IsSome (elements_at form left bytes)
@@ -132,15 +151,6 @@ pub finds_nothing : {form : Form} {count i : ℕ} (index : ℕ) {bytes : List �
     → Finds form (count - i) bytes (index - i) total → None ≡ total
 finds_nothing {form} {count} {i} index {bytes} {total} le f =
     sym (ap (λ read. slice_get (names_in read) (index - i)) (at_end form count i bytes le)) ∙ f.same
-
--- one more item of a list that is copied
-pub take_one_more : (xs : List (List ℕ)) (i : ℕ) {old new : List (List ℕ)} {x : List ℕ} → old ≡ take i xs
-    → slice_get xs i ≡ Some x → new ≡ old ++ x ∷ [] → new ≡ take (i + 1) xs
-take_one_more xs i {old} {new} {x} e f g =
-    let lt = slice_get_within xs i x f in
-    let here : get_or xs i x ≡ x = get_or_from_slice_get xs i x x f in
-    g ∙ ap (λ (t : List (List ℕ)). t ++ x ∷ []) e
-    ∙ sym (take_more xs i x lt ∙ ap (λ (y : List ℕ). take i xs ++ y ∷ []) here)
 
 -- ---- a name among the symbols
 
@@ -206,3 +216,65 @@ pub seeks_nothing : {form : Form} {count i : ℕ} {bytes name : List ℕ} {all :
 seeks_nothing {form} {count} {i} {bytes} {name} {all} le s k =
     contains_none name (subst (λ (xs : List (List ℕ)). Contains xs name) (ap names_in (at_end form count i bytes le))
     (s.in_rest k))
+
+-- ---- a step of a walk that keeps what is left
+
+one_fewer : (form : Form) (count : ℕ) (bytes name after : List ℕ) → (count ≡ 0 → ⊥)
+    → element_at form bytes ≡ Some (name, after)
+    → elements_at form count bytes ≡ with_first name (elements_at form (count - 1) after)
+one_fewer form count bytes name after some read =
+    let all : count - 0 ≡ count = omega arith in
+    rw all at (one_more form count 0 bytes name after (omega (arith, some)) read)
+
+pub walk_reads : (form : Form) (count : ℕ) (bytes : List ℕ) {name after : List ℕ} → (count ≡ 0 → ⊥)
+    → element_at form bytes ≡ Some (name, after)
+    → IsSome (elements_at form count bytes) → IsSome (elements_at form (count - 1) after)
+walk_reads form count bytes {name} {after} some read reads =
+    let one = one_fewer form count bytes name after some read in
+    is_some-with_first name (elements_at form (count - 1) after) (rw one at reads)
+
+pub walk_yields : (form : Form) (count : ℕ) (bytes : List ℕ) {name after : List ℕ} → (count ≡ 0 → ⊥)
+    → element_at form bytes ≡ Some (name, after) → IsSome (elements_at form count bytes)
+    → names_in (elements_at form count bytes) ≡ name ∷ names_in (elements_at form (count - 1) after)
+walk_yields form count bytes {name} {after} some read reads =
+    let one = one_fewer form count bytes name after some read in
+    ap names_in one ∙ names-with_first name (elements_at form (count - 1) after) (rw one at reads)
+
+pub walk_goes_on : (form : Form) (count : ℕ) (bytes : List ℕ) → (count ≡ 0 → ⊥) → element_at form bytes ≡ None
+    → IsSome (elements_at form count bytes) → ⊥
+walk_goes_on form count bytes some read reads =
+    let all : count - 0 ≡ count = omega arith in
+    let none = rw all at (stops form count 0 bytes (omega (arith, some)) read) in
+    let k : IsSome {T = List (List ℕ) × List ℕ} None = rw none at reads in
+    cc
+
+-- ---- what each name is
+
+ascii_step : (first : Option (List ℕ × List ℕ)) (others : List ℕ → Option (List (List ℕ) × List ℕ))
+    → ((x : List ℕ × List ℕ) → first ≡ Some x → IsAscii x.0)
+    → ((rest : List ℕ) → AllByRecursion IsAscii (names_in (others rest)))
+    → AllByRecursion IsAscii (names_in (first >>= λ x. with_first x.0 (others x.1)))
+ascii_step None others ascii each = tt
+ascii_step (Some x) others ascii each = ascii_more x.0 (others x.1) (ascii x refl) (each x.1)
+  where
+    ascii_more : (name : List ℕ) (read : Option (List (List ℕ) × List ℕ)) → IsAscii name
+        → AllByRecursion IsAscii (names_in read) → AllByRecursion IsAscii (names_in (with_first name read))
+    ascii_more name None one more = tt
+    ascii_more name (Some x) one more = (one, more)
+
+element_ascii : (form : Form) (bytes : List ℕ) (x : List ℕ × List ℕ) → element_at form bytes ≡ Some x → IsAscii x.0
+unfolding element_at
+element_ascii form bytes x read =
+    let content = bind_some (content_at form bytes) (λ y. cond (is_ascii y.0) (Some y) None) x read in
+    let test = when_some (is_ascii content.0.0) (Some content.0) x content.2 in
+    let same : content.0 ≡ x = some_is content.0 x test.1 in
+    subst (λ (y : List ℕ × List ℕ). IsAscii y.0) same (IsAscii-from_is_ascii content.0.0 test.0)
+
+-- each name is ASCII
+pub ascii_names : (form : Form) (count : ℕ) (bytes : List ℕ)
+    → AllByRecursion IsAscii (names_in (elements_at form count bytes))
+unfolding elements_at
+ascii_names form zero bytes = tt
+ascii_names form (suc n) bytes =
+    ascii_step (element_at form bytes) (λ rest. elements_at form n rest) (element_ascii form bytes)
+    (λ rest. ascii_names form n rest)
