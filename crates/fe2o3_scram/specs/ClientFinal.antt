@@ -50,7 +50,8 @@ AnswersServerFirst version client bare text (Ok answer) =
 AnswersServerFirst version client bare text (Err fault) = ReadsServerFirst client text (Err fault)
 
 -- the HMAC values of the keys (RFC 5802, section 3), as a meter shows them before and after the call: none for a
--- message that is refused, the count and 4 for one that is answered, and no more than that where memory ran out
+-- message that is refused, the count and 4 for one that is answered, no more than that where memory ran out, and never
+-- fewer than before
 pub record AnswerCosts {A : Type 0} (client : Client) (text : List ℕ) (result : Result A ScramErrorKind)
     (before after : ℕ) : Type 0 where
   pub refused : (fault : ScramErrorKind) → ReadsServerFirst client text (Err fault) → after ≡ before
@@ -58,6 +59,7 @@ pub record AnswerCosts {A : Type 0} (client : Client) (text : List ℕ) (result 
       → OnOk result (after ≡ before + (first.count + 4))
   pub at_most : (first : ServerFirst) → ReadsServerFirst client text (Ok first) → after ≤ before + (first.count + 4)
   pub limited : after ≤ before + (client.limit + 4)
+  pub never_falls : before ≤ after
 
 -- what a client-final message names (RFC 5802, section 7): the proof, and what stands before it
 pub record ClientFinal : Type 0 where

@@ -116,6 +116,7 @@ impl ScramVersion {
         ensures counted { OnOk result (meter.new ≡ meter.old + (first.now.iterations + 4)) }
         ensures memory { IfErr result (λ kind. kind ≡ ScramErrorKind.OutOfMemory) }
         ensures at_most { OnErr result (meter.new ≤ meter.old + (first.now.iterations + 4)) }
+        ensures never_falls { meter.old ≤ meter.new }
     {
         let without_proof = without_proof(alloc, first.nonce)?;
         let auth_message = auth_message(

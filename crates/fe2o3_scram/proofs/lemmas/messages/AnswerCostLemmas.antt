@@ -16,12 +16,13 @@ one_count_read client text first other reads too =
 
 pub costs_of_answer : {A : Type 0} (client : Client) (text : List ℕ) (result : Result A ScramErrorKind)
     (first : ServerFirst) (before after : ℕ) → ReadsServerFirst client text (Ok first) → first.count ≤ client.limit
-    → OnOk result (after ≡ before + (first.count + 4)) → after ≤ before + (first.count + 4)
+    → OnOk result (after ≡ before + (first.count + 4)) → after ≤ before + (first.count + 4) → before ≤ after
     → AnswerCosts client text result before after
-costs_of_answer client text result first before after reads within answered most = record {
+costs_of_answer client text result first before after reads within answered most rises = record {
   refused = λ fault refuses. let both = one_server_first client text (Ok first) (Err fault) reads refuses in
       absurd (cc);
   answered = λ other too. let same = one_count_read client text first other reads too in rw same at answered;
   at_most = λ other too. let same = one_count_read client text first other reads too in rw same at most;
   limited = omega (arith, within, most);
+  never_falls = rises;
 }

@@ -11,6 +11,7 @@ returns-in_err-answer-clause-cost c =
     costs_of_answer client c.args.server_first.now c.from_residual-in_err-answer.result
     (server_first_values c.in_ok-first.first) c.args.meter.now c.answer.new.meter
     c.in_ok-first.ensures.reads c.in_ok-first.ensures.count.1 (rw from.1 tt) c.in_err-answer.ensures.at_most
+    c.in_err-answer.ensures.never_falls
 
 pub returns-clause-cost : goal.returns-clause-cost
 returns-clause-cost c =
@@ -18,4 +19,4 @@ returns-clause-cost c =
     costs_of_answer client c.args.server_first.now (Ok c.in_ok-answer.answer)
     (server_first_values c.in_ok-first.first) c.args.meter.now c.answer.new.meter
     c.in_ok-first.ensures.reads c.in_ok-first.ensures.count.1 c.in_ok-answer.ensures.counted
-    (omega (arith, c.in_ok-answer.ensures.counted))
+    (omega (arith, c.in_ok-answer.ensures.counted)) c.in_ok-answer.ensures.never_falls
