@@ -85,7 +85,7 @@ impl Model for ScramClient {
 }
 
 impl ScramClient {
-    /// A client that has sent nothing, and accepts every iteration count.
+    /// A client that has sent nothing, and accepts every iteration count from 1 on.
     pub fn new(username: String, password: String, scram_version: ScramVersion) -> Self
         ensures { result ≡ record {
           user = string_bytes username;

@@ -16,7 +16,7 @@ use std::alloc::Global;
 
 impl ScramVersion {
     /// Answers a server-first message: the client-final message, and the signature that the
-    /// server-final message has to show. Every iteration count is accepted.
+    /// server-final message has to show. Every iteration count from 1 on is accepted.
     pub fn compute_client_final_message(
         &self,
         alloc: Global,

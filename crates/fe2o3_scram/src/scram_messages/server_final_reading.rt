@@ -39,8 +39,11 @@ impl ServerFinal {
 }
 
 impl ScramVersion {
-    /// Tests that the server-final message has this signature, which only a server makes that
-    /// holds the server key. The signature is compared byte by byte, and not in constant time.
+    /// Tests that the server-final message has this signature. Parts after the first say nothing.
+    /// The signature is compared byte by byte, and not in constant time.
+    ///
+    /// Refused are, in this order: `Utf8Error`; `ServerSignatureMismatch` where the first part does
+    /// not begin with `v=`; `Base64DecodeError`; `ServerSignatureMismatch` for another signature.
     pub fn validate_server_final(
         &self,
         alloc: Global,
