@@ -1,7 +1,7 @@
 //! The five SASL frames (AMQP 1.0, part 5, section 5.3), without their four-byte size.
 
 ghost use Rattle.std.specs.Prelude.{◌≡◌, IfOk, IfErr, OnOk, OnErr};
-ghost use Rattle.fe2o3_sasl_wire.specs.SaslFrames.{TakesFrame, RefusesBody, AppendsCanonical, RefusesFrame};
+ghost use Rattle.fe2o3_sasl_wire.specs.SaslFrames.{TakesFrame, RefusesBody, AppendsCanonical, RefusesFrame, HasTexts};
 ghost use Rattle.fe2o3_sasl_wire.specs.Owned.{owned_frame};
 
 mod error;
@@ -59,9 +59,11 @@ const MAX_ITEMS_LEN: usize = 0xffff_fffb;
 impl FrameCodec {
     /// Appends the canonical body of the frame: each size and length in its shortest form, the
     /// mechanisms as an array, and no nulls at the end. TooLarge where a size is more than 32 bits.
-    /// After a refusal the buffer is as before. Memory is asked for at most once.
+    /// After a refusal the buffer is as before. Memory is asked for at most once. Each frame has texts:
+    /// its symbols are ASCII and its hostname is UTF-8, so its canonical body spells it.
     pub fn encode(&mut self, item: Frame, dst: &mut BytesMut) -> Result<(), Error>
         ensures ok { OnOk result (AppendsCanonical (owned_frame item) dst.old.items dst.new.items) }
+        ensures texts { HasTexts (owned_frame item) }
         ensures err { IfErr result (λ fault. RefusesFrame (owned_frame item) fault) }
         ensures unchanged { OnErr result (dst.new.items ≡ dst.old.items) }
     {
@@ -83,9 +85,10 @@ impl FrameCodec {
     /// Reads one frame from the front of a buffer and takes its bytes; later bytes stay. In this
     /// order: fewer than four bytes are a DecodeError, another type or data offset is
     /// NotImplemented, and anything else that begins with no frame a DecodeError. After a refusal the
-    /// buffer is as before.
+    /// buffer is as before. Each frame has texts, as in `encode`.
     pub fn decode(&mut self, alloc: Global, src: &mut BytesMut) -> Result<Frame, Error>
         ensures ok { IfOk result (λ frame. TakesFrame src.old.items src.new.items (owned_frame frame)) }
+        ensures texts { IfOk result (λ frame. HasTexts (owned_frame frame)) }
         ensures err { IfErr result (λ fault. RefusesBody src.old.items fault) }
         ensures unchanged { OnErr result (src.new.items ≡ src.old.items) }
     {

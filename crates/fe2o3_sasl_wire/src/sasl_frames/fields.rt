@@ -1,8 +1,8 @@
 //! The fields of a frame that is to be written. Nothing here takes memory.
 
 ghost use Rattle.std.specs.Prelude.{◌≡◌, ◌≤◌, ◌<◌, ◌+◌, ◌^◌, ◌-◌, ◌++◌, length, map, min, option_map, string_bytes};
-ghost use Rattle.std.specs.List.{flat_map};
-ghost use Rattle.fe2o3_sasl_wire.specs.SaslFrames.{code_of, kind_of, fields_of, optional, Binary as BinaryField, Text as TextField, canonical_field, count_of};
+ghost use Rattle.std.specs.List.{flat_map, AllByRecursion};
+ghost use Rattle.fe2o3_sasl_wire.specs.SaslFrames.{code_of, kind_of, fields_of, optional, Binary as BinaryField, Text as TextField, canonical_field, count_of, IsText};
 ghost use Rattle.fe2o3_sasl_wire.specs.AmqpTypes.{binary_bytes};
 ghost use Rattle.fe2o3_sasl_wire.specs.Owned.{owned_frame};
 ghost use Rattle.fe2o3_sasl_wire.specs.private.Fields.{shown_field, filled};
@@ -31,7 +31,7 @@ pub(crate) enum Field<'a> {
     Text(&'a str),
 
     /// A symbol.
-    Symbol(&'a str),
+    Symbol(&'a Symbol),
 
     /// Symbols.
     Symbols(&'a [Symbol]),
@@ -81,7 +81,7 @@ pub(crate) fn fields_of(frame: &Frame) -> [Field<'_>; 3]
             Field::Null,
         ],
         Frame::Init(init) => [
-            Field::Symbol(init.mechanism.as_str()),
+            Field::Symbol(&init.mechanism),
             optional_binary(&init.initial_response),
             optional_text(&init.hostname),
         ],
@@ -124,20 +124,23 @@ pub(crate) fn count_of(frame: &Frame) -> usize
 
 /// How long a field is when it is written, or the largest number where that is larger.
 fn field_len(field: Field<'_>) -> usize
-    ensures { result ≡ min (length (canonical_field (shown_field field.entry))) (2 ^ 64 - 1) }
+    ensures len { result ≡ min (length (canonical_field (shown_field field.entry))) (2 ^ 64 - 1) }
+    ensures texts { IsText (shown_field field.entry) }
 {
     match field {
         Field::Null => 1,
         Field::Ubyte(_) => 2,
         Field::Binary(bytes) => variable_len(bytes),
-        Field::Text(text) | Field::Symbol(text) => variable_len(text.as_bytes()),
+        Field::Text(text) => variable_len(text.as_bytes()),
+        Field::Symbol(symbol) => variable_len(symbol.as_str().as_bytes()),
         Field::Symbols(symbols) => array_len(symbols),
     }
 }
 
 /// How long the fields are when they are written, or the largest number where that is larger.
 pub(crate) fn items_len(fields: &[Field<'_>]) -> usize
-    ensures { result ≡ min (length (flat_map canonical_field (map shown_field fields.now))) (2 ^ 64 - 1) }
+    ensures len { result ≡ min (length (flat_map canonical_field (map shown_field fields.now))) (2 ^ 64 - 1) }
+    ensures texts { AllByRecursion IsText (map shown_field fields.now) }
 {
     let mut len = 0usize;
     for field in fields {
@@ -158,7 +161,9 @@ fn put_field(out: &mut BytesMut, field: Field<'_>)
         Field::Ubyte(number) => out.extend_reserved(&[UBYTE, number]),
         Field::Binary(bytes) => put_variable(out, BINARY_8, BINARY_32, bytes),
         Field::Text(text) => put_variable(out, STRING_8, STRING_32, text.as_bytes()),
-        Field::Symbol(text) => put_variable(out, SYMBOL_8, SYMBOL_32, text.as_bytes()),
+        Field::Symbol(symbol) => {
+            put_variable(out, SYMBOL_8, SYMBOL_32, symbol.as_str().as_bytes())
+        }
         Field::Symbols(symbols) => put_array(out, symbols),
     }
 }

@@ -1,6 +1,6 @@
 //! Writing one encoding at the end of a buffer that has room for it. Nothing here takes memory.
 
-ghost use Rattle.std.specs.Prelude.{◌≡◌, ◌≤◌, ◌<◌, ◌+◌, ◌^◌, ◌-◌, ◌++◌, ◌∷◌, [], length, min};
+ghost use Rattle.std.specs.Prelude.{◌≡◌, ◌≤◌, ◌<◌, ◌+◌, ◌^◌, ◌-◌, ◌++◌, ◌∷◌, [], length, min, IsAscii};
 ghost use Rattle.std.specs.List.{AllByRecursion};
 ghost use Rattle.fe2o3_sasl_wire.specs.SaslFrames.{choice, limit, number, content, shortest, inner_form, canonical_variable, canonical_array};
 ghost use Rattle.fe2o3_sasl_wire.specs.private.Writing.{width, elements};
@@ -121,7 +121,8 @@ fn inner_form(symbols: &[Symbol]) -> Form
 
 /// How long the elements are, or the largest number where that is larger.
 fn elements_len(form: Form, symbols: &[Symbol]) -> usize
-    ensures { result ≡ min (length (elements form symbols.now)) (2 ^ 64 - 1) }
+    ensures len { result ≡ min (length (elements form symbols.now)) (2 ^ 64 - 1) }
+    ensures ascii { AllByRecursion IsAscii symbols.now }
 {
     let mut len = 0usize;
     for symbol in symbols {
@@ -146,7 +147,8 @@ fn put_elements(out: &mut BytesMut, form: Form, symbols: &[Symbol])
 
 /// How long an array of symbols is when it is written, or the largest number where that is larger.
 pub(crate) fn array_len(symbols: &[Symbol]) -> usize
-    ensures { result ≡ min (length (canonical_array symbols.now)) (2 ^ 64 - 1) }
+    ensures len { result ≡ min (length (canonical_array symbols.now)) (2 ^ 64 - 1) }
+    ensures ascii { AllByRecursion IsAscii symbols.now }
 {
     let len = elements_len(inner_form(symbols), symbols);
     let form = shortest(len.saturating_add(2));

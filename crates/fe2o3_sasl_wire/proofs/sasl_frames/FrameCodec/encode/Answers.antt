@@ -5,6 +5,7 @@ use Rattle.fe2o3_sasl_wire.specs.private.Writing.{width}
 use Rattle.fe2o3_sasl_wire.specs.SaslFrames.{number, canonical_field, items_of}
 use Rattle.fe2o3_sasl_wire.specs.Owned.{owned_frame}
 use Rattle.fe2o3_sasl_wire.proofs.lemmas.writing.BodyPartsLemmas.{Keeps, kept_fields, kept_count, kept_len, no_body, body_in_parts, has_body, appends}
+use Rattle.fe2o3_sasl_wire.proofs.lemmas.frames.FrameTextLemmas.{kept_texts}
 use Rattle.fe2o3_sasl_wire.proofs.sasl_frames.FrameCodec.encode.Goals as goal
 
 pub returns-then-len-gt-MAX_ITEMS_LEN-clause-err : goal.returns-then-len-gt-MAX_ITEMS_LEN-clause-err
@@ -14,7 +15,7 @@ returns-then-len-gt-MAX_ITEMS_LEN-clause-err c =
       fields = c.fields_of-fields.ensures;
       count = c.count_of.ensures.count;
     } in
-    let len = kept_len c.items_len-len.result keeps c.items_len-len.ensures in
+    let len = kept_len c.items_len-len.result keeps c.items_len-len.ensures.len in
     no_body frame (length (items_of frame)) refl (omega (arith, len, c.if-len-gt-MAX_ITEMS_LEN.true))
 
 pub returns-in_err-reserve-clause-err : goal.returns-in_err-reserve-clause-err
@@ -25,7 +26,7 @@ returns-in_err-reserve-clause-err c =
       fields = c.fields_of-fields.ensures;
       count = c.count_of.ensures.count;
     } in
-    let len = kept_len c.items_len-len.result keeps c.items_len-len.ensures in
+    let len = kept_len c.items_len-len.result keeps c.items_len-len.ensures.len in
     let short = has_body frame (length (items_of frame)) refl (omega (arith, len, c.if-len-gt-MAX_ITEMS_LEN.false)) in
     rw (fault.1, fault.2) short
 
@@ -38,7 +39,7 @@ returns-clause-ok c =
     } in
     let form = c.shortest-form.result in
     let n = c.items_len-len.result in
-    let len = kept_len n keeps c.items_len-len.ensures in
+    let len = kept_len n keeps c.items_len-len.ensures.len in
     let size = c.width-2.result + n in
     let len_is : n ≡ length (items_of frame) = omega (arith, len, c.if-len-gt-MAX_ITEMS_LEN.false) in
     let size_is : size ≡ width form + n = ap (λ k. k + n) c.width-2.ensures in
@@ -51,3 +52,30 @@ returns-clause-ok c =
     c.put_number.ensures.items
     (c.put_number-2.ensures.items ∙ ap (λ count. sized ++ number form count) (kept_count keeps))
     (c.put_items.ensures.items ∙ ap (λ fields. counted ++ flat_map canonical_field fields) (kept_fields keeps))
+
+pub returns-then-len-gt-MAX_ITEMS_LEN-clause-texts : goal.returns-then-len-gt-MAX_ITEMS_LEN-clause-texts
+returns-then-len-gt-MAX_ITEMS_LEN-clause-texts c =
+    let frame = owned_frame c.args.item in
+    let keeps : Keeps frame c.fields_of-fields.result c.count_of.result = record {
+      fields = c.fields_of-fields.ensures;
+      count = c.count_of.ensures.count;
+    } in
+    kept_texts keeps c.items_len-len.ensures.texts
+
+pub returns-in_err-reserve-clause-texts : goal.returns-in_err-reserve-clause-texts
+returns-in_err-reserve-clause-texts c =
+    let frame = owned_frame c.args.item in
+    let keeps : Keeps frame c.fields_of-fields.result c.count_of.result = record {
+      fields = c.fields_of-fields.ensures;
+      count = c.count_of.ensures.count;
+    } in
+    kept_texts keeps c.items_len-len.ensures.texts
+
+pub returns-clause-texts : goal.returns-clause-texts
+returns-clause-texts c =
+    let frame = owned_frame c.args.item in
+    let keeps : Keeps frame c.fields_of-fields.result c.count_of.result = record {
+      fields = c.fields_of-fields.ensures;
+      count = c.count_of.ensures.count;
+    } in
+    kept_texts keeps c.items_len-len.ensures.texts
