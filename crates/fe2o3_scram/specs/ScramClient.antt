@@ -7,7 +7,7 @@ use Rattle.fe2o3_scram.specs.declared.scram_client.ScramClientState.TheVariants.
 use Rattle.fe2o3_scram.specs.declared.scram_messages.error.ScramErrorKind.{ScramErrorKind}
 use Rattle.fe2o3_scram.specs.declared.scram_messages.error.ScramErrorKind.TheVariants.{IllegalClientState}
 use Rattle.fe2o3_scram.specs.Texts.{base64_text}
-use Rattle.fe2o3_scram.specs.ClientFinal.{AnswersServerFirst}
+use Rattle.fe2o3_scram.specs.ClientFinal.{AnswersServerFirst, AnswerCosts}
 use Rattle.fe2o3_scram.specs.ClientFirst.{client_first_bare}
 use Rattle.fe2o3_scram.specs.ServerFirst.{Client, client_of, ReadsServerFirst}
 use Rattle.fe2o3_scram.specs.ServerFinal.{ReadsServerFinal}
@@ -57,6 +57,13 @@ AnswersIn (ClientFirstSent nonce bare) side text (Err fault) next =
     ReadsServerFirst (holding side nonce) text (Err fault) × (next ≡ side)
 AnswersIn state side text (Ok message) next = ⊥
 AnswersIn state side text (Err fault) next = (fault ≡ IllegalClientState) × (next ≡ side)
+
+-- the HMAC values of that answer (RFC 5802, section 3), as a meter shows them before and after the call: those of the
+-- keys where the client has sent its first message, and none in another state
+abbrev pub AnswerCostsIn : {A : Type 0} → ClientState → ClientSide → List ℕ → Result A ScramErrorKind → ℕ → ℕ → Type 0
+AnswerCostsIn (ClientFirstSent nonce bare) side text result before after =
+    AnswerCosts (holding side nonce) text result before after
+AnswerCostsIn state side text result before after = after ≡ before
 
 -- whether a client in this state believes a server-final message (RFC 5802, section 5), and the client after it: one
 -- that has answered tests it, any other refuses it unread, and a refusal changes nothing

@@ -1,5 +1,5 @@
 -- A SCRAM server from message to message (RFC 5802, section 5).
-use Rattle.std.specs.Prelude.{ℕ, List, ◌≡◌, ◌⊎◌, Option, Some, None, Result, Ok, Err}
+use Rattle.std.specs.Prelude.{ℕ, List, ◌≡◌, ◌⊎◌, Option, Some, None, MatchOption, Result, Ok, Err}
 use Rattle.std.specs.String.{string_bytes}
 use Rattle.fe2o3_scram.specs.declared.scram_messages.error.ServerScramErrorKind.{ServerScramErrorKind}
 use Rattle.fe2o3_scram.specs.declared.scram_messages.error.ServerScramErrorKind.TheVariants.{AuthenticationFailed, IllegalAuthenticatorState}
@@ -9,7 +9,7 @@ use Rattle.fe2o3_scram.specs.Texts.{base64_text}
 use Rattle.fe2o3_scram.specs.ServerFirst.{Challenge, AnswersClientFirst}
 use Rattle.fe2o3_scram.specs.Credentials.{Record, Provider, record_at}
 use Rattle.fe2o3_scram.specs.ClientFinal.{server_of}
-use Rattle.fe2o3_scram.specs.ServerFinal.{AnswersClientFinal}
+use Rattle.fe2o3_scram.specs.ServerFinal.{AnswersClientFinal, FinalCosts}
 use Rattle.fe2o3_scram.specs.declared.scram_server.ScramAuthenticator.{ScramAuthenticator}
 
 -- what a server has sent last (RFC 5802, section 5): an open challenge, or the end of a login
@@ -45,6 +45,13 @@ ConcludesFrom (ServerFirstSent challenge) provider text (Err fault) next =
     × (next ≡ ServerFirstSent challenge)
 ConcludesFrom state provider text (Ok message) next = ⊥
 ConcludesFrom state provider text (Err fault) next = (fault ≡ IllegalAuthenticatorState) × (next ≡ state)
+
+-- the HMAC values of that answer (RFC 5802, section 3), as a meter shows them before and after the call: those of the
+-- proof and the signature where a challenge is open and the provider has its user, and none elsewhere
+abbrev pub FinalCostsFrom : {A : Type 0} → ServerState → Provider → Result A ServerScramErrorKind → ℕ → ℕ → Type 0
+FinalCostsFrom (ServerFirstSent challenge) provider result before after =
+    MatchOption (record_at provider.records challenge.user) (after ≡ before) (λ _. FinalCosts result before after)
+FinalCostsFrom state provider result before after = after ≡ before
 
 -- the state that the code's state is
 abbrev pub state_of : ScramAuthenticatorState → ServerState

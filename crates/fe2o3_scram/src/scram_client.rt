@@ -1,10 +1,10 @@
 //! The SCRAM client as a machine: one message after the other (RFC 5802, section 5).
 
-ghost use Rattle.std.specs.Prelude.{◌≡◌, IfOk, OnOk, OnErr};
+ghost use Rattle.std.specs.Prelude.{◌≡◌, ◌≤◌, ◌^◌, IfOk, OnOk, OnErr};
 ghost use Rattle.std.specs.String.{string_bytes};
 ghost use Rattle.fe2o3_scram.specs.Texts.{base64_text};
 ghost use Rattle.fe2o3_scram.specs.ClientFirst.{client_first};
-ghost use Rattle.fe2o3_scram.specs.ScramClient.{Initial, AnswersIn, BelievesIn, started, state_of};
+ghost use Rattle.fe2o3_scram.specs.ScramClient.{Initial, AnswersIn, AnswerCostsIn, BelievesIn, started, state_of};
 ghost use Rattle.fe2o3_scram.specs.Readings.{Gives};
 ghost use Rattle.fe2o3_scram.specs.ServerFirst.{no_limit};
 
@@ -163,6 +163,22 @@ impl ScramClient {
             (λ answer. AnswersIn self.old.state self.old server_first.now answer self.new) }
         ensures err { OnErr result (self.new ≡ self.old) }
     {
+        self.compute_client_final_message_metered(alloc, server_first, &mut Meter::new())
+    }
+
+    /// As `compute_client_final_message`. The meter counts the HMAC values, also of a refusal.
+    pub fn compute_client_final_message_metered(
+        &mut self,
+        alloc: Global,
+        server_first: &str,
+        meter: &mut Meter,
+    ) -> Result<Vec<u8>, ScramErrorKind>
+        requires { meter.old ≤ 2 ^ 63 }
+        ensures answer { Gives ScramErrorKind.OutOfMemory (λ message. message.items) result
+            (λ answer. AnswersIn self.old.state self.old server_first.now answer self.new) }
+        ensures err { OnErr result (self.new ≡ self.old) }
+        ensures cost { AnswerCostsIn self.old.state self.old server_first.now result meter.old meter.new }
+    {
         match &self.state {
             ScramClientState::ClientFirstSent {
                 client_nonce,
@@ -177,7 +193,7 @@ impl ScramClient {
                         server_first,
                         client_first_message_bare,
                         self.iteration_limit,
-                        &mut Meter::new(),
+                        meter,
                     )?;
                 self.state = ScramClientState::ClientFinalSent { server_signature };
                 Ok(client_final)

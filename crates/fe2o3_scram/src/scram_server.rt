@@ -1,13 +1,14 @@
 //! The SCRAM server as a machine: one message after the other (RFC 5802, section 5).
 
-ghost use Rattle.std.specs.Prelude.{◌≡◌, IfOk, OnErr, option_map};
-ghost use Rattle.fe2o3_scram.specs.ScramServer.{provider_in, state_in, Initial, ChallengesFrom, ConcludesFrom, state_of};
+ghost use Rattle.std.specs.Prelude.{◌≡◌, ◌≤◌, ◌^◌, IfOk, OnErr, option_map};
+ghost use Rattle.fe2o3_scram.specs.ScramServer.{provider_in, state_in, Initial, ChallengesFrom, ConcludesFrom, FinalCostsFrom, state_of};
 ghost use Rattle.fe2o3_scram.specs.Texts.{base64_text};
 ghost use Rattle.fe2o3_scram.specs.ServerFirst.{AnswersClientFirst, challenge_values};
 ghost use Rattle.fe2o3_scram.specs.Readings.{Gives};
 
 use crate::OutOfMemory;
 use crate::credentials::ScramCredentialProvider;
+use crate::hmac::Meter;
 use crate::scram_messages::ServerFirstMessage;
 use crate::scram_messages::error::ServerScramErrorKind;
 use crate::texts::base64_of;
@@ -130,6 +131,25 @@ impl<C: ScramCredentialProvider> ScramAuthenticator<C> {
         ensures provider { provider_in self.new ≡ provider_in self.old }
         ensures err { OnErr result (state_in self.new ≡ state_in self.old) }
     {
+        self.compute_server_final_message_metered(alloc, client_final_message, &mut Meter::new())
+    }
+
+    /// As `compute_server_final_message`. The meter counts the HMAC values, also of a refusal.
+    pub fn compute_server_final_message_metered(
+        &mut self,
+        alloc: Global,
+        client_final_message: &[u8],
+        meter: &mut Meter,
+    ) -> Result<Option<Vec<u8>>, ServerScramErrorKind>
+        requires { meter.old ≤ 2 ^ 63 }
+        ensures answer { Gives ServerScramErrorKind.OutOfMemory (option_map (λ message. message.items)) result
+            (λ answer. ConcludesFrom (state_in self.old) (C.meaning (provider_in self.old))
+            client_final_message.now answer (state_in self.new)) }
+        ensures provider { provider_in self.new ≡ provider_in self.old }
+        ensures err { OnErr result (state_in self.new ≡ state_in self.old) }
+        ensures cost { FinalCostsFrom (state_in self.old) (C.meaning (provider_in self.old)) result
+            meter.old meter.new }
+    {
         match &self.state {
             ScramAuthenticatorState::ServerFirstSent {
                 username,
@@ -143,13 +163,14 @@ impl<C: ScramCredentialProvider> ScramAuthenticator<C> {
                 let server_final_message = self
                     .credentials
                     .scram_version()
-                    .compute_server_final_message(
+                    .compute_server_final_message_metered(
                         alloc,
                         client_final_message,
                         client_server_nonce,
                         client_first_message_bare,
                         server_first_message,
                         &stored_password,
+                        meter,
                     )?;
                 self.state = ScramAuthenticatorState::ServerFinalSent;
                 Ok(Some(server_final_message))

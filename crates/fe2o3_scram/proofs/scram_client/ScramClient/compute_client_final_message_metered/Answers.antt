@@ -1,5 +1,5 @@
 use Rattle.std.proofs.Common.{refl}
-use Rattle.fe2o3_scram.proofs.scram_client.ScramClient.compute_client_final_message.Goals as goal
+use Rattle.fe2o3_scram.proofs.scram_client.ScramClient.compute_client_final_message_metered.Goals as goal
 
 pub returns-in_ok-client_final-in-ClientFirstSent-clause-answer :
     goal.returns-in_ok-client_final-in-ClientFirstSent-clause-answer
