@@ -109,19 +109,28 @@ fn verifier_unmetered(
     )
 }
 
-fn serves<R: Abort + AllocGlobal>(rt: &R, exchange: &Exchange) -> Result<(), Fail> {
-    let (alloc, version) = (rt.alloc(), exchange.version);
-    let accounts = accounts(alloc, exchange)?;
-    let client_first = format!(in alloc; "n,,{}", exchange.client_first_bare)?;
-    let first = challenge(alloc, exchange, &accounts, &client_first)?;
-    is_published(rt, exchange, &first)?;
+/// The server-final message is that of the exchange by both calls.
+fn signs<R: Abort + AllocGlobal>(
+    rt: &R,
+    exchange: &Exchange,
+    accounts: &Accounts,
+    first: &ServerFirstMessage<'_>,
+) -> Result<(), Fail> {
     let wanted = exchange.server_final.as_bytes();
-    let (server_final, count) = verifier(alloc, exchange, &accounts, &first)?;
-    assert_eq!(rt; server_final.as_slice(), wanted, "{version:?}");
-    assert_eq!(rt; count, 2, "{version:?}");
-    let server_final = verifier_unmetered(alloc, exchange, &accounts, &first)?;
-    assert_eq!(rt; server_final.as_slice(), wanted, "{version:?}");
+    let (server_final, count) = verifier(rt.alloc(), exchange, accounts, first)?;
+    assert_eq!(rt; server_final.as_slice(), wanted, "{:?}", exchange.version);
+    assert_eq!(rt; count, 2, "{:?}", exchange.version);
+    let server_final = verifier_unmetered(rt.alloc(), exchange, accounts, first)?;
+    assert_eq!(rt; server_final.as_slice(), wanted, "{:?}", exchange.version);
     Ok(())
+}
+
+fn serves<R: Abort + AllocGlobal>(rt: &R, exchange: &Exchange) -> Result<(), Fail> {
+    let accounts = accounts(rt.alloc(), exchange)?;
+    let client_first = format!(in rt.alloc(); "n,,{}", exchange.client_first_bare)?;
+    let first = challenge(rt.alloc(), exchange, &accounts, &client_first)?;
+    is_published(rt, exchange, &first)?;
+    signs(rt, exchange, &accounts, &first)
 }
 
 #[test]
