@@ -12,6 +12,7 @@ use crate::OutOfMemory;
 use crate::hmac::hasher::digest_of;
 use crate::hmac::keyed::HmacKey;
 use crate::hmac::{DigestBytes, Meter, ScramVersion};
+use crate::same_bytes::same_bytes;
 use crate::scram_messages::error::XorLengthMismatch;
 use std::alloc::Global;
 
@@ -106,7 +107,8 @@ impl ScramVersion {
     }
 
     /// Whether the proof meets the StoredKey, that is, whether the recovered ClientKey's digest is
-    /// the StoredKey. One HMAC value. Keys are compared byte by byte, and not in constant time.
+    /// the StoredKey. One HMAC value. Keys are compared over the whole length, whatever the bytes
+    /// are; no claim is made about time.
     ///
     /// A proof that is not as long as a digest is refused, without an HMAC value.
     pub fn verify_client_proof(
@@ -122,7 +124,10 @@ impl ScramVersion {
         ensures cost { CostsOne result meter.old meter.new }
     {
         let client_key = self.recovered_client_key(stored_key, client_proof, auth_message, meter)?;
-        Ok(self.stored_key(client_key.as_slice()).as_slice() == stored_key)
+        Ok(same_bytes(
+            self.stored_key(client_key.as_slice()).as_slice(),
+            stored_key,
+        ))
     }
 
     /// The ServerSignature: `HMAC(ServerKey, AuthMessage)`, one HMAC value.

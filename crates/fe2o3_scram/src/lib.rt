@@ -17,6 +17,7 @@ pub mod hmac;
 pub mod keys;
 pub mod laws;
 pub mod pbkdf2_hi;
+mod same_bytes;
 pub mod saslprep_ascii;
 pub mod scram_client;
 pub mod scram_messages;

@@ -4,3 +4,4 @@ pub mod NameLemmas
 pub mod OnePadLemmas
 pub mod PadLoopLemmas
 pub mod XorLoopLemmas
+pub mod SameBytesLemmas

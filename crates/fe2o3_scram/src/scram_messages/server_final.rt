@@ -21,7 +21,8 @@ use std::alloc::Global;
 
 impl ScramVersion {
     /// Answers a client-final message, which has to fit the challenge, and whose proof has to meet
-    /// the stored key. Keys are compared byte by byte, and not in constant time.
+    /// the stored key. Keys are compared over the whole length, whatever the bytes are; no claim is
+    /// made about time.
     pub fn compute_server_final_message(
         &self,
         alloc: Global,

@@ -4,6 +4,7 @@ ghost use Rattle.fe2o3_scram.specs.Readings.{Gives};
 ghost use Rattle.fe2o3_scram.specs.ServerFinal.{ReadsServerFinal, ReadsSignature};
 
 use crate::hmac::ScramVersion;
+use crate::same_bytes::same_bytes;
 use crate::scram_messages::attributes::VERIFIER_KEY;
 use crate::scram_messages::error::ScramErrorKind;
 use crate::texts::{attribute, bytes_of};
@@ -39,11 +40,17 @@ impl ServerFinal {
 }
 
 impl ScramVersion {
+<<<<<<< HEAD
     /// Tests that the server-final message has this signature. Parts after the first say nothing.
     /// The signature is compared byte by byte, and not in constant time.
     ///
     /// Refused are, in this order: `Utf8Error`; `ServerSignatureMismatch` where the first part does
     /// not begin with `v=`; `Base64DecodeError`; `ServerSignatureMismatch` for another signature.
+=======
+    /// Tests that the server-final message has this signature, which only a server makes that
+    /// holds the server key. The signature is compared over the whole length, whatever the bytes
+    /// are; no claim is made about time.
+>>>>>>> scram10
     pub fn validate_server_final(
         &self,
         alloc: Global,
@@ -54,7 +61,7 @@ impl ScramVersion {
             (ReadsServerFinal server_signature.now server_final.now) }
     {
         let message = ServerFinal::parse(alloc, server_final)?;
-        if message.signature.as_slice() == server_signature {
+        if same_bytes(message.signature.as_slice(), server_signature) {
             Ok(())
         } else {
             Err(ScramErrorKind::ServerSignatureMismatch)

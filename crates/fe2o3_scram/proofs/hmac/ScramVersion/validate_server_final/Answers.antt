@@ -9,8 +9,8 @@ returns-in_err-message c =
     rw (from.1, from.2) (λ other. text_refused c.args.server_signature.now c.args.server_final.now
     c.in_err-message.field-0.0 (c.in_err-message.ensures other))
 
-pub returns-then-eq : goal.returns-then-eq
-returns-then-eq c = same_signature c.args.server_signature.now c.args.server_final.now
+pub returns-then-same_bytes : goal.returns-then-same_bytes
+returns-then-same_bytes c = same_signature c.args.server_signature.now c.args.server_final.now
     c.in_ok-message.message.signature.items c.in_ok-message.ensures (search rules)
 
 pub returns : goal.returns
