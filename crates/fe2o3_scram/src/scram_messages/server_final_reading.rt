@@ -40,17 +40,12 @@ impl ServerFinal {
 }
 
 impl ScramVersion {
-<<<<<<< HEAD
     /// Tests that the server-final message has this signature. Parts after the first say nothing.
-    /// The signature is compared byte by byte, and not in constant time.
+    /// The signature is compared over its whole length, whatever the bytes are; no claim is made
+    /// about time.
     ///
     /// Refused are, in this order: `Utf8Error`; `ServerSignatureMismatch` where the first part does
     /// not begin with `v=`; `Base64DecodeError`; `ServerSignatureMismatch` for another signature.
-=======
-    /// Tests that the server-final message has this signature, which only a server makes that
-    /// holds the server key. The signature is compared over the whole length, whatever the bytes
-    /// are; no claim is made about time.
->>>>>>> scram10
     pub fn validate_server_final(
         &self,
         alloc: Global,
