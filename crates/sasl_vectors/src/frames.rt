@@ -134,16 +134,16 @@ fn push_symbols(
     text: &mut String,
     symbols: &SymbolsView<'_>,
 ) -> Result<(), AllocError> {
-    if symbols.len() == 0 {
+    if symbols.is_empty() {
         return text.push_str("empty");
     }
-    for index in 0..symbols.len() {
-        if index > 0 {
+    let mut first = true;
+    for symbol in symbols.iter() {
+        if !first {
             text.push_str(",")?;
         }
-        if let Some(symbol) = symbols.get(index) {
-            push_bytes(alloc, text, symbol.as_bytes())?;
-        }
+        push_bytes(alloc, text, symbol.as_bytes())?;
+        first = false;
     }
     Ok(())
 }

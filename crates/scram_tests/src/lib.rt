@@ -19,6 +19,8 @@ mod machines;
 #[cfg(test)]
 mod messages;
 #[cfg(test)]
+mod metered_machines;
+#[cfg(test)]
 mod providers;
 #[cfg(test)]
 mod server_exchanges;
