@@ -1,10 +1,11 @@
 -- What the types of the SASL frames hold, as plain data (AMQP 1.0, part 5, section 5.3.3).
-use Rattle.std.specs.Prelude.{ℕ, ◌==◌, Bool, false, ◌&&◌, List, option_map, bytes_eq, string_bytes, IsAscii}
+use Rattle.std.specs.Prelude.{◌≡◌, ℕ, ◌==◌, Bool, false, ◌&&◌, List, Result, MatchResult, option_map, bytes_eq, string_bytes, IsAscii}
 use Rattle.std.specs.Option.{option_eq}
 use Rattle.std.specs.Cmp.Lexicographic.{pointwise}
 use Rattle.fe2o3_sasl_wire.specs.declared.amqp_types.symbols.SymbolError.{SymbolError}
 use Rattle.fe2o3_sasl_wire.specs.declared.amqp_types.symbols.SymbolError.TheVariants.{NotAscii, OutOfMemory}
 use Rattle.fe2o3_sasl_wire.specs.declared.amqp_types.Binary.{Binary}
+use Rattle.fe2o3_sasl_wire.specs.declared.amqp_types.SaslCode.{SaslCode}
 use Rattle.fe2o3_sasl_wire.specs.declared.amqp_types.SaslMechanisms.{SaslMechanisms}
 use Rattle.fe2o3_sasl_wire.specs.declared.amqp_types.SaslInit.{SaslInit}
 use Rattle.fe2o3_sasl_wire.specs.declared.amqp_types.SaslChallenge.{SaslChallenge}
@@ -16,6 +17,12 @@ use Rattle.fe2o3_sasl_wire.specs.SaslFrames.{SaslFrame, Mechanisms, Init, Challe
 abbrev pub RefusesText : List ℕ → SymbolError → Type 0
 RefusesText text NotAscii = ¬ (IsAscii text)
 RefusesText text OutOfMemory = IsAscii text
+
+-- the result is the code of this byte, or the byte itself where no code has it (part 5, section 5.3.3.6)
+abbrev pub DecodesCode : ℕ → Result SaslCode ℕ → Type 0
+DecodesCode byte r = MatchResult r
+    (λ code. outcome_code code ≡ byte)
+    (λ back. (back ≡ byte) × ((code : SaslCode) → ¬ (outcome_code code ≡ byte)))
 
 -- the bytes of a binary
 abbrev pub binary_bytes : Binary → List ℕ

@@ -14,7 +14,7 @@ use crate::sasl_frames::reading::{byte_at, symbol_at, u64_at};
 use crate::sasl_frames::symbols_view::SymbolsView;
 use crate::sasl_frames::{DATA_OFFSET, FRAME_TYPE_SASL};
 
-/// A SASL frame whose texts and bytes are slices of its body.
+/// A SASL frame whose texts and bytes are slices of its body (AMQP 1.0, part 5, section 5.3.3).
 #[derive(Drop)]
 pub enum FrameView<'a> {
     /// The mechanisms that the server offers.
@@ -49,6 +49,7 @@ pub enum FrameView<'a> {
 }
 
 /// The kind of frame with this code.
+#[inline(always)]
 fn kind_of_code(code: u64) -> Option<Kind>
     ensures { result ≡ kind_of_code code }
 {
@@ -63,6 +64,7 @@ fn kind_of_code(code: u64) -> Option<Kind>
 }
 
 /// The kind of frame with this name.
+#[inline(always)]
 #[tactic(auto, unfolding(crate::specs::private::Reading::kind_of_name))]
 fn kind_of_name(name: &str) -> Option<Kind>
     ensures { result ≡ kind_of_name name.now }
@@ -83,6 +85,7 @@ fn kind_of_name(name: &str) -> Option<Kind>
 }
 
 /// A descriptor: a code as smallulong or as ulong, or a name.
+#[inline(always)]
 #[tactic(auto, unfolding(crate::specs::private::Reading::descriptor_at))]
 fn descriptor_at(bytes: &[u8]) -> Option<(Kind, &[u8])>
     ensures { option_map (λ x. (x.0, x.1.now)) result ≡ descriptor_at bytes.now }
@@ -108,6 +111,7 @@ fn descriptor_at(bytes: &[u8]) -> Option<(Kind, &[u8])>
 }
 
 /// The frame of this kind that the items are.
+#[inline(always)]
 #[tactic(auto, unfolding(crate::specs::private::Reading::fields_at))]
 fn fields_at<'a>(kind: Kind, mut items: Items<'a>) -> Option<FrameView<'a>>
     ensures { option_map viewed_frame result ≡ fields_at kind items.entry }
@@ -152,6 +156,7 @@ fn fields_at<'a>(kind: Kind, mut items: Items<'a>) -> Option<FrameView<'a>>
 }
 
 /// A described list.
+#[inline(always)]
 #[tactic(auto, unfolding(crate::specs::private::Reading::value_at))]
 fn value_at(bytes: &[u8]) -> Option<(FrameView<'_>, &[u8])>
     ensures { option_map (λ x. (viewed_frame x.0, x.1.now)) result ≡ value_at bytes.now }
@@ -166,8 +171,11 @@ fn value_at(bytes: &[u8]) -> Option<(FrameView<'_>, &[u8])>
     Some((frame, rest))
 }
 
-/// Reads a body without its four-byte size: the frame, and how many bytes it takes, from the data
-/// offset on. Bytes after the frame are left alone. Takes no memory.
+/// Reads a body without its four-byte size (AMQP 1.0, part 5, section 5.3.1): the frame, and how many
+/// bytes it takes, from the data offset on. Bytes after the frame are left alone. In this order: fewer
+/// than four bytes are a DecodeError, another type than 1 or data offset than 2 is NotImplemented, and
+/// anything else that begins with no frame is a DecodeError. Takes no memory, so it answers neither
+/// OutOfMemory nor TooLarge.
 pub fn view_frame(bytes: &[u8]) -> Result<(FrameView<'_>, usize), Error>
     ensures reads { ReadsBody bytes.now (viewed_answer result) }
     ensures not_out_of_memory { ¬ (IsErrOf result OutOfMemory) }
