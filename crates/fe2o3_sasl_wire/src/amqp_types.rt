@@ -10,7 +10,9 @@ ghost use Rattle.fe2o3_sasl_wire.specs.private.Sameness.{same_frame_equiv};
 mod symbols;
 
 use crate::OutOfMemory;
+use crate::hidden::Hidden;
 use std::alloc::{AllocError, Global};
+use std::fmt;
 pub use symbols::{Symbol, SymbolError};
 
 /// Bytes of any value (AMQP 1.0, part 1, section 1.6.19).
@@ -116,7 +118,7 @@ impl Eq for SaslMechanisms {
 
 /// The mechanism that the client chooses (AMQP 1.0, part 5, section 5.3.3.2). Its `Debug` shows the
 /// initial response by its length alone, since it may be a password.
-#[derive(Debug, Drop)]
+#[derive(Drop)]
 pub struct SaslInit {
     /// The name of the mechanism.
     pub mechanism: Symbol,
@@ -126,6 +128,20 @@ pub struct SaslInit {
 
     /// The host that the client asks for.
     pub hostname: Option<String>,
+}
+
+impl fmt::Debug for SaslInit {
+    fn fmt<W: fmt::Write>(&self, f: &mut fmt::Formatter<W>) -> fmt::Result {
+        let initial_response = self.initial_response.as_ref();
+        f.debug_struct("SaslInit")
+            .field("mechanism", &self.mechanism.as_str())
+            .field(
+                "initial_response",
+                &initial_response.map(|binary| Hidden(&binary.0)),
+            )
+            .field("hostname", &self.hostname)
+            .finish()
+    }
 }
 
 impl Clone for SaslInit {
@@ -189,10 +205,18 @@ impl Eq for SaslChallenge {
 
 /// The client's response to a challenge (AMQP 1.0, part 5, section 5.3.3.4). Its `Debug` shows the
 /// response by its length alone, since it may be a password.
-#[derive(Debug, Drop)]
+#[derive(Drop)]
 pub struct SaslResponse {
     /// What the mechanism answers.
     pub response: Binary,
+}
+
+impl fmt::Debug for SaslResponse {
+    fn fmt<W: fmt::Write>(&self, f: &mut fmt::Formatter<W>) -> fmt::Result {
+        f.debug_struct("SaslResponse")
+            .field("response", &Hidden(&self.response.0))
+            .finish()
+    }
 }
 
 impl Clone for SaslResponse {

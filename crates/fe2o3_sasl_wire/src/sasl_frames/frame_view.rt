@@ -7,14 +7,17 @@ ghost use Rattle.fe2o3_sasl_wire.specs.private.Reading.{kind_of_code, kind_of_na
 ghost use Rattle.fe2o3_sasl_wire.specs.FrameView.{viewed_frame, viewed_answer};
 
 use crate::amqp_types::SaslCode;
+use crate::hidden::Hidden;
 use crate::sasl_frames::error::Error;
 use crate::sasl_frames::forms::{DESCRIBED, Kind, SMALL_ULONG, ULONG};
 use crate::sasl_frames::items::{Items, list_at};
 use crate::sasl_frames::reading::{byte_at, symbol_at, u64_at};
 use crate::sasl_frames::symbols_view::SymbolsView;
 use crate::sasl_frames::{DATA_OFFSET, FRAME_TYPE_SASL};
+use std::fmt;
 
-/// A SASL frame whose texts and bytes are slices of its body (AMQP 1.0, part 5, section 5.3.3).
+/// A SASL frame whose texts and bytes are slices of its body (AMQP 1.0, part 5, section 5.3.3). Its
+/// `Debug` shows a response by its length alone, since it may be a password.
 #[derive(Drop)]
 pub enum FrameView<'a> {
     /// The mechanisms that the server offers.
@@ -46,6 +49,39 @@ pub enum FrameView<'a> {
         /// What the mechanism says at its end.
         additional_data: Option<&'a [u8]>,
     },
+}
+
+impl fmt::Debug for FrameView<'_> {
+    fn fmt<W: fmt::Write>(&self, f: &mut fmt::Formatter<W>) -> fmt::Result {
+        match self {
+            FrameView::Mechanisms(symbols) => f.debug_tuple("Mechanisms").field(symbols).finish(),
+            FrameView::Init {
+                mechanism,
+                initial_response,
+                hostname,
+            } => f
+                .debug_struct("Init")
+                .field("mechanism", mechanism)
+                .field(
+                    "initial_response",
+                    &initial_response.map(|bytes| Hidden(bytes)),
+                )
+                .field("hostname", hostname)
+                .finish(),
+            FrameView::Challenge(challenge) => f.debug_tuple("Challenge").field(challenge).finish(),
+            FrameView::Response(response) => {
+                f.debug_tuple("Response").field(&Hidden(response)).finish()
+            }
+            FrameView::Outcome {
+                code,
+                additional_data,
+            } => f
+                .debug_struct("Outcome")
+                .field("code", code)
+                .field("additional_data", additional_data)
+                .finish(),
+        }
+    }
 }
 
 /// The kind of frame with this code.

@@ -6,6 +6,7 @@ ghost use Rattle.fe2o3_sasl_wire.specs.private.Reading.{elements_at, element_at,
 
 use crate::sasl_frames::forms::{ARRAY_8, ARRAY_32, Form, SYMBOL_8, SYMBOL_32};
 use crate::sasl_frames::reading::{byte_at, content_at, element_at, form_at, number_at};
+use std::fmt;
 use std::marker::Model;
 
 /// The symbols of a mechanisms frame (AMQP 1.0, part 5, section 5.3.3.1), where they stand in its body.
@@ -25,6 +26,12 @@ impl<'a> Model for SymbolsView<'a> {
     ghost view = { λ symbols. names_in (elements_at symbols.form symbols.count symbols.elements.now) };
 
     ghost invariant = { λ symbols. IsSome (elements_at symbols.form symbols.count symbols.elements.now) };
+}
+
+impl fmt::Debug for SymbolsView<'_> {
+    fn fmt<W: fmt::Write>(&self, f: &mut fmt::Formatter<W>) -> fmt::Result {
+        f.debug_list().entries(self.iter()).finish()
+    }
 }
 
 /// The bytes after this many elements.
