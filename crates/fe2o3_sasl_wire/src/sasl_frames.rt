@@ -73,11 +73,11 @@ impl PartialEq for Frame {
 
     fn eq(&self, other: &Frame) -> bool {
         match (self, other) {
-            (Frame::Mechanisms(left), Frame::Mechanisms(right)) => *left == *right,
-            (Frame::Init(left), Frame::Init(right)) => *left == *right,
-            (Frame::Challenge(left), Frame::Challenge(right)) => *left == *right,
-            (Frame::Response(left), Frame::Response(right)) => *left == *right,
-            (Frame::Outcome(left), Frame::Outcome(right)) => *left == *right,
+            (Frame::Mechanisms(left), Frame::Mechanisms(right)) => left == right,
+            (Frame::Init(left), Frame::Init(right)) => left == right,
+            (Frame::Challenge(left), Frame::Challenge(right)) => left == right,
+            (Frame::Response(left), Frame::Response(right)) => left == right,
+            (Frame::Outcome(left), Frame::Outcome(right)) => left == right,
             _ => false,
         }
     }

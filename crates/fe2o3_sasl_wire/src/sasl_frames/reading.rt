@@ -3,7 +3,7 @@
 
 ghost use Rattle.std.specs.Prelude.{◌≡◌, Some, None, option_map, if◌then◌else◌, IfSome, IsAscii};
 ghost use Rattle.std.specs.Str.{is_utf8};
-ghost use Rattle.fe2o3_sasl_wire.specs.private.Reading.{byte_at, four_at, eight_at, number_at, content_at, form_at, variable_at, element_at, symbol_at, string_at, binary_at, code_at, sasl_code, is_ascii};
+ghost use Rattle.fe2o3_sasl_wire.specs.private.Reading.{byte_at, four_at, eight_at, number_at, content_at, form_at, variable_at, element_at, symbol_at, string_at, binary_at, code_at, is_ascii};
 
 use crate::amqp_types::SaslCode;
 use crate::sasl_frames::forms::{
@@ -103,29 +103,15 @@ pub(crate) fn binary_at(bytes: &[u8]) -> Option<(&[u8], &[u8])>
     variable_at(BINARY_8, BINARY_32, bytes)
 }
 
-/// The code with this number.
-pub(crate) fn sasl_code(number: u8) -> Option<SaslCode>
-    ensures { result ≡ sasl_code number }
-{
-    match number {
-        0 => Some(SaslCode::Ok),
-        1 => Some(SaslCode::Auth),
-        2 => Some(SaslCode::Sys),
-        3 => Some(SaslCode::SysPerm),
-        4 => Some(SaslCode::SysTemp),
-        _ => None,
-    }
-}
-
 /// An outcome's code, as a ubyte.
 #[inline(always)]
-#[tactic(auto, unfolding(crate::specs::private::Reading::code_at))]
+#[tactic(auto, using(crate::proofs::lemmas::reading::CodeLemmas::no_code), unfolding(crate::specs::private::Reading::code_at))]
 pub(crate) fn code_at(bytes: &[u8]) -> Option<(SaslCode, &[u8])>
     ensures { option_map (λ x. (x.0, x.1.now)) result ≡ code_at bytes.now }
 {
     let (constructor, rest) = byte_at(bytes)?;
     let (number, rest) = byte_at(rest)?;
-    let code = sasl_code(number)?;
+    let code = SaslCode::try_from(number).ok()?;
     if constructor != UBYTE {
         return None;
     }
