@@ -1,5 +1,4 @@
 -- What the readers answer: what is read is spelled so, and what is spelled so is read.
-pub mod CodeLemmas
 pub mod ElementLoopLemmas
 pub mod ReadFramesAreSpelledLemmas
 pub mod ReadValuesAreSpelledLemmas

@@ -105,7 +105,7 @@ pub(crate) fn binary_at(bytes: &[u8]) -> Option<(&[u8], &[u8])>
 
 /// An outcome's code, as a ubyte.
 #[inline(always)]
-#[tactic(auto, using(crate::proofs::lemmas::reading::CodeLemmas::no_code), unfolding(crate::specs::private::Reading::code_at))]
+#[tactic(auto, using(crate::proofs::lemmas::CodeLemmas::no_code), unfolding(crate::specs::private::Reading::code_at))]
 pub(crate) fn code_at(bytes: &[u8]) -> Option<(SaslCode, &[u8])>
     ensures { option_map (λ x. (x.0, x.1.now)) result ≡ code_at bytes.now }
 {
