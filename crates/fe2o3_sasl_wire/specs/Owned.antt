@@ -1,4 +1,4 @@
--- What frames that own their texts hold, and which views have such a frame.
+-- What frames that own their texts hold, and which views have such a frame (AMQP 1.0, part 5, section 5.3).
 use Rattle.std.specs.Prelude.{IsAscii}
 use Rattle.fe2o3_sasl_wire.specs.declared.sasl_frames.Frame.{Frame}
 use Rattle.fe2o3_sasl_wire.specs.declared.sasl_frames.Frame.TheVariants as frames
@@ -7,7 +7,7 @@ use Rattle.fe2o3_sasl_wire.specs.declared.sasl_frames.error.Error.TheVariants as
 use Rattle.fe2o3_sasl_wire.specs.SaslFrames.{SaslFrame, Init}
 use Rattle.fe2o3_sasl_wire.specs.AmqpTypes.{mechanisms_frame, init_frame, challenge_frame, response_frame, outcome_frame}
 
--- the frame that a value holds
+-- the frame that a value holds (part 5, section 5.3.3)
 abbrev pub owned_frame : Frame → SaslFrame
 owned_frame (frames.Mechanisms mechanisms) = mechanisms_frame mechanisms
 owned_frame (frames.Init init) = init_frame init
@@ -20,7 +20,7 @@ abbrev pub HasAsciiMechanism : SaslFrame → Type 0
 HasAsciiMechanism (Init mechanism response hostname) = IsAscii mechanism
 HasAsciiMechanism _ = Unit {0}
 
--- why no frame is made of a view: the mechanism is not ASCII; or there is no memory, and then it is
+-- why no frame is made of a view: the mechanism is not ASCII (part 1, section 1.6.21); or no memory, and then it is
 abbrev pub RefusesView : SaslFrame → Error → Type 0
 RefusesView frame faults.DecodeError = ¬ (HasAsciiMechanism frame)
 RefusesView frame faults.OutOfMemory = HasAsciiMechanism frame

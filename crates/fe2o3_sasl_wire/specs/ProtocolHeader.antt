@@ -7,55 +7,55 @@ use Rattle.fe2o3_sasl_wire.specs.declared.protocol_header.ProtocolHeader.{Protoc
 use Rattle.fe2o3_sasl_wire.specs.declared.protocol_header.NegotiationError.{NegotiationError}
 use Rattle.fe2o3_sasl_wire.specs.declared.protocol_header.NegotiationError.TheVariants.{ProtocolHeaderMismatch}
 
--- the byte that stands for a protocol
+-- the byte that stands for a protocol (part 2, section 2.2; part 5, sections 5.2 and 5.3)
 abbrev pub id_byte : ProtocolId → ℕ
 id_byte Amqp = 0
 id_byte Tls = 2
 id_byte Sasl = 3
 
--- "AMQP", the protocol, and the version
+-- "AMQP", the protocol, and the version (part 2, section 2.2)
 abbrev pub header_bytes : ProtocolHeader → List ℕ
 header_bytes header = codes "AMQP" ++ id_byte header.id ∷ header.major ∷ header.minor ∷ header.revision ∷ []
 
--- the header of a protocol at version 1.0.0
+-- the header of a protocol at version 1.0.0 (part 2, section 2.8)
 abbrev pub first_version : ProtocolId → ProtocolHeader
 first_version id = record { id = id; major = 1; minor = 0; revision = 0 }
 
--- no header has these bytes
+-- no header has these bytes (part 2, section 2.2)
 abbrev pub IsNoHeader : List ℕ → Type 0
 IsNoHeader bytes = (header : ProtocolHeader) → ¬ (header_bytes header ≡ bytes)
 
--- the result is the protocol of this byte, or the byte itself where no protocol has it
+-- the result is the protocol of this byte, or the byte itself where no protocol has it (part 2, section 2.2)
 abbrev pub DecodesId : ℕ → Result ProtocolId ℕ → Type 0
 DecodesId byte r = MatchResult r
     (λ id. id_byte id ≡ byte)
     (λ back. (back ≡ byte) × ((id : ProtocolId) → ¬ (id_byte id ≡ byte)))
 
--- the result is the header that has these bytes, or the bytes themselves where no header has them
+-- the result is the header that has these bytes, or the bytes themselves where none has them (part 2, section 2.2)
 abbrev pub DecodesHeader : List ℕ → Result ProtocolHeader (List ℕ) → Type 0
 DecodesHeader bytes r = MatchResult r
     (λ header. header_bytes header ≡ bytes)
     (λ back. (back ≡ bytes) × IsNoHeader bytes)
 
--- the same of a borrowed slice, which is handed back itself
+-- the same of a borrowed slice, which is handed back itself (part 2, section 2.2)
 abbrev pub DecodesSlice : Bor (List ℕ) → Result ProtocolHeader (Bor (List ℕ)) → Type 0
 DecodesSlice slice r = MatchResult r
     (λ header. header_bytes header ≡ slice.now)
     (λ back. (back ≡ slice) × IsNoHeader slice.now)
 
--- the first eight bytes of a buffer were taken
+-- the first eight bytes of a buffer were taken, as many as a header has (part 2, section 2.2)
 pub record TakesEight (old new : List ℕ) : Type 0 where
   pub enough : 8 ≤ length old
   pub rest : new ≡ drop 8 old
 
--- below eight bytes nothing is taken; else eight are: the header's, or no header's, and then the fault names them
+-- below eight bytes nothing is taken, else eight: a header's, or no header's, as the fault says (part 2, section 2.2)
 abbrev pub DecodesBuffer : List ℕ → List ℕ → Result (Option ProtocolHeader) NegotiationError → Type 0
 DecodesBuffer old new (Ok None) = (length old < 8) × (new ≡ old)
 DecodesBuffer old new (Ok (Some header)) = TakesEight old new × (header_bytes header ≡ take 8 old)
 DecodesBuffer old new (Err (ProtocolHeaderMismatch bytes)) =
     TakesEight old new × (bytes ≡ take 8 old) × IsNoHeader bytes
 
--- a header's bytes are read as that header
+-- a header's bytes are read as that header (part 2, section 2.2)
 abbrev pub BytesGiveTheHeaderBack : Type 0
 BytesGiveTheHeaderBack =
     (header : ProtocolHeader) (r : Result ProtocolHeader (List ℕ)) → DecodesHeader (header_bytes header) r

@@ -21,7 +21,7 @@ pub data SaslFrame : Type 0 where
   Response : List ℕ → SaslFrame
   Outcome : SaslCode → Option (List ℕ) → SaslFrame
 
--- which of the five a frame is
+-- which of the five a frame is (part 5, section 5.3.3)
 abbrev pub kind_of : SaslFrame → Kind
 kind_of (Mechanisms names) = kinds.Mechanisms
 kind_of (Init mechanism response hostname) = kinds.Init
@@ -53,7 +53,7 @@ outcome_code sasl_codes.Sys = 2
 outcome_code sasl_codes.SysPerm = 3
 outcome_code sasl_codes.SysTemp = 4
 
--- the value of a field
+-- the value of a field (part 1, section 1.6)
 pub data Field : Type 0 where
   Null : Field
   Ubyte : ℕ → Field
@@ -62,7 +62,7 @@ pub data Field : Type 0 where
   Symbol : List ℕ → Field
   Symbols : List (List ℕ) → Field
 
--- a field that may be left out
+-- a field that may be left out (part 1, section 1.4)
 abbrev pub optional : (List ℕ → Field) → Option (List ℕ) → Field
 optional field None = Null
 optional field (Some bytes) = field bytes
@@ -77,7 +77,7 @@ fields_of (Outcome code bytes) = Ubyte (outcome_code code) ∷ optional Binary b
 
 -- ---- encodings
 
--- each number is a byte, as in each list that stands for bytes of the code
+-- each number is a byte (part 1, section 1.2), as in each list that stands for bytes of the code
 abbrev pub IsBytes : List ℕ → Type 0
 IsBytes bytes = (i : ℕ) → slice_index bytes i < 256
 
@@ -91,7 +91,7 @@ abbrev pub number : Form → ℕ → List ℕ
 number Eight n = n ∷ []
 number ThirtyTwo n = to_be_bytes w32 n
 
--- the constructor of a form
+-- the constructor of a form (part 1, section 1.2)
 abbrev pub choice : ℕ → ℕ → Form → ℕ
 choice short long Eight = short
 choice short long ThirtyTwo = long
@@ -194,7 +194,7 @@ pub record Spells (frame : SaslFrame) (b : List ℕ) : Type 0 where
 
 -- ---- what a body is read as
 
--- the first n bytes of a body spell the frame
+-- the first n bytes of a body spell the frame (part 5, section 5.3.1)
 pub record Begins (body : List ℕ) (frame : SaslFrame) (n : ℕ) : Type 0 where
   pub within : n ≤ length body
   pub spelled : Spells frame (take n body)
@@ -205,16 +205,16 @@ unfoldable pub fault_of : List ℕ → Error
 fault_of body = if nat_lt (length body) 4 then faults.DecodeError
     else (if slice_index body 1 == 1 && (slice_index body 0 == 2) then faults.DecodeError else faults.NotImplemented)
 
--- the frame that a beginning of a body spells and the length of that beginning, or the fault where none does
+-- the frame that a beginning of a body spells and its length, or the fault where none does (part 5, section 5.3.1)
 abbrev pub ReadsBody : List ℕ → Result (SaslFrame × ℕ) Error → Type 0
 ReadsBody body (Ok answer) = Begins body answer.0 answer.1
 ReadsBody body (Err fault) = (fault ≡ fault_of body) × ((frame : SaslFrame) (n : ℕ) → ¬ (Begins body frame n))
 
--- a beginning of the old bytes spells the frame, and the new bytes are what stood behind it
+-- a beginning of the old bytes spells the frame, the new bytes are what stood behind it (part 5, section 5.3.1)
 abbrev pub TakesFrame : List ℕ → List ℕ → SaslFrame → Type 0
 TakesFrame old new frame = (n : ℕ) × ReadsBody old (Ok (frame, n)) × (new ≡ drop n old)
 
--- why a body is not decoded: its fault; or there is no memory, and then a beginning spells a frame
+-- why a body is not decoded: its fault; or no memory, and then a beginning spells a frame (part 5, section 5.3.1)
 abbrev pub RefusesBody : List ℕ → Error → Type 0
 RefusesBody body faults.OutOfMemory = (frame : SaslFrame) × (n : ℕ) × Begins body frame n
 RefusesBody body fault = ReadsBody body (Err fault)
@@ -250,7 +250,7 @@ canonical_field (Text bytes) = canonical_variable 0xa1 0xb1 bytes
 canonical_field (Symbol bytes) = canonical_variable 0xa3 0xb3 bytes
 canonical_field (Symbols names) = canonical_array names
 
--- a field before those that are written: a null with none behind it is left out
+-- a field before those that are written: a null with none behind it is left out (part 1, section 1.4)
 abbrev pub with_field : Field → List Field → List Field
 with_field Null [] = []
 with_field field fields = field ∷ fields
@@ -260,11 +260,11 @@ abbrev pub written : List Field → List Field
 written [] = []
 written (field ∷ fields) = with_field field (written fields)
 
--- the items of a frame's list
+-- the items of a frame's list (part 1, section 1.4)
 abbrev pub items_of : SaslFrame → List ℕ
 items_of frame = flat_map canonical_field (written (fields_of frame))
 
--- how many items there are
+-- how many items there are (part 1, section 1.4)
 abbrev pub count_of : SaslFrame → ℕ
 count_of frame = length (written (fields_of frame))
 
@@ -272,28 +272,28 @@ count_of frame = length (written (fields_of frame))
 abbrev pub canonical_list : ℕ → List ℕ → List ℕ
 canonical_list count items = compact 0xc0 0xd0 (λ form. list_body form count items)
 
--- the body that is written, with the code as smallulong; none where a size, so the list's, is more than 32 bits
+-- the body (part 5, section 5.3.1), its code as smallulong; none where a size, so the list's, has more than 32 bits
 unfoldable pub canonical : SaslFrame → Option (List ℕ)
 canonical frame = if nat_lt (length (list_body ThirtyTwo (count_of frame) (items_of frame))) (2 ^ 32)
     then Some (2 ∷ 1 ∷ 0 ∷ 0 ∷ 0 ∷ 0x53 ∷ code_of (kind_of frame) ∷ canonical_list (count_of frame) (items_of frame))
     else None
 
--- a field's symbols are ASCII and its string is UTF-8
+-- a field's symbols are ASCII and its string is UTF-8 (part 1, sections 1.6.20 and 1.6.21)
 abbrev pub IsText : Field → Type 0
 IsText (Text bytes) = IsUtf8 bytes
 IsText (Symbol bytes) = IsAscii bytes
 IsText (Symbols names) = AllByRecursion IsAscii names
 IsText _ = Unit {0}
 
--- a frame's symbols are ASCII and its hostname is UTF-8, as in each frame that the code holds
+-- a frame's symbols are ASCII, its hostname UTF-8, as in each frame of the code (part 1, sections 1.6.20 and 1.6.21)
 abbrev pub HasTexts : SaslFrame → Type 0
 HasTexts frame = AllByRecursion IsText (fields_of frame)
 
--- new is old with the frame's canonical body at its end
+-- new is old with the frame's canonical body at its end (part 5, section 5.3.1)
 abbrev pub AppendsCanonical : SaslFrame → List ℕ → List ℕ → Type 0
 AppendsCanonical frame old new = (body : List ℕ) × (canonical frame ≡ Some body) × (new ≡ old ++ body)
 
--- why a frame is not written: it has no canonical body; or there is no memory, and then it has one
+-- why a frame is not written: it has no canonical body; or no memory, and then it has one (part 5, section 5.3.1)
 abbrev pub RefusesFrame : SaslFrame → Error → Type 0
 RefusesFrame frame faults.TooLarge = canonical frame ≡ None
 RefusesFrame frame faults.OutOfMemory = IsSome (canonical frame)

@@ -4,13 +4,15 @@ ghost use Rattle.std.specs.Prelude.{◌≡◌, ◌==◌, ⊤, [], ◌∷◌, cod
 ghost use Rattle.std.specs.Cmp.{on_per, on_equiv, partial_equiv_from_equiv, nat_eq_equiv};
 ghost use Rattle.std.specs.Cmp.Lexicographic.{pointwise, nat_list_eq_equiv, lists_per, lists_equiv};
 ghost use Rattle.fe2o3_sasl_wire.specs.SaslFrames.{Mechanisms, outcome_code};
-ghost use Rattle.fe2o3_sasl_wire.specs.AmqpTypes.{binary_bytes, mechanisms_frame, init_frame, challenge_frame, response_frame, outcome_frame, same_frame};
+ghost use Rattle.fe2o3_sasl_wire.specs.AmqpTypes.{binary_bytes, mechanisms_frame, init_frame, challenge_frame, response_frame, outcome_frame, same_frame, DecodesCode};
 ghost use Rattle.fe2o3_sasl_wire.specs.private.Sameness.{same_frame_equiv};
 
 mod symbols;
 
 use crate::OutOfMemory;
+use crate::hidden::Hidden;
 use std::alloc::{AllocError, Global};
+use std::fmt;
 pub use symbols::{Symbol, SymbolError};
 
 /// Bytes of any value (AMQP 1.0, part 1, section 1.6.19).
@@ -58,7 +60,8 @@ impl<T: Eq> Eq for Array<T> {
 }
 
 impl<T: Clone> Array<T> {
-    /// An equal array, where clones of the items equal them, as those of symbols do.
+    /// An equal array, where clones of the items equal them, as those of symbols and of numbers do.
+    /// OutOfMemory where there is no memory for it.
     pub fn clone(&self) -> Result<Array<T>, OutOfMemory>
         requires { (item copy : T) → T.is_clone item copy → copy ≡ item }
         ensures { IfOk result (λ copy. copy.0.items ≡ self.now.0.items) }
@@ -67,7 +70,8 @@ impl<T: Clone> Array<T> {
     }
 }
 
-/// The mechanisms that a server offers.
+/// The mechanisms that a server offers (AMQP 1.0, part 5, section 5.3.3.1). The standard asks for at
+/// least one name; an empty list is read and written here all the same.
 #[derive(Debug, Drop)]
 pub struct SaslMechanisms {
     /// The names of the mechanisms.
@@ -75,7 +79,7 @@ pub struct SaslMechanisms {
 }
 
 impl SaslMechanisms {
-    /// ANONYMOUS alone.
+    /// The offer of ANONYMOUS alone. OutOfMemory where there is no memory for it.
     pub fn anonymous(alloc: Global) -> Result<SaslMechanisms, OutOfMemory>
         ensures { IfOk result (λ mechanisms.
             mechanisms_frame mechanisms ≡ Mechanisms (codes "ANONYMOUS" ∷ [])) }
@@ -112,8 +116,9 @@ impl Eq for SaslMechanisms {
     ghost laws = { on_equiv mechanisms_frame same_frame_equiv };
 }
 
-/// The mechanism that the client chooses.
-#[derive(Debug, Drop)]
+/// The mechanism that the client chooses (AMQP 1.0, part 5, section 5.3.3.2). Its `Debug` shows the
+/// initial response by its length alone, since it may be a password.
+#[derive(Drop)]
 pub struct SaslInit {
     /// The name of the mechanism.
     pub mechanism: Symbol,
@@ -123,6 +128,20 @@ pub struct SaslInit {
 
     /// The host that the client asks for.
     pub hostname: Option<String>,
+}
+
+impl fmt::Debug for SaslInit {
+    fn fmt<W: fmt::Write>(&self, f: &mut fmt::Formatter<W>) -> fmt::Result {
+        let initial_response = self.initial_response.as_ref();
+        f.debug_struct("SaslInit")
+            .field("mechanism", &self.mechanism.as_str())
+            .field(
+                "initial_response",
+                &initial_response.map(|binary| Hidden(&binary.0)),
+            )
+            .field("hostname", &self.hostname)
+            .finish()
+    }
 }
 
 impl Clone for SaslInit {
@@ -153,7 +172,7 @@ impl Eq for SaslInit {
     ghost laws = { on_equiv init_frame same_frame_equiv };
 }
 
-/// A challenge of the server.
+/// A challenge of the server (AMQP 1.0, part 5, section 5.3.3.3).
 #[derive(Debug, Drop)]
 pub struct SaslChallenge {
     /// What the mechanism asks.
@@ -184,11 +203,20 @@ impl Eq for SaslChallenge {
     ghost laws = { on_equiv challenge_frame same_frame_equiv };
 }
 
-/// The client's response to a challenge.
-#[derive(Debug, Drop)]
+/// The client's response to a challenge (AMQP 1.0, part 5, section 5.3.3.4). Its `Debug` shows the
+/// response by its length alone, since it may be a password.
+#[derive(Drop)]
 pub struct SaslResponse {
     /// What the mechanism answers.
     pub response: Binary,
+}
+
+impl fmt::Debug for SaslResponse {
+    fn fmt<W: fmt::Write>(&self, f: &mut fmt::Formatter<W>) -> fmt::Result {
+        f.debug_struct("SaslResponse")
+            .field("response", &Hidden(&self.response.0))
+            .finish()
+    }
 }
 
 impl Clone for SaslResponse {
@@ -215,7 +243,7 @@ impl Eq for SaslResponse {
     ghost laws = { on_equiv response_frame same_frame_equiv };
 }
 
-/// The end of a negotiation.
+/// The end of a negotiation (AMQP 1.0, part 5, section 5.3.3.5).
 #[derive(Debug, Drop)]
 pub struct SaslOutcome {
     /// How it ended.
@@ -291,4 +319,22 @@ impl PartialEq for SaslCode {
 
 impl Eq for SaslCode {
     ghost laws = { on_equiv outcome_code nat_eq_equiv };
+}
+
+impl TryFrom<u8> for SaslCode {
+    type Error = u8;
+
+    ghost try_from_gives = { DecodesCode };
+
+    /// Hands the byte back where it stands for no code.
+    fn try_from(value: u8) -> Result<Self, u8> {
+        match value {
+            0 => Ok(SaslCode::Ok),
+            1 => Ok(SaslCode::Auth),
+            2 => Ok(SaslCode::Sys),
+            3 => Ok(SaslCode::SysPerm),
+            4 => Ok(SaslCode::SysTemp),
+            _ => Err(value),
+        }
+    }
 }

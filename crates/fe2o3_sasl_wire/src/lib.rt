@@ -6,6 +6,7 @@
 #![tactic(auto)]
 
 pub mod amqp_types;
+mod hidden;
 pub mod laws;
 pub mod protocol_header;
 pub mod sasl_frames;

@@ -21,7 +21,8 @@ const MINOR: u8 = 0;
 
 const REVISION: u8 = 0;
 
-/// A protocol header. Every version is read; the constructors write 1.0.0.
+/// A protocol header (AMQP 1.0, part 2, section 2.2). Every version is read; the constructors write
+/// 1.0.0.
 #[derive(Copy, Debug)]
 pub struct ProtocolHeader {
     /// Which protocol follows.
@@ -128,7 +129,8 @@ impl ProtocolHeader {
         self.id == ProtocolId::Sasl
     }
 
-    /// The eight bytes of the header.
+    /// The eight bytes of the header: "AMQP", the protocol, major, minor and revision (AMQP 1.0, part
+    /// 2, section 2.2). OutOfMemory where there is no memory for them; `<[u8; 8]>::from` needs none.
     pub fn to_bytes(self, alloc: Global) -> Result<Bytes, OutOfMemory>
         ensures { IfOk result (λ bytes. bytes ≡ header_bytes self) }
     {
@@ -196,7 +198,7 @@ impl TryFrom<Bytes> for ProtocolHeader {
     }
 }
 
-/// Which protocol a header asks for.
+/// Which protocol a header asks for (AMQP 1.0, part 2, section 2.2; part 5, sections 5.2 and 5.3).
 #[derive(Copy, Debug)]
 pub enum ProtocolId {
     /// AMQP.
@@ -257,7 +259,7 @@ pub enum NegotiationError {
     ProtocolHeaderMismatch([u8; 8]),
 }
 
-/// Reads and writes protocol headers.
+/// Reads and writes protocol headers (AMQP 1.0, part 2, section 2.2).
 #[derive(Debug, Drop)]
 pub struct ProtocolHeaderCodec {}
 
@@ -272,12 +274,13 @@ impl Clone for ProtocolHeaderCodec {
 }
 
 impl ProtocolHeaderCodec {
-    /// A codec.
+    /// A codec. It holds nothing, so every codec reads and writes alike.
     pub fn new() -> Self {
         ProtocolHeaderCodec {}
     }
 
-    /// Appends the eight bytes of the header. Without memory for them the buffer stays as it was.
+    /// Appends the eight bytes of the header. OutOfMemory where there is no memory for them, and then
+    /// the buffer stays as it was.
     pub fn encode(&mut self, item: ProtocolHeader, dst: &mut BytesMut) -> Result<(), OutOfMemory>
         ensures ok { OnOk result (dst.new.items ≡ dst.old.items ++ header_bytes item) }
         ensures err { OnErr result (dst.new.items ≡ dst.old.items) }
@@ -285,8 +288,9 @@ impl ProtocolHeaderCodec {
         dst.extend_from_slice(&<[u8; 8]>::from(item))
     }
 
-    /// Takes eight bytes from the front and answers their header, or their mismatch. Below eight
-    /// bytes it answers None and takes nothing.
+    /// Takes eight bytes from the front and answers their header. Below eight bytes it answers None
+    /// and takes nothing. ProtocolHeaderMismatch, with the eight bytes, where they are no header; they
+    /// are taken then too.
     pub fn decode(&mut self, src: &mut BytesMut) -> Result<Option<ProtocolHeader>, NegotiationError>
         ensures { DecodesBuffer src.old.items src.new.items result }
     {

@@ -1,8 +1,11 @@
 //! The five SASL frames (AMQP 1.0, part 5, section 5.3), without their four-byte size.
 
 ghost use Rattle.std.specs.Prelude.{◌≡◌, IfOk, IfErr, OnOk, OnErr};
+ghost use Rattle.std.specs.Cmp.{on_per, on_equiv, partial_equiv_from_equiv};
 ghost use Rattle.fe2o3_sasl_wire.specs.SaslFrames.{TakesFrame, RefusesBody, AppendsCanonical, RefusesFrame, HasTexts};
+ghost use Rattle.fe2o3_sasl_wire.specs.AmqpTypes.{same_frame};
 ghost use Rattle.fe2o3_sasl_wire.specs.Owned.{owned_frame};
+ghost use Rattle.fe2o3_sasl_wire.specs.private.Sameness.{same_frame_equiv};
 
 mod error;
 mod fields;
@@ -19,7 +22,7 @@ use bytes::BytesMut;
 pub use error::Error;
 use fields::{code_of, count_of, fields_of, items_len, put_items};
 pub use frame_view::{FrameView, view_frame};
-use std::alloc::Global;
+use std::alloc::{AllocError, Global};
 pub use symbols_view::{SymbolsIter, SymbolsView};
 use writing::{put_number, put_start, shortest, width};
 
@@ -30,7 +33,7 @@ pub(crate) const DATA_OFFSET: u8 = 0x02;
 /// The type of a frame that is a SASL frame (AMQP 1.0, part 5, section 5.3.1).
 pub(crate) const FRAME_TYPE_SASL: u8 = 0x01;
 
-/// A SASL frame.
+/// A SASL frame (AMQP 1.0, part 5, section 5.3.3). Its `Debug` shows a response by its length alone.
 #[derive(Debug, Drop)]
 pub enum Frame {
     /// The mechanisms that the server offers.
@@ -49,7 +52,42 @@ pub enum Frame {
     Outcome(SaslOutcome),
 }
 
-/// Reads and writes SASL frames.
+impl Clone for Frame {
+    ghost is_clone = { λ frame copy. owned_frame copy ≡ owned_frame frame };
+
+    fn clone(&self) -> Result<Frame, AllocError> {
+        Ok(match self {
+            Frame::Mechanisms(mechanisms) => Frame::Mechanisms(mechanisms.clone()?),
+            Frame::Init(init) => Frame::Init(init.clone()?),
+            Frame::Challenge(challenge) => Frame::Challenge(challenge.clone()?),
+            Frame::Response(response) => Frame::Response(response.clone()?),
+            Frame::Outcome(outcome) => Frame::Outcome(outcome.clone()?),
+        })
+    }
+}
+
+impl PartialEq for Frame {
+    ghost eq = { λ left right. same_frame (owned_frame left) (owned_frame right) };
+
+    ghost laws = { on_per owned_frame (partial_equiv_from_equiv same_frame_equiv) };
+
+    fn eq(&self, other: &Frame) -> bool {
+        match (self, other) {
+            (Frame::Mechanisms(left), Frame::Mechanisms(right)) => left == right,
+            (Frame::Init(left), Frame::Init(right)) => left == right,
+            (Frame::Challenge(left), Frame::Challenge(right)) => left == right,
+            (Frame::Response(left), Frame::Response(right)) => left == right,
+            (Frame::Outcome(left), Frame::Outcome(right)) => left == right,
+            _ => false,
+        }
+    }
+}
+
+impl Eq for Frame {
+    ghost laws = { on_equiv owned_frame same_frame_equiv };
+}
+
+/// Reads and writes SASL frames without their four-byte size (AMQP 1.0, part 5, section 5.3.1).
 #[derive(Debug, Drop)]
 pub struct FrameCodec {}
 
@@ -58,9 +96,12 @@ const MAX_ITEMS_LEN: usize = 0xffff_fffb;
 
 impl FrameCodec {
     /// Appends the canonical body of the frame: each size and length in its shortest form, the
-    /// mechanisms as an array, and no nulls at the end. TooLarge where a size is more than 32 bits.
-    /// After a refusal the buffer is as before. Memory is asked for at most once. Each frame has texts:
-    /// its symbols are ASCII and its hostname is UTF-8, so its canonical body spells it.
+    /// mechanisms as an array, and no nulls at the end. In this order: TooLarge where a size is more
+    /// than 32 bits can say, OutOfMemory where there is no memory for the body. After a refusal the
+    /// buffer is as before; the frame is taken by value, so it is gone, and who may need it again
+    /// clones it first. Memory is asked for at most once, which is seen by reading and is no clause.
+    /// Each frame has texts: its symbols are ASCII and its hostname is UTF-8, so its canonical body
+    /// spells it.
     pub fn encode(&mut self, item: Frame, dst: &mut BytesMut) -> Result<(), Error>
         ensures ok { OnOk result (AppendsCanonical (owned_frame item) dst.old.items dst.new.items) }
         ensures texts { HasTexts (owned_frame item) }
@@ -83,9 +124,10 @@ impl FrameCodec {
     }
 
     /// Reads one frame from the front of a buffer and takes its bytes; later bytes stay. In this
-    /// order: fewer than four bytes are a DecodeError, another type or data offset is
-    /// NotImplemented, and anything else that begins with no frame a DecodeError. After a refusal the
-    /// buffer is as before. Each frame has texts, as in `encode`.
+    /// order: fewer than four bytes are a DecodeError, another type than 1 or data offset than 2 is
+    /// NotImplemented, anything else that begins with no frame is a DecodeError, and a frame for
+    /// whose copy there is no memory is OutOfMemory. After a refusal the buffer is as before. Each
+    /// frame has texts, as in `encode`.
     pub fn decode(&mut self, alloc: Global, src: &mut BytesMut) -> Result<Frame, Error>
         ensures ok { IfOk result (λ frame. TakesFrame src.old.items src.new.items (owned_frame frame)) }
         ensures texts { IfOk result (λ frame. HasTexts (owned_frame frame)) }

@@ -49,6 +49,26 @@ fn a_symbol_is_its_text(rt: HostRuntime) -> Result<(), Fail> {
 }
 
 #[test]
+fn want_of_memory_is_a_fault_of_symbols(rt: HostRuntime) {
+    assert_eq!(rt; SymbolError::from(AllocError), SymbolError::OutOfMemory);
+}
+
+#[test]
+fn reads_the_code_of_a_byte(rt: HostRuntime) {
+    for (byte, code) in [
+        (0, Ok(SaslCode::Ok)),
+        (1, Ok(SaslCode::Auth)),
+        (2, Ok(SaslCode::Sys)),
+        (3, Ok(SaslCode::SysPerm)),
+        (4, Ok(SaslCode::SysTemp)),
+        (5, Err(5)),
+        (255, Err(255)),
+    ] {
+        assert_eq!(rt; SaslCode::try_from(byte), code, "at {byte}");
+    }
+}
+
+#[test]
 fn anonymous_is_one_mechanism(rt: HostRuntime) -> Result<(), Fail> {
     let mechanisms = SaslMechanisms::anonymous(rt.alloc())?;
     let symbols = &mechanisms.sasl_server_mechanisms.0;

@@ -10,6 +10,66 @@ use fe2o3_sasl_wire::{
 use std::alloc::Global;
 use std::test::Fail;
 
+/// The frame of a body.
+pub fn decoded(alloc: Global, digits: &str) -> Result<Frame, Fail> {
+    let body = bytes_of(alloc, digits)?;
+    let mut buffer = BytesMut::copy_from_slice(alloc, &body)?;
+    Ok(
+        FrameCodec {}
+            .decode(alloc, &mut buffer)
+            .ok()
+            .ok_or("it is a frame")?,
+    )
+}
+
+/// Bodies of nine frames, no two of which are equal.
+static UNEQUAL: [&str; 9] = [
+    OUTCOME_OK,
+    OUTCOME_AUTH,
+    INIT_PLAIN,
+    INIT_ANONYMOUS,
+    INIT_ANONYMOUS_BARE,
+    MECHANISMS_ANONYMOUS,
+    MECHANISMS_TWO,
+    CHALLENGE_7,
+    RESPONSE_7,
+];
+
+#[test]
+fn a_frame_equals_its_clone(rt: HostRuntime) -> Result<(), Fail> {
+    for digits in UNEQUAL {
+        let frame = decoded(rt.alloc(), digits)?;
+        let copy = frame.clone()?;
+        assert!(rt; copy == frame, "{digits}");
+        assert_eq!(rt; encoded(rt.alloc(), copy)?.as_str(), digits);
+    }
+    Ok(())
+}
+
+#[test]
+fn frames_are_equal_by_kind_and_fields(rt: HostRuntime) -> Result<(), Fail> {
+    for (place, left) in UNEQUAL.iter().enumerate() {
+        let frame = decoded(rt.alloc(), left)?;
+        for (other_place, right) in UNEQUAL.iter().enumerate() {
+            let other = decoded(rt.alloc(), right)?;
+            assert_eq!(rt; frame == other, place == other_place, "{left} and {right}");
+        }
+    }
+    Ok(())
+}
+
+#[test]
+fn frames_of_two_forms_are_equal(rt: HostRuntime) -> Result<(), Fail> {
+    for (left, right) in [
+        (RESPONSE_7, RESPONSE_7_WIDE),
+        (MECHANISM_ANONYMOUS, MECHANISMS_ANONYMOUS),
+    ] {
+        let (frame, other) = (decoded(rt.alloc(), left)?, decoded(rt.alloc(), right)?);
+        assert!(rt; frame == other, "{left} and {right}");
+    }
+    Ok(())
+}
+
 /// What is written for a frame, in hexadecimal digits.
 fn encoded(alloc: Global, frame: Frame) -> Result<String, Fail> {
     let mut buffer = BytesMut::new(alloc);

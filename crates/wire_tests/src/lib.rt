@@ -13,4 +13,8 @@ mod frames;
 #[cfg(test)]
 mod malicious_bytes;
 #[cfg(test)]
+mod printed;
+#[cfg(test)]
 mod protocol_headers;
+#[cfg(test)]
+mod symbols_views;

@@ -18,16 +18,16 @@ abbrev pub ◌>>=◌ : {A B : Type 0} → Option A → (A → Option B) → Opti
 None >>= f = None
 (Some x) >>= f = f x
 
--- one byte
+-- one byte (part 1, section 1.2)
 abbrev pub byte_at : List ℕ → Option (ℕ × List ℕ)
 byte_at [] = None
 byte_at (b ∷ rest) = Some (b, rest)
 
--- a number of four bytes
+-- a number of four bytes (part 1, section 1.2)
 abbrev pub four_at : List ℕ → Option (ℕ × List ℕ)
 four_at bytes = if nat_lt (length bytes) 4 then None else Some (from_be_bytes w32 (take 4 bytes), drop 4 bytes)
 
--- a number of eight bytes
+-- a number of eight bytes (part 1, section 1.6.6)
 abbrev pub eight_at : List ℕ → Option (ℕ × List ℕ)
 eight_at bytes = if nat_lt (length bytes) 8 then None else Some (from_be_bytes w64 (take 8 bytes), drop 8 bytes)
 
@@ -42,7 +42,7 @@ content_at form bytes = do
   n ← number_at form bytes
   if nat_lt (length n.1) n.0 then None else Some (take n.0 n.1, drop n.0 n.1)
 
--- the form that a constructor names
+-- the form that a constructor names (part 1, section 1.2)
 abbrev pub form_at : ℕ → ℕ → ℕ → Option Form
 form_at short long constructor =
     if constructor == short then Some Eight else (if constructor == long then Some ThirtyTwo else None)
@@ -54,7 +54,7 @@ variable_at short long bytes = do
   form ← form_at short long constructor.0
   content_at form constructor.1
 
--- each byte is ASCII
+-- each byte is ASCII (part 1, section 1.6.21)
 abbrev pub is_ascii : List ℕ → Bool
 is_ascii bytes = list_all (λ b. nat_lt b 128) bytes
 
@@ -85,7 +85,7 @@ elements_at form (suc n) bytes = do
   others ← elements_at form n first.1
   Some (first.0 ∷ others.0, others.1)
 
--- behind the constructor of an array
+-- behind the constructor of an array (part 1, section 1.2.4)
 unfoldable pub array_at : Form → List ℕ → Option (List (List ℕ) × List ℕ)
 array_at form bytes = do
   inner ← content_at form bytes
@@ -95,7 +95,7 @@ array_at form bytes = do
   names ← elements_at element count.0 constructor.1
   if length names.1 == 0 then Some (names.0, inner.1) else None
 
--- behind the constructor of a symbol, which stands for a list of one
+-- behind the constructor of a symbol, which stands for a list of one (part 1, section 1.4)
 unfoldable pub one_at : Form → List ℕ → Option (List (List ℕ) × List ℕ)
 one_at form bytes = elements_at form 1 bytes
 
@@ -126,20 +126,20 @@ code_at bytes = do
 
 -- ---- the items of a list
 
--- how many items are left, and their bytes
+-- how many items are left, and their bytes (part 1, section 1.2.3)
 abbrev pub Items : Type 0
 Items = ℕ × List ℕ
 
--- the next item, which has to be there
+-- the next item, which has to be there (part 1, section 1.4)
 unfoldable pub required : {A : Type 0} → (List ℕ → Option (A × List ℕ)) → Items → Option (A × Items)
 required read items = if items.0 == 0 then None else (read items.1 >>= λ x. Some (x.0, (items.0 - 1, x.1)))
 
--- the bytes after a null
+-- the bytes after a null (part 1, section 1.6.1)
 abbrev pub null_at : List ℕ → Option (List ℕ)
 null_at [] = None
 null_at (b ∷ rest) = if b == 0x40 then Some rest else None
 
--- no value where a null was read, else what the reader of the value says
+-- no value where a null was read, else what the reader of the value says (part 1, section 1.4)
 abbrev pub unless_null : {A : Type 0} → Option (List ℕ) → ℕ → Option (A × List ℕ) → Option (Option A × Items)
 unless_null (Some rest) count read = Some (None, (count - 1, rest))
 unless_null None count read = read >>= λ x. Some (Some x.0, (count - 1, x.1))
@@ -149,7 +149,7 @@ unfoldable pub optional_at : {A : Type 0} → (List ℕ → Option (A × List �
 optional_at read items =
     if items.0 == 0 then Some (None, items) else unless_null (null_at items.1) items.0 (read items.1)
 
--- no item and no byte is left
+-- no item and no byte is left (part 1, section 1.2.3)
 abbrev pub ended : Items → Option (Unit {0})
 ended items = if items.0 == 0 && (length items.1 == 0) then Some tt else None
 
@@ -217,7 +217,7 @@ descriptor_at (constructor ∷ rest) =
     else (if constructor == 0x80 then (eight_at rest >>= λ n. kind_of_code n.0 >>= λ kind. Some (kind, n.1))
     else (symbol_at (constructor ∷ rest) >>= λ name. kind_of_name name.0 >>= λ kind. Some (kind, name.1)))
 
--- a described list
+-- a described list (part 1, section 1.4)
 unfoldable pub value_at : List ℕ → Option (SaslFrame × List ℕ)
 value_at [] = None
 value_at (zero ∷ bytes) = do
@@ -227,7 +227,7 @@ value_at (zero ∷ bytes) = do
   Some (frame, list.1)
 value_at (suc b ∷ bytes) = None
 
--- the symbols that were read from the elements
+-- the symbols that were read from the elements (part 1, section 1.2.4)
 abbrev pub names_in : Option (List (List ℕ) × List ℕ) → List (List ℕ)
 names_in None = []
 names_in (Some x) = x.0

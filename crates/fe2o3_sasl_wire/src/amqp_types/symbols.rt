@@ -1,13 +1,14 @@
 //! Symbols (AMQP 1.0, part 1, section 1.6.21).
 
 ghost use Rattle.std.specs.Prelude.{◌≡◌, IfOk, IfErr, IsAscii};
+ghost use Rattle.fe2o3_sasl_wire.specs.declared.amqp_types.symbols.SymbolError.TheVariants.{OutOfMemory};
 
 use crate::OutOfMemory;
-use std::alloc::{AllocError, Global};
+use std::alloc::{AllocError, AllocFailed, Global};
 use std::marker::Model;
 use thiserror::Error;
 
-/// An ASCII text.
+/// A symbol: a text of ASCII characters, of any length.
 #[derive(Debug, Drop)]
 pub struct Symbol {
     text: String,
@@ -35,10 +36,27 @@ pub enum SymbolError {
     OutOfMemory,
 }
 
+impl From<AllocError> for SymbolError {
+    ghost from_gives = { λ _ error. error ≡ OutOfMemory };
+
+    fn from(_error: AllocError) -> Self {
+        SymbolError::OutOfMemory
+    }
+}
+
+impl<T: Drop> From<AllocFailed<T>> for SymbolError {
+    ghost from_gives = { λ _ error. error ≡ OutOfMemory };
+
+    fn from(_error: AllocFailed<T>) -> Self {
+        SymbolError::OutOfMemory
+    }
+}
+
 impl Symbol {
     ghost use Rattle.fe2o3_sasl_wire.specs.AmqpTypes.{RefusesText};
 
-    /// The symbol of a text.
+    /// The symbol of a text. NotAscii where a byte of the text is 128 or more (AMQP 1.0, part 1,
+    /// section 1.6.21); OutOfMemory where all are ASCII and there is no memory for a copy of them.
     pub fn new(alloc: Global, text: &str) -> Result<Symbol, SymbolError>
         ensures ok { IfOk result (λ symbol. symbol ≡ text.now) }
         ensures ascii { IfOk result (λ _. IsAscii text.now) }
@@ -47,10 +65,7 @@ impl Symbol {
         if !text.is_ascii() {
             return Err(SymbolError::NotAscii);
         }
-        match Symbol::of_ascii(alloc, text) {
-            Ok(symbol) => Ok(symbol),
-            Err(_) => Err(SymbolError::OutOfMemory),
-        }
+        Ok(Symbol::of_ascii(alloc, text)?)
     }
 
     /// The symbol of a text that is ASCII.
@@ -63,7 +78,7 @@ impl Symbol {
         })
     }
 
-    /// The text of the symbol.
+    /// The text of the symbol, which is ASCII.
     pub fn as_str(&self) -> &str
         ensures text { result.now ≡ self.now }
         ensures ascii { IsAscii self.now }

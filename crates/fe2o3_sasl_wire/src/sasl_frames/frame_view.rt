@@ -7,14 +7,17 @@ ghost use Rattle.fe2o3_sasl_wire.specs.private.Reading.{kind_of_code, kind_of_na
 ghost use Rattle.fe2o3_sasl_wire.specs.FrameView.{viewed_frame, viewed_answer};
 
 use crate::amqp_types::SaslCode;
+use crate::hidden::Hidden;
 use crate::sasl_frames::error::Error;
 use crate::sasl_frames::forms::{DESCRIBED, Kind, SMALL_ULONG, ULONG};
 use crate::sasl_frames::items::{Items, list_at};
 use crate::sasl_frames::reading::{byte_at, symbol_at, u64_at};
 use crate::sasl_frames::symbols_view::SymbolsView;
 use crate::sasl_frames::{DATA_OFFSET, FRAME_TYPE_SASL};
+use std::fmt;
 
-/// A SASL frame whose texts and bytes are slices of its body.
+/// A SASL frame whose texts and bytes are slices of its body (AMQP 1.0, part 5, section 5.3.3). Its
+/// `Debug` shows a response by its length alone, since it may be a password.
 #[derive(Drop)]
 pub enum FrameView<'a> {
     /// The mechanisms that the server offers.
@@ -48,7 +51,41 @@ pub enum FrameView<'a> {
     },
 }
 
+impl fmt::Debug for FrameView<'_> {
+    fn fmt<W: fmt::Write>(&self, f: &mut fmt::Formatter<W>) -> fmt::Result {
+        match self {
+            FrameView::Mechanisms(symbols) => f.debug_tuple("Mechanisms").field(symbols).finish(),
+            FrameView::Init {
+                mechanism,
+                initial_response,
+                hostname,
+            } => f
+                .debug_struct("Init")
+                .field("mechanism", mechanism)
+                .field(
+                    "initial_response",
+                    &initial_response.map(|bytes| Hidden(bytes)),
+                )
+                .field("hostname", hostname)
+                .finish(),
+            FrameView::Challenge(challenge) => f.debug_tuple("Challenge").field(challenge).finish(),
+            FrameView::Response(response) => {
+                f.debug_tuple("Response").field(&Hidden(response)).finish()
+            }
+            FrameView::Outcome {
+                code,
+                additional_data,
+            } => f
+                .debug_struct("Outcome")
+                .field("code", code)
+                .field("additional_data", additional_data)
+                .finish(),
+        }
+    }
+}
+
 /// The kind of frame with this code.
+#[inline(always)]
 fn kind_of_code(code: u64) -> Option<Kind>
     ensures { result ≡ kind_of_code code }
 {
@@ -63,6 +100,7 @@ fn kind_of_code(code: u64) -> Option<Kind>
 }
 
 /// The kind of frame with this name.
+#[inline(always)]
 #[tactic(auto, unfolding(crate::specs::private::Reading::kind_of_name))]
 fn kind_of_name(name: &str) -> Option<Kind>
     ensures { result ≡ kind_of_name name.now }
@@ -83,6 +121,7 @@ fn kind_of_name(name: &str) -> Option<Kind>
 }
 
 /// A descriptor: a code as smallulong or as ulong, or a name.
+#[inline(always)]
 #[tactic(auto, unfolding(crate::specs::private::Reading::descriptor_at))]
 fn descriptor_at(bytes: &[u8]) -> Option<(Kind, &[u8])>
     ensures { option_map (λ x. (x.0, x.1.now)) result ≡ descriptor_at bytes.now }
@@ -108,6 +147,7 @@ fn descriptor_at(bytes: &[u8]) -> Option<(Kind, &[u8])>
 }
 
 /// The frame of this kind that the items are.
+#[inline(always)]
 #[tactic(auto, unfolding(crate::specs::private::Reading::fields_at))]
 fn fields_at<'a>(kind: Kind, mut items: Items<'a>) -> Option<FrameView<'a>>
     ensures { option_map viewed_frame result ≡ fields_at kind items.entry }
@@ -152,6 +192,7 @@ fn fields_at<'a>(kind: Kind, mut items: Items<'a>) -> Option<FrameView<'a>>
 }
 
 /// A described list.
+#[inline(always)]
 #[tactic(auto, unfolding(crate::specs::private::Reading::value_at))]
 fn value_at(bytes: &[u8]) -> Option<(FrameView<'_>, &[u8])>
     ensures { option_map (λ x. (viewed_frame x.0, x.1.now)) result ≡ value_at bytes.now }
@@ -166,8 +207,11 @@ fn value_at(bytes: &[u8]) -> Option<(FrameView<'_>, &[u8])>
     Some((frame, rest))
 }
 
-/// Reads a body without its four-byte size: the frame, and how many bytes it takes, from the data
-/// offset on. Bytes after the frame are left alone. Takes no memory.
+/// Reads a body without its four-byte size (AMQP 1.0, part 5, section 5.3.1): the frame, and how many
+/// bytes it takes, from the data offset on. Bytes after the frame are left alone. In this order: fewer
+/// than four bytes are a DecodeError, another type than 1 or data offset than 2 is NotImplemented, and
+/// anything else that begins with no frame is a DecodeError. Takes no memory, so it answers neither
+/// OutOfMemory nor TooLarge.
 pub fn view_frame(bytes: &[u8]) -> Result<(FrameView<'_>, usize), Error>
     ensures reads { ReadsBody bytes.now (viewed_answer result) }
     ensures not_out_of_memory { ¬ (IsErrOf result OutOfMemory) }

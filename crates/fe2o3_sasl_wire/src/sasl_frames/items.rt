@@ -12,6 +12,7 @@ use crate::sasl_frames::symbols_view::{SymbolsView, symbols_at};
 use std::marker::Model;
 
 /// The bytes after a null.
+#[inline(always)]
 fn null_at(bytes: &[u8]) -> Option<&[u8]>
     ensures { option_map (λ x. x.now) result ≡ null_at bytes.now }
 {
@@ -37,6 +38,7 @@ impl<'a> Model for Items<'a> {
 }
 
 /// A list.
+#[inline(always)]
 #[tactic(auto, unfolding(crate::specs::private::Reading::list_at))]
 pub(crate) fn list_at(bytes: &[u8]) -> Option<(Items<'_>, &[u8])>
     ensures { option_map (λ x. (x.0, x.1.now)) result ≡ list_at bytes.now }
@@ -59,6 +61,7 @@ pub(crate) fn list_at(bytes: &[u8]) -> Option<(Items<'_>, &[u8])>
 
 impl<'a> Items<'a> {
     /// The next item, which has to be a binary.
+    #[inline(always)]
     #[tactic(auto, unfolding(crate::specs::private::Reading::required))]
     pub(crate) fn binary(&mut self) -> Option<&'a [u8]>
         ensures { option_map (λ x. (x.now, self.new)) result ≡ required binary_at self.old }
@@ -73,6 +76,7 @@ impl<'a> Items<'a> {
     }
 
     /// The next item, which has to be an outcome's code.
+    #[inline(always)]
     #[tactic(auto, unfolding(crate::specs::private::Reading::required))]
     pub(crate) fn code(&mut self) -> Option<SaslCode>
         ensures { option_map (λ x. (x, self.new)) result ≡ required code_at self.old }
@@ -87,6 +91,7 @@ impl<'a> Items<'a> {
     }
 
     /// The next item, which has to be a symbol.
+    #[inline(always)]
     #[tactic(auto, unfolding(crate::specs::private::Reading::required))]
     pub(crate) fn symbol(&mut self) -> Option<&'a str>
         ensures { option_map (λ x. (x.now, self.new)) result ≡ required symbol_at self.old }
@@ -101,6 +106,7 @@ impl<'a> Items<'a> {
     }
 
     /// The next item, which has to be an array of symbols or one symbol.
+    #[inline(always)]
     #[tactic(auto, unfolding(crate::specs::private::Reading::required))]
     pub(crate) fn symbols(&mut self) -> Option<SymbolsView<'a>>
         ensures { option_map (λ x. (x, self.new)) result ≡ required symbols_at self.old }
@@ -115,6 +121,7 @@ impl<'a> Items<'a> {
     }
 
     /// The next item, which may be a binary, null or absent.
+    #[inline(always)]
     #[tactic(auto, unfolding(crate::specs::private::Reading::optional_at))]
     pub(crate) fn optional_binary(&mut self) -> Option<Option<&'a [u8]>>
         ensures { option_map (λ x. (option_map (λ y. y.now) x, self.new)) result
@@ -135,6 +142,7 @@ impl<'a> Items<'a> {
     }
 
     /// The next item, which may be a string, null or absent.
+    #[inline(always)]
     #[tactic(auto, unfolding(crate::specs::private::Reading::optional_at))]
     pub(crate) fn optional_string(&mut self) -> Option<Option<&'a str>>
         ensures { option_map (λ x. (option_map (λ y. y.now) x, self.new)) result
@@ -155,6 +163,7 @@ impl<'a> Items<'a> {
     }
 
     /// That no item and no byte is left.
+    #[inline(always)]
     pub(crate) fn end(self) -> Option<()>
         ensures { option_map (λ _. tt) result ≡ ended self.entry }
     {

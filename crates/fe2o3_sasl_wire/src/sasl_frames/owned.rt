@@ -73,8 +73,9 @@ fn owned_init(
 }
 
 impl FrameView<'_> {
-    /// The frame with copies of its texts and bytes. DecodeError where the mechanism of an init is
-    /// not ASCII, which no view of `view_frame` has.
+    /// The frame with copies of its texts and bytes. In this order: DecodeError where the mechanism
+    /// of an init is not ASCII (AMQP 1.0, part 1, section 1.6.21), which no view of `view_frame` has;
+    /// OutOfMemory where there is no memory for the copies.
     pub fn to_frame(&self, alloc: Global) -> Result<Frame, Error>
         ensures ok { IfOk result (λ frame. owned_frame frame ≡ viewed_frame self.now) }
         ensures ascii { IfOk result (λ _. HasAsciiMechanism (viewed_frame self.now)) }

@@ -3,7 +3,7 @@
 
 ghost use Rattle.std.specs.Prelude.{◌≡◌, Some, None, option_map, if◌then◌else◌, IfSome, IsAscii};
 ghost use Rattle.std.specs.Str.{is_utf8};
-ghost use Rattle.fe2o3_sasl_wire.specs.private.Reading.{byte_at, four_at, eight_at, number_at, content_at, form_at, variable_at, element_at, symbol_at, string_at, binary_at, code_at, sasl_code, is_ascii};
+ghost use Rattle.fe2o3_sasl_wire.specs.private.Reading.{byte_at, four_at, eight_at, number_at, content_at, form_at, variable_at, element_at, symbol_at, string_at, binary_at, code_at, is_ascii};
 
 use crate::amqp_types::SaslCode;
 use crate::sasl_frames::forms::{
@@ -11,6 +11,7 @@ use crate::sasl_frames::forms::{
 };
 
 /// One byte.
+#[inline(always)]
 pub(crate) fn byte_at(bytes: &[u8]) -> Option<(u8, &[u8])>
     ensures { option_map (λ x. (x.0, x.1.now)) result ≡ byte_at bytes.now }
 {
@@ -21,32 +22,27 @@ pub(crate) fn byte_at(bytes: &[u8]) -> Option<(u8, &[u8])>
 }
 
 /// A number of four bytes.
+#[inline(always)]
 pub(crate) fn u32_at(bytes: &[u8]) -> Option<(u32, &[u8])>
     ensures { option_map (λ x. (x.0, x.1.now)) result ≡ four_at bytes.now }
 {
-    if bytes.len() < 4 {
-        return None;
-    }
-    let (front, rest) = bytes.split_at(4);
-    let number = u32::from_be_bytes([front[0], front[1], front[2], front[3]]);
+    let (front, rest) = bytes.split_first_chunk::<4>()?;
+    let number = u32::from_be_bytes(*front);
     Some((number, rest))
 }
 
 /// A number of eight bytes.
+#[inline(always)]
 pub(crate) fn u64_at(bytes: &[u8]) -> Option<(u64, &[u8])>
     ensures { option_map (λ x. (x.0, x.1.now)) result ≡ eight_at bytes.now }
 {
-    if bytes.len() < 8 {
-        return None;
-    }
-    let (front, rest) = bytes.split_at(8);
-    let number = u64::from_be_bytes([
-        front[0], front[1], front[2], front[3], front[4], front[5], front[6], front[7],
-    ]);
+    let (front, rest) = bytes.split_first_chunk::<8>()?;
+    let number = u64::from_be_bytes(*front);
     Some((number, rest))
 }
 
 /// A size, a length or a count.
+#[inline(always)]
 pub(crate) fn number_at(form: Form, bytes: &[u8]) -> Option<(u32, &[u8])>
     ensures { option_map (λ x. (x.0, x.1.now)) result ≡ number_at form bytes.now }
 {
@@ -60,6 +56,7 @@ pub(crate) fn number_at(form: Form, bytes: &[u8]) -> Option<(u32, &[u8])>
 }
 
 /// A length, and that many bytes.
+#[inline(always)]
 #[tactic(auto, unfolding(crate::specs::private::Reading::content_at))]
 pub(crate) fn content_at(form: Form, bytes: &[u8]) -> Option<(&[u8], &[u8])>
     ensures { option_map (λ x. (x.0.now, x.1.now)) result ≡ content_at form bytes.now }
@@ -73,6 +70,7 @@ pub(crate) fn content_at(form: Form, bytes: &[u8]) -> Option<(&[u8], &[u8])>
 }
 
 /// The form that a constructor names.
+#[inline(always)]
 pub(crate) fn form_at(short: u8, long: u8, constructor: u8) -> Option<Form>
     ensures { result ≡ form_at short long constructor }
 {
@@ -86,6 +84,7 @@ pub(crate) fn form_at(short: u8, long: u8, constructor: u8) -> Option<Form>
 }
 
 /// A constructor of either form, a length, and that many bytes.
+#[inline(always)]
 #[tactic(auto, unfolding(crate::specs::private::Reading::variable_at))]
 pub(crate) fn variable_at(short: u8, long: u8, bytes: &[u8]) -> Option<(&[u8], &[u8])>
     ensures { option_map (λ x. (x.0.now, x.1.now)) result ≡ variable_at short long bytes.now }
@@ -96,6 +95,7 @@ pub(crate) fn variable_at(short: u8, long: u8, bytes: &[u8]) -> Option<(&[u8], &
 }
 
 /// A binary.
+#[inline(always)]
 #[tactic(auto, unfolding(crate::specs::private::Reading::binary_at))]
 pub(crate) fn binary_at(bytes: &[u8]) -> Option<(&[u8], &[u8])>
     ensures { option_map (λ x. (x.0.now, x.1.now)) result ≡ binary_at bytes.now }
@@ -103,28 +103,15 @@ pub(crate) fn binary_at(bytes: &[u8]) -> Option<(&[u8], &[u8])>
     variable_at(BINARY_8, BINARY_32, bytes)
 }
 
-/// The code with this number.
-pub(crate) fn sasl_code(number: u8) -> Option<SaslCode>
-    ensures { result ≡ sasl_code number }
-{
-    match number {
-        0 => Some(SaslCode::Ok),
-        1 => Some(SaslCode::Auth),
-        2 => Some(SaslCode::Sys),
-        3 => Some(SaslCode::SysPerm),
-        4 => Some(SaslCode::SysTemp),
-        _ => None,
-    }
-}
-
 /// An outcome's code, as a ubyte.
-#[tactic(auto, unfolding(crate::specs::private::Reading::code_at))]
+#[inline(always)]
+#[tactic(auto, using(crate::proofs::lemmas::CodeLemmas::no_code), unfolding(crate::specs::private::Reading::code_at))]
 pub(crate) fn code_at(bytes: &[u8]) -> Option<(SaslCode, &[u8])>
     ensures { option_map (λ x. (x.0, x.1.now)) result ≡ code_at bytes.now }
 {
     let (constructor, rest) = byte_at(bytes)?;
     let (number, rest) = byte_at(rest)?;
-    let code = sasl_code(number)?;
+    let code = SaslCode::try_from(number).ok()?;
     if constructor != UBYTE {
         return None;
     }
@@ -132,6 +119,7 @@ pub(crate) fn code_at(bytes: &[u8]) -> Option<(SaslCode, &[u8])>
 }
 
 /// The text of bytes that are ASCII.
+#[inline(always)]
 pub(crate) fn ascii_text(bytes: &[u8]) -> Option<&str>
     ensures ascii { IfSome result (λ text. IsAscii text.now) }
     ensures value { option_map (λ x. x.now) result ≡ (if is_ascii bytes.now then Some bytes.now else None) }
@@ -143,6 +131,7 @@ pub(crate) fn ascii_text(bytes: &[u8]) -> Option<&str>
 }
 
 /// The text of bytes that are UTF-8.
+#[inline(always)]
 pub(crate) fn utf8_text(bytes: &[u8]) -> Option<&str>
     ensures { option_map (λ x. x.now) result ≡ (if is_utf8 bytes.now then Some bytes.now else None) }
 {
@@ -150,6 +139,7 @@ pub(crate) fn utf8_text(bytes: &[u8]) -> Option<&str>
 }
 
 /// A symbol without its constructor, as it stands in an array.
+#[inline(always)]
 #[tactic(auto, unfolding(crate::specs::private::Reading::element_at))]
 pub(crate) fn element_at(form: Form, bytes: &[u8]) -> Option<(&str, &[u8])>
     ensures ascii { IfSome result (λ x. IsAscii x.0.now) }
@@ -161,6 +151,7 @@ pub(crate) fn element_at(form: Form, bytes: &[u8]) -> Option<(&str, &[u8])>
 }
 
 /// A symbol.
+#[inline(always)]
 #[tactic(auto, unfolding(crate::specs::private::Reading::symbol_at))]
 pub(crate) fn symbol_at(bytes: &[u8]) -> Option<(&str, &[u8])>
     ensures { option_map (λ x. (x.0.now, x.1.now)) result ≡ symbol_at bytes.now }
@@ -171,6 +162,7 @@ pub(crate) fn symbol_at(bytes: &[u8]) -> Option<(&str, &[u8])>
 }
 
 /// A string.
+#[inline(always)]
 #[tactic(auto, unfolding(crate::specs::private::Reading::string_at))]
 pub(crate) fn string_at(bytes: &[u8]) -> Option<(&str, &[u8])>
     ensures { option_map (λ x. (x.0.now, x.1.now)) result ≡ string_at bytes.now }

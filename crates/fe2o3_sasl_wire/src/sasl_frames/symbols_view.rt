@@ -6,9 +6,10 @@ ghost use Rattle.fe2o3_sasl_wire.specs.private.Reading.{elements_at, element_at,
 
 use crate::sasl_frames::forms::{ARRAY_8, ARRAY_32, Form, SYMBOL_8, SYMBOL_32};
 use crate::sasl_frames::reading::{byte_at, content_at, element_at, form_at, number_at};
+use std::fmt;
 use std::marker::Model;
 
-/// The symbols of a mechanisms frame, where they stand in its body.
+/// The symbols of a mechanisms frame (AMQP 1.0, part 5, section 5.3.3.1), where they stand in its body.
 #[derive(Drop)]
 pub struct SymbolsView<'a> {
     form: Form,
@@ -27,6 +28,12 @@ impl<'a> Model for SymbolsView<'a> {
     ghost invariant = { λ symbols. IsSome (elements_at symbols.form symbols.count symbols.elements.now) };
 }
 
+impl fmt::Debug for SymbolsView<'_> {
+    fn fmt<W: fmt::Write>(&self, f: &mut fmt::Formatter<W>) -> fmt::Result {
+        f.debug_list().entries(self.iter()).finish()
+    }
+}
+
 /// The bytes after this many elements.
 fn elements_rest(form: Form, count: u32, bytes: &[u8]) -> Option<&[u8]>
     ensures { option_map (λ x. x.now) result ≡ option_map (λ x. x.1) (elements_at form count bytes.now) }
@@ -40,6 +47,7 @@ fn elements_rest(form: Form, count: u32, bytes: &[u8]) -> Option<&[u8]>
 }
 
 /// This many elements.
+#[inline(always)]
 pub(crate) fn elements_at(
     form: Form,
     count: u32,
@@ -85,7 +93,8 @@ impl<'a> SymbolsView<'a> {
         }
     }
 
-    /// The symbol at an index, from 0, read over all before it: `iter` walks them in one pass.
+    /// The symbol at an index, from 0, or None at `len` and above. It reads over all before it:
+    /// `iter` walks them in one pass.
     pub fn get(&self, index: usize) -> Option<&'a str>
         ensures value { option_map (λ x. x.now) result ≡ slice_get self.now index }
         ensures ascii { IfSome result (λ x. IsAscii x.now) }
@@ -161,6 +170,7 @@ impl<'a> Iterator for SymbolsIter<'a> {
 }
 
 /// An array behind its constructor.
+#[inline(always)]
 #[tactic(auto, unfolding(crate::specs::private::Reading::array_at))]
 fn array_at(form: Form, bytes: &[u8]) -> Option<(SymbolsView<'_>, &[u8])>
     ensures { option_map (λ x. (x.0, x.1.now)) result ≡ array_at form bytes.now }
@@ -177,6 +187,7 @@ fn array_at(form: Form, bytes: &[u8]) -> Option<(SymbolsView<'_>, &[u8])>
 }
 
 /// A symbol behind its constructor, which stands for a list of one.
+#[inline(always)]
 #[tactic(auto, unfolding(crate::specs::private::Reading::one_at))]
 fn one_at(form: Form, bytes: &[u8]) -> Option<(SymbolsView<'_>, &[u8])>
     ensures { option_map (λ x. (x.0, x.1.now)) result ≡ one_at form bytes.now }
@@ -185,6 +196,7 @@ fn one_at(form: Form, bytes: &[u8]) -> Option<(SymbolsView<'_>, &[u8])>
 }
 
 /// An array of symbols, or one symbol.
+#[inline(always)]
 #[tactic(auto, unfolding(crate::specs::private::Reading::symbols_at))]
 pub(crate) fn symbols_at(bytes: &[u8]) -> Option<(SymbolsView<'_>, &[u8])>
     ensures { option_map (λ x. (x.0, x.1.now)) result ≡ symbols_at bytes.now }

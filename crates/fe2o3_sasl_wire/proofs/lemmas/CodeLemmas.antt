@@ -1,0 +1,20 @@
+-- The code that a byte stands for, as the answer of the conversion.
+use Rattle.std.proofs.Common.{◌≡◌, ℕ, None, Result, Ok, Err, refl, sym}
+use Rattle.std.specs.Result.{result_ok}
+use Rattle.std.proofs.lemmas.Bool.{ne_eqb}
+use Rattle.fe2o3_sasl_wire.specs.declared.amqp_types.SaslCode.{SaslCode}
+use Rattle.fe2o3_sasl_wire.specs.declared.amqp_types.SaslCode.TheVariants as sasl_codes
+use Rattle.fe2o3_sasl_wire.specs.AmqpTypes.{DecodesCode}
+use Rattle.fe2o3_sasl_wire.specs.private.Reading.{sasl_code}
+
+-- a byte that is handed back stands for no code
+pub no_code : (n : ℕ) (r : Result SaslCode ℕ) → DecodesCode n r → result_ok r ≡ None → sasl_code n ≡ None
+no_code n (Ok code) gives none = absurd cc
+no_code n (Err back) gives none =
+    rw (
+      ne_eqb n 0 (λ is. gives.1 sasl_codes.Ok (sym is)),
+      ne_eqb n 1 (λ is. gives.1 sasl_codes.Auth (sym is)),
+      ne_eqb n 2 (λ is. gives.1 sasl_codes.Sys (sym is)),
+      ne_eqb n 3 (λ is. gives.1 sasl_codes.SysPerm (sym is)),
+      ne_eqb n 4 (λ is. gives.1 sasl_codes.SysTemp (sym is)),
+    ) refl
