@@ -14,7 +14,7 @@ use Rattle.fe2o3_scram.specs.declared.scram_messages.error.ServerScramErrorKind.
 use Rattle.fe2o3_scram.specs.declared.scram_messages.client_final_reading.ClientFinal.{ClientFinal as CodeClientFinal}
 use Rattle.fe2o3_scram.specs.Credentials.{Record}
 use Rattle.fe2o3_scram.specs.Hmac.{digest_len}
-use Rattle.fe2o3_scram.specs.Readings.{IsFirst, Reads}
+use Rattle.fe2o3_scram.specs.Readings.{IsFirst, NoneHolds, Reads}
 
 -- client-final-message-without-proof (RFC 5802, section 7): the GS2 header in base64 and the nonce of both sides
 abbrev pub without_proof : List ℕ → List ℕ
@@ -142,6 +142,21 @@ spelling_tests text =
 abbrev pub final_text_tests : List ℕ → List ℕ → List (ServerScramErrorKind × Type 0)
 final_text_tests nonce text = (Utf8Error, ¬ IsUtf8 text)
     ∷ (binding_tests text ++ (nonce_tests nonce text ++ spelling_tests text))
+
+-- the server comes to a channel binding that is not its own, for which it asks for memory (RFC 5802, section 5.1)
+abbrev pub ReachesBinding : List ℕ → Type 0
+ReachesBinding text =
+    ((rest : List ℕ) × Part text 0 (codes "c=" ++ rest)) × ¬ HasBinding text (codes "n,,")
+
+-- the server comes to the proof, for which it asks for memory: binding and nonce have passed their tests, and the last
+-- part is a proof (RFC 5802, section 5.1)
+abbrev pub ReachesProof : List ℕ → List ℕ → Type 0
+ReachesProof nonce text = NoneHolds (binding_tests text) × NoneHolds (nonce_tests nonce text)
+    × ((before : List ℕ) × (rest : List ℕ) × LastPart text before (codes "p=" ++ rest))
+
+-- the server comes to ask for memory, with this nonce of both sides
+abbrev pub ReachesBase64 : List ℕ → List ℕ → Type 0
+ReachesBase64 nonce text = IsUtf8 text × (ReachesBinding text ⊎ ReachesProof nonce text)
 
 -- what the server reads before it looks at its keys (RFC 5802, section 5.1): the first refusal that holds, or the
 -- values that are named; parts between the nonce and the proof stay in what stands before the proof

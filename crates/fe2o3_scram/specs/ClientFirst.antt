@@ -5,7 +5,7 @@ use Rattle.std.specs.Str.{IsUtf8}
 use Rattle.fe2o3_scram.specs.declared.scram_messages.error.ServerScramErrorKind.{ServerScramErrorKind}
 use Rattle.fe2o3_scram.specs.declared.scram_messages.error.ServerScramErrorKind.TheVariants.{Utf8Error, CannotParseGs2Header, CannotParseUsername, CannotParseClientNonce}
 use Rattle.fe2o3_scram.specs.declared.scram_messages.client_first_reading.ClientFirst.{ClientFirst as CodeClientFirst}
-use Rattle.fe2o3_scram.specs.Escape.{escaped}
+use Rattle.fe2o3_scram.specs.Escape.{escaped, NoEquals}
 use Rattle.fe2o3_scram.specs.Readings.{Reads}
 use Rattle.fe2o3_scram.specs.Texts.{joined, Part, Begins}
 
@@ -51,6 +51,11 @@ client_first_tests text =
     ∷ (CannotParseUsername, (user : List ℕ) → ¬ BarePart text 0 (codes "n=" ++ escaped user))
     ∷ (CannotParseClientNonce, (nonce : List ℕ) → ¬ BarePart text 1 (codes "r=" ++ nonce))
     ∷ []
+
+-- the server comes to a name with escapes, for which it asks for memory (RFC 5802, section 5.1)
+abbrev pub HasEscapes : List ℕ → Type 0
+HasEscapes text = IsUtf8 text
+    × ((spelling : List ℕ) × BarePart text 0 (codes "n=" ++ spelling) × ¬ NoEquals spelling)
 
 -- what the server reads (RFC 5802, section 5.1): the first refusal that holds, or the values that are named; further
 -- parts say nothing

@@ -16,7 +16,8 @@ abbrev pub Reads : {F V : Type 0} → List (F × Type 0) → (V → Type 0) → 
 Reads tests Names (Ok values) = NoneHolds tests × Names values
 Reads tests Names (Err fault) = IsFirst tests fault
 
--- what a call returned, seen by `view`, is an answer, unless it returned the fault for refused memory
-abbrev pub Gives : {X Y F : Type 0} → F → (X → Y) → Result X F → (Result Y F → Type 0) → Type 0
-Gives memory view (Ok value) Answer = Answer (Ok (view value))
-Gives memory view (Err fault) Answer = fault ≢ memory → Answer (Err fault)
+-- what a call returned, seen by `view`, is an answer, unless it returned the fault for refused memory, which stands
+-- only where the call comes to ask for memory
+abbrev pub Gives : {X Y F : Type 0} → F → Type 0 → (X → Y) → Result X F → (Result Y F → Type 0) → Type 0
+Gives memory Allocates view (Ok value) Answer = Answer (Ok (view value))
+Gives memory Allocates view (Err fault) Answer = (fault ≡ memory → Allocates) × (fault ≢ memory → Answer (Err fault))

@@ -9,8 +9,8 @@ use Rattle.fe2o3_scram.specs.declared.scram_messages.error.ScramErrorKind.TheVar
 use Rattle.fe2o3_scram.specs.Texts.{base64_text}
 use Rattle.fe2o3_scram.specs.ClientFinal.{AnswersServerFirst, AnswerCosts}
 use Rattle.fe2o3_scram.specs.ClientFirst.{client_first_bare}
-use Rattle.fe2o3_scram.specs.ServerFirst.{Client, client_of, ReadsServerFirst}
-use Rattle.fe2o3_scram.specs.ServerFinal.{ReadsServerFinal}
+use Rattle.fe2o3_scram.specs.ServerFirst.{Client, client_of, ReachesSalt, ReadsServerFirst}
+use Rattle.fe2o3_scram.specs.ServerFinal.{ReachesVerifier, ReadsServerFinal}
 
 -- what a client has sent last, and what it waits for (RFC 5802, section 5)
 pub data ClientState : Type 0 where
@@ -58,6 +58,12 @@ AnswersIn (ClientFirstSent nonce bare) side text (Err fault) next =
 AnswersIn state side text (Ok message) next = ⊥
 AnswersIn state side text (Err fault) next = (fault ≡ IllegalClientState) × (next ≡ side)
 
+-- a client in this state comes to ask for memory for that answer (RFC 5802, section 5): one that has sent its first
+-- message does where it comes to the salt, any other never
+abbrev pub ReachesSaltIn : ClientState → List ℕ → Type 0
+ReachesSaltIn (ClientFirstSent nonce bare) text = ReachesSalt nonce text
+ReachesSaltIn state text = ⊥
+
 -- the HMAC values of that answer (RFC 5802, section 3), as a meter shows them before and after the call: those of the
 -- keys where the client has sent its first message, and none in another state
 abbrev pub AnswerCostsIn : {A : Type 0} → ClientState → ClientSide → List ℕ → Result A ScramErrorKind → ℕ → ℕ → Type 0
@@ -74,6 +80,12 @@ BelievesIn (ClientFinalSent signature) side text (Err fault) next =
     ReadsServerFinal signature text (Err fault) × (next ≡ side)
 BelievesIn state side text (Ok believed) next = ⊥
 BelievesIn state side text (Err fault) next = (fault ≡ IllegalClientState) × (next ≡ side)
+
+-- a client in this state comes to ask for memory for that (RFC 5802, section 5): one that has answered does where it
+-- comes to the signature, any other never
+abbrev pub ReachesVerifierIn : ClientState → List ℕ → Type 0
+ReachesVerifierIn (ClientFinalSent signature) text = ReachesVerifier text
+ReachesVerifierIn state text = ⊥
 
 -- the state that the code's state is
 abbrev pub state_of : ScramClientState → ClientState

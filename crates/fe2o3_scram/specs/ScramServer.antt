@@ -8,7 +8,7 @@ use Rattle.fe2o3_scram.specs.declared.scram_server.ScramAuthenticatorState.TheVa
 use Rattle.fe2o3_scram.specs.Texts.{base64_text}
 use Rattle.fe2o3_scram.specs.ServerFirst.{Challenge, AnswersClientFirst}
 use Rattle.fe2o3_scram.specs.Credentials.{Record, Provider, record_at}
-use Rattle.fe2o3_scram.specs.ClientFinal.{server_of}
+use Rattle.fe2o3_scram.specs.ClientFinal.{ReachesBase64, server_of}
 use Rattle.fe2o3_scram.specs.ServerFinal.{AnswersClientFinal, FinalCosts}
 use Rattle.fe2o3_scram.specs.declared.scram_server.ScramAuthenticator.{ScramAuthenticator}
 
@@ -45,6 +45,14 @@ ConcludesFrom (ServerFirstSent challenge) provider text (Err fault) next =
     × (next ≡ ServerFirstSent challenge)
 ConcludesFrom state provider text (Ok message) next = ⊥
 ConcludesFrom state provider text (Err fault) next = (fault ≡ IllegalAuthenticatorState) × (next ≡ state)
+
+-- a server in this state comes to ask for memory for that answer (RFC 5802, section 5): with an open challenge, of a
+-- user whom the provider has, it does where it comes to a base64 text, and otherwise never
+abbrev pub ReachesBase64In : ServerState → Provider → List ℕ → Type 0
+ReachesBase64In (ServerFirstSent challenge) provider text =
+    ((stored : Record) × (record_at provider.records challenge.user ≡ Some stored))
+    × ReachesBase64 challenge.nonce text
+ReachesBase64In state provider text = ⊥
 
 -- the HMAC values of that answer (RFC 5802, section 3), as a meter shows them before and after the call: those of the
 -- proof and the signature where a challenge is open and the provider has its user, and none elsewhere

@@ -43,6 +43,10 @@ server_final_tests text =
     ∷ (Base64DecodeError, (signature : List ℕ) → ¬ HasSignature text signature)
     ∷ []
 
+-- the client comes to the signature, for which it asks for memory (RFC 5802, section 5.1)
+abbrev pub ReachesVerifier : List ℕ → Type 0
+ReachesVerifier text = IsUtf8 text × ((rest : List ℕ) × Part text 0 (codes "v=" ++ rest))
+
 -- what the client reads before it looks at the signature that it waits for (RFC 5802, section 5.1): the first refusal
 -- that holds, or the signature that is named; parts after the first say nothing
 unfoldable pub ReadsSignature : List ℕ → Result (List ℕ) ScramErrorKind → Type 0

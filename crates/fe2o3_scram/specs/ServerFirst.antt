@@ -1,5 +1,5 @@
 -- The server-first message (RFC 5802, section 7), as the client reads it and as the server writes it.
-use Rattle.std.specs.Prelude.{ℕ, List, [], ◌∷◌, ◌++◌, ◌<◌, codes, Result, ◌≡◌, Option, Some, None, Ok, Err}
+use Rattle.std.specs.Prelude.{ℕ, List, [], ◌∷◌, ◌++◌, ◌<◌, codes, Result, ◌≡◌, ◌⊎◌, Option, Some, None, Ok, Err}
 use Rattle.fe2o3_scram.specs.declared.scram_messages.error.ScramErrorKind.{ScramErrorKind}
 use Rattle.fe2o3_scram.specs.declared.scram_messages.error.ScramErrorKind.TheVariants.{InsufficientParts, ExtensionNotSupported, NonceNotFound, ClientNonceMismatch, SaltNotFound, Base64DecodeError, IterationCountNotFound, IterationCountParseError, IterationCountTooLarge, NormalizeError}
 use Rattle.fe2o3_scram.specs.declared.scram_messages.server_first.ServerFirstMessage.{ServerFirstMessage}
@@ -7,11 +7,11 @@ use Rattle.fe2o3_scram.specs.declared.scram_messages.server_first_reading.Server
 use Rattle.std.specs.Cow.{cow_str_bytes}
 use Rattle.base64.specs.GeneralPurpose.{IsBytes}
 use Rattle.fe2o3_scram.specs.Texts.{base64_text, IsCount, Part, joined}
-use Rattle.fe2o3_scram.specs.Readings.{Reads}
+use Rattle.fe2o3_scram.specs.Readings.{NoneHolds, Reads}
 use Rattle.fe2o3_scram.specs.SaslprepAscii.{IsPrintable}
 use Rattle.std.specs.Fmt.{decimal}
 use Rattle.fe2o3_scram.specs.declared.scram_messages.error.ServerScramErrorKind.{ServerScramErrorKind}
-use Rattle.fe2o3_scram.specs.ClientFirst.{ClientFirst, ReadsClientFirst}
+use Rattle.fe2o3_scram.specs.ClientFirst.{ClientFirst, ReadsClientFirst, HasEscapes}
 use Rattle.fe2o3_scram.specs.Credentials.{Record, Records, record_at}
 
 -- what a server-first message names (RFC 5802, section 7): the nonce of both sides, the salt and the iteration count
@@ -86,6 +86,12 @@ abbrev pub server_first_tests : Client → List ℕ → List (ScramErrorKind × 
 server_first_tests client text = nonce_tests client.nonce text
     ++ (salt_tests text ++ (count_tests client.limit text ++ password_tests client.password))
 
+-- the client comes to the salt, for which it asks for memory: the nonce has passed its tests, and the second part is a
+-- salt (RFC 5802, section 5.1)
+abbrev pub ReachesSalt : List ℕ → List ℕ → Type 0
+ReachesSalt client_nonce text =
+    NoneHolds (nonce_tests client_nonce text) × ((rest : List ℕ) × Part text 1 (codes "s=" ++ rest))
+
 -- what the client reads (RFC 5802, section 5.1): the first refusal that holds, or the values that are named; parts
 -- after the third say nothing
 unfoldable pub ReadsServerFirst : Client → List ℕ → Result ServerFirst ScramErrorKind → Type 0
@@ -119,6 +125,13 @@ abbrev pub challenge_of : ClientFirst → List ℕ → Record → Challenge
 challenge_of client server_nonce stored =
     let nonce = client.nonce ++ server_nonce in
     record { user = client.user; bare = client.bare; first = server_first_of nonce stored; nonce = nonce }
+
+-- the server comes to ask for memory: for an escaped name, or for the challenge to a user whom it knows (RFC 5802,
+-- section 5.1)
+abbrev pub ReachesChallenge : Records → List ℕ → Type 0
+ReachesChallenge records text = HasEscapes text
+    ⊎ ((client : ClientFirst) × (stored : Record) × ReadsClientFirst text (Ok client)
+    × (record_at records client.user ≡ Some stored))
 
 -- what the server answers to a client-first message (RFC 5802, section 5): the first refusal, nothing to a user whom
 -- it does not know, or the challenge

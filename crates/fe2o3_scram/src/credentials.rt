@@ -13,7 +13,7 @@ use std::fmt;
 use std::marker::Model;
 use std::rc::Rc;
 
-/// The iteration count of a credential that names none.
+/// The iteration count of a credential that names none: the least that RFC 7677, section 4, asks for.
 pub const DEFAULT_SCRAM_ITERATIONS: u32 = 4096;
 
 /// What is kept of a password, borrowed from a provider.
@@ -53,7 +53,8 @@ pub trait ScramCredentialProvider: Clone {
     fn scram_version(&self) -> &ScramVersion
         ensures { result.now ≡ (meaning self.now).version };
 
-    /// What is kept of the user's password.
+    /// What is kept of the user's password, or `None` for a user whom the store does not have. The
+    /// name is plain, and not escaped.
     fn get_stored_password<'a>(&'a self, username: &str) -> Option<StoredPassword<'a>>
         ensures { option_map kept result ≡ record_at (meaning self.now).records username.now };
 
@@ -111,7 +112,12 @@ impl Model for SingleScramCredential {
 }
 
 impl SingleScramCredential {
-    /// The credential of a user with this password, with 4096 iterations.
+    /// The credential of a user with this password, with 4096 iterations (RFC 5802, section 3). The
+    /// user name is plain, and not escaped; the salt is fresh for each credential; of the password
+    /// the keys alone are kept.
+    ///
+    /// Refused are `NormalizeError`, exactly where the password is not printable ASCII (RFC 4013,
+    /// section 2), and `OutOfMemory`.
     pub fn new(
         alloc: Global,
         username: String,

@@ -11,7 +11,7 @@ use crate::hmac::hasher::DigestBytes;
 use crate::hmac::keyed::HmacKey;
 use crate::hmac::{Meter, ScramVersion};
 use crate::saslprep_ascii::{self, saslprep};
-use std::alloc::{AllocError, Global};
+use std::alloc::{AllocError, AllocFailed, Global};
 use thiserror::Error;
 
 /// Why a password gives no salted password.
@@ -30,6 +30,14 @@ impl From<AllocError> for KeyError {
     ghost from_gives = { λ _ error. error ≡ OutOfMemory };
 
     fn from(_error: AllocError) -> KeyError {
+        KeyError::OutOfMemory
+    }
+}
+
+impl<T: Drop> From<AllocFailed<T>> for KeyError {
+    ghost from_gives = { λ _ error. error ≡ OutOfMemory };
+
+    fn from(_error: AllocFailed<T>) -> KeyError {
         KeyError::OutOfMemory
     }
 }

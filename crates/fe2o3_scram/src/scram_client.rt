@@ -4,7 +4,7 @@ ghost use Rattle.std.specs.Prelude.{◌≡◌, ◌≤◌, ◌^◌, IfOk, OnOk, O
 ghost use Rattle.std.specs.String.{string_bytes};
 ghost use Rattle.fe2o3_scram.specs.Texts.{base64_text};
 ghost use Rattle.fe2o3_scram.specs.ClientFirst.{client_first};
-ghost use Rattle.fe2o3_scram.specs.ScramClient.{Initial, AnswersIn, AnswerCostsIn, BelievesIn, started, state_of};
+ghost use Rattle.fe2o3_scram.specs.ScramClient.{Initial, AnswersIn, AnswerCostsIn, BelievesIn, ReachesSaltIn, ReachesVerifierIn, started, state_of};
 ghost use Rattle.fe2o3_scram.specs.Readings.{Gives};
 ghost use Rattle.fe2o3_scram.specs.ServerFirst.{no_limit};
 
@@ -85,7 +85,8 @@ impl Model for ScramClient {
 }
 
 impl ScramClient {
-    /// A client that has sent nothing, and accepts every iteration count from 1 on.
+    /// A client that has sent nothing, and accepts every iteration count from 1 to 4294967295. The
+    /// user name is plain, and the password as it is typed: neither is prepared or tested here.
     pub fn new(username: String, password: String, scram_version: ScramVersion) -> Self
         ensures { result ≡ record {
           user = string_bytes username;
@@ -105,7 +106,7 @@ impl ScramClient {
         }
     }
 
-    /// The same client, which refuses an iteration count above the limit.
+    /// The same client in the same state, which refuses an iteration count above the limit.
     pub fn with_iteration_limit(self, limit: u32) -> Self
         ensures { result ≡ record {
           user = self.user;
@@ -125,14 +126,17 @@ impl ScramClient {
         }
     }
 
-    /// The version, which names the mechanism that the client logs in by.
+    /// The version, which names the mechanism that the client logs in by (RFC 5802, section 4).
     pub fn version(&self) -> ScramVersion
         ensures { result ≡ self.now.version }
     {
         self.scram
     }
 
-    /// The client-first message with a nonce of 32 bytes, which is written in base64.
+    /// The client-first message (RFC 5802, section 7), with its GS2 header. The nonce is 32 bytes,
+    /// which no exchange before had, and is written in base64, as 44 symbols.
+    ///
+    /// It starts afresh in every state. `OutOfMemory` is the only refusal.
     pub fn compute_client_first_message(
         &mut self,
         alloc: Global,
@@ -153,20 +157,27 @@ impl ScramClient {
         Ok(client_first_message)
     }
 
-    /// Answers the server-first message with the client-final message.
+    /// Answers the server-first message with the client-final message (RFC 5802, sections 5 and 7).
+    ///
+    /// Refused are, in this order: `IllegalClientState` where the client-first message is not what
+    /// the client sent last; then what `ServerFirst::parse` refuses, in its order, with the nonce,
+    /// the password and the limit of the client. `OutOfMemory` is answered only where none of those
+    /// before `Base64DecodeError` holds.
     pub fn compute_client_final_message(
         &mut self,
         alloc: Global,
         server_first: &str,
     ) -> Result<Vec<u8>, ScramErrorKind>
-        ensures answer { Gives ScramErrorKind.OutOfMemory (λ message. message.items) result
+        ensures answer { Gives ScramErrorKind.OutOfMemory (ReachesSaltIn self.old.state server_first.now)
+            (λ message. message.items) result
             (λ answer. AnswersIn self.old.state self.old server_first.now answer self.new) }
         ensures err { OnErr result (self.new ≡ self.old) }
     {
         self.compute_client_final_message_metered(alloc, server_first, &mut Meter::new())
     }
 
-    /// As `compute_client_final_message`. The meter counts the HMAC values, also of a refusal.
+    /// As `compute_client_final_message`. The meter, of at most 2^63, counts the HMAC values, also of
+    /// a refusal.
     pub fn compute_client_final_message_metered(
         &mut self,
         alloc: Global,
@@ -174,7 +185,8 @@ impl ScramClient {
         meter: &mut Meter,
     ) -> Result<Vec<u8>, ScramErrorKind>
         requires { meter.old ≤ 2 ^ 63 }
-        ensures answer { Gives ScramErrorKind.OutOfMemory (λ message. message.items) result
+        ensures answer { Gives ScramErrorKind.OutOfMemory (ReachesSaltIn self.old.state server_first.now)
+            (λ message. message.items) result
             (λ answer. AnswersIn self.old.state self.old server_first.now answer self.new) }
         ensures err { OnErr result (self.new ≡ self.old) }
         ensures cost { AnswerCostsIn self.old.state self.old server_first.now result meter.old meter.new }
@@ -202,13 +214,19 @@ impl ScramClient {
         }
     }
 
-    /// Believes the server-final message, or refuses it.
+    /// Believes the server-final message, or refuses it (RFC 5802, section 5).
+    ///
+    /// Refused are, in this order: `IllegalClientState` where the client-final message is not what
+    /// the client sent last; `Utf8Error`; `ServerSignatureMismatch` where the first part does not
+    /// begin with `v=`; `Base64DecodeError`; `ServerSignatureMismatch` for another signature.
+    /// `OutOfMemory` is answered only where none of the first three refusals holds.
     pub fn validate_server_final(
         &mut self,
         alloc: Global,
         server_final: &[u8],
     ) -> Result<(), ScramErrorKind>
-        ensures answer { Gives ScramErrorKind.OutOfMemory (λ believed. believed) result
+        ensures answer { Gives ScramErrorKind.OutOfMemory (ReachesVerifierIn self.old.state server_final.now)
+            (λ believed. believed) result
             (λ answer. BelievesIn self.old.state self.old server_final.now answer self.new) }
         ensures err { OnErr result (self.new ≡ self.old) }
     {

@@ -18,4 +18,5 @@ pub use crate::scram_messages::error::{ScramErrorKind, ServerScramErrorKind, Xor
 pub use crate::scram_messages::escape::{UnescapeError, escape_username, unescape_username};
 pub use crate::scram_messages::server_final_reading::ServerFinal;
 pub use crate::scram_messages::server_first::ServerFirstMessage;
+pub(crate) use crate::scram_messages::server_first::challenge;
 pub use crate::scram_messages::server_first_reading::ServerFirst;

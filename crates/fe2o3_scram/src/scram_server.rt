@@ -1,17 +1,16 @@
 //! The SCRAM server as a machine: one message after the other (RFC 5802, section 5).
 
 ghost use Rattle.std.specs.Prelude.{◌≡◌, ◌≤◌, ◌^◌, IfOk, OnErr, option_map};
-ghost use Rattle.fe2o3_scram.specs.ScramServer.{provider_in, state_in, Initial, ChallengesFrom, ConcludesFrom, FinalCostsFrom, state_of};
-ghost use Rattle.fe2o3_scram.specs.Texts.{base64_text};
-ghost use Rattle.fe2o3_scram.specs.ServerFirst.{AnswersClientFirst, challenge_values};
+ghost use Rattle.fe2o3_scram.specs.ScramServer.{provider_in, state_in, Initial, ChallengesFrom, ConcludesFrom, FinalCostsFrom, ReachesBase64In, state_of};
+ghost use Rattle.fe2o3_scram.specs.ServerFirst.{ReachesChallenge};
 ghost use Rattle.fe2o3_scram.specs.Readings.{Gives};
 
 use crate::OutOfMemory;
 use crate::credentials::ScramCredentialProvider;
 use crate::hmac::Meter;
-use crate::scram_messages::ServerFirstMessage;
 use crate::scram_messages::error::ServerScramErrorKind;
-use crate::texts::base64_of;
+use crate::scram_messages::{ServerFirstMessage, challenge};
+use crate::texts::base64_of_nonce;
 use bytes::Bytes;
 use std::alloc::{AllocError, Global};
 use std::fmt;
@@ -80,21 +79,29 @@ impl<C: ScramCredentialProvider> ScramAuthenticator<C> {
         &self.credentials
     }
 
-    /// Answers a client-first message with the server-first message, or with `None` where the user
-    /// is unknown. The nonce of 32 bytes is written in base64 behind the client's.
+    /// Answers a client-first message with the server-first message (RFC 5802, sections 5 and 7), or
+    /// with `None` where the user is unknown. The message is the client's text as it came, with its
+    /// GS2 header. The nonce is 32 bytes, which no exchange before had, and is written in base64, as
+    /// 44 symbols, behind the client's.
+    ///
+    /// The refusals are those of `ClientFirst::parse`, in its order, whatever the state.
+    /// `OutOfMemory` is answered only where the user name is escaped, or to a known user.
     pub fn compute_server_first_message(
         &mut self,
         alloc: Global,
         client_first_message: &[u8],
         nonce: &[u8; 32],
     ) -> Result<Option<Vec<u8>>, ServerScramErrorKind>
-        ensures answer { Gives ServerScramErrorKind.OutOfMemory (option_map (λ message. message.items)) result
+        ensures answer { Gives ServerScramErrorKind.OutOfMemory
+            (ReachesChallenge (C.meaning (provider_in self.old)).records client_first_message.now)
+            (option_map (λ message. message.items)) result
             (λ answer. ChallengesFrom (state_in self.old) (C.meaning (provider_in self.old)) nonce.now
             client_first_message.now answer (state_in self.new)) }
         ensures provider { provider_in self.new ≡ provider_in self.old }
         ensures err { OnErr result (state_in self.new ≡ state_in self.old) }
     {
-        let Some(server_first) = challenge(alloc, &self.credentials, client_first_message, nonce)?
+        let nonce = base64_of_nonce(nonce);
+        let Some(server_first) = challenge(alloc, client_first_message, &nonce, &self.credentials)?
         else {
             return Ok(None);
         };
@@ -119,13 +126,22 @@ impl<C: ScramCredentialProvider> ScramAuthenticator<C> {
         Ok(Some(answer))
     }
 
-    /// Answers a client-final message with the server-final message, and never with `None`.
+    /// Answers a client-final message with the server-final message (RFC 5802, sections 5 and 7), and
+    /// never with `None`. The message is the client's text as it came.
+    ///
+    /// Refused are, in this order: `IllegalAuthenticatorState` where no challenge is open;
+    /// `AuthenticationFailed` where the store has lost the user; then what `ClientFinal::parse`
+    /// refuses, in its order; `XorLengthMismatch` where the proof is not as long as a digest; and
+    /// `AuthenticationFailed` where it does not meet the stored key. `OutOfMemory` is answered only
+    /// where `ClientFinal::parse` takes memory.
     pub fn compute_server_final_message(
         &mut self,
         alloc: Global,
         client_final_message: &[u8],
     ) -> Result<Option<Vec<u8>>, ServerScramErrorKind>
-        ensures answer { Gives ServerScramErrorKind.OutOfMemory (option_map (λ message. message.items)) result
+        ensures answer { Gives ServerScramErrorKind.OutOfMemory
+            (ReachesBase64In (state_in self.old) (C.meaning (provider_in self.old)) client_final_message.now)
+            (option_map (λ message. message.items)) result
             (λ answer. ConcludesFrom (state_in self.old) (C.meaning (provider_in self.old))
             client_final_message.now answer (state_in self.new)) }
         ensures provider { provider_in self.new ≡ provider_in self.old }
@@ -134,7 +150,8 @@ impl<C: ScramCredentialProvider> ScramAuthenticator<C> {
         self.compute_server_final_message_metered(alloc, client_final_message, &mut Meter::new())
     }
 
-    /// As `compute_server_final_message`. The meter counts the HMAC values, also of a refusal.
+    /// As `compute_server_final_message`. The meter, of at most 2^63, counts the HMAC values, also of
+    /// a refusal.
     pub fn compute_server_final_message_metered(
         &mut self,
         alloc: Global,
@@ -142,7 +159,9 @@ impl<C: ScramCredentialProvider> ScramAuthenticator<C> {
         meter: &mut Meter,
     ) -> Result<Option<Vec<u8>>, ServerScramErrorKind>
         requires { meter.old ≤ 2 ^ 63 }
-        ensures answer { Gives ServerScramErrorKind.OutOfMemory (option_map (λ message. message.items)) result
+        ensures answer { Gives ServerScramErrorKind.OutOfMemory
+            (ReachesBase64In (state_in self.old) (C.meaning (provider_in self.old)) client_final_message.now)
+            (option_map (λ message. message.items)) result
             (λ answer. ConcludesFrom (state_in self.old) (C.meaning (provider_in self.old))
             client_final_message.now answer (state_in self.new)) }
         ensures provider { provider_in self.new ≡ provider_in self.old }
@@ -178,26 +197,6 @@ impl<C: ScramCredentialProvider> ScramAuthenticator<C> {
             _ => Err(ServerScramErrorKind::IllegalAuthenticatorState),
         }
     }
-}
-
-/// The challenge to a client-first message with this nonce of the server.
-fn challenge<'a, C: ScramCredentialProvider>(
-    alloc: Global,
-    credentials: &C,
-    client_first_message: &'a [u8],
-    nonce: &[u8; 32],
-) -> Result<Option<ServerFirstMessage<'a>>, ServerScramErrorKind>
-    ensures { Gives ServerScramErrorKind.OutOfMemory (option_map challenge_values) result
-        (AnswersClientFirst (C.meaning credentials.now).records (base64_text nonce.now) client_first_message.now) }
-{
-    let base64_server_nonce = base64_of(alloc, nonce)?;
-    let version = *credentials.scram_version();
-    version.compute_server_first_message(
-        alloc,
-        client_first_message,
-        &base64_server_nonce,
-        credentials,
-    )
 }
 
 impl<C: ScramCredentialProvider> fmt::Debug for ScramAuthenticator<C> {

@@ -45,6 +45,16 @@ pub(crate) fn base64_of(alloc: Global, bytes: &[u8]) -> Result<String, OutOfMemo
     STANDARD.encode(alloc, bytes)
 }
 
+/// The base64 text of 32 bytes, which takes no memory.
+pub(crate) fn base64_of_nonce(nonce: &[u8; 32]) -> [u8; 44]
+    ensures { result ≡ base64_text nonce.now }
+{
+    let mut text = [0; 44];
+    // 32 bytes take 44 symbols, so this cannot fail.
+    let _ = STANDARD.encode_slice(nonce, &mut text);
+    text
+}
+
 /// The bytes that the text spells in base64, or `None` where it is no base64 text.
 pub(crate) fn bytes_of(alloc: Global, text: &str) -> Result<Option<Vec<u8>>, OutOfMemory>
     ensures { IfOk result (λ read. MatchOption read ((bytes : List ℕ) → ¬ IsBase64 text.now bytes)

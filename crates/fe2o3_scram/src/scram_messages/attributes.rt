@@ -3,6 +3,9 @@
 /// The GS2 header of a client that binds no channel and acts for itself.
 pub(crate) const GS2_HEADER: &str = "n,,";
 
+/// The GS2 header in base64, as the channel binding data of that client spell it.
+pub(crate) const GS2_HEADER_BASE64: &str = "biws";
+
 /// The user name.
 pub(crate) const USERNAME_KEY: &str = "n=";
 

@@ -3,7 +3,7 @@
 ghost use Rattle.std.specs.Prelude.{◌≡◌, ◌≤◌, ◌+◌, ◌^◌, IfOk, IfErr, OnOk, OnErr};
 ghost use Rattle.fe2o3_scram.specs.ClientFinal.{AnswerCosts, answer_values, without_proof, client_final_of, answer_of, AnswersServerFirst};
 ghost use Rattle.fe2o3_scram.specs.Readings.{Gives};
-ghost use Rattle.fe2o3_scram.specs.ServerFirst.{client_of, no_limit, server_first_values};
+ghost use Rattle.fe2o3_scram.specs.ServerFirst.{ReachesSalt, client_of, no_limit, server_first_values};
 
 use crate::OutOfMemory;
 use crate::hmac::{Meter, ScramVersion};
@@ -15,8 +15,16 @@ use crate::texts::base64_of;
 use std::alloc::Global;
 
 impl ScramVersion {
-    /// Answers a server-first message: the client-final message, and the signature that the
-    /// server-final message has to show. Every iteration count from 1 on is accepted.
+    /// Answers a server-first message (RFC 5802, sections 3 and 5): the client-final message, and
+    /// the signature that the server-final message has to show. Every iteration count from 1 on is
+    /// accepted.
+    ///
+    /// `client_nonce` is the nonce of the client-first message, and `client_first_message_bare` that
+    /// message without its GS2 header, both as they were sent; `server_first` is the server's text as
+    /// it came. The password is not prepared, and has to be printable ASCII (RFC 4013, section 2).
+    ///
+    /// The refusals are those of `ServerFirst::parse`, in its order. `OutOfMemory` is answered only
+    /// where none of those before `Base64DecodeError` holds.
     pub fn compute_client_final_message(
         &self,
         alloc: Global,
@@ -25,7 +33,8 @@ impl ScramVersion {
         server_first: &str,
         client_first_message_bare: &[u8],
     ) -> Result<(Vec<u8>, Vec<u8>), ScramErrorKind>
-        ensures { Gives ScramErrorKind.OutOfMemory answer_values result
+        ensures { Gives ScramErrorKind.OutOfMemory (ReachesSalt client_nonce.now server_first.now)
+            answer_values result
             (AnswersServerFirst self.now (client_of client_nonce.now password.now no_limit)
             client_first_message_bare.now server_first.now) }
     {
@@ -39,7 +48,8 @@ impl ScramVersion {
         )
     }
 
-    /// As `compute_client_final_message`. The meter counts the HMAC values, also of a refusal.
+    /// As `compute_client_final_message`. The meter, of at most 2^63, counts the HMAC values, also of
+    /// a refusal.
     pub fn compute_client_final_message_metered(
         &self,
         alloc: Global,
@@ -50,7 +60,8 @@ impl ScramVersion {
         meter: &mut Meter,
     ) -> Result<(Vec<u8>, Vec<u8>), ScramErrorKind>
         requires { meter.old ≤ 2 ^ 63 }
-        ensures answer { Gives ScramErrorKind.OutOfMemory answer_values result
+        ensures answer { Gives ScramErrorKind.OutOfMemory (ReachesSalt client_nonce.now server_first.now)
+            answer_values result
             (AnswersServerFirst self.now (client_of client_nonce.now password.now no_limit)
             client_first_message_bare.now server_first.now) }
         ensures cost { AnswerCosts (client_of client_nonce.now password.now no_limit)
@@ -80,7 +91,8 @@ impl ScramVersion {
         meter: &mut Meter,
     ) -> Result<(Vec<u8>, Vec<u8>), ScramErrorKind>
         requires { meter.old ≤ 2 ^ 63 }
-        ensures answer { Gives ScramErrorKind.OutOfMemory answer_values result
+        ensures answer { Gives ScramErrorKind.OutOfMemory (ReachesSalt client_nonce.now server_first.now)
+            answer_values result
             (AnswersServerFirst self.now (client_of client_nonce.now password.now limit)
             client_first_message_bare.now server_first.now) }
         ensures cost { AnswerCosts (client_of client_nonce.now password.now limit)

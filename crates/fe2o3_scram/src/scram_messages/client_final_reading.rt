@@ -1,11 +1,13 @@
 //! The client-final message, as the server reads it, up to the test of its proof.
 
-ghost use Rattle.std.specs.Prelude.{◌≢◌, ◌++◌, IfOk, IfErr, OnOk, codes};
+ghost use Rattle.std.specs.Prelude.{◌≡◌, ◌≢◌, ◌++◌, ℕ, List, IfOk, IfErr, OnOk, codes};
 ghost use Rattle.fe2o3_scram.specs.Readings.{Gives, IsFirst, NoneHolds};
-ghost use Rattle.fe2o3_scram.specs.ClientFinal.{HasBinding, HasProof, ReadsFinalText, client_final_values, binding_tests, nonce_tests, spelling_tests};
-ghost use Rattle.fe2o3_scram.specs.Texts.{Part};
+ghost use Rattle.fe2o3_scram.specs.ClientFinal.{HasBinding, HasProof, ReachesBase64, ReachesBinding, ReadsFinalText, client_final_values, binding_tests, nonce_tests, spelling_tests};
+ghost use Rattle.fe2o3_scram.specs.Texts.{Part, LastPart};
 
-use crate::scram_messages::attributes::{CHANNEL_BINDING_KEY, GS2_HEADER, NONCE_KEY, PROOF_KEY};
+use crate::scram_messages::attributes::{
+    CHANNEL_BINDING_KEY, GS2_HEADER_BASE64, NONCE_KEY, PROOF_KEY,
+};
 use crate::scram_messages::error::ServerScramErrorKind;
 use crate::texts::{after, attribute, bytes_of, last_part};
 use std::alloc::Global;
@@ -21,19 +23,22 @@ pub struct ClientFinal<'a> {
 }
 
 impl<'a> ClientFinal<'a> {
-    /// Reads a client-final message with the nonce of both sides, up to the test of its proof.
+    /// Reads a client-final message (RFC 5802, sections 5.1 and 7), up to the test of its proof. The
+    /// nonce is that of both sides, as the server-first message named it.
     ///
-    /// Refused are, in this order: `Utf8Error`; for the channel binding
-    /// `CannotParseClientFinalMessage`, `Base64DecodeError` and `InvalidChannelBinding`; for the
-    /// nonce `CannotParseClientFinalMessage` and `IncorrectClientFinalNonce`; for the proof
-    /// `ProofNotFoundInClientFinal` and `Base64DecodeError`.
+    /// Refused are, in this order: `Utf8Error` where the text is not UTF-8 (RFC 3629); for the
+    /// channel binding `CannotParseClientFinalMessage`, `Base64DecodeError` and
+    /// `InvalidChannelBinding`; for the nonce `CannotParseClientFinalMessage` and
+    /// `IncorrectClientFinalNonce`; for the proof `ProofNotFoundInClientFinal` and
+    /// `Base64DecodeError`. Parts between the nonce and the proof say nothing. `OutOfMemory` is
+    /// answered only for a channel binding other than `biws`, or where the proof is read.
     pub fn parse(
         alloc: Global,
         client_server_nonce: &[u8],
         text: &'a [u8],
     ) -> Result<Self, ServerScramErrorKind>
-        ensures { Gives ServerScramErrorKind.OutOfMemory client_final_values result
-            (ReadsFinalText client_server_nonce.now text.now) }
+        ensures { Gives ServerScramErrorKind.OutOfMemory (ReachesBase64 client_server_nonce.now text.now)
+            client_final_values result (ReadsFinalText client_server_nonce.now text.now) }
     {
         let Ok(client_final) = str::from_utf8(text) else {
             return Err(ServerScramErrorKind::Utf8Error);
@@ -48,19 +53,22 @@ impl<'a> ClientFinal<'a> {
 fn test_binding(alloc: Global, client_final: &str) -> Result<(), ServerScramErrorKind>
     ensures tested { OnOk result (NoneHolds (binding_tests client_final.now)) }
     ensures bound { OnOk result (HasBinding client_final.now (codes "n,,")) }
+    ensures memory { IfErr result (λ kind. kind ≡ ServerScramErrorKind.OutOfMemory
+        → ReachesBinding client_final.now) }
     ensures err { IfErr result (λ kind. kind ≢ ServerScramErrorKind.OutOfMemory
         → IsFirst (binding_tests client_final.now) kind) }
 {
     let Some(base64_binding) = attribute(client_final, 0, CHANNEL_BINDING_KEY) else {
         return Err(ServerScramErrorKind::CannotParseClientFinalMessage);
     };
-    let Some(channel_binding) = bytes_of(alloc, base64_binding)? else {
+    if base64_binding == GS2_HEADER_BASE64 {
+        return Ok(());
+    }
+    // Only to tell which of the two refusals it is.
+    let Some(_) = bytes_of(alloc, base64_binding)? else {
         return Err(ServerScramErrorKind::Base64DecodeError);
     };
-    if channel_binding.as_slice() != GS2_HEADER.as_bytes() {
-        return Err(ServerScramErrorKind::InvalidChannelBinding);
-    }
-    Ok(())
+    Err(ServerScramErrorKind::InvalidChannelBinding)
 }
 
 /// Tests that the nonce is that of the challenge.
@@ -82,6 +90,8 @@ fn test_nonce(client_server_nonce: &[u8], client_final: &str) -> Result<(), Serv
 fn read_proof(alloc: Global, client_final: &str) -> Result<ClientFinal<'_>, ServerScramErrorKind>
     ensures tested { IfOk result (λ _. NoneHolds (spelling_tests client_final.now)) }
     ensures named { IfOk result (λ final. HasProof client_final.now (client_final_values final)) }
+    ensures memory { IfErr result (λ kind. kind ≡ ServerScramErrorKind.OutOfMemory
+        → (before : List ℕ) × (rest : List ℕ) × LastPart client_final.now before (codes "p=" ++ rest)) }
     ensures err { IfErr result (λ kind. kind ≢ ServerScramErrorKind.OutOfMemory
         → IsFirst (spelling_tests client_final.now) kind) }
 {

@@ -11,9 +11,11 @@ use bytes::{Bytes, BytesMut};
 use std::alloc::Global;
 
 impl ScramVersion {
-    /// The client-first message of a user, and the same without its GS2 header.
+    /// The client-first message of a user (RFC 5802, section 7), and the same without its GS2
+    /// header, which the other calls take as `client_first_message_bare`.
     ///
-    /// The nonce is a text without commas, and is written as it is handed in.
+    /// The user name is plain, any list of bytes, and is escaped here. The nonce is a text without
+    /// commas, and is written as it is handed in. `OutOfMemory` is the only refusal.
     pub fn client_first_message(
         &self,
         alloc: Global,

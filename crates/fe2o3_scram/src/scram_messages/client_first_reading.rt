@@ -1,6 +1,6 @@
 //! The client-first message, as the server reads it.
 
-ghost use Rattle.fe2o3_scram.specs.ClientFirst.{ReadsClientFirst, client_first_values};
+ghost use Rattle.fe2o3_scram.specs.ClientFirst.{HasEscapes, ReadsClientFirst, client_first_values};
 ghost use Rattle.fe2o3_scram.specs.Readings.{Gives};
 
 use crate::scram_messages::attributes::{GS2_HEADER, NONCE_KEY, USERNAME_KEY};
@@ -24,12 +24,15 @@ pub struct ClientFirst<'a> {
 }
 
 impl<'a> ClientFirst<'a> {
-    /// Reads a client-first message. Memory is taken for an escaped user name alone.
+    /// Reads a client-first message (RFC 5802, sections 5.1 and 7), with its GS2 header.
     ///
-    /// Refused are, in this order: `Utf8Error`, `CannotParseGs2Header`, `CannotParseUsername` and
-    /// `CannotParseClientNonce`. Parts behind the nonce say nothing.
+    /// Refused are, in this order: `Utf8Error` where the text is not UTF-8 (RFC 3629),
+    /// `CannotParseGs2Header`, `CannotParseUsername` and `CannotParseClientNonce`. Parts behind the
+    /// nonce say nothing. Memory is taken for an escaped user name alone: `OutOfMemory` is answered
+    /// only where the part of the name begins with `n=` and goes on with an equals sign.
     pub fn parse(alloc: Global, text: &'a [u8]) -> Result<Self, ServerScramErrorKind>
-        ensures { Gives ServerScramErrorKind.OutOfMemory client_first_values result (ReadsClientFirst text.now) }
+        ensures { Gives ServerScramErrorKind.OutOfMemory (HasEscapes text.now) client_first_values result
+            (ReadsClientFirst text.now) }
     {
         let Ok(client_first) = str::from_utf8(text) else {
             return Err(ServerScramErrorKind::Utf8Error);

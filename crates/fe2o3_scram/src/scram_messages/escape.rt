@@ -8,7 +8,7 @@ ghost use Rattle.fe2o3_scram.specs.declared.scram_messages.escape.UnescapeError.
 
 use crate::OutOfMemory;
 use crate::texts::after;
-use std::alloc::{AllocError, Global};
+use std::alloc::{AllocError, AllocFailed, Global};
 use std::borrow::CowStr;
 use thiserror::Error;
 
@@ -32,7 +32,18 @@ impl From<AllocError> for UnescapeError {
     }
 }
 
-/// The user name with each comma as `=2C` and each equals sign as `=3D`.
+impl<T: Drop> From<AllocFailed<T>> for UnescapeError {
+    ghost from_gives = { λ _ error. error ≡ OutOfMemoryError };
+
+    fn from(_error: AllocFailed<T>) -> Self {
+        UnescapeError::OutOfMemory
+    }
+}
+
+/// The user name with each comma as `=2C` and each equals sign as `=3D` (RFC 5802, section 5.1,
+/// `saslname`). The name is any list of bytes: it is not prepared, and need not be UTF-8.
+///
+/// `OutOfMemory` is the only refusal.
 #[tactic(auto, using(crate::proofs::lemmas::texts::EscapingLemmas::escaping))]
 pub fn escape_username(alloc: Global, username: &[u8]) -> Result<Vec<u8>, OutOfMemory>
     ensures { IfOk result (λ text. text.items ≡ escaped username.now) }
@@ -48,9 +59,12 @@ pub fn escape_username(alloc: Global, username: &[u8]) -> Result<Vec<u8>, OutOfM
     Ok(text)
 }
 
-/// The user name that the text spells, borrowed where the text holds no equals sign.
+/// The user name that the text spells (RFC 5802, section 5.1, `saslname`), borrowed where the text
+/// holds no equals sign. The text is what follows `n=` in a client-first message.
 ///
-/// The escapes are read in these very letters: `=2c` is invalid.
+/// Refused is, with `Invalid`, a text with a comma, or with an equals sign that neither `2C` nor
+/// `3D` follows in these very letters: `=2c` is invalid. `OutOfMemory` is answered only for a text
+/// with an equals sign.
 #[tactic(auto, using(crate::proofs::lemmas::texts::EscapingLemmas::names))]
 pub fn unescape_username(alloc: Global, text: &str) -> Result<CowStr<'_>, UnescapeError>
     ensures ok { IfOk result (λ name. escaped (cow_str_bytes name) ≡ text.now) }

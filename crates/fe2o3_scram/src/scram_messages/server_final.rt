@@ -1,11 +1,12 @@
 //! The server-final message, which answers a client-final message.
 
-ghost use Rattle.std.specs.Prelude.{◌≡◌, ◌≤◌, ◌<◌, ◌+◌, ◌++◌, ◌^◌, ℕ, List, IfOk, codes};
+ghost use Rattle.std.specs.Prelude.{◌≡◌, ◌≤◌, ◌<◌, ◌+◌, ◌++◌, ◌^◌, ℕ, List, length, IfOk, codes};
 ghost use Rattle.fe2o3_scram.specs.Texts.{base64_text};
+ghost use Rattle.fe2o3_scram.specs.Hmac.{digest_len};
 ghost use Rattle.fe2o3_scram.specs.Keys.{server_signature};
 ghost use Rattle.fe2o3_scram.specs.Credentials.{kept};
 ghost use Rattle.fe2o3_scram.specs.Readings.{Gives};
-ghost use Rattle.fe2o3_scram.specs.ClientFinal.{server_of, client_final_values};
+ghost use Rattle.fe2o3_scram.specs.ClientFinal.{ReachesBase64, server_of, client_final_values};
 ghost use Rattle.fe2o3_scram.specs.ServerFinal.{AnswersClientFinal, FinalCosts};
 ghost use Rattle.fe2o3_scram.specs.private.Answers.{AnswersProof};
 
@@ -20,9 +21,17 @@ use crate::texts::base64_of;
 use std::alloc::Global;
 
 impl ScramVersion {
-    /// Answers a client-final message, which has to fit the challenge, and whose proof has to meet
-    /// the stored key. Keys are compared over the whole length, whatever the bytes are; no claim is
-    /// made about time.
+    /// Answers a client-final message (RFC 5802, sections 3 and 5), which has to fit the challenge,
+    /// and whose proof has to meet the stored key. Keys are compared over the whole length, whatever
+    /// the bytes are; no claim is made about time.
+    ///
+    /// The texts are those of the challenge, as they were sent: the nonce of both sides, the
+    /// client-first message without its GS2 header, and the server-first message. The version is
+    /// that of the stored password.
+    ///
+    /// The refusals are those of `ClientFinal::parse`, in its order, then `XorLengthMismatch` where
+    /// the proof is not as long as a digest, and `AuthenticationFailed` where it does not meet the
+    /// stored key. `OutOfMemory` is answered only where `ClientFinal::parse` takes memory.
     pub fn compute_server_final_message(
         &self,
         alloc: Global,
@@ -32,7 +41,8 @@ impl ScramVersion {
         server_first_message: &[u8],
         stored_password: &StoredPassword<'_>,
     ) -> Result<Vec<u8>, ServerScramErrorKind>
-        ensures { Gives ServerScramErrorKind.OutOfMemory (λ message. message.items) result
+        ensures { Gives ServerScramErrorKind.OutOfMemory (ReachesBase64 client_server_nonce.now client_final.now)
+            (λ message. message.items) result
             (AnswersClientFinal (server_of self.now client_first_message_bare.now server_first_message.now
             client_server_nonce.now (kept stored_password.now)) client_final.now) }
     {
@@ -47,7 +57,8 @@ impl ScramVersion {
         )
     }
 
-    /// As `compute_server_final_message`. The meter counts the HMAC values, also of a refusal.
+    /// As `compute_server_final_message`. The meter, of at most 2^63, counts the HMAC values, also of
+    /// a refusal.
     pub fn compute_server_final_message_metered(
         &self,
         alloc: Global,
@@ -59,7 +70,8 @@ impl ScramVersion {
         meter: &mut Meter,
     ) -> Result<Vec<u8>, ServerScramErrorKind>
         requires { meter.old ≤ 2 ^ 63 }
-        ensures answer { Gives ServerScramErrorKind.OutOfMemory (λ message. message.items) result
+        ensures answer { Gives ServerScramErrorKind.OutOfMemory (ReachesBase64 client_server_nonce.now client_final.now)
+            (λ message. message.items) result
             (AnswersClientFinal (server_of self.now client_first_message_bare.now server_first_message.now
             client_server_nonce.now (kept stored_password.now)) client_final.now) }
         ensures cost { FinalCosts result meter.old meter.new }
@@ -86,7 +98,8 @@ impl ScramVersion {
         meter: &mut Meter,
     ) -> Result<Vec<u8>, ServerScramErrorKind>
         requires { meter.old ≤ 2 ^ 63 }
-        ensures answer { (nonce : List ℕ) → Gives ServerScramErrorKind.OutOfMemory (λ message. message.items) result
+        ensures answer { (nonce : List ℕ) → Gives ServerScramErrorKind.OutOfMemory
+            (length client_final.now.proof.items ≡ digest_len self.now) (λ message. message.items) result
             (AnswersProof (server_of self.now client_first_message_bare.now server_first_message.now nonce
             (kept stored_password.now)) (client_final_values client_final.now)) }
         ensures cost { FinalCosts result meter.old meter.new }

@@ -1,7 +1,7 @@
 //! The server-final message, as the client reads it.
 
 ghost use Rattle.fe2o3_scram.specs.Readings.{Gives};
-ghost use Rattle.fe2o3_scram.specs.ServerFinal.{ReadsServerFinal, ReadsSignature};
+ghost use Rattle.fe2o3_scram.specs.ServerFinal.{ReachesVerifier, ReadsServerFinal, ReadsSignature};
 
 use crate::hmac::ScramVersion;
 use crate::same_bytes::same_bytes;
@@ -18,13 +18,15 @@ pub struct ServerFinal {
 }
 
 impl ServerFinal {
-    /// Reads a server-final message, whose signature is not tested.
+    /// Reads a server-final message (RFC 5802, sections 5.1 and 7), whose signature is not tested.
     ///
-    /// Refused are, in this order: `Utf8Error`, `ServerSignatureMismatch` where the first part does
-    /// not begin with `v=`, and `Base64DecodeError`. Parts behind the first say nothing.
+    /// Refused are, in this order: `Utf8Error` where the text is not UTF-8 (RFC 3629),
+    /// `ServerSignatureMismatch` where the first part does not begin with `v=`, and
+    /// `Base64DecodeError`. Parts behind the first say nothing. `OutOfMemory` is answered only where
+    /// neither of the first two refusals holds.
     pub fn parse(alloc: Global, text: &[u8]) -> Result<Self, ScramErrorKind>
-        ensures { Gives ScramErrorKind.OutOfMemory (λ message. message.signature.items) result
-            (ReadsSignature text.now) }
+        ensures { Gives ScramErrorKind.OutOfMemory (ReachesVerifier text.now)
+            (λ message. message.signature.items) result (ReadsSignature text.now) }
     {
         let Ok(server_final) = str::from_utf8(text) else {
             return Err(ScramErrorKind::Utf8Error);
@@ -40,19 +42,21 @@ impl ServerFinal {
 }
 
 impl ScramVersion {
-    /// Tests that the server-final message has this signature. Parts after the first say nothing.
+    /// Tests that the server-final message has this signature (RFC 5802, section 5), which is the
+    /// second value of the client's answer, and not in base64. Parts after the first say nothing.
     /// The signature is compared over its whole length, whatever the bytes are; no claim is made
     /// about time.
     ///
     /// Refused are, in this order: `Utf8Error`; `ServerSignatureMismatch` where the first part does
     /// not begin with `v=`; `Base64DecodeError`; `ServerSignatureMismatch` for another signature.
+    /// `OutOfMemory` is answered only where neither of the first two refusals holds.
     pub fn validate_server_final(
         &self,
         alloc: Global,
         server_final: &[u8],
         server_signature: &[u8],
     ) -> Result<(), ScramErrorKind>
-        ensures { Gives ScramErrorKind.OutOfMemory (λ value. value) result
+        ensures { Gives ScramErrorKind.OutOfMemory (ReachesVerifier server_final.now) (λ value. value) result
             (ReadsServerFinal server_signature.now server_final.now) }
     {
         let message = ServerFinal::parse(alloc, server_final)?;

@@ -1,7 +1,8 @@
 //! The server-first message, which challenges a known user.
 
 ghost use Rattle.std.specs.Prelude.{◌≡◌, IfOk, option_map};
-ghost use Rattle.fe2o3_scram.specs.ServerFirst.{AnswersClientFirst, challenge_values, server_first_of};
+ghost use Rattle.fe2o3_scram.specs.ClientFirst.{client_first_values};
+ghost use Rattle.fe2o3_scram.specs.ServerFirst.{AnswersClientFirst, ReachesChallenge, challenge_of, challenge_values, server_first_of};
 ghost use Rattle.fe2o3_scram.specs.Credentials.{kept};
 ghost use Rattle.fe2o3_scram.specs.Readings.{Gives};
 
@@ -33,9 +34,14 @@ pub struct ServerFirstMessage<'a> {
 }
 
 impl ScramVersion {
-    /// Answers a client-first message with a challenge, or with `None` where the user is unknown.
+    /// Answers a client-first message with a challenge (RFC 5802, sections 5 and 7), or with `None`
+    /// where the user is unknown.
     ///
-    /// The server's nonce is a text without commas. It is written behind the client's.
+    /// `client_first` is the message as it came, with its GS2 header. The server's nonce is a text
+    /// without commas, and is written behind the client's. `self` plays no part.
+    ///
+    /// The refusals are those of `ClientFirst::parse`, in its order. `OutOfMemory` is answered only
+    /// where the user name is escaped, or to a known user.
     pub fn compute_server_first_message<'a, C: ScramCredentialProvider>(
         &self,
         alloc: Global,
@@ -43,23 +49,57 @@ impl ScramVersion {
         base64_server_nonce: &str,
         credentials: &C,
     ) -> Result<Option<ServerFirstMessage<'a>>, ServerScramErrorKind>
-        ensures { Gives ServerScramErrorKind.OutOfMemory (option_map challenge_values) result
+        ensures { Gives ServerScramErrorKind.OutOfMemory
+            (ReachesChallenge (C.meaning credentials.now).records client_first.now) (option_map challenge_values) result
             (AnswersClientFirst (C.meaning credentials.now).records base64_server_nonce.now client_first.now) }
     {
-        let client_first = ClientFirst::parse(alloc, client_first)?;
-        let Some(stored_password) = credentials.get_stored_password(&client_first.username) else {
-            return Ok(None);
-        };
-        let mut client_server_nonce = client_first.client_nonce.as_bytes().to_vec(alloc)?;
-        client_server_nonce.extend_from_slice(base64_server_nonce.as_bytes())?;
-        let message = server_first(alloc, &client_server_nonce, &stored_password)?;
-        Ok(Some(ServerFirstMessage {
-            username: client_first.username,
-            client_first_message_bare: client_first.client_first_message_bare,
-            client_server_nonce: Bytes::from_vec(client_server_nonce)?,
-            message: Bytes::from_vec(message)?,
-        }))
+        challenge(
+            alloc,
+            client_first,
+            base64_server_nonce.as_bytes(),
+            credentials,
+        )
     }
+}
+
+/// The challenge to a client-first message, or `None` where the user is unknown.
+pub(crate) fn challenge<'a, C: ScramCredentialProvider>(
+    alloc: Global,
+    client_first: &'a [u8],
+    base64_server_nonce: &[u8],
+    credentials: &C,
+) -> Result<Option<ServerFirstMessage<'a>>, ServerScramErrorKind>
+    ensures { Gives ServerScramErrorKind.OutOfMemory
+        (ReachesChallenge (C.meaning credentials.now).records client_first.now) (option_map challenge_values) result
+        (AnswersClientFirst (C.meaning credentials.now).records base64_server_nonce.now client_first.now) }
+{
+    let client_first = ClientFirst::parse(alloc, client_first)?;
+    let Some(stored_password) = credentials.get_stored_password(&client_first.username) else {
+        return Ok(None);
+    };
+    let message = challenge_to(alloc, client_first, base64_server_nonce, &stored_password)?;
+    Ok(Some(message))
+}
+
+/// The challenge to a client-first message that was read, of a known user.
+fn challenge_to<'a>(
+    alloc: Global,
+    client_first: ClientFirst<'a>,
+    base64_server_nonce: &[u8],
+    stored_password: &StoredPassword<'_>,
+) -> Result<ServerFirstMessage<'a>, OutOfMemory>
+    ensures { IfOk result (λ message. challenge_values message
+        ≡ challenge_of (client_first_values client_first.entry) base64_server_nonce.now (kept stored_password.now)) }
+{
+    let mut client_server_nonce = client_first.client_nonce.as_bytes().to_vec(alloc)?;
+    client_server_nonce.extend_from_slice(base64_server_nonce)?;
+    let message = server_first(alloc, &client_server_nonce, stored_password)?;
+    Ok(ServerFirstMessage {
+        username: client_first.username,
+        client_first_message_bare: client_first.client_first_message_bare,
+        client_server_nonce: Bytes::from_vec(client_server_nonce)?,
+        message: Bytes::from_vec(message)?,
+    })
 }
 
 /// The server-first message with this nonce of both sides.

@@ -1,8 +1,8 @@
 //! The server-first message, as the client reads it.
 
-ghost use Rattle.std.specs.Prelude.{◌≢◌, ◌≤◌, ◌++◌, IfOk, IfErr, codes};
+ghost use Rattle.std.specs.Prelude.{◌≡◌, ◌≢◌, ◌≤◌, ◌++◌, ℕ, List, IfOk, IfErr, codes};
 ghost use Rattle.fe2o3_scram.specs.Readings.{Gives, IsFirst, NoneHolds};
-ghost use Rattle.fe2o3_scram.specs.ServerFirst.{ReadsServerFirst, client_of, server_first_values, HasSalt, HasCount, nonce_tests, salt_tests, count_tests};
+ghost use Rattle.fe2o3_scram.specs.ServerFirst.{ReachesSalt, ReadsServerFirst, client_of, server_first_values, HasSalt, HasCount, nonce_tests, salt_tests, count_tests};
 ghost use Rattle.fe2o3_scram.specs.Texts.{Part};
 
 use crate::saslprep_ascii::saslprep;
@@ -25,13 +25,15 @@ pub struct ServerFirst<'a> {
 }
 
 impl<'a> ServerFirst<'a> {
-    /// Reads a server-first message as a client does that has sent this nonce, and accepts no
-    /// iteration count above the limit. Memory is taken for the salt alone.
+    /// Reads a server-first message (RFC 5802, sections 5.1 and 7) as a client does that has sent
+    /// this nonce, and accepts no iteration count above the limit. The nonce is the one of the
+    /// client-first message, as it was sent; the password is tested alone (RFC 4013, section 2).
     ///
     /// Refused are, in this order: `InsufficientParts`, `ExtensionNotSupported`, `NonceNotFound`,
     /// `ClientNonceMismatch`, `SaltNotFound`, `Base64DecodeError`, `IterationCountNotFound`,
     /// `IterationCountParseError`, `IterationCountTooLarge`, and `NormalizeError` for the password.
-    /// Parts behind the count say nothing.
+    /// Parts behind the count say nothing. Memory is taken for the salt alone: `OutOfMemory` is
+    /// answered only where none of the first five refusals holds.
     pub fn parse(
         alloc: Global,
         client_nonce: &str,
@@ -39,7 +41,8 @@ impl<'a> ServerFirst<'a> {
         limit: u32,
         text: &'a str,
     ) -> Result<Self, ScramErrorKind>
-        ensures reads { Gives ScramErrorKind.OutOfMemory server_first_values result
+        ensures reads { Gives ScramErrorKind.OutOfMemory (ReachesSalt client_nonce.now text.now)
+            server_first_values result
             (ReadsServerFirst (client_of client_nonce.now password.now limit) text.now) }
         ensures count { IfOk result (λ first. (1 ≤ first.iterations) × (first.iterations ≤ limit)) }
     {
@@ -84,6 +87,8 @@ fn read_nonce<'a>(client_nonce: &str, server_first: &'a str) -> Result<&'a str, 
 fn read_salt(alloc: Global, server_first: &str) -> Result<Vec<u8>, ScramErrorKind>
     ensures tested { IfOk result (λ _. NoneHolds (salt_tests server_first.now)) }
     ensures named { IfOk result (λ salt. HasSalt server_first.now salt.items) }
+    ensures memory { IfErr result (λ kind. kind ≡ ScramErrorKind.OutOfMemory
+        → (rest : List ℕ) × Part server_first.now 1 (codes "s=" ++ rest)) }
     ensures err { IfErr result (λ kind. kind ≢ ScramErrorKind.OutOfMemory
         → IsFirst (salt_tests server_first.now) kind) }
 {

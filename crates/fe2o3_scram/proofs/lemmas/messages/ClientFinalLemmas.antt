@@ -1,19 +1,23 @@
 -- The reading of a client-final message.
-use Rattle.std.proofs.Common.{◌≡◌, ◌≢◌, ℕ, List, ◌++◌, length, Result, Ok, Err, refl, sym, ◌∙◌, ap, subst, codes, inl, inr, arith}
+use Rattle.std.proofs.Common.{◌≡◌, ◌≢◌, ℕ, List, [], ◌∷◌, ◌++◌, length, Result, Ok, Err, refl, sym, ◌∙◌, ap, subst, codes, inl, inr, arith}
 use Rattle.std.specs.Str.{IsUtf8}
 use Rattle.std.specs.Prelude.{IfOk, IfErr}
+use Rattle.base64.specs.GeneralPurpose.{IsBytes}
+use Rattle.base64.specs.Rfc4648.{encode_symbols}
 use Rattle.fe2o3_scram.specs.declared.scram_messages.error.ServerScramErrorKind.{ServerScramErrorKind}
 use Rattle.fe2o3_scram.specs.declared.scram_messages.error.ServerScramErrorKind.TheVariants.{Utf8Error, CannotParseClientFinalMessage, Base64DecodeError, InvalidChannelBinding, IncorrectClientFinalNonce, ProofNotFoundInClientFinal, AuthenticationFailed, OutOfMemory}
 use Rattle.fe2o3_scram.specs.Texts.{base64_text, IsBase64, Part, LastPart, Begins}
 use Rattle.fe2o3_scram.specs.Hmac.{digest_len}
 use Rattle.fe2o3_scram.specs.Readings.{IsFirst, NoneHolds, Gives}
-use Rattle.fe2o3_scram.specs.ClientFinal.{Server, ClientFinal, HasBinding, HasProof, Meets, NamesClientFinal, ReadsFinalText, ReadsClientFinal, binding_tests, nonce_tests, spelling_tests, final_text_tests, proof_tests}
+use Rattle.fe2o3_scram.specs.ClientFinal.{Server, ClientFinal, HasBinding, HasProof, Meets, NamesClientFinal, ReachesBinding, ReachesBase64, ReadsFinalText, ReadsClientFinal, binding_tests, nonce_tests, spelling_tests, final_text_tests, proof_tests}
 use Rattle.fe2o3_scram.specs.ServerFinal.{AnswersClientFinal, FinalCosts}
 use Rattle.fe2o3_scram.specs.private.Answers.{AnswersProof}
+use Rattle.fe2o3_scram.proofs.lemmas.hashes.DigestLemmas.{IsBytes-nil, IsBytes-cons}
 use Rattle.fe2o3_scram.proofs.lemmas.texts.Base64Lemmas.{one_spelled}
+use Rattle.fe2o3_scram.proofs.lemmas.texts.DecisionLemmas.{held, utf8_or}
 use Rattle.fe2o3_scram.proofs.lemmas.texts.LastPartLemmas.{one_last_part}
 use Rattle.fe2o3_scram.proofs.lemmas.texts.PartsLemmas.{one_part}
-use Rattle.fe2o3_scram.proofs.lemmas.messages.TestListLemmas.{NoneHolds-append, IsFirst-front, IsFirst-back, one_reading, one_first, first_or_none}
+use Rattle.fe2o3_scram.proofs.lemmas.messages.TestListLemmas.{NoneHolds-append, IsFirst-front, IsFirst-back, one_reading, one_first, first_or_none, not_first}
 
 -- the channel binding
 
@@ -33,10 +37,22 @@ pub no_binding : (text spelling : List ℕ) → Part text 0 (codes "c=" ++ spell
     → ((binding : List ℕ) → ¬ IsBase64 spelling binding) → (binding : List ℕ) → ¬ HasBinding text binding
 no_binding text spelling is none binding has = none binding (binding_spelled text spelling binding is has)
 
-pub other_binding : (text spelling bytes binding : List ℕ) → Part text 0 (codes "c=" ++ spelling)
-    → IsBase64 spelling bytes → bytes ≢ binding → ¬ HasBinding text binding
-other_binding text spelling bytes binding is spells other has =
-    other (one_spelled spelling bytes binding spells (binding_spelled text spelling binding is has))
+-- what the server binds, in base64
+no_channel_text : base64_text (codes "n,,") ≡ codes "biws"
+unfolding base64_text encode_symbols
+no_channel_text = refl
+
+pub no_channel : (text : List ℕ) → Part text 0 (codes "c=" ++ codes "biws") → HasBinding text (codes "n,,")
+no_channel text is = has_binding text (codes "biws") (codes "n,,") is (are_bytes, sym no_channel_text)
+  where
+    are_bytes : IsBytes (codes "n,,")
+    are_bytes = IsBytes-cons 110 (44 ∷ 44 ∷ []) (omega arith)
+        (IsBytes-cons 44 (44 ∷ []) (omega arith) (IsBytes-cons 44 [] (omega arith) IsBytes-nil))
+
+pub other_binding : (text spelling : List ℕ) → Part text 0 (codes "c=" ++ spelling) → spelling ≢ codes "biws"
+    → ¬ HasBinding text (codes "n,,")
+other_binding text spelling is other has =
+    other ((binding_spelled text spelling (codes "n,,") is has).1 ∙ no_channel_text)
 
 -- the nonce
 
@@ -45,6 +61,11 @@ pub other_nonce : (text named nonce : List ℕ) → Part text 1 (codes "r=" ++ n
 other_nonce text named nonce is other has =
     let both : codes "r=" ++ named ≡ codes "r=" ++ nonce =
     one_part text 1 (codes "r=" ++ named) (codes "r=" ++ nonce) is has in other (cc)
+
+-- no test of the nonce has the fault for refused memory
+pub not_the_nonces : (nonce text : List ℕ) → ¬ IsFirst (nonce_tests nonce text) OutOfMemory
+not_the_nonces nonce text = not_first (nonce_tests nonce text) OutOfMemory
+    (λ wrong. absurd (cc), (λ wrong. absurd (cc), tt))
 
 -- the proof
 
@@ -133,12 +154,16 @@ module _ (nonce text : List ℕ) (utf8 : IsUtf8 text) where
       → NoneHolds (binding_tests text) → NoneHolds (nonce_tests nonce text) → HasBinding text (codes "n,,")
       → Part text 1 (codes "r=" ++ nonce) → IfOk result (λ _. NoneHolds (spelling_tests text))
       → IfOk result (λ final. HasProof text (view final))
+      → IfErr result (λ kind. kind ≡ OutOfMemory
+      → (before : List ℕ) × (rest : List ℕ) × LastPart text before (codes "p=" ++ rest))
       → IfErr result (λ kind. kind ≢ OutOfMemory → IsFirst (spelling_tests text) kind)
-      → Gives OutOfMemory view result (ReadsFinalText nonce text)
-  text_answered view (Ok final) binding tested bound same spelling has refused =
+      → Gives OutOfMemory (ReachesBase64 nonce text) view result (ReadsFinalText nonce text)
+  text_answered view (Ok final) binding tested bound same spelling has reaches refused =
       text_read (view final) binding tested spelling (record { binding = bound; nonce = same; proof = has })
-  text_answered view (Err fault) binding tested bound same spelling has refused =
-      λ other. spelling_refused fault binding tested (refused other)
+  text_answered view (Err fault) binding tested bound same spelling has reaches refused = (
+    λ memory. (utf8, inr (binding, tested, reaches memory)),
+    λ other. spelling_refused fault binding tested (refused other),
+  )
 
 -- the texts of a message that was read
 
@@ -153,6 +178,21 @@ unfolding ReadsFinalText
 one_final_text nonce text answer other reads too =
     one_reading (final_text_tests nonce text) (NamesClientFinal nonce text)
     (λ final another names them. one_proof text final another names.proof them.proof) answer other reads too
+
+-- who reads a message came to its proof
+proof_reached : (nonce text : List ℕ) (final : ClientFinal) → ReadsFinalText nonce text (Ok final)
+    → ReachesBase64 nonce text
+unfolding ReadsFinalText
+proof_reached nonce text final reads =
+    let binding = reads.0.1 in
+    let tested = binding.1.1.1 in (
+      held (utf8_or text) reads.0.0,
+      inr (
+        (binding.0, (binding.1.0, (binding.1.1.0, tt))),
+        (tested.0, (tested.1.0, tt)),
+        (final.without, base64_text final.proof, reads.1.proof.1),
+      ),
+    )
 
 -- no test of the text has the fault of a proof
 not_the_proof : (nonce text : List ℕ) → ¬ ReadsFinalText nonce text (Err AuthenticationFailed)
@@ -203,11 +243,15 @@ module _ (server : Server) (text : List ℕ) where
 
   -- what the server makes of the proof is its answer to the message
   pub proof_answered : {A : Type 0} (view : A → List ℕ) (final : ClientFinal) (result : Result A ServerScramErrorKind)
-      → ReadsFinalText server.nonce text (Ok final) → Gives OutOfMemory view result (AnswersProof server final)
-      → Gives OutOfMemory view result (AnswersClientFinal server text)
+      → ReadsFinalText server.nonce text (Ok final)
+      → Gives OutOfMemory (length final.proof ≡ digest_len server.version) view result (AnswersProof server final)
+      → Gives OutOfMemory (ReachesBase64 server.nonce text) view result (AnswersClientFinal server text)
   unfolding ReadsClientFinal
   proof_answered view final (Ok message) reads answers = (final, (reads, answers.0, answers.1), answers.2)
-  proof_answered view final (Err fault) reads answers = λ other. inr (final, reads, answers other)
+  proof_answered view final (Err fault) reads answers = (
+    λ memory. proof_reached server.nonce text final reads,
+    λ other. inr (final, reads, answers.1 other),
+  )
 
   pub names_client_final : (final : ClientFinal) → ReadsClientFinal server text (Ok final)
       → NamesAcceptedFinal server text final

@@ -123,3 +123,9 @@ pub invalid_name : (error : UnescapeError) (P Q : Type 0) → error ≡ Invalid
     → ((error ≡ Invalid) × P) ⊎ ((error ≡ UnescapeOutOfMemory) × Q) → P
 invalid_name error P Q is (inl found) = found.1
 invalid_name error P Q is (inr other) = let wrong : Invalid ≡ UnescapeOutOfMemory = sym is ∙ other.0 in absurd (cc)
+
+-- a text for which memory was wanting
+pub escaped_name : (error : UnescapeError) (P Q : Type 0) → error ≡ UnescapeOutOfMemory
+    → ((error ≡ Invalid) × P) ⊎ ((error ≡ UnescapeOutOfMemory) × Q) → Q
+escaped_name error P Q is (inl other) = let wrong : UnescapeOutOfMemory ≡ Invalid = sym is ∙ other.0 in absurd (cc)
+escaped_name error P Q is (inr found) = found.1

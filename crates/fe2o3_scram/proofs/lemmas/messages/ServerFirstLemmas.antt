@@ -1,15 +1,27 @@
 -- The reading of a server-first message.
 use Rattle.std.proofs.Common.{◌≡◌, ℕ, ◌<◌, ◌≤◌, List, ◌++◌, Result, Ok, Err, refl, subst, codes, inl, arith}
 use Rattle.fe2o3_scram.specs.declared.scram_messages.error.ScramErrorKind.{ScramErrorKind}
-use Rattle.fe2o3_scram.specs.declared.scram_messages.error.ScramErrorKind.TheVariants.{NormalizeError}
+use Rattle.fe2o3_scram.specs.declared.scram_messages.error.ScramErrorKind.TheVariants.{NormalizeError, OutOfMemory}
 use Rattle.fe2o3_scram.specs.Texts.{base64_text, IsBase64, IsCount, Part, Begins}
 use Rattle.fe2o3_scram.specs.Readings.{IsFirst, NoneHolds}
 use Rattle.fe2o3_scram.specs.SaslprepAscii.{IsPrintable}
-use Rattle.fe2o3_scram.specs.ServerFirst.{Client, ServerFirst, HasSalt, HasCount, NamesServerFirst, ReadsServerFirst, nonce_tests, salt_tests, count_tests, password_tests}
+use Rattle.fe2o3_scram.specs.ServerFirst.{Client, ServerFirst, HasSalt, HasCount, NamesServerFirst, ReachesSalt, ReadsServerFirst, nonce_tests, salt_tests, count_tests, password_tests}
 use Rattle.fe2o3_scram.proofs.lemmas.texts.Base64Lemmas.{one_spelled}
 use Rattle.fe2o3_scram.proofs.lemmas.texts.CountLemmas.{one_count}
 use Rattle.fe2o3_scram.proofs.lemmas.texts.PartsLemmas.{one_part}
-use Rattle.fe2o3_scram.proofs.lemmas.messages.TestListLemmas.{NoneHolds-append, IsFirst-front, IsFirst-back, one_reading}
+use Rattle.fe2o3_scram.proofs.lemmas.messages.TestListLemmas.{NoneHolds-append, IsFirst-front, IsFirst-back, one_reading, not_first}
+
+-- no test of the nonce or of the count has the fault for refused memory
+
+pub not_the_nonces : (client_nonce text : List ℕ) → ¬ IsFirst (nonce_tests client_nonce text) OutOfMemory
+not_the_nonces client_nonce text = not_first (nonce_tests client_nonce text) OutOfMemory (
+  λ wrong. absurd (cc),
+  (λ wrong. absurd (cc), (λ wrong. absurd (cc), (λ wrong. absurd (cc), tt))),
+)
+
+pub not_the_count : (limit : ℕ) (text : List ℕ) → ¬ IsFirst (count_tests limit text) OutOfMemory
+not_the_count limit text = not_first (count_tests limit text) OutOfMemory
+    (λ wrong. absurd (cc), (λ wrong. absurd (cc), (λ wrong. absurd (cc), tt)))
 
 -- the nonce does not go on from the client's
 pub other_nonce : (text client_nonce nonce : List ℕ) → Part text 0 (codes "r=" ++ nonce) → ¬ Begins nonce client_nonce
@@ -140,3 +152,13 @@ one_server_first client text answer other reads too =
     one_reading (nonce_tests client.nonce text ++ (salt_tests text
     ++ (count_tests client.limit text ++ password_tests client.password))) (NamesServerFirst text)
     (one_values text) answer other reads too
+
+-- who reads a message came to its salt
+pub salt_reached : (client : Client) (text : List ℕ) (first : ServerFirst) → ReadsServerFirst client text (Ok first)
+    → ReachesSalt client.nonce text
+unfolding ReadsServerFirst
+salt_reached client text first reads =
+    let none = reads.0 in (
+      (none.0, (none.1.0, (none.1.1.0, (none.1.1.1.0, tt)))),
+      (base64_text first.salt, reads.1.salt.1),
+    )

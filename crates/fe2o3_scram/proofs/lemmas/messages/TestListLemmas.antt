@@ -1,5 +1,5 @@
 -- Lists of tests.
-use Rattle.std.proofs.Common.{◌≡◌, List, [], ◌∷◌, ◌++◌, Result, Ok, Err, sym, ◌∙◌, ap, inl, inr}
+use Rattle.std.proofs.Common.{◌≡◌, ◌≢◌, List, [], ◌∷◌, ◌++◌, Result, Ok, Err, sym, ◌∙◌, ap, inl, inr}
 use Rattle.fe2o3_scram.specs.Readings.{IsFirst, NoneHolds, Reads}
 
 pub NoneHolds-append : {F : Type 0} (tests more : List (F × Type 0)) → NoneHolds tests → NoneHolds more
@@ -41,3 +41,13 @@ one_reading tests Names one (Ok value) (Ok other) reads too = ap Ok (one value o
 one_reading tests Names one (Ok value) (Err other) reads too = absurd (first_or_none tests other too reads.0)
 one_reading tests Names one (Err fault) (Ok other) reads too = absurd (first_or_none tests fault reads too.0)
 one_reading tests Names one (Err fault) (Err other) reads too = ap Err (one_first tests fault other reads too)
+
+-- no test has this fault
+abbrev pub NoneHas : {F : Type 0} → List (F × Type 0) → F → Type 0
+NoneHas [] fault = Unit {0}
+NoneHas (test ∷ tests) fault = (fault ≢ test.0) × NoneHas tests fault
+
+pub not_first : {F : Type 0} (tests : List (F × Type 0)) (fault : F) → NoneHas tests fault → ¬ IsFirst tests fault
+not_first [] fault others first = first
+not_first (test ∷ tests) fault others (inl first) = others.0 first.1
+not_first (test ∷ tests) fault others (inr first) = not_first tests fault others.1 first.1

@@ -1,6 +1,7 @@
--- The kit's engine `STANDARD` writes and reads exactly the base64 texts of specs/Base64Texts.antt.
-use Rattle.std.proofs.Common.{◌≡◌, ◌≢◌, ℕ, zero, suc, true, not, eqb, List, [], ◌∷◌, ◌++◌, replicate, length, get_or, refl, sym, ◌∙◌, Ok, Err, arith}
+-- The kit's engine `STANDARD` writes and reads exactly the base64 texts of specs/Texts.antt.
+use Rattle.std.proofs.Common.{◌≡◌, ◌≢◌, ℕ, zero, suc, true, not, eqb, List, [], ◌∷◌, ◌++◌, ◌≤◌, replicate, length, drop, get_or, refl, sym, ◌∙◌, subst, append-nil, Result, Ok, Err, OnOk, arith}
 use Rattle.std.specs.List.{list_all}
+use Rattle.std.proofs.lemmas.List.{drop_all}
 use Rattle.std.proofs.lemmas.Bool.{and_parts, not-true, eqb-false}
 use Rattle.base64.specs.Rfc4648.{encode_symbols, padding_len}
 use Rattle.base64.specs.Engines.{standard}
@@ -12,6 +13,13 @@ use Rattle.fe2o3_scram.specs.Texts.{NoComma, alphabet, base64_text, IsBase64}
 pub encode_of-standard : (bytes : List ℕ) → encode_of standard bytes ≡ base64_text bytes
 unfolding base64_text
 encode_of-standard bytes = refl
+
+-- a text that is written over the whole of a slice
+pub slice_filled : {E : Type 0} (text old new : List ℕ) (size : ℕ) (result : Result ℕ E) → size ≡ length old
+    → (size ≤ length old → result ≡ Ok size) → OnOk result (new ≡ text ++ drop size old) → new ≡ text
+slice_filled text old new size result same fits written =
+    subst (λ given. OnOk given (new ≡ text ++ drop size old)) (fits (omega (arith, same))) written
+    ∙ rw (drop_all size old (omega (arith, same)), append-nil)
 
 -- padding is wanted and trailing bits are refused
 pub IsStrict-standard : IsStrict standard

@@ -2,7 +2,18 @@ use Rattle.std.proofs.Common.{Ok, arith}
 use Rattle.std.proofs.lemmas.Result.{err_from_is_err_and}
 use Rattle.fe2o3_scram.specs.ServerFirst.{Client, client_of, server_first_values}
 use Rattle.fe2o3_scram.proofs.lemmas.messages.AnswerCostLemmas.{costs_of_answer}
+use Rattle.fe2o3_scram.proofs.lemmas.messages.ServerFirstLemmas.{salt_reached}
 use Rattle.fe2o3_scram.proofs.hmac.ScramVersion.compute_client_final_message_limited.Goals as goal
+
+pub returns-in_err-answer-clause-answer : goal.returns-in_err-answer-clause-answer
+returns-in_err-answer-clause-answer c =
+    let client : Client = client_of c.args.client_nonce.now c.args.password.now c.args.limit in
+    let from = err_from_is_err_and c.from_residual-in_err-answer.result c.from_residual-in_err-answer.ensures.1 in
+    rw (from.1, from.2) (
+      λ _. salt_reached client c.args.server_first.now (server_first_values c.in_ok-first.first)
+          c.in_ok-first.ensures.reads,
+      λ other. absurd (other c.in_err-answer.ensures.memory),
+    )
 
 pub returns-in_err-answer-clause-cost : goal.returns-in_err-answer-clause-cost
 returns-in_err-answer-clause-cost c =

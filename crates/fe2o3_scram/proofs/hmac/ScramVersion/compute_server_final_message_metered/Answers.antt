@@ -11,14 +11,17 @@ returns-in_err-client_final-clause-answer c =
     let server : Server = server_of c.args.self.now c.args.client_first_message_bare.now c.args.server_first_message.now
     c.args.client_server_nonce.now (kept c.args.stored_password.now) in
     let from = err_from_is_err_and c.from_residual.result c.from_residual.ensures.1 in
-    rw (from.1, from.2) (λ other. text_refused server c.args.client_final.now c.in_err-client_final.field-0.0
-    (c.in_err-client_final.ensures other))
+    rw (from.1, from.2) (
+      c.in_err-client_final.ensures.0,
+      λ other. text_refused server c.args.client_final.now c.in_err-client_final.field-0.0
+          (c.in_err-client_final.ensures.1 other),
+    )
 
 pub returns-in_err-client_final-clause-cost : goal.returns-in_err-client_final-clause-cost
 returns-in_err-client_final-clause-cost c =
     let from = err_from_is_err_and c.from_residual.result c.from_residual.ensures.1 in
     rw (from.1, from.2) (text_costs_nothing (Vec ℕ Global) c.args.client_server_nonce.now c.args.client_final.now
-    c.in_err-client_final.field-0.0 c.args.meter.now c.in_err-client_final.ensures)
+    c.in_err-client_final.field-0.0 c.args.meter.now c.in_err-client_final.ensures.1)
 
 pub returns-clause-answer : goal.returns-clause-answer
 returns-clause-answer c =

@@ -1,7 +1,31 @@
-use Rattle.std.proofs.Common.{rules, refl, inl, inr, codes, ◌≡◌, subst}
+use Rattle.std.proofs.Common.{rules, refl, inl, inr, codes, ◌≡◌, ◌≢◌, ◌++◌, List, ℕ, subst}
+use Rattle.std.proofs.lemmas.Result.{err_from_is_err_and}
 use Rattle.fe2o3_scram.specs.ClientFinal.{HasBinding}
-use Rattle.fe2o3_scram.proofs.lemmas.messages.ClientFinalLemmas.{no_binding, has_binding, other_binding}
+use Rattle.fe2o3_scram.specs.Texts.{Part}
+use Rattle.fe2o3_scram.proofs.lemmas.messages.ClientFinalLemmas.{no_binding, has_binding, no_channel, other_binding}
 use Rattle.fe2o3_scram.proofs.scram_messages.client_final_reading.test_binding.Goals as goal
+
+pub returns-then-eq-clause-tested : goal.returns-then-eq-clause-tested
+returns-then-eq-clause-tested c =
+    let same : c.in-Some.base64_binding.now ≡ codes "biws" = search rules in
+    let has = no_channel c.args.client_final.now (rw same at c.in-Some.ensures) in (
+      λ none. none c.in-Some.base64_binding.now c.in-Some.ensures,
+      (λ none. none (codes "n,,") has, (λ other. other has, tt)),
+    )
+
+pub returns-then-eq-clause-bound : goal.returns-then-eq-clause-bound
+returns-then-eq-clause-bound c =
+    let same : c.in-Some.base64_binding.now ≡ codes "biws" = search rules in
+    no_channel c.args.client_final.now (rw same at c.in-Some.ensures)
+
+pub returns-in_err-bytes_of-clause-memory : goal.returns-in_err-bytes_of-clause-memory
+returns-in_err-bytes_of-clause-memory c =
+    let from = err_from_is_err_and c.from_residual.result c.from_residual.ensures.1 in
+    let other : c.in-Some.base64_binding.now ≢ codes "biws" = search rules in
+    rw (from.1, from.2) (λ _. (
+      (c.in-Some.base64_binding.now, c.in-Some.ensures),
+      other_binding c.args.client_final.now c.in-Some.base64_binding.now c.in-Some.ensures other,
+    ))
 
 pub returns-in_default-2-clause-err : goal.returns-in_default-2-clause-err
 returns-in_default-2-clause-err c =
@@ -9,47 +33,21 @@ returns-in_default-2-clause-err c =
     λ _. inr (
       λ none. none spelling c.in-Some.ensures,
       inl (
-        no_binding c.args.client_final.now spelling c.in-Some.ensures
-            (rw c.in_default-2.is at c.in_ok-channel_binding.ensures),
+        no_binding c.args.client_final.now spelling c.in-Some.ensures (rw c.in_default-2.is at c.in_ok-bytes_of.ensures),
         refl,
       ),
     )
 
-pub returns-then-ne-clause-err : goal.returns-then-ne-clause-err
-returns-then-ne-clause-err c =
+pub returns-clause-err : goal.returns-clause-err
+returns-clause-err c =
     let spelling = c.in-Some.base64_binding.now in
-    let bytes = c.in-Some-2.channel_binding.items in
-    let spells = rw c.in-Some-2.is at c.in_ok-channel_binding.ensures in
+    let bytes = c.in-Some-2.field-0.items in
+    let spells = rw c.in-Some-2.is at c.in_ok-bytes_of.ensures in
+    let other : spelling ≢ codes "biws" = search rules in
     λ _. inr (
       λ none. none spelling c.in-Some.ensures,
       inr (
         λ none. none bytes (has_binding c.args.client_final.now spelling bytes c.in-Some.ensures spells),
-        inl (
-          other_binding c.args.client_final.now spelling bytes (codes "n,,") c.in-Some.ensures spells (search rules),
-          refl,
-        ),
+        inl (other_binding c.args.client_final.now spelling c.in-Some.ensures other, refl),
       ),
     )
-
-pub returns-clause-tested : goal.returns-clause-tested
-returns-clause-tested c =
-    let spelling = c.in-Some.base64_binding.now in
-    let bytes = c.in-Some-2.channel_binding.items in
-    let has = has_binding c.args.client_final.now spelling bytes c.in-Some.ensures
-    (rw c.in-Some-2.is at c.in_ok-channel_binding.ensures) in
-    let same : bytes ≡ codes "n,," = search rules in (
-      λ none. none spelling c.in-Some.ensures,
-      (
-        λ none. none bytes has,
-        (λ other. other (subst (HasBinding c.args.client_final.now) same has), tt),
-      ),
-    )
-
-pub returns-clause-bound : goal.returns-clause-bound
-returns-clause-bound c =
-    let spelling = c.in-Some.base64_binding.now in
-    let bytes = c.in-Some-2.channel_binding.items in
-    let has = has_binding c.args.client_final.now spelling bytes c.in-Some.ensures
-    (rw c.in-Some-2.is at c.in_ok-channel_binding.ensures) in
-    let same : bytes ≡ codes "n,," = search rules in
-    subst (HasBinding c.args.client_final.now) same has

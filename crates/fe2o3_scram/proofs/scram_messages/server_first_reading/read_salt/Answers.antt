@@ -1,4 +1,5 @@
 use Rattle.std.proofs.Common.{refl, inl, inr}
+use Rattle.std.proofs.lemmas.Result.{err_from_is_err_and}
 use Rattle.fe2o3_scram.proofs.lemmas.messages.ServerFirstLemmas.{no_salt, has_salt}
 use Rattle.fe2o3_scram.proofs.scram_messages.server_first_reading.read_salt.Goals as goal
 
@@ -24,3 +25,8 @@ returns-clause-tested c =
         tt,
       ),
     )
+
+pub returns-in_err-salt-clause-memory : goal.returns-in_err-salt-clause-memory
+returns-in_err-salt-clause-memory c =
+    let from = err_from_is_err_and c.from_residual.result c.from_residual.ensures.1 in
+    rw (from.1, from.2) (λ _. (c.in-Some.base64_salt.now, c.in-Some.ensures))

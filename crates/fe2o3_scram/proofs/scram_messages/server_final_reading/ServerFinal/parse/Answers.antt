@@ -1,20 +1,34 @@
+use Rattle.std.proofs.Common.{rules, refl}
+use Rattle.std.proofs.lemmas.Result.{err_from_is_err_and}
+use Rattle.fe2o3_scram.specs.ServerFinal.{ReachesVerifier}
 use Rattle.fe2o3_scram.proofs.lemmas.messages.ServerFinalLemmas.{not_utf8, no_verifier, not_base64, signature_read}
 use Rattle.fe2o3_scram.proofs.scram_messages.server_final_reading.ServerFinal.parse.Goals as goal
 
 pub returns-in_default : goal.returns-in_default
-returns-in_default c = λ _. not_utf8 c.args.text.now c.in_default.ensures.cases.0
+returns-in_default c = (λ wrong. absurd (cc), λ _. not_utf8 c.args.text.now c.in_default.ensures.cases.0)
 
 pub returns-in_default-attribute : goal.returns-in_default-attribute
-returns-in_default-attribute c =
-    λ _. no_verifier c.args.text.now c.in-Ok.ensures.cases.1
-    (rw c.in-Ok.ensures.cases.0 at c.in_default-attribute.ensures)
+returns-in_default-attribute c = (
+  search rules,
+  λ _. no_verifier c.args.text.now c.in-Ok.ensures.cases.1
+      (rw c.in-Ok.ensures.cases.0 at c.in_default-attribute.ensures),
+)
 
 pub returns-in_default-2 : goal.returns-in_default-2
-returns-in_default-2 c =
-    λ _. not_base64 c.args.text.now c.in-Ok.ensures.cases.1 c.in-Some.base64_signature.now
-    (rw c.in-Ok.ensures.cases.0 at c.in-Some.ensures) (rw c.in_default-2.is at c.in_ok-signature.ensures)
+returns-in_default-2 c = (
+  search rules,
+  λ _. not_base64 c.args.text.now c.in-Ok.ensures.cases.1 c.in-Some.base64_signature.now
+      (rw c.in-Ok.ensures.cases.0 at c.in-Some.ensures) (rw c.in_default-2.is at c.in_ok-signature.ensures),
+)
 
 pub returns : goal.returns
 returns c =
     signature_read c.args.text.now c.in-Ok.ensures.cases.1 c.in-Some.base64_signature.now c.in-Some-2.signature.items
     (rw c.in-Ok.ensures.cases.0 at c.in-Some.ensures) (rw c.in-Some-2.is at c.in_ok-signature.ensures)
+
+pub returns-in_err-signature : goal.returns-in_err-signature
+returns-in_err-signature c =
+    let from = err_from_is_err_and c.from_residual.result c.from_residual.ensures.1 in
+    let reaches : ReachesVerifier c.args.text.now =
+    (c.in-Ok.ensures.cases.1, (c.in-Some.base64_signature.now, rw c.in-Ok.ensures.cases.0 at c.in-Some.ensures)) in
+    rw (from.1, from.2) (λ _. reaches, λ other. absurd (other refl))

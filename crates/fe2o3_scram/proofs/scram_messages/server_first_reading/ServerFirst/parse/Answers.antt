@@ -1,37 +1,47 @@
 use Rattle.std.proofs.Common.{rules}
 use Rattle.std.proofs.lemmas.Result.{err_from_is_err_and}
 use Rattle.fe2o3_scram.specs.ServerFirst.{Client, client_of}
-use Rattle.fe2o3_scram.proofs.lemmas.messages.ServerFirstLemmas.{nonce_refused, salt_refused, count_refused, password_refused, values_read}
+use Rattle.fe2o3_scram.proofs.lemmas.messages.ServerFirstLemmas.{not_the_nonces, not_the_count, nonce_refused, salt_refused, count_refused, password_refused, values_read}
 use Rattle.fe2o3_scram.proofs.scram_messages.server_first_reading.ServerFirst.parse.Goals as goal
 
 pub returns-in_err-nonce-clause-reads : goal.returns-in_err-nonce-clause-reads
 returns-in_err-nonce-clause-reads c =
     let client : Client = client_of c.args.client_nonce.now c.args.password.now c.args.limit in
     let from = err_from_is_err_and c.from_residual.result c.from_residual.ensures.1 in
-    rw (from.1, from.2) (λ _. nonce_refused client c.args.text.now c.in_err-nonce.field-0.0
-    c.in_err-nonce.ensures.err)
+    rw (from.1, from.2) (
+      λ memory. absurd (not_the_nonces c.args.client_nonce.now c.args.text.now
+          (rw memory at c.in_err-nonce.ensures.err)),
+      λ _. nonce_refused client c.args.text.now c.in_err-nonce.field-0.0 c.in_err-nonce.ensures.err,
+    )
 
 pub returns-in_err-salt-clause-reads : goal.returns-in_err-salt-clause-reads
 returns-in_err-salt-clause-reads c =
     let client : Client = client_of c.args.client_nonce.now c.args.password.now c.args.limit in
     let from = err_from_is_err_and c.from_residual-in_err-salt.result c.from_residual-in_err-salt.ensures.1 in
-    rw (from.1, from.2) (λ other. salt_refused client c.args.text.now c.in_err-salt.field-0.0
-    c.in_ok-nonce.ensures.tested (c.in_err-salt.ensures.err other))
+    rw (from.1, from.2) (
+      λ memory. (c.in_ok-nonce.ensures.tested, c.in_err-salt.ensures.memory memory),
+      λ other. salt_refused client c.args.text.now c.in_err-salt.field-0.0
+          c.in_ok-nonce.ensures.tested (c.in_err-salt.ensures.err other),
+    )
 
 pub returns-in_err-iterations-clause-reads : goal.returns-in_err-iterations-clause-reads
 returns-in_err-iterations-clause-reads c =
     let client : Client = client_of c.args.client_nonce.now c.args.password.now c.args.limit in
     let from = err_from_is_err_and c.from_residual-in_err-iterations.result
     c.from_residual-in_err-iterations.ensures.1 in
-    rw (from.1, from.2)
-    (λ _. count_refused client c.args.text.now c.in_err-iterations.field-0.0 c.in_ok-nonce.ensures.tested
-    c.in_ok-salt.ensures.tested c.in_err-iterations.ensures.err)
+    rw (from.1, from.2) (
+      λ memory. absurd (not_the_count c.args.limit c.args.text.now (rw memory at c.in_err-iterations.ensures.err)),
+      λ _. count_refused client c.args.text.now c.in_err-iterations.field-0.0 c.in_ok-nonce.ensures.tested
+          c.in_ok-salt.ensures.tested c.in_err-iterations.ensures.err,
+    )
 
 pub returns-then-is_err-clause-reads : goal.returns-then-is_err-clause-reads
 returns-then-is_err-clause-reads c =
-    let client : Client = client_of c.args.client_nonce.now c.args.password.now c.args.limit in
-    λ _. password_refused client c.args.text.now c.in_ok-nonce.ensures.tested c.in_ok-salt.ensures.tested
-    c.in_ok-iterations.ensures.tested (search rules)
+    let client : Client = client_of c.args.client_nonce.now c.args.password.now c.args.limit in (
+      search rules,
+      λ _. password_refused client c.args.text.now c.in_ok-nonce.ensures.tested c.in_ok-salt.ensures.tested
+          c.in_ok-iterations.ensures.tested (search rules),
+    )
 
 pub returns-clause-reads : goal.returns-clause-reads
 returns-clause-reads c =
