@@ -82,7 +82,7 @@ impl ScramVersion {
         ensures { IfOk result (λ output. output.items ≡ hmac_of self.now key.now input.now) }
     {
         HmacKey::new(*self, key)
-            .mac(input, &mut Meter::new())
+            .mac(&[input], &mut Meter::new())
             .as_slice()
             .to_vec(alloc)
     }

@@ -7,6 +7,7 @@
 ghost use Rattle.std.specs.Prelude.{◌≡◌, ◌<◌, ◌+◌, ◌^◌, ◌↔◌, IsTrue, IfOk};
 ghost use Rattle.fe2o3_scram.specs.Hmac.{digest_bytes, exclusive_or};
 ghost use Rattle.fe2o3_scram.specs.Keys.{CostsOne, MeetsStoredKey, OkWhereSized, auth_message, client_key, client_proof, client_signature, recovered_client_key, server_key, server_signature, stored_key};
+ghost use Rattle.fe2o3_scram.specs.private.Pieces.{whole};
 
 use crate::OutOfMemory;
 use crate::hmac::hasher::digest_of;
@@ -41,14 +42,49 @@ pub fn auth_message(
     Ok(buf)
 }
 
+/// The pieces of the AuthMessage, which the two sides do not put together.
+pub(crate) fn auth_pieces<'a>(
+    client_first_message_bare: &'a [u8],
+    server_first_message: &'a [u8],
+    client_final_message_without_proof: &'a [u8],
+) -> [&'a [u8]; 5]
+    ensures { whole result ≡ auth_message client_first_message_bare.now server_first_message.now
+        client_final_message_without_proof.now }
+{
+    [
+        client_first_message_bare,
+        b",",
+        server_first_message,
+        b",",
+        client_final_message_without_proof,
+    ]
+}
+
 impl ScramVersion {
+    /// The two keys of a salted password: the ClientKey and the ServerKey, two HMAC values.
+    pub(crate) fn client_and_server_key(
+        &self,
+        salted_password: &[u8],
+        meter: &mut Meter,
+    ) -> (DigestBytes, DigestBytes)
+        requires { meter.old + 2 < 2 ^ 64 }
+        ensures client { digest_bytes result.0 ≡ client_key self.now salted_password.now }
+        ensures server { digest_bytes result.1 ≡ server_key self.now salted_password.now }
+        ensures counted { meter.new ≡ meter.old + 2 }
+    {
+        let key = HmacKey::new(*self, salted_password);
+        let client_key = key.mac(&[CLIENT_KEY_LABEL], meter);
+        let server_key = key.mac(&[SERVER_KEY_LABEL], meter);
+        (client_key, server_key)
+    }
+
     /// The ClientKey: `HMAC(SaltedPassword, "Client Key")`, one HMAC value.
     pub fn client_key(&self, salted_password: &[u8], meter: &mut Meter) -> DigestBytes
         requires { meter.old + 1 < 2 ^ 64 }
         ensures key { digest_bytes result ≡ client_key self.now salted_password.now }
         ensures counted { meter.new ≡ meter.old + 1 }
     {
-        HmacKey::new(*self, salted_password).mac(CLIENT_KEY_LABEL, meter)
+        HmacKey::new(*self, salted_password).mac(&[CLIENT_KEY_LABEL], meter)
     }
 
     /// The StoredKey: `H(ClientKey)`, no HMAC value.
@@ -64,7 +100,7 @@ impl ScramVersion {
         ensures key { digest_bytes result ≡ server_key self.now salted_password.now }
         ensures counted { meter.new ≡ meter.old + 1 }
     {
-        HmacKey::new(*self, salted_password).mac(SERVER_KEY_LABEL, meter)
+        HmacKey::new(*self, salted_password).mac(&[SERVER_KEY_LABEL], meter)
     }
 
     /// The ClientProof: the exclusive or of the ClientKey and the ClientSignature, which is
@@ -82,8 +118,7 @@ impl ScramVersion {
             (λ proof. digest_bytes proof ≡ client_proof self.now client_key.now auth_message.now) }
         ensures cost { CostsOne result meter.old meter.new }
     {
-        let stored_key = self.stored_key(client_key);
-        self.signed(client_key, stored_key.as_slice(), auth_message, meter)
+        self.client_proof_over(client_key, &[auth_message], meter)
     }
 
     /// The ClientKey that a server recovers: the exclusive or of the ClientProof and the
@@ -103,7 +138,7 @@ impl ScramVersion {
             ≡ recovered_client_key self.now stored_key.now client_proof.now auth_message.now) }
         ensures cost { CostsOne result meter.old meter.new }
     {
-        self.signed(client_proof, stored_key, auth_message, meter)
+        self.signed(client_proof, stored_key, &[auth_message], meter)
     }
 
     /// Whether the proof meets the StoredKey, that is, whether the recovered ClientKey's digest is
@@ -123,11 +158,7 @@ impl ScramVersion {
             ↔ MeetsStoredKey self.now stored_key.now client_proof.now auth_message.now) }
         ensures cost { CostsOne result meter.old meter.new }
     {
-        let client_key = self.recovered_client_key(stored_key, client_proof, auth_message, meter)?;
-        Ok(same_bytes(
-            self.stored_key(client_key.as_slice()).as_slice(),
-            stored_key,
-        ))
+        self.meets_stored_key(stored_key, client_proof, &[auth_message], meter)
     }
 
     /// The ServerSignature: `HMAC(ServerKey, AuthMessage)`, one HMAC value.
@@ -141,6 +172,57 @@ impl ScramVersion {
         ensures signature { digest_bytes result ≡ server_signature self.now server_key.now auth_message.now }
         ensures counted { meter.new ≡ meter.old + 1 }
     {
+        self.server_signature_over(server_key, &[auth_message], meter)
+    }
+
+    /// As `compute_client_proof`, of an AuthMessage in pieces.
+    pub(crate) fn client_proof_over(
+        &self,
+        client_key: &[u8],
+        auth_message: &[&[u8]],
+        meter: &mut Meter,
+    ) -> Result<DigestBytes, XorLengthMismatch>
+        requires { meter.old + 1 < 2 ^ 64 }
+        ensures proof { OkWhereSized self.now client_key.now result (λ proof. digest_bytes proof
+            ≡ client_proof self.now client_key.now (whole auth_message.now)) }
+        ensures cost { CostsOne result meter.old meter.new }
+    {
+        let stored_key = self.stored_key(client_key);
+        self.signed(client_key, stored_key.as_slice(), auth_message, meter)
+    }
+
+    /// As `verify_client_proof`, of an AuthMessage in pieces.
+    pub(crate) fn meets_stored_key(
+        &self,
+        stored_key: &[u8],
+        client_proof: &[u8],
+        auth_message: &[&[u8]],
+        meter: &mut Meter,
+    ) -> Result<bool, XorLengthMismatch>
+        requires { meter.old + 1 < 2 ^ 64 }
+        ensures verdict { OkWhereSized self.now client_proof.now result (λ meets. IsTrue meets
+            ↔ MeetsStoredKey self.now stored_key.now client_proof.now (whole auth_message.now)) }
+        ensures cost { CostsOne result meter.old meter.new }
+    {
+        let client_key = self.signed(client_proof, stored_key, auth_message, meter)?;
+        Ok(same_bytes(
+            self.stored_key(client_key.as_slice()).as_slice(),
+            stored_key,
+        ))
+    }
+
+    /// As `compute_server_signature`, of an AuthMessage in pieces.
+    pub(crate) fn server_signature_over(
+        &self,
+        server_key: &[u8],
+        auth_message: &[&[u8]],
+        meter: &mut Meter,
+    ) -> DigestBytes
+        requires { meter.old + 1 < 2 ^ 64 }
+        ensures signature { digest_bytes result
+            ≡ server_signature self.now server_key.now (whole auth_message.now) }
+        ensures counted { meter.new ≡ meter.old + 1 }
+    {
         HmacKey::new(*self, server_key).mac(auth_message, meter)
     }
 
@@ -150,12 +232,12 @@ impl ScramVersion {
         &self,
         text: &[u8],
         stored_key: &[u8],
-        auth_message: &[u8],
+        auth_message: &[&[u8]],
         meter: &mut Meter,
     ) -> Result<DigestBytes, XorLengthMismatch>
         requires { meter.old + 1 < 2 ^ 64 }
         ensures sum { OkWhereSized self.now text.now result (λ sum. digest_bytes sum
-            ≡ exclusive_or text.now (client_signature self.now stored_key.now auth_message.now)) }
+            ≡ exclusive_or text.now (client_signature self.now stored_key.now (whole auth_message.now))) }
         ensures cost { CostsOne result meter.old meter.new }
     {
         let mut sum = DigestBytes::from_slice(*self, text)?;

@@ -7,7 +7,7 @@ ghost use Rattle.fe2o3_scram.specs.ServerFirst.{client_of, no_limit, server_firs
 
 use crate::OutOfMemory;
 use crate::hmac::{Meter, ScramVersion};
-use crate::keys::auth_message;
+use crate::keys::auth_pieces;
 use crate::scram_messages::attributes::{CHANNEL_BINDING_KEY, GS2_HEADER, NONCE_KEY, PROOF_KEY};
 use crate::scram_messages::error::ScramErrorKind;
 use crate::scram_messages::server_first_reading::ServerFirst;
@@ -119,24 +119,24 @@ impl ScramVersion {
         ensures never_falls { meter.old ≤ meter.new }
     {
         let without_proof = without_proof(alloc, first.nonce)?;
-        let auth_message = auth_message(
-            alloc,
+        let auth_message = auth_pieces(
             client_first_message_bare,
             server_first.as_bytes(),
             &without_proof,
-        )?;
+        );
         let salted_password = self.salted_password(
-            alloc,
             password.as_bytes(),
             &first.salt,
             first.iterations,
             meter,
-        )?;
-        let client_key = self.client_key(salted_password.as_slice(), meter);
-        let proof = self.compute_client_proof(client_key.as_slice(), &auth_message, meter)?;
+        );
+        let (client_key, server_key) = self.client_and_server_key(
+            salted_password.as_slice(),
+            meter,
+        );
+        let proof = self.client_proof_over(client_key.as_slice(), &auth_message, meter)?;
+        let signature = self.server_signature_over(server_key.as_slice(), &auth_message, meter);
         let client_final = client_final(alloc, &without_proof, proof.as_slice())?;
-        let server_key = self.server_key(salted_password.as_slice(), meter);
-        let signature = self.compute_server_signature(server_key.as_slice(), &auth_message, meter);
         Ok((client_final, signature.as_slice().to_vec(alloc)?))
     }
 }
