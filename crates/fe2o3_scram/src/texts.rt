@@ -1,6 +1,6 @@
 //! The pieces of SCRAM messages: parts between commas, attributes, base64 and counts.
 
-ghost use Rattle.std.specs.Prelude.{◌≡◌, ◌++◌, ℕ, List, IfOk, MatchOption, string_bytes};
+ghost use Rattle.std.specs.Prelude.{◌≡◌, ◌++◌, ℕ, List, IfOk, OnOk, MatchOption, string_bytes};
 ghost use Rattle.fe2o3_scram.specs.Texts.{Begins, Part, LastPart, IsBase64, base64_text, IsCount};
 
 use crate::OutOfMemory;
@@ -66,4 +66,16 @@ pub(crate) fn count_of(text: &str) -> Option<u32>
         Ok(count) => Some(count),
         Err(_) => None,
     }
+}
+
+/// Writes the base64 text of the bytes at the end of the text.
+pub(crate) fn push_base64(text: &mut String, bytes: &[u8]) -> Result<(), OutOfMemory>
+    ensures { OnOk result (string_bytes text.new ≡ string_bytes text.old ++ base64_text bytes.now) }
+{
+    STANDARD.encode_string(bytes, text)
+}
+
+/// How long the base64 text of so many bytes is. Room is reserved by it, and nothing rests on it.
+pub(crate) fn base64_len(len: usize) -> usize {
+    len.div_ceil(3).saturating_mul(4)
 }

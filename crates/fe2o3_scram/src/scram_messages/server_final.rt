@@ -17,7 +17,7 @@ use crate::keys::auth_pieces;
 use crate::scram_messages::attributes::VERIFIER_KEY;
 use crate::scram_messages::client_final_reading::ClientFinal;
 use crate::scram_messages::error::ServerScramErrorKind;
-use crate::texts::base64_of;
+use crate::texts::{base64_len, push_base64};
 use std::alloc::Global;
 
 impl ScramVersion {
@@ -125,8 +125,10 @@ impl ScramVersion {
         ensures counted { meter.new ≡ meter.old + 1 }
     {
         let server_signature = self.server_signature_over(server_key, auth_message, meter);
-        let mut buf = VERIFIER_KEY.as_bytes().to_vec(alloc)?;
-        buf.extend_from_slice(base64_of(alloc, server_signature.as_slice())?.as_bytes())?;
-        Ok(buf)
+        let room = base64_len(self.digest_len()).saturating_add(VERIFIER_KEY.len());
+        let mut text = String::with_capacity(alloc, room)?;
+        text.push_str(VERIFIER_KEY)?;
+        push_base64(&mut text, server_signature.as_slice())?;
+        Ok(text.into_bytes())
     }
 }
