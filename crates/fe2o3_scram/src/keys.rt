@@ -1,8 +1,11 @@
 //! The keys, the proof and the signature of SCRAM, under the names of RFC 5802, section 3.
 //!
 //! A side that keeps its keys needs no password: a client makes its proof from the ClientKey, and
-//! a server tests it against the StoredKey and signs by the ServerKey. None of the methods takes
-//! memory, and the meter counts the HMAC values that each makes.
+//! a server tests it against the StoredKey and signs by the ServerKey.
+//!
+//! Keys, proofs and signatures are as long as a digest: 20 bytes of SHA-1 (RFC 5802), 32 of SHA-256
+//! (RFC 7677), 64 of SHA-512, for which no RFC names a mechanism. None of the methods takes memory.
+//! The meter counts the HMAC values that each makes, and stands below 2^64 - 1 before the call.
 
 ghost use Rattle.std.specs.Prelude.{◌≡◌, ◌<◌, ◌+◌, ◌^◌, ◌↔◌, IsTrue, IfOk};
 ghost use Rattle.fe2o3_scram.specs.Hmac.{digest_bytes, exclusive_or};
@@ -24,7 +27,10 @@ const CLIENT_KEY_LABEL: &[u8] = b"Client Key";
 const SERVER_KEY_LABEL: &[u8] = b"Server Key";
 
 /// The AuthMessage: the client-first message without its GS2 header, the server-first message, and
-/// the client-final message up to its proof, with commas between them, each as it was sent.
+/// the client-final message up to its proof, with commas between them, each as it was sent (RFC
+/// 5802, section 3). They are not read: any bytes are taken.
+///
+/// The one refusal is `OutOfMemory`, of the one request.
 pub fn auth_message(
     alloc: Global,
     client_first_message_bare: &[u8],
@@ -34,7 +40,13 @@ pub fn auth_message(
     ensures { IfOk result (λ text. text.items ≡ auth_message client_first_message_bare.now server_first_message.now
         client_final_message_without_proof.now) }
 {
-    let mut buf = client_first_message_bare.to_vec(alloc)?;
+    let room = client_first_message_bare
+        .len()
+        .saturating_add(server_first_message.len())
+        .saturating_add(client_final_message_without_proof.len())
+        .saturating_add(2);
+    let mut buf = Vec::with_capacity(alloc, room)?;
+    buf.extend_from_slice(client_first_message_bare)?;
     buf.push(b',')?;
     buf.extend_from_slice(server_first_message)?;
     buf.push(b',')?;
@@ -78,7 +90,8 @@ impl ScramVersion {
         (client_key, server_key)
     }
 
-    /// The ClientKey: `HMAC(SaltedPassword, "Client Key")`, one HMAC value.
+    /// The ClientKey: `HMAC(SaltedPassword, "Client Key")`, one HMAC value. The salted password is
+    /// any bytes, and that of a login is as long as a digest.
     pub fn client_key(&self, salted_password: &[u8], meter: &mut Meter) -> DigestBytes
         requires { meter.old + 1 < 2 ^ 64 }
         ensures key { digest_bytes result ≡ client_key self.now salted_password.now }
@@ -87,14 +100,16 @@ impl ScramVersion {
         HmacKey::new(*self, salted_password).mac(&[CLIENT_KEY_LABEL], meter)
     }
 
-    /// The StoredKey: `H(ClientKey)`, no HMAC value.
+    /// The StoredKey: `H(ClientKey)`, no HMAC value. The ClientKey is any bytes, and is as long as a
+    /// digest where it was made by `client_key`.
     pub fn stored_key(&self, client_key: &[u8]) -> DigestBytes
         ensures { digest_bytes result ≡ stored_key self.now client_key.now }
     {
         digest_of(*self, client_key)
     }
 
-    /// The ServerKey: `HMAC(SaltedPassword, "Server Key")`, one HMAC value.
+    /// The ServerKey: `HMAC(SaltedPassword, "Server Key")`, one HMAC value. The salted password is
+    /// any bytes, as for `client_key`.
     pub fn server_key(&self, salted_password: &[u8], meter: &mut Meter) -> DigestBytes
         requires { meter.old + 1 < 2 ^ 64 }
         ensures key { digest_bytes result ≡ server_key self.now salted_password.now }
@@ -106,7 +121,8 @@ impl ScramVersion {
     /// The ClientProof: the exclusive or of the ClientKey and the ClientSignature, which is
     /// `HMAC(H(ClientKey), AuthMessage)`. One HMAC value.
     ///
-    /// A ClientKey that is not as long as a digest is refused, without an HMAC value.
+    /// The one refusal is `XorLengthMismatch`, of a ClientKey that is not as long as a digest, and no
+    /// HMAC value is made then.
     pub fn compute_client_proof(
         &self,
         client_key: &[u8],
@@ -125,7 +141,8 @@ impl ScramVersion {
     /// ClientSignature, which is `HMAC(StoredKey, AuthMessage)`. One HMAC value. It is the
     /// client's where its digest is the StoredKey.
     ///
-    /// A proof that is not as long as a digest is refused, without an HMAC value.
+    /// The one refusal is `XorLengthMismatch`, of a proof that is not as long as a digest, and no HMAC
+    /// value is made then. The StoredKey is any bytes.
     pub fn recovered_client_key(
         &self,
         stored_key: &[u8],
@@ -145,7 +162,8 @@ impl ScramVersion {
     /// the StoredKey. One HMAC value. Keys are compared over the whole length, whatever the bytes
     /// are; no claim is made about time.
     ///
-    /// A proof that is not as long as a digest is refused, without an HMAC value.
+    /// The one refusal is `XorLengthMismatch`, of a proof that is not as long as a digest, and no HMAC
+    /// value is made then. The StoredKey is any bytes.
     pub fn verify_client_proof(
         &self,
         stored_key: &[u8],
@@ -161,7 +179,7 @@ impl ScramVersion {
         self.meets_stored_key(stored_key, client_proof, &[auth_message], meter)
     }
 
-    /// The ServerSignature: `HMAC(ServerKey, AuthMessage)`, one HMAC value.
+    /// The ServerSignature: `HMAC(ServerKey, AuthMessage)`, one HMAC value. The ServerKey is any bytes.
     pub fn compute_server_signature(
         &self,
         server_key: &[u8],

@@ -44,7 +44,14 @@ impl From<saslprep_ascii::NormalizeError> for KeyError {
 }
 
 impl ScramVersion {
-    /// `Hi(password, salt, iterations)`, as long as a digest.
+    /// The salted password: `Hi(password, salt, iterations)` of RFC 5802, section 2.2, which is PBKDF2 of RFC 8018,
+    /// section 5.2, with one block of output. It is as long as a digest: 20 bytes of SHA-1, 32 of SHA-256, 64 of
+    /// SHA-512.
+    ///
+    /// Password and salt are any bytes, and the password is not prepared here: `compute_salted_password` does that.
+    /// The iterations are the HMAC values that are made. That they are not 0 is a condition of the call.
+    ///
+    /// The one refusal is `OutOfMemory`, of the one request, which is for the result. The loop takes no memory.
     pub fn h_i(
         &self,
         alloc: Global,
@@ -58,7 +65,9 @@ impl ScramVersion {
         self.h_i_metered(alloc, password, salt, iterations, &mut Meter::new())
     }
 
-    /// As `h_i`, which makes one HMAC value for each iteration. The meter counts them.
+    /// As `h_i`. The meter counts the HMAC values, one for each iteration, and stands at 2^63 at most before the call.
+    ///
+    /// Where `OutOfMemory` is returned the meter shows from 0 to `iterations` more than before.
     pub fn h_i_metered(
         &self,
         alloc: Global,
@@ -77,7 +86,11 @@ impl ScramVersion {
         salted.as_slice().to_vec(alloc)
     }
 
-    /// The salted password of a password of printable ASCII.
+    /// The salted password of a password that is prepared first (RFC 5802, section 2.2; RFC 4013), which leaves one of
+    /// printable ASCII as it is. Salt, iterations and length are those of `h_i`, and the iterations are again not 0.
+    ///
+    /// Refused are, in this order: `NormalizeError` where a byte of the password is not printable ASCII, before any
+    /// HMAC value is made, and `OutOfMemory`.
     pub fn compute_salted_password(
         &self,
         alloc: Global,
