@@ -1,3 +1,4 @@
 -- Nobody has to believe these: they say what the code holds, and only private contracts cite them.
 pub mod Answers
 pub mod Hashers
+pub mod Pieces

@@ -34,18 +34,19 @@ pub struct UnknownMechanism;
 /// Which hash a SCRAM mechanism stands on.
 #[derive(Debug, Clone, Copy, PartialEq, Eq)]
 pub enum ScramVersion {
-    /// SHA-1 (RFC 5802). New applications should take SHA-256.
+    /// SHA-1, of `SCRAM-SHA-1` (RFC 5802). New applications should take SHA-256.
     Sha1,
 
-    /// SHA-256 (RFC 7677).
+    /// SHA-256, of `SCRAM-SHA-256` (RFC 7677).
     Sha256,
 
-    /// SHA-512.
+    /// SHA-512, of `SCRAM-SHA-512`. No RFC names this mechanism: it is RFC 5802 with this hash.
     Sha512,
 }
 
 impl ScramVersion {
-    /// The name of the SASL mechanism.
+    /// The name of the SASL mechanism: `SCRAM-SHA-1` (RFC 5802, section 4), `SCRAM-SHA-256` (RFC 7677, section 3) or
+    /// `SCRAM-SHA-512`, which no RFC names.
     pub fn mechanism(&self) -> &'static str
         ensures { result.now ≡ mechanism_name self.now }
     {
@@ -70,19 +71,25 @@ impl ScramVersion {
         }
     }
 
-    /// The digest of the input, of 20, 32 or 64 bytes: `H` of RFC 5802, section 2.2.
+    /// The digest of the input: `H` of RFC 5802, section 2.2. It has 20 bytes of SHA-1, 32 of SHA-256 and 64 of
+    /// SHA-512.
+    ///
+    /// The one refusal is `OutOfMemory`, of the one request, which is for the digest.
     pub fn h(&self, alloc: Global, input: &[u8]) -> Result<Vec<u8>, OutOfMemory>
         ensures { IfOk result (λ output. output.items ≡ digest self.now input.now) }
     {
         digest_of(*self, input).as_slice().to_vec(alloc)
     }
 
-    /// The HMAC of the input under a key of any length, as long as a digest.
+    /// The HMAC of the input under a key (RFC 2104, section 2; RFC 5802, section 2.2), as long as a digest. Key and
+    /// input have any length: a key longer than a block is hashed first, and zeros fill up a shorter one.
+    ///
+    /// The one refusal is `OutOfMemory`, of the one request, which is for the value.
     pub fn hmac(&self, alloc: Global, key: &[u8], input: &[u8]) -> Result<Vec<u8>, OutOfMemory>
         ensures { IfOk result (λ output. output.items ≡ hmac_of self.now key.now input.now) }
     {
         HmacKey::new(*self, key)
-            .mac(input, &mut Meter::new())
+            .mac(&[input], &mut Meter::new())
             .as_slice()
             .to_vec(alloc)
     }

@@ -1,12 +1,16 @@
 //! The keys, the proof and the signature of SCRAM, under the names of RFC 5802, section 3.
 //!
 //! A side that keeps its keys needs no password: a client makes its proof from the ClientKey, and
-//! a server tests it against the StoredKey and signs by the ServerKey. None of the methods takes
-//! memory, and the meter counts the HMAC values that each makes.
+//! a server tests it against the StoredKey and signs by the ServerKey.
+//!
+//! Keys, proofs and signatures are as long as a digest: 20 bytes of SHA-1 (RFC 5802), 32 of SHA-256
+//! (RFC 7677), 64 of SHA-512, for which no RFC names a mechanism. None of the methods takes memory.
+//! The meter counts the HMAC values that each makes, and stands below 2^64 - 1 before the call.
 
 ghost use Rattle.std.specs.Prelude.{◌≡◌, ◌<◌, ◌+◌, ◌^◌, ◌↔◌, IsTrue, IfOk};
 ghost use Rattle.fe2o3_scram.specs.Hmac.{digest_bytes, exclusive_or};
 ghost use Rattle.fe2o3_scram.specs.Keys.{CostsOne, MeetsStoredKey, OkWhereSized, auth_message, client_key, client_proof, client_signature, recovered_client_key, server_key, server_signature, stored_key};
+ghost use Rattle.fe2o3_scram.specs.private.Pieces.{whole};
 
 use crate::OutOfMemory;
 use crate::hmac::hasher::digest_of;
@@ -23,7 +27,10 @@ const CLIENT_KEY_LABEL: &[u8] = b"Client Key";
 const SERVER_KEY_LABEL: &[u8] = b"Server Key";
 
 /// The AuthMessage: the client-first message without its GS2 header, the server-first message, and
-/// the client-final message up to its proof, with commas between them, each as it was sent.
+/// the client-final message up to its proof, with commas between them, each as it was sent (RFC
+/// 5802, section 3). They are not read: any bytes are taken.
+///
+/// The one refusal is `OutOfMemory`, of the one request.
 pub fn auth_message(
     alloc: Global,
     client_first_message_bare: &[u8],
@@ -33,7 +40,13 @@ pub fn auth_message(
     ensures { IfOk result (λ text. text.items ≡ auth_message client_first_message_bare.now server_first_message.now
         client_final_message_without_proof.now) }
 {
-    let mut buf = client_first_message_bare.to_vec(alloc)?;
+    let room = client_first_message_bare
+        .len()
+        .saturating_add(server_first_message.len())
+        .saturating_add(client_final_message_without_proof.len())
+        .saturating_add(2);
+    let mut buf = Vec::with_capacity(alloc, room)?;
+    buf.extend_from_slice(client_first_message_bare)?;
     buf.push(b',')?;
     buf.extend_from_slice(server_first_message)?;
     buf.push(b',')?;
@@ -41,36 +54,75 @@ pub fn auth_message(
     Ok(buf)
 }
 
+/// The pieces of the AuthMessage, which the two sides do not put together.
+pub(crate) fn auth_pieces<'a>(
+    client_first_message_bare: &'a [u8],
+    server_first_message: &'a [u8],
+    client_final_message_without_proof: &'a [u8],
+) -> [&'a [u8]; 5]
+    ensures { whole result ≡ auth_message client_first_message_bare.now server_first_message.now
+        client_final_message_without_proof.now }
+{
+    [
+        client_first_message_bare,
+        b",",
+        server_first_message,
+        b",",
+        client_final_message_without_proof,
+    ]
+}
+
 impl ScramVersion {
-    /// The ClientKey: `HMAC(SaltedPassword, "Client Key")`, one HMAC value.
+    /// The two keys of a salted password: the ClientKey and the ServerKey, two HMAC values.
+    pub(crate) fn client_and_server_key(
+        &self,
+        salted_password: &[u8],
+        meter: &mut Meter,
+    ) -> (DigestBytes, DigestBytes)
+        requires { meter.old + 2 < 2 ^ 64 }
+        ensures client { digest_bytes result.0 ≡ client_key self.now salted_password.now }
+        ensures server { digest_bytes result.1 ≡ server_key self.now salted_password.now }
+        ensures counted { meter.new ≡ meter.old + 2 }
+    {
+        let key = HmacKey::new(*self, salted_password);
+        let client_key = key.mac(&[CLIENT_KEY_LABEL], meter);
+        let server_key = key.mac(&[SERVER_KEY_LABEL], meter);
+        (client_key, server_key)
+    }
+
+    /// The ClientKey: `HMAC(SaltedPassword, "Client Key")`, one HMAC value. The salted password is
+    /// any bytes, and that of a login is as long as a digest.
     pub fn client_key(&self, salted_password: &[u8], meter: &mut Meter) -> DigestBytes
         requires { meter.old + 1 < 2 ^ 64 }
         ensures key { digest_bytes result ≡ client_key self.now salted_password.now }
         ensures counted { meter.new ≡ meter.old + 1 }
     {
-        HmacKey::new(*self, salted_password).mac(CLIENT_KEY_LABEL, meter)
+        HmacKey::new(*self, salted_password).mac(&[CLIENT_KEY_LABEL], meter)
     }
 
-    /// The StoredKey: `H(ClientKey)`, no HMAC value.
+    /// The StoredKey: `H(ClientKey)`, no HMAC value. The ClientKey is any bytes, and is as long as a
+    /// digest where it was made by `client_key`.
     pub fn stored_key(&self, client_key: &[u8]) -> DigestBytes
         ensures { digest_bytes result ≡ stored_key self.now client_key.now }
     {
         digest_of(*self, client_key)
     }
 
-    /// The ServerKey: `HMAC(SaltedPassword, "Server Key")`, one HMAC value.
+    /// The ServerKey: `HMAC(SaltedPassword, "Server Key")`, one HMAC value. The salted password is
+    /// any bytes, as for `client_key`.
     pub fn server_key(&self, salted_password: &[u8], meter: &mut Meter) -> DigestBytes
         requires { meter.old + 1 < 2 ^ 64 }
         ensures key { digest_bytes result ≡ server_key self.now salted_password.now }
         ensures counted { meter.new ≡ meter.old + 1 }
     {
-        HmacKey::new(*self, salted_password).mac(SERVER_KEY_LABEL, meter)
+        HmacKey::new(*self, salted_password).mac(&[SERVER_KEY_LABEL], meter)
     }
 
     /// The ClientProof: the exclusive or of the ClientKey and the ClientSignature, which is
     /// `HMAC(H(ClientKey), AuthMessage)`. One HMAC value.
     ///
-    /// A ClientKey that is not as long as a digest is refused, without an HMAC value.
+    /// The one refusal is `XorLengthMismatch`, of a ClientKey that is not as long as a digest, and no
+    /// HMAC value is made then.
     pub fn compute_client_proof(
         &self,
         client_key: &[u8],
@@ -82,15 +134,15 @@ impl ScramVersion {
             (λ proof. digest_bytes proof ≡ client_proof self.now client_key.now auth_message.now) }
         ensures cost { CostsOne result meter.old meter.new }
     {
-        let stored_key = self.stored_key(client_key);
-        self.signed(client_key, stored_key.as_slice(), auth_message, meter)
+        self.client_proof_over(client_key, &[auth_message], meter)
     }
 
     /// The ClientKey that a server recovers: the exclusive or of the ClientProof and the
     /// ClientSignature, which is `HMAC(StoredKey, AuthMessage)`. One HMAC value. It is the
     /// client's where its digest is the StoredKey.
     ///
-    /// A proof that is not as long as a digest is refused, without an HMAC value.
+    /// The one refusal is `XorLengthMismatch`, of a proof that is not as long as a digest, and no HMAC
+    /// value is made then. The StoredKey is any bytes.
     pub fn recovered_client_key(
         &self,
         stored_key: &[u8],
@@ -103,14 +155,15 @@ impl ScramVersion {
             ≡ recovered_client_key self.now stored_key.now client_proof.now auth_message.now) }
         ensures cost { CostsOne result meter.old meter.new }
     {
-        self.signed(client_proof, stored_key, auth_message, meter)
+        self.signed(client_proof, stored_key, &[auth_message], meter)
     }
 
     /// Whether the proof meets the StoredKey, that is, whether the recovered ClientKey's digest is
     /// the StoredKey. One HMAC value. Keys are compared over the whole length, whatever the bytes
     /// are; no claim is made about time.
     ///
-    /// A proof that is not as long as a digest is refused, without an HMAC value.
+    /// The one refusal is `XorLengthMismatch`, of a proof that is not as long as a digest, and no HMAC
+    /// value is made then. The StoredKey is any bytes.
     pub fn verify_client_proof(
         &self,
         stored_key: &[u8],
@@ -123,14 +176,10 @@ impl ScramVersion {
             ↔ MeetsStoredKey self.now stored_key.now client_proof.now auth_message.now) }
         ensures cost { CostsOne result meter.old meter.new }
     {
-        let client_key = self.recovered_client_key(stored_key, client_proof, auth_message, meter)?;
-        Ok(same_bytes(
-            self.stored_key(client_key.as_slice()).as_slice(),
-            stored_key,
-        ))
+        self.meets_stored_key(stored_key, client_proof, &[auth_message], meter)
     }
 
-    /// The ServerSignature: `HMAC(ServerKey, AuthMessage)`, one HMAC value.
+    /// The ServerSignature: `HMAC(ServerKey, AuthMessage)`, one HMAC value. The ServerKey is any bytes.
     pub fn compute_server_signature(
         &self,
         server_key: &[u8],
@@ -139,6 +188,57 @@ impl ScramVersion {
     ) -> DigestBytes
         requires { meter.old + 1 < 2 ^ 64 }
         ensures signature { digest_bytes result ≡ server_signature self.now server_key.now auth_message.now }
+        ensures counted { meter.new ≡ meter.old + 1 }
+    {
+        self.server_signature_over(server_key, &[auth_message], meter)
+    }
+
+    /// As `compute_client_proof`, of an AuthMessage in pieces.
+    pub(crate) fn client_proof_over(
+        &self,
+        client_key: &[u8],
+        auth_message: &[&[u8]],
+        meter: &mut Meter,
+    ) -> Result<DigestBytes, XorLengthMismatch>
+        requires { meter.old + 1 < 2 ^ 64 }
+        ensures proof { OkWhereSized self.now client_key.now result (λ proof. digest_bytes proof
+            ≡ client_proof self.now client_key.now (whole auth_message.now)) }
+        ensures cost { CostsOne result meter.old meter.new }
+    {
+        let stored_key = self.stored_key(client_key);
+        self.signed(client_key, stored_key.as_slice(), auth_message, meter)
+    }
+
+    /// As `verify_client_proof`, of an AuthMessage in pieces.
+    pub(crate) fn meets_stored_key(
+        &self,
+        stored_key: &[u8],
+        client_proof: &[u8],
+        auth_message: &[&[u8]],
+        meter: &mut Meter,
+    ) -> Result<bool, XorLengthMismatch>
+        requires { meter.old + 1 < 2 ^ 64 }
+        ensures verdict { OkWhereSized self.now client_proof.now result (λ meets. IsTrue meets
+            ↔ MeetsStoredKey self.now stored_key.now client_proof.now (whole auth_message.now)) }
+        ensures cost { CostsOne result meter.old meter.new }
+    {
+        let client_key = self.signed(client_proof, stored_key, auth_message, meter)?;
+        Ok(same_bytes(
+            self.stored_key(client_key.as_slice()).as_slice(),
+            stored_key,
+        ))
+    }
+
+    /// As `compute_server_signature`, of an AuthMessage in pieces.
+    pub(crate) fn server_signature_over(
+        &self,
+        server_key: &[u8],
+        auth_message: &[&[u8]],
+        meter: &mut Meter,
+    ) -> DigestBytes
+        requires { meter.old + 1 < 2 ^ 64 }
+        ensures signature { digest_bytes result
+            ≡ server_signature self.now server_key.now (whole auth_message.now) }
         ensures counted { meter.new ≡ meter.old + 1 }
     {
         HmacKey::new(*self, server_key).mac(auth_message, meter)
@@ -150,12 +250,12 @@ impl ScramVersion {
         &self,
         text: &[u8],
         stored_key: &[u8],
-        auth_message: &[u8],
+        auth_message: &[&[u8]],
         meter: &mut Meter,
     ) -> Result<DigestBytes, XorLengthMismatch>
         requires { meter.old + 1 < 2 ^ 64 }
         ensures sum { OkWhereSized self.now text.now result (λ sum. digest_bytes sum
-            ≡ exclusive_or text.now (client_signature self.now stored_key.now auth_message.now)) }
+            ≡ exclusive_or text.now (client_signature self.now stored_key.now (whole auth_message.now))) }
         ensures cost { CostsOne result meter.old meter.new }
     {
         let mut sum = DigestBytes::from_slice(*self, text)?;

@@ -1,14 +1,15 @@
 //! The salted password: `Hi` of RFC 5802, section 2.2, which is PBKDF2 with one block of output.
 
-ghost use Rattle.std.specs.Prelude.{◌≡◌, ◌≤◌, ◌+◌, ◌^◌, ◌↔◌, IfOk, OnOk, OnErr};
+ghost use Rattle.std.specs.Prelude.{◌≡◌, ◌≤◌, ◌+◌, ◌^◌, ◌↔◌, ℕ, List, IfOk, OnOk, OnErr};
 ghost use Rattle.fe2o3_scram.specs.Hmac.{digest_bytes};
+ghost use Rattle.fe2o3_scram.specs.private.Hashers.{HasPads};
 ghost use Rattle.fe2o3_scram.specs.Pbkdf2Hi.{salted_of};
 ghost use Rattle.fe2o3_scram.specs.SaslprepAscii.{IsPrintable};
 ghost use Rattle.fe2o3_scram.specs.declared.pbkdf2_hi.KeyError.TheVariants.{NormalizeError, OutOfMemory};
 
 use crate::OutOfMemory;
-use crate::hmac::hasher::DigestBytes;
-use crate::hmac::keyed::HmacKey;
+use crate::hmac::hasher::{DigestBytes, Hasher, xor};
+use crate::hmac::keyed::{HmacKey, PaddedKey};
 use crate::hmac::{Meter, ScramVersion};
 use crate::saslprep_ascii::{self, saslprep};
 use std::alloc::{AllocError, AllocFailed, Global};
@@ -51,7 +52,14 @@ impl From<saslprep_ascii::NormalizeError> for KeyError {
 }
 
 impl ScramVersion {
-    /// `Hi(password, salt, iterations)`, as long as a digest.
+    /// The salted password: `Hi(password, salt, iterations)` of RFC 5802, section 2.2, which is PBKDF2 of RFC 8018,
+    /// section 5.2, with one block of output. It is as long as a digest: 20 bytes of SHA-1, 32 of SHA-256, 64 of
+    /// SHA-512.
+    ///
+    /// Password and salt are any bytes, and the password is not prepared here: `compute_salted_password` does that.
+    /// The iterations are the HMAC values that are made. That they are not 0 is a condition of the call.
+    ///
+    /// The one refusal is `OutOfMemory`, of the one request, which is for the result. The loop takes no memory.
     pub fn h_i(
         &self,
         alloc: Global,
@@ -65,7 +73,9 @@ impl ScramVersion {
         self.h_i_metered(alloc, password, salt, iterations, &mut Meter::new())
     }
 
-    /// As `h_i`, which makes one HMAC value for each iteration. The meter counts them.
+    /// As `h_i`. The meter counts the HMAC values, one for each iteration, and stands at 2^63 at most before the call.
+    ///
+    /// Where `OutOfMemory` is returned the meter shows from 0 to `iterations` more than before.
     pub fn h_i_metered(
         &self,
         alloc: Global,
@@ -80,11 +90,15 @@ impl ScramVersion {
         ensures counted { OnOk result (meter.new ≡ meter.old + iterations) }
         ensures memory { OnErr result ((meter.old ≤ meter.new) × (meter.new ≤ meter.old + iterations)) }
     {
-        let salted = self.salted_password(alloc, password, salt, iterations, meter)?;
+        let salted = self.salted_password(password, salt, iterations, meter);
         salted.as_slice().to_vec(alloc)
     }
 
-    /// The salted password of a password of printable ASCII.
+    /// The salted password of a password that is prepared first (RFC 5802, section 2.2; RFC 4013), which leaves one of
+    /// printable ASCII as it is. Salt, iterations and length are those of `h_i`, and the iterations are again not 0.
+    ///
+    /// Refused are, in this order: `NormalizeError` where a byte of the password is not printable ASCII, before any
+    /// HMAC value is made, and `OutOfMemory`.
     pub fn compute_salted_password(
         &self,
         alloc: Global,
@@ -101,32 +115,46 @@ impl ScramVersion {
         Ok(self.h_i(alloc, normalized_password.as_bytes(), salt, iterations)?)
     }
 
-    /// `Hi` as a digest. Memory is taken for the first message alone, before any HMAC value is made.
-    #[tactic(auto, using(crate::proofs::lemmas::hashes::HiRoundLemmas::rounds))]
+    /// `Hi` as a digest. It takes no memory.
     pub(crate) fn salted_password(
         &self,
-        alloc: Global,
         password: &[u8],
         salt: &[u8],
         iterations: u32,
         meter: &mut Meter,
-    ) -> Result<DigestBytes, OutOfMemory>
+    ) -> DigestBytes
         requires iterations { 1 ≤ iterations }
         requires meter { meter.old ≤ 2 ^ 63 }
-        ensures salted { IfOk result (λ salted. digest_bytes salted
-            ≡ salted_of self.now password.now salt.now iterations) }
-        ensures counted { OnOk result (meter.new ≡ meter.old + iterations) }
-        ensures memory { OnErr result (meter.new ≡ meter.old) }
+        ensures salted { digest_bytes result ≡ salted_of self.now password.now salt.now iterations }
+        ensures counted { meter.new ≡ meter.old + iterations }
     {
-        let key = HmacKey::new(*self, password);
-        let mut first = salt.to_vec(alloc)?;
-        first.extend_from_slice(&1u32.to_be_bytes())?;
-        let mut round = key.mac(&first, meter);
-        let mut salted = round;
-        for _done in 1..iterations {
-            round = key.mac(round.as_slice(), meter);
-            salted.xor(&round);
+        match HmacKey::new(*self, password) {
+            HmacKey::Sha1(key) => DigestBytes::Sha1(rounds(&key, salt, iterations, meter)),
+            HmacKey::Sha256(key) => DigestBytes::Sha256(rounds(&key, salt, iterations, meter)),
+            HmacKey::Sha512(key) => DigestBytes::Sha512(rounds(&key, salt, iterations, meter)),
         }
-        Ok(salted)
     }
+}
+
+/// `Hi` under a password whose pads one hash has taken in. It takes no memory.
+#[tactic(auto, using(crate::proofs::lemmas::hashes::HiRoundLemmas::rounds))]
+fn rounds<const N: usize, H: Hasher<N>>(
+    password: &PaddedKey<N, H>,
+    salt: &[u8],
+    iterations: u32,
+    meter: &mut Meter,
+) -> [u8; N]
+    requires iterations { 1 ≤ iterations }
+    requires meter { meter.old ≤ 2 ^ 63 }
+    ensures salted { (key : List ℕ) → HasPads H.has_taken H.hash password.now.inner password.now.outer key
+        → result ≡ salted_of H.hash key salt.now iterations }
+    ensures counted { meter.new ≡ meter.old + iterations }
+{
+    let mut round = password.mac(&[salt, &1u32.to_be_bytes()], meter);
+    let mut salted = round;
+    for _done in 1..iterations {
+        round = password.mac(&[&round], meter);
+        xor(&mut salted, &round);
+    }
+    salted
 }

@@ -100,8 +100,9 @@ impl<C: ScramCredentialProvider> ScramAuthenticator<C> {
         ensures provider { provider_in self.new ≡ provider_in self.old }
         ensures err { OnErr result (state_in self.new ≡ state_in self.old) }
     {
-        let nonce = base64_of_nonce(nonce);
-        let Some(server_first) = challenge(alloc, client_first_message, &nonce, &self.credentials)?
+        let mut room = [0; 44];
+        let nonce = base64_of_nonce(nonce, &mut room);
+        let Some(server_first) = challenge(alloc, client_first_message, nonce, &self.credentials)?
         else {
             return Ok(None);
         };

@@ -1,6 +1,6 @@
 //! The pieces of SCRAM messages: parts between commas, attributes, base64 and counts.
 
-ghost use Rattle.std.specs.Prelude.{◌≡◌, ◌++◌, ℕ, List, IfOk, MatchOption, string_bytes};
+ghost use Rattle.std.specs.Prelude.{◌≡◌, ◌++◌, ℕ, List, IfOk, OnOk, MatchOption, string_bytes};
 ghost use Rattle.fe2o3_scram.specs.Texts.{Begins, Part, LastPart, IsBase64, base64_text, IsCount};
 
 use crate::OutOfMemory;
@@ -45,14 +45,16 @@ pub(crate) fn base64_of(alloc: Global, bytes: &[u8]) -> Result<String, OutOfMemo
     STANDARD.encode(alloc, bytes)
 }
 
-/// The base64 text of 32 bytes, which takes no memory.
-pub(crate) fn base64_of_nonce(nonce: &[u8; 32]) -> [u8; 44]
-    ensures { result ≡ base64_text nonce.now }
+/// The base64 text of 32 bytes, in the room that is lent. It takes no memory.
+pub(crate) fn base64_of_nonce<'a>(nonce: &[u8; 32], room: &'a mut [u8; 44]) -> &'a str
+    ensures { result.now ≡ base64_text nonce.now }
 {
-    let mut text = [0; 44];
-    // 32 bytes take 44 symbols, so this cannot fail.
-    let _ = STANDARD.encode_slice(nonce, &mut text);
-    text
+    // 32 bytes take 44 symbols, so neither can fail.
+    let _ = STANDARD.encode_slice(nonce, room);
+    match str::from_utf8(room) {
+        Ok(text) => text,
+        Err(_) => unreachable!(),
+    }
 }
 
 /// The bytes that the text spells in base64, or `None` where it is no base64 text.
@@ -76,4 +78,16 @@ pub(crate) fn count_of(text: &str) -> Option<u32>
         Ok(count) => Some(count),
         Err(_) => None,
     }
+}
+
+/// Writes the base64 text of the bytes at the end of the text.
+pub(crate) fn push_base64(text: &mut String, bytes: &[u8]) -> Result<(), OutOfMemory>
+    ensures { OnOk result (string_bytes text.new ≡ string_bytes text.old ++ base64_text bytes.now) }
+{
+    STANDARD.encode_string(bytes, text)
+}
+
+/// How long the base64 text of so many bytes is. Room is reserved by it, and nothing rests on it.
+pub(crate) fn base64_len(len: usize) -> usize {
+    len.div_ceil(3).saturating_mul(4)
 }

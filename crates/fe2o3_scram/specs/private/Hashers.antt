@@ -4,20 +4,22 @@ use Rattle.sha1.specs.Sha1.{Holds}
 use Rattle.sha2.specs.Hashers.{Holds256, Holds512}
 use Rattle.fe2o3_scram.specs.declared.hmac.ScramVersion.{ScramVersion}
 use Rattle.fe2o3_scram.specs.declared.hmac.ScramVersion.TheVariants.{Sha1, Sha256, Sha512}
-use Rattle.fe2o3_scram.specs.declared.hmac.hasher.Hasher.{Hasher}
-use Rattle.fe2o3_scram.specs.declared.hmac.hasher.Hasher.TheVariants.{Sha1 as HasherSha1, Sha256 as HasherSha256, Sha512 as HasherSha512}
 use Rattle.fe2o3_scram.specs.declared.hmac.keyed.HmacKey.{HmacKey}
+use Rattle.fe2o3_scram.specs.declared.hmac.keyed.HmacKey.TheVariants.{Sha1 as KeySha1, Sha256 as KeySha256, Sha512 as KeySha512}
 use Rattle.fe2o3_scram.specs.Hmac.{key_block, masked}
 
--- the hasher is of this version and has taken in the message
-abbrev pub HasTaken : Hasher → ScramVersion → List ℕ → Type 0
-HasTaken (HasherSha1 state) Sha1 message = Holds state message
-HasTaken (HasherSha256 state) Sha256 message = Holds256 state message
-HasTaken (HasherSha512 state) Sha512 message = Holds512 state message
-HasTaken hasher version message = ⊥
+-- a message that a hasher has taken in, as the hasher's own word says it
+abbrev pub Taken : Type 0 → Type 1
+Taken H = H → List ℕ → Type 0
 
--- the two hashers have taken in the pads of the key
+-- two hashers have taken in the inner and the outer pad of the key
+abbrev pub HasPads : {H : Type 0} → Taken H → ScramVersion → H → H → List ℕ → Type 0
+HasPads has_taken version inner outer key =
+    has_taken inner (masked 0x36 (key_block version key)) × has_taken outer (masked 0x5c (key_block version key))
+
+-- the key is of this version, and has taken in the pads of these bytes
 abbrev pub IsKeyOf : HmacKey → ScramVersion → List ℕ → Type 0
-IsKeyOf hmac_key version key =
-    HasTaken hmac_key.inner version (masked 0x36 (key_block version key))
-    × HasTaken hmac_key.outer version (masked 0x5c (key_block version key))
+IsKeyOf (KeySha1 key) Sha1 bytes = HasPads Holds Sha1 key.inner key.outer bytes
+IsKeyOf (KeySha256 key) Sha256 bytes = HasPads Holds256 Sha256 key.inner key.outer bytes
+IsKeyOf (KeySha512 key) Sha512 bytes = HasPads Holds512 Sha512 key.inner key.outer bytes
+IsKeyOf key version bytes = ⊥

@@ -1,13 +1,15 @@
-//! A hasher of any of the three hashes. None of this takes memory.
+//! The three hashes as types, and their digests. None of this takes memory.
 
 ghost use Rattle.std.specs.Prelude.{◌≡◌, ◌≢◌, ◌++◌, ℕ, List, [], length, IfOk, MatchResult};
 ghost use Rattle.fe2o3_scram.specs.declared.hmac.ScramVersion.{ScramVersion};
 ghost use Rattle.fe2o3_scram.specs.Hmac.{digest, digest_len, exclusive_or, digest_bytes, version_of};
-ghost use Rattle.fe2o3_scram.specs.private.Hashers.{HasTaken};
+ghost use Rattle.fe2o3_scram.specs.declared.hmac.ScramVersion.TheVariants.{Sha1, Sha256 as VersionSha256, Sha512 as VersionSha512};
+ghost use Rattle.sha1.specs.Sha1.{Holds};
+ghost use Rattle.sha2.specs.Hashers.{Holds256, Holds512};
 
 use crate::hmac::ScramVersion;
 use crate::scram_messages::error::XorLengthMismatch;
-use sha2::Digest;
+use sha2::{Digest, Sha256, Sha512};
 
 /// A digest or an HMAC value of one of the three hashes, which may be a secret: it has no `Debug`,
 /// and is compared by its bytes, and not in constant time.
@@ -68,7 +70,7 @@ impl DigestBytes {
 }
 
 /// Turns the bits of `lhs` that `rhs` has set.
-fn xor(lhs: &mut [u8], rhs: &[u8])
+pub(crate) fn xor(lhs: &mut [u8], rhs: &[u8])
     requires { length lhs.old ≡ length rhs.now }
     ensures { lhs.new ≡ exclusive_or lhs.old rhs.now }
 {
@@ -77,69 +79,132 @@ fn xor(lhs: &mut [u8], rhs: &[u8])
     }
 }
 
-/// A hasher of one of the three hashes.
-#[derive(Drop)]
-pub(crate) enum Hasher {
-    Sha1(sha1::Sha1),
-    Sha256(sha2::Sha256),
-    Sha512(sha2::Sha512),
-}
+/// A hasher of one of the three hashes, whose digest has `N` bytes.
+pub(crate) trait Hasher<const N: usize>: Drop {
+    // The version whose hash it is.
+    ghost hash: { ScramVersion };
 
-impl Hasher {
+    // The hasher has taken in this message.
+    ghost has_taken: { Self → List ℕ → Type 0 };
+
+    /// The version whose hash it is.
+    fn version() -> ScramVersion
+        ensures { result ≡ hash };
+
     /// A hasher that has taken in nothing.
-    pub fn new(version: ScramVersion) -> Hasher
-        ensures { HasTaken result version [] }
-    {
-        match version {
-            ScramVersion::Sha1 => Hasher::Sha1(sha1::Sha1::new()),
-            ScramVersion::Sha256 => Hasher::Sha256(sha2::Sha256::new()),
-            ScramVersion::Sha512 => Hasher::Sha512(sha2::Sha512::new()),
-        }
-    }
+    fn start() -> Self
+        ensures { has_taken result [] };
+
+    /// Another hasher that has taken in the same.
+    fn copy(&self) -> Self
+        ensures { (message : List ℕ) → has_taken self.now message → has_taken result message };
 
     /// Takes in the input.
-    pub fn update(&mut self, input: &[u8])
-        ensures { (version : ScramVersion) (message : List ℕ) → HasTaken self.old version message
-            → HasTaken self.new version (message ++ input.now) }
-    {
-        match self {
-            Hasher::Sha1(state) => state.update(input),
-            Hasher::Sha256(state) => state.update(input),
-            Hasher::Sha512(state) => state.update(input),
-        }
+    fn take_in(&mut self, input: &[u8])
+        ensures { (message : List ℕ) → has_taken self.old message → has_taken self.new (message ++ input.now) };
+
+    /// The digest of what was taken in.
+    fn into_digest(self) -> [u8; N]
+        ensures { (message : List ℕ) → has_taken self message → result ≡ digest hash message };
+}
+
+impl Hasher<20> for sha1::Sha1 {
+    ghost hash = { Sha1 };
+
+    ghost has_taken = { λ state message. Holds state message };
+
+    fn version() -> ScramVersion {
+        ScramVersion::Sha1
     }
 
-    /// The digest of what was taken in and the input after it.
-    #[tactic(auto, unfolding(crate::specs::Hmac::digest))]
-    pub fn digest_with(&self, input: &[u8]) -> DigestBytes
-        ensures bytes { (version : ScramVersion) (message : List ℕ) → HasTaken self.now version message
-            → digest_bytes result ≡ digest version (message ++ input.now) }
-        ensures version { (version : ScramVersion) (message : List ℕ) → HasTaken self.now version message
-            → version_of result ≡ version }
-    {
-        match self {
-            Hasher::Sha1(state) => {
-                let mut state = state.clone().unwrap();
-                state.update(input);
-                DigestBytes::Sha1(state.finalize())
-            }
-            Hasher::Sha256(state) => {
-                let mut state = state.clone().unwrap();
-                state.update(input);
-                DigestBytes::Sha256(state.finalize())
-            }
-            Hasher::Sha512(state) => {
-                let mut state = state.clone().unwrap();
-                state.update(input);
-                DigestBytes::Sha512(state.finalize())
-            }
-        }
+    fn start() -> Self {
+        sha1::Sha1::new()
     }
+
+    fn copy(&self) -> Self {
+        self.clone().unwrap()
+    }
+
+    fn take_in(&mut self, input: &[u8]) {
+        self.update(input);
+    }
+
+    #[tactic(auto, unfolding(crate::specs::Hmac::digest))]
+    fn into_digest(self) -> [u8; 20] {
+        self.finalize()
+    }
+}
+
+impl Hasher<32> for Sha256 {
+    ghost hash = { VersionSha256 };
+
+    ghost has_taken = { λ state message. Holds256 state message };
+
+    fn version() -> ScramVersion {
+        ScramVersion::Sha256
+    }
+
+    fn start() -> Self {
+        Sha256::new()
+    }
+
+    fn copy(&self) -> Self {
+        self.clone().unwrap()
+    }
+
+    fn take_in(&mut self, input: &[u8]) {
+        self.update(input);
+    }
+
+    #[tactic(auto, unfolding(crate::specs::Hmac::digest))]
+    fn into_digest(self) -> [u8; 32] {
+        self.finalize()
+    }
+}
+
+impl Hasher<64> for Sha512 {
+    ghost hash = { VersionSha512 };
+
+    ghost has_taken = { λ state message. Holds512 state message };
+
+    fn version() -> ScramVersion {
+        ScramVersion::Sha512
+    }
+
+    fn start() -> Self {
+        Sha512::new()
+    }
+
+    fn copy(&self) -> Self {
+        self.clone().unwrap()
+    }
+
+    fn take_in(&mut self, input: &[u8]) {
+        self.update(input);
+    }
+
+    #[tactic(auto, unfolding(crate::specs::Hmac::digest))]
+    fn into_digest(self) -> [u8; 64] {
+        self.finalize()
+    }
+}
+
+/// The digest of the message under one hash.
+fn digest_by<const N: usize, H: Hasher<N>>(message: &[u8]) -> [u8; N]
+    ensures { result ≡ digest H.hash message.now }
+{
+    let mut hasher = H::start();
+    hasher.take_in(message);
+    hasher.into_digest()
 }
 
 /// The digest of the message.
 pub(crate) fn digest_of(version: ScramVersion, message: &[u8]) -> DigestBytes
     ensures { digest_bytes result ≡ digest version message.now }
 {
-    Hasher::new(version).digest_with(message)
+    match version {
+        ScramVersion::Sha1 => DigestBytes::Sha1(digest_by::<20, sha1::Sha1>(message)),
+        ScramVersion::Sha256 => DigestBytes::Sha256(digest_by::<32, Sha256>(message)),
+        ScramVersion::Sha512 => DigestBytes::Sha512(digest_by::<64, Sha512>(message)),
+    }
 }

@@ -3,11 +3,13 @@
 ghost use Rattle.std.specs.Prelude.{◌≡◌, ◌≤◌, ◌<◌, ◌+◌, ◌^◌, ℕ, List, length};
 ghost use Rattle.fe2o3_scram.specs.declared.hmac.ScramVersion.{ScramVersion};
 ghost use Rattle.fe2o3_scram.specs.Hmac.{hmac_of, block_len, masked, zero_filled, digest_bytes, version_of};
-ghost use Rattle.fe2o3_scram.specs.private.Hashers.{HasTaken, IsKeyOf};
+ghost use Rattle.fe2o3_scram.specs.private.Hashers.{HasPads, IsKeyOf};
+ghost use Rattle.fe2o3_scram.specs.private.Pieces.{whole};
 
 use crate::hmac::ScramVersion;
 use crate::hmac::hasher::{DigestBytes, Hasher, digest_of};
 use crate::hmac::meter::Meter;
+use sha2::{Sha256, Sha512};
 
 /// The longest block of the three hashes, in bytes.
 const MAX_BLOCK_LEN: usize = 128;
@@ -18,59 +20,101 @@ const INNER_MASK: u8 = 0x36;
 /// The byte of which the outer pad is made.
 const OUTER_MASK: u8 = 0x5c;
 
-/// A key, as the two hashers that have taken in its pads.
+/// A key of one hash, as the two hashers that have taken in its pads.
 #[derive(Drop)]
-pub(crate) struct HmacKey {
-    inner: Hasher,
-    outer: Hasher,
+pub(crate) struct PaddedKey<const N: usize, H> {
+    inner: H,
+    outer: H,
 }
 
 /// A hasher that has taken in one pad: the key, filled with zeros to a block, with the bits of the mask turned.
-fn pad_taken(version: ScramVersion, key: &[u8], mask: u8) -> Hasher
-    requires { length key.now ≤ block_len version }
-    ensures { HasTaken result version (masked mask (zero_filled (block_len version) key.now)) }
+fn pad_taken<const N: usize, H: Hasher<N>>(key: &[u8], mask: u8) -> H
+    requires { length key.now ≤ block_len H.hash }
+    ensures { H.has_taken result (masked mask (zero_filled (block_len H.hash) key.now)) }
 {
     let mut pad = [mask; MAX_BLOCK_LEN];
     for at in 0..key.len() {
         pad[at] = key[at] ^ mask;
     }
-    let mut hasher = Hasher::new(version);
-    hasher.update(&pad[..version.block_len()]);
+    let mut hasher = H::start();
+    hasher.take_in(&pad[..H::version().block_len()]);
     hasher
 }
 
-impl HmacKey {
+impl<const N: usize, H: Hasher<N>> PaddedKey<N, H> {
     /// The key of any length. One that is longer than a block is hashed first.
     #[tactic(auto, unfolding(crate::specs::Hmac::key_block))]
-    pub fn new(version: ScramVersion, key: &[u8]) -> HmacKey
-        ensures { IsKeyOf result version key.now }
+    fn new(key: &[u8]) -> PaddedKey<N, H>
+        ensures { HasPads H.has_taken H.hash result.inner result.outer key.now }
     {
+        let version = H::version();
         if key.len() > version.block_len() {
             let digest = digest_of(version, key);
-            HmacKey {
-                inner: pad_taken(version, digest.as_slice(), INNER_MASK),
-                outer: pad_taken(version, digest.as_slice(), OUTER_MASK),
+            PaddedKey {
+                inner: pad_taken(digest.as_slice(), INNER_MASK),
+                outer: pad_taken(digest.as_slice(), OUTER_MASK),
             }
         } else {
-            HmacKey {
-                inner: pad_taken(version, key, INNER_MASK),
-                outer: pad_taken(version, key, OUTER_MASK),
+            PaddedKey {
+                inner: pad_taken(key, INNER_MASK),
+                outer: pad_taken(key, OUTER_MASK),
             }
         }
     }
 
-    /// The HMAC of the message. Every HMAC value is made here, and the meter counts it.
+    /// The HMAC of the message that the pieces make, one behind the other. Every HMAC value is made here, and the
+    /// meter counts it.
     #[tactic(auto, unfolding(crate::specs::Hmac::hmac_of))]
-    pub fn mac(&self, message: &[u8], meter: &mut Meter) -> DigestBytes
+    pub fn mac(&self, message: &[&[u8]], meter: &mut Meter) -> [u8; N]
+        requires { meter.old + 1 < 2 ^ 64 }
+        ensures value { (key : List ℕ) → HasPads H.has_taken H.hash self.now.inner self.now.outer key
+            → result ≡ hmac_of H.hash key (whole message.now) }
+        ensures counted { meter.new ≡ meter.old + 1 }
+    {
+        meter.add_one();
+        let mut inner = self.inner.copy();
+        for piece in message {
+            inner.take_in(piece);
+        }
+        let mut outer = self.outer.copy();
+        outer.take_in(&inner.into_digest());
+        outer.into_digest()
+    }
+}
+
+/// A key of one of the three hashes.
+#[derive(Drop)]
+pub(crate) enum HmacKey {
+    Sha1(PaddedKey<20, sha1::Sha1>),
+    Sha256(PaddedKey<32, Sha256>),
+    Sha512(PaddedKey<64, Sha512>),
+}
+
+impl HmacKey {
+    /// The key of any length.
+    pub fn new(version: ScramVersion, key: &[u8]) -> HmacKey
+        ensures { IsKeyOf result version key.now }
+    {
+        match version {
+            ScramVersion::Sha1 => HmacKey::Sha1(PaddedKey::new(key)),
+            ScramVersion::Sha256 => HmacKey::Sha256(PaddedKey::new(key)),
+            ScramVersion::Sha512 => HmacKey::Sha512(PaddedKey::new(key)),
+        }
+    }
+
+    /// The HMAC of the message that the pieces make, one behind the other. The meter counts it.
+    pub fn mac(&self, message: &[&[u8]], meter: &mut Meter) -> DigestBytes
         requires { meter.old + 1 < 2 ^ 64 }
         ensures value { (version : ScramVersion) (key : List ℕ) → IsKeyOf self.now version key
-            → digest_bytes result ≡ hmac_of version key message.now }
+            → digest_bytes result ≡ hmac_of version key (whole message.now) }
         ensures version { (version : ScramVersion) (key : List ℕ) → IsKeyOf self.now version key
             → version_of result ≡ version }
         ensures counted { meter.new ≡ meter.old + 1 }
     {
-        meter.add_one();
-        let inner = self.inner.digest_with(message);
-        self.outer.digest_with(inner.as_slice())
+        match self {
+            HmacKey::Sha1(key) => DigestBytes::Sha1(key.mac(message, meter)),
+            HmacKey::Sha256(key) => DigestBytes::Sha256(key.mac(message, meter)),
+            HmacKey::Sha512(key) => DigestBytes::Sha512(key.mac(message, meter)),
+        }
     }
 }

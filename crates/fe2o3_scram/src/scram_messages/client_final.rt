@@ -1,18 +1,21 @@
 //! The client-final message, which answers a server-first message.
 
-ghost use Rattle.std.specs.Prelude.{◌≡◌, ◌≤◌, ◌+◌, ◌^◌, IfOk, IfErr, OnOk, OnErr};
+ghost use Rattle.std.specs.Prelude.{◌≡◌, ◌≤◌, ◌+◌, ◌^◌, IfOk, IfErr, OnOk, OnErr, string_bytes};
 ghost use Rattle.fe2o3_scram.specs.ClientFinal.{AnswerCosts, answer_values, without_proof, client_final_of, answer_of, AnswersServerFirst};
 ghost use Rattle.fe2o3_scram.specs.Readings.{Gives};
 ghost use Rattle.fe2o3_scram.specs.ServerFirst.{ReachesSalt, client_of, no_limit, server_first_values};
 
 use crate::OutOfMemory;
 use crate::hmac::{Meter, ScramVersion};
-use crate::keys::auth_message;
+use crate::keys::auth_pieces;
 use crate::scram_messages::attributes::{CHANNEL_BINDING_KEY, GS2_HEADER, NONCE_KEY, PROOF_KEY};
 use crate::scram_messages::error::ScramErrorKind;
 use crate::scram_messages::server_first_reading::ServerFirst;
-use crate::texts::base64_of;
+use crate::texts::{base64_len, push_base64};
 use std::alloc::Global;
+
+/// What `c=biws,r=,p=` takes, that is, all but the nonce and the proof.
+const FIXED_LEN: usize = 12;
 
 impl ScramVersion {
     /// Answers a server-first message (RFC 5802, sections 3 and 5): the client-final message, and
@@ -130,54 +133,55 @@ impl ScramVersion {
         ensures at_most { OnErr result (meter.new ≤ meter.old + (first.now.iterations + 4)) }
         ensures never_falls { meter.old ≤ meter.new }
     {
-        let without_proof = without_proof(alloc, first.nonce)?;
-        let auth_message = auth_message(
-            alloc,
+        let mut message = without_proof(alloc, first.nonce, self.digest_len())?;
+        let auth_message = auth_pieces(
             client_first_message_bare,
             server_first.as_bytes(),
-            &without_proof,
-        )?;
+            message.as_bytes(),
+        );
         let salted_password = self.salted_password(
-            alloc,
             password.as_bytes(),
             &first.salt,
             first.iterations,
             meter,
-        )?;
-        let client_key = self.client_key(salted_password.as_slice(), meter);
-        let proof = self.compute_client_proof(client_key.as_slice(), &auth_message, meter)?;
-        let client_final = client_final(alloc, &without_proof, proof.as_slice())?;
-        let server_key = self.server_key(salted_password.as_slice(), meter);
-        let signature = self.compute_server_signature(server_key.as_slice(), &auth_message, meter);
-        Ok((client_final, signature.as_slice().to_vec(alloc)?))
+        );
+        let (client_key, server_key) = self.client_and_server_key(
+            salted_password.as_slice(),
+            meter,
+        );
+        let proof = self.client_proof_over(client_key.as_slice(), &auth_message, meter)?;
+        let signature = self.server_signature_over(server_key.as_slice(), &auth_message, meter);
+        push_proof(&mut message, proof.as_slice())?;
+        Ok((message.into_bytes(), signature.as_slice().to_vec(alloc)?))
     }
 }
 
-/// The client-final message: what stands before the proof, and the proof.
-fn client_final(
+/// What stands before the proof: the GS2 header in base64, and the nonce of both sides. There is room for a proof of
+/// this length behind it.
+fn without_proof(
     alloc: Global,
-    client_final_message_without_proof: &[u8],
-    client_proof: &[u8],
-) -> Result<Vec<u8>, OutOfMemory>
-    ensures { IfOk result (λ text. text.items ≡ client_final_of client_final_message_without_proof.now
-        client_proof.now) }
+    client_server_nonce: &str,
+    proof_len: usize,
+) -> Result<String, OutOfMemory>
+    ensures { IfOk result (λ text. string_bytes text ≡ without_proof client_server_nonce.now) }
 {
-    let mut buf = client_final_message_without_proof.to_vec(alloc)?;
-    buf.push(b',')?;
-    buf.extend_from_slice(PROOF_KEY.as_bytes())?;
-    buf.extend_from_slice(base64_of(alloc, client_proof)?.as_bytes())?;
-    Ok(buf)
+    let room = FIXED_LEN
+        .saturating_add(client_server_nonce.len())
+        .saturating_add(base64_len(proof_len));
+    let mut text = String::with_capacity(alloc, room)?;
+    text.push_str(CHANNEL_BINDING_KEY)?;
+    push_base64(&mut text, GS2_HEADER.as_bytes())?;
+    text.push_str(",")?;
+    text.push_str(NONCE_KEY)?;
+    text.push_str(client_server_nonce)?;
+    Ok(text)
 }
 
-/// What stands before the proof: the GS2 header in base64, and the nonce of both sides.
-fn without_proof(alloc: Global, client_server_nonce: &str) -> Result<Vec<u8>, OutOfMemory>
-    ensures { IfOk result (λ text. text.items ≡ without_proof client_server_nonce.now) }
+/// Makes the client-final message of what stands before the proof.
+fn push_proof(text: &mut String, client_proof: &[u8]) -> Result<(), OutOfMemory>
+    ensures { OnOk result (string_bytes text.new ≡ client_final_of (string_bytes text.old) client_proof.now) }
 {
-    let encoded_gs2_header = base64_of(alloc, GS2_HEADER.as_bytes())?;
-    let mut buf = CHANNEL_BINDING_KEY.as_bytes().to_vec(alloc)?;
-    buf.extend_from_slice(encoded_gs2_header.as_bytes())?;
-    buf.push(b',')?;
-    buf.extend_from_slice(NONCE_KEY.as_bytes())?;
-    buf.extend_from_slice(client_server_nonce.as_bytes())?;
-    Ok(buf)
+    text.push_str(",")?;
+    text.push_str(PROOF_KEY)?;
+    push_base64(text, client_proof)
 }

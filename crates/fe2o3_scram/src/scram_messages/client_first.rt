@@ -6,9 +6,12 @@ ghost use Rattle.fe2o3_scram.specs.ClientFirst.{client_first, client_first_bare}
 use crate::OutOfMemory;
 use crate::hmac::ScramVersion;
 use crate::scram_messages::attributes::{GS2_HEADER, NONCE_KEY, USERNAME_KEY};
-use crate::scram_messages::escape::escape_username;
-use bytes::{Bytes, BytesMut};
+use crate::scram_messages::escape::{escaped_len, push_escaped};
+use bytes::Bytes;
 use std::alloc::Global;
+
+/// What `n,,n=,r=` takes, that is, all but the user name and the nonce.
+const FIXED_LEN: usize = 8;
 
 impl ScramVersion {
     /// The client-first message of a user (RFC 5802, section 7), and the same without its GS2
@@ -25,15 +28,17 @@ impl ScramVersion {
         ensures whole { IfOk result (λ message. message.0 ≡ client_first username.now nonce.now) }
         ensures bare { IfOk result (λ message. message.1 ≡ client_first_bare username.now nonce.now) }
     {
-        let username = escape_username(alloc, username)?;
-        let mut bytes = BytesMut::new(alloc);
-        bytes.extend_from_slice(GS2_HEADER.as_bytes())?;
-        bytes.extend_from_slice(USERNAME_KEY.as_bytes())?;
-        bytes.extend_from_slice(&username)?;
-        bytes.extend_from_slice(b",")?;
-        bytes.extend_from_slice(NONCE_KEY.as_bytes())?;
-        bytes.extend_from_slice(nonce)?;
-        let client_first_message = bytes.freeze()?;
+        let room = FIXED_LEN
+            .saturating_add(escaped_len(username))
+            .saturating_add(nonce.len());
+        let mut text = Vec::with_capacity(alloc, room)?;
+        text.extend_from_slice(GS2_HEADER.as_bytes())?;
+        text.extend_from_slice(USERNAME_KEY.as_bytes())?;
+        push_escaped(&mut text, username)?;
+        text.push(b',')?;
+        text.extend_from_slice(NONCE_KEY.as_bytes())?;
+        text.extend_from_slice(nonce)?;
+        let client_first_message = Bytes::from_vec(text)?;
         let client_first_message_bare = client_first_message.slice(GS2_HEADER.len()..)?;
         Ok((client_first_message, client_first_message_bare))
     }

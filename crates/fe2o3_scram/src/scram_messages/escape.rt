@@ -1,6 +1,6 @@
 //! User names as SCRAM messages send them (RFC 5802, section 5.1).
 
-ghost use Rattle.std.specs.Prelude.{◌≡◌, ◌≢◌, ◌↔◌, ◌⊎◌, ◌++◌, ◌∷◌, IfOk, IfErr, MatchOption, ℕ, List, string_bytes};
+ghost use Rattle.std.specs.Prelude.{◌≡◌, ◌≢◌, ◌↔◌, ◌⊎◌, ◌++◌, ◌∷◌, IfOk, IfErr, OnOk, MatchOption, ℕ, List, string_bytes};
 ghost use Rattle.std.specs.Cow.{cow_str_bytes, IsBorrowedStr};
 ghost use Rattle.fe2o3_scram.specs.Texts.{NoComma};
 ghost use Rattle.fe2o3_scram.specs.Escape.{escaped, NoEquals};
@@ -44,11 +44,19 @@ impl<T: Drop> From<AllocFailed<T>> for UnescapeError {
 /// `saslname`). The name is any list of bytes: it is not prepared, and need not be UTF-8.
 ///
 /// `OutOfMemory` is the only refusal.
-#[tactic(auto, using(crate::proofs::lemmas::texts::EscapingLemmas::escaping))]
 pub fn escape_username(alloc: Global, username: &[u8]) -> Result<Vec<u8>, OutOfMemory>
     ensures { IfOk result (λ text. text.items ≡ escaped username.now) }
 {
-    let mut text = Vec::new(alloc);
+    let mut text = Vec::with_capacity(alloc, escaped_len(username))?;
+    push_escaped(&mut text, username)?;
+    Ok(text)
+}
+
+/// Writes the escaped user name at the end of the text.
+#[tactic(auto, using(crate::proofs::lemmas::texts::EscapingLemmas::escaping))]
+pub(crate) fn push_escaped(text: &mut Vec<u8>, username: &[u8]) -> Result<(), OutOfMemory>
+    ensures { OnOk result (text.new.items ≡ text.old.items ++ escaped username.now) }
+{
     for byte in username {
         match *byte {
             b',' => text.extend_from_slice(b"=2C")?,
@@ -56,7 +64,18 @@ pub fn escape_username(alloc: Global, username: &[u8]) -> Result<Vec<u8>, OutOfM
             other => text.push(other)?,
         }
     }
-    Ok(text)
+    Ok(())
+}
+
+/// How long the escaped user name is. Room is reserved by it, and nothing rests on it.
+pub(crate) fn escaped_len(username: &[u8]) -> usize {
+    let mut len = username.len();
+    for byte in username {
+        if *byte == b',' || *byte == b'=' {
+            len = len.saturating_add(2);
+        }
+    }
+    len
 }
 
 /// The user name that the text spells (RFC 5802, section 5.1, `saslname`), borrowed where the text

@@ -9,15 +9,16 @@ ghost use Rattle.fe2o3_scram.specs.Readings.{Gives};
 ghost use Rattle.fe2o3_scram.specs.ClientFinal.{ReachesBase64, server_of, client_final_values};
 ghost use Rattle.fe2o3_scram.specs.ServerFinal.{AnswersClientFinal, FinalCosts};
 ghost use Rattle.fe2o3_scram.specs.private.Answers.{AnswersProof};
+ghost use Rattle.fe2o3_scram.specs.private.Pieces.{whole};
 
 use crate::OutOfMemory;
 use crate::credentials::StoredPassword;
 use crate::hmac::{Meter, ScramVersion};
-use crate::keys::auth_message;
+use crate::keys::auth_pieces;
 use crate::scram_messages::attributes::VERIFIER_KEY;
 use crate::scram_messages::client_final_reading::ClientFinal;
 use crate::scram_messages::error::ServerScramErrorKind;
-use crate::texts::base64_of;
+use crate::texts::{base64_len, push_base64};
 use std::alloc::Global;
 
 impl ScramVersion {
@@ -104,17 +105,15 @@ impl ScramVersion {
             (kept stored_password.now)) (client_final_values client_final.now)) }
         ensures cost { FinalCosts result meter.old meter.new }
     {
-        // Before memory is taken for the AuthMessage.
         if client_final.proof.len() != self.digest_len() {
             return Err(ServerScramErrorKind::XorLengthMismatch);
         }
-        let auth_message = auth_message(
-            alloc,
+        let auth_message = auth_pieces(
             client_first_message_bare,
             server_first_message,
             client_final.without_proof.as_bytes(),
-        )?;
-        if !self.verify_client_proof(
+        );
+        if !self.meets_stored_key(
             stored_password.stored_key,
             &client_final.proof,
             &auth_message,
@@ -130,17 +129,19 @@ impl ScramVersion {
         &self,
         alloc: Global,
         server_key: &[u8],
-        auth_message: &[u8],
+        auth_message: &[&[u8]],
         meter: &mut Meter,
     ) -> Result<Vec<u8>, OutOfMemory>
         requires { meter.old + 1 < 2 ^ 64 }
         ensures text { IfOk result (λ message. message.items ≡ codes "v="
-            ++ base64_text (server_signature self.now server_key.now auth_message.now)) }
+            ++ base64_text (server_signature self.now server_key.now (whole auth_message.now))) }
         ensures counted { meter.new ≡ meter.old + 1 }
     {
-        let server_signature = self.compute_server_signature(server_key, auth_message, meter);
-        let mut buf = VERIFIER_KEY.as_bytes().to_vec(alloc)?;
-        buf.extend_from_slice(base64_of(alloc, server_signature.as_slice())?.as_bytes())?;
-        Ok(buf)
+        let server_signature = self.server_signature_over(server_key, auth_message, meter);
+        let room = base64_len(self.digest_len()).saturating_add(VERIFIER_KEY.len());
+        let mut text = String::with_capacity(alloc, room)?;
+        text.push_str(VERIFIER_KEY)?;
+        push_base64(&mut text, server_signature.as_slice())?;
+        Ok(text.into_bytes())
     }
 }

@@ -1,6 +1,6 @@
 //! The server-first message, which challenges a known user.
 
-ghost use Rattle.std.specs.Prelude.{◌≡◌, IfOk, option_map};
+ghost use Rattle.std.specs.Prelude.{◌≡◌, ◌++◌, IfOk, option_map};
 ghost use Rattle.fe2o3_scram.specs.ClientFirst.{client_first_values};
 ghost use Rattle.fe2o3_scram.specs.ServerFirst.{AnswersClientFirst, ReachesChallenge, challenge_of, challenge_values, server_first_of};
 ghost use Rattle.fe2o3_scram.specs.Credentials.{kept};
@@ -12,10 +12,13 @@ use crate::hmac::ScramVersion;
 use crate::scram_messages::attributes::{ITERATION_COUNT_KEY, NONCE_KEY, SALT_KEY};
 use crate::scram_messages::client_first_reading::ClientFirst;
 use crate::scram_messages::error::ServerScramErrorKind;
-use crate::texts::base64_of;
+use crate::texts::{base64_len, push_base64};
 use bytes::Bytes;
 use std::alloc::Global;
 use std::borrow::CowStr;
+
+/// What `r=,s=,i=` and the digits of a count take at most, that is, all but the nonce and the salt.
+const FIXED_LEN: usize = 18;
 
 /// A server-first message, and what the server keeps of the exchange so far.
 #[derive(Debug, Drop)]
@@ -53,12 +56,7 @@ impl ScramVersion {
             (ReachesChallenge (C.meaning credentials.now).records client_first.now) (option_map challenge_values) result
             (AnswersClientFirst (C.meaning credentials.now).records base64_server_nonce.now client_first.now) }
     {
-        challenge(
-            alloc,
-            client_first,
-            base64_server_nonce.as_bytes(),
-            credentials,
-        )
+        challenge(alloc, client_first, base64_server_nonce, credentials)
     }
 }
 
@@ -66,7 +64,7 @@ impl ScramVersion {
 pub(crate) fn challenge<'a, C: ScramCredentialProvider>(
     alloc: Global,
     client_first: &'a [u8],
-    base64_server_nonce: &[u8],
+    base64_server_nonce: &str,
     credentials: &C,
 ) -> Result<Option<ServerFirstMessage<'a>>, ServerScramErrorKind>
     ensures { Gives ServerScramErrorKind.OutOfMemory
@@ -85,38 +83,53 @@ pub(crate) fn challenge<'a, C: ScramCredentialProvider>(
 fn challenge_to<'a>(
     alloc: Global,
     client_first: ClientFirst<'a>,
-    base64_server_nonce: &[u8],
+    base64_server_nonce: &str,
     stored_password: &StoredPassword<'_>,
 ) -> Result<ServerFirstMessage<'a>, OutOfMemory>
     ensures { IfOk result (λ message. challenge_values message
         ≡ challenge_of (client_first_values client_first.entry) base64_server_nonce.now (kept stored_password.now)) }
 {
-    let mut client_server_nonce = client_first.client_nonce.as_bytes().to_vec(alloc)?;
-    client_server_nonce.extend_from_slice(base64_server_nonce)?;
-    let message = server_first(alloc, &client_server_nonce, stored_password)?;
+    let (message, client_server_nonce) = server_first(
+        alloc,
+        client_first.client_nonce,
+        base64_server_nonce,
+        stored_password,
+    )?;
     Ok(ServerFirstMessage {
         username: client_first.username,
         client_first_message_bare: client_first.client_first_message_bare,
-        client_server_nonce: Bytes::from_vec(client_server_nonce)?,
-        message: Bytes::from_vec(message)?,
+        client_server_nonce,
+        message,
     })
 }
 
-/// The server-first message with this nonce of both sides.
+/// The server-first message, and the nonce of both sides, which is a part of it.
 fn server_first(
     alloc: Global,
-    client_server_nonce: &[u8],
+    client_nonce: &str,
+    server_nonce: &str,
     stored_password: &StoredPassword<'_>,
-) -> Result<Vec<u8>, OutOfMemory>
-    ensures { IfOk result (λ text. text.items ≡ server_first_of client_server_nonce.now (kept stored_password.now)) }
+) -> Result<(Bytes, Bytes), OutOfMemory>
+    ensures message { IfOk result (λ made. made.0
+        ≡ server_first_of (client_nonce.now ++ server_nonce.now) (kept stored_password.now)) }
+    ensures nonce { IfOk result (λ made. made.1 ≡ client_nonce.now ++ server_nonce.now) }
 {
-    let mut buf = NONCE_KEY.as_bytes().to_vec(alloc)?;
-    buf.extend_from_slice(client_server_nonce)?;
-    buf.push(b',')?;
-    buf.extend_from_slice(SALT_KEY.as_bytes())?;
-    buf.extend_from_slice(base64_of(alloc, stored_password.salt)?.as_bytes())?;
-    buf.push(b',')?;
-    buf.extend_from_slice(ITERATION_COUNT_KEY.as_bytes())?;
-    buf.extend_from_slice(stored_password.iterations.to_string(alloc)?.as_bytes())?;
-    Ok(buf)
+    let room = FIXED_LEN
+        .saturating_add(client_nonce.len())
+        .saturating_add(server_nonce.len())
+        .saturating_add(base64_len(stored_password.salt.len()));
+    let mut text = String::with_capacity(alloc, room)?;
+    text.push_str(NONCE_KEY)?;
+    text.push_str(client_nonce)?;
+    text.push_str(server_nonce)?;
+    let nonce_end = text.len();
+    text.push_str(",")?;
+    text.push_str(SALT_KEY)?;
+    push_base64(&mut text, stored_password.salt)?;
+    text.push_str(",")?;
+    text.push_str(ITERATION_COUNT_KEY)?;
+    text.write(stored_password.iterations)?;
+    let message = Bytes::from_string(text)?;
+    let client_server_nonce = message.slice(NONCE_KEY.len()..nonce_end)?;
+    Ok((message, client_server_nonce))
 }

@@ -112,7 +112,17 @@ escaped-next name k below = let next : k + 1 ≡ suc k = omega arith in rw next 
         ∙ sym (append_assoc (escaped_byte x) (escaped (take k name)) (escaped_byte (get_or name k 0)))
         ∙ sym (ap (λ rest. rest ++ escaped_byte (get_or name k 0)) (escaped-cons x (take k name)))
 
-pub ruleset escaping = (escaped-nil, escaped-next, escaped_byte-plain)
+-- no byte of the name stands behind a text
+pub escaped-start : (before : List ℕ) → before ++ escaped [] ≡ before
+escaped-start before = ap (λ rest. before ++ rest) escaped-nil ∙ append-nil before
+
+-- one more byte of the name is escaped behind a text
+pub escaped-more : (before name : List ℕ) (k : ℕ) → k < length name
+    → before ++ escaped (take (k + 1) name) ≡ (before ++ escaped (take k name)) ++ escaped_byte (get_or name k 0)
+escaped-more before name k below = ap (λ rest. before ++ rest) (escaped-next name k below)
+    ∙ sym (append_assoc before (escaped (take k name)) (escaped_byte (get_or name k 0)))
+
+pub ruleset escaping = (escaped-start, escaped-more, escaped_byte-plain)
 
 no_comma-back : (front back : List ℕ) → NoComma (front ++ back) → NoComma back
 no_comma-back [] back plain = plain

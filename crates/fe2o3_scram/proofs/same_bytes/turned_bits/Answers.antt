@@ -1,6 +1,6 @@
-use Rattle.std.proofs.Common.{rules, arith, refl}
+use Rattle.std.proofs.Common.{arith}
 use Rattle.fe2o3_scram.proofs.lemmas.hashes.SameBytesLemmas.{same_next, none_next, same_all}
-use Rattle.fe2o3_scram.proofs.same_bytes.same_bytes.Goals as goal
+use Rattle.fe2o3_scram.proofs.same_bytes.turned_bits.Goals as goal
 
 pub loop-at-preserved : goal.loop-at-preserved
 loop-at-preserved c = record {
@@ -10,7 +10,7 @@ loop-at-preserved c = record {
 
 pub returns : goal.returns
 returns c = (
-  λ true. same_all c.args.left.now c.args.right.now c.loop-at.at (search (rules, c.if-left-right.false))
-      (omega (arith, c.loop-at-test.false)) (c.loop-at.invariant.same (search (rules, true))),
-  λ same. let none = c.loop-at.invariant.none same in rw none refl,
+  λ none. same_all c.args.left.now c.args.right.now c.loop-at.at c.requires (omega (arith, c.loop-at-test.false))
+      (c.loop-at.invariant.same none),
+  λ same. c.loop-at.invariant.none same,
 )

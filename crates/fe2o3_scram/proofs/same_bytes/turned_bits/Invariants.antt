@@ -1,6 +1,6 @@
 use Rattle.std.proofs.Common.{◌≡◌}
 use Rattle.fe2o3_scram.proofs.lemmas.hashes.SameBytesLemmas.{SameTo}
-use Rattle.fe2o3_scram.proofs.same_bytes.same_bytes.Given as goal
+use Rattle.fe2o3_scram.proofs.same_bytes.turned_bits.Given as goal
 
 abbrev pub invariant-loop-at : goal.invariant-loop-at
 invariant-loop-at l = record {
