@@ -1,4 +1,4 @@
-use Rattle.std.proofs.Common.{ℕ, List, ◌≡◌, ◌∙◌, length, arith}
+use Rattle.std.proofs.Common.{◌≡◌, ◌∙◌, length, arith}
 use Rattle.fe2o3_scram.proofs.lemmas.texts.AsciiLemmas.{IsUtf8-base64_text}
 use Rattle.fe2o3_scram.proofs.lemmas.texts.Base64Lemmas.{encode_of-standard, slice_filled}
 use Rattle.fe2o3_scram.proofs.texts.base64_of_nonce.Goals as goal
