@@ -9,7 +9,7 @@ use Rattle.fe2o3_scram.specs.declared.scram_messages.error.ServerScramErrorKind.
 use Rattle.fe2o3_scram.specs.Texts.{base64_text, IsBase64, Part, LastPart, Begins}
 use Rattle.fe2o3_scram.specs.Hmac.{digest_len}
 use Rattle.fe2o3_scram.specs.Readings.{IsFirst, NoneHolds, Gives}
-use Rattle.fe2o3_scram.specs.ClientFinal.{Server, ClientFinal, HasBinding, HasProof, Meets, NamesClientFinal, ReachesBinding, ReachesBase64, ReadsFinalText, ReadsClientFinal, binding_tests, nonce_tests, spelling_tests, final_text_tests, proof_tests}
+use Rattle.fe2o3_scram.specs.ClientFinal.{Server, ClientFinal, HasBinding, HasProof, Meets, NamesClientFinal, ReachesBase64, ReadsFinalText, ReadsClientFinal, binding_tests, nonce_tests, spelling_tests, final_text_tests, proof_tests}
 use Rattle.fe2o3_scram.specs.ServerFinal.{AnswersClientFinal, FinalCosts}
 use Rattle.fe2o3_scram.specs.private.Answers.{AnswersProof}
 use Rattle.fe2o3_scram.proofs.lemmas.hashes.DigestLemmas.{IsBytes-nil, IsBytes-cons}

@@ -1,7 +1,5 @@
-use Rattle.std.proofs.Common.{rules, refl, inl, inr, codes, ◌≡◌, ◌≢◌, ◌++◌, List, ℕ, subst}
+use Rattle.std.proofs.Common.{rules, refl, inl, inr, codes, ◌≡◌, ◌≢◌}
 use Rattle.std.proofs.lemmas.Result.{err_from_is_err_and}
-use Rattle.fe2o3_scram.specs.ClientFinal.{HasBinding}
-use Rattle.fe2o3_scram.specs.Texts.{Part}
 use Rattle.fe2o3_scram.proofs.lemmas.messages.ClientFinalLemmas.{no_binding, has_binding, no_channel, other_binding}
 use Rattle.fe2o3_scram.proofs.scram_messages.client_final_reading.test_binding.Goals as goal
 
