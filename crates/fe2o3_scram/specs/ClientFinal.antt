@@ -92,20 +92,20 @@ server_of version bare first nonce stored = record {
   server_key = stored.server_key;
 }
 
--- the first part is this channel binding
+-- the first part is this channel binding (RFC 5802, section 5.1)
 abbrev pub HasBinding : List ℕ → List ℕ → Type 0
 HasBinding text binding = IsBytes binding × Part text 0 (codes "c=" ++ base64_text binding)
 
--- the last part is this proof, and this stands before it
+-- the last part is this proof, and this stands before it (RFC 5802, section 5.1)
 abbrev pub HasProof : List ℕ → ClientFinal → Type 0
 HasProof text final = IsBytes final.proof × LastPart text final.without (codes "p=" ++ base64_text final.proof)
 
--- the key that the proof gives away, where it meets the stored key
+-- the key that the proof gives away, where it meets the stored key (RFC 5802, section 3)
 abbrev pub recovered_key : Server → ClientFinal → List ℕ
 recovered_key server final = recovered_client_key server.version server.stored_key final.proof
     (auth_message server.bare server.first final.without)
 
--- the proof meets the stored key
+-- the proof meets the stored key (RFC 5802, section 3)
 abbrev pub Meets : Server → ClientFinal → Type 0
 Meets server final = MeetsStoredKey server.version server.stored_key final.proof
     (auth_message server.bare server.first final.without)
@@ -116,7 +116,7 @@ pub record NamesClientFinal (both text : List ℕ) (final : ClientFinal) : Type 
   pub nonce : Part text 1 (codes "r=" ++ both)
   pub proof : HasProof text final
 
--- the server's tests of the channel binding, in their order
+-- the server's tests of the channel binding (RFC 5802, section 5.1), in their order
 abbrev pub binding_tests : List ℕ → List (ServerScramErrorKind × Type 0)
 binding_tests text =
     (CannotParseClientFinalMessage, (rest : List ℕ) → ¬ Part text 0 (codes "c=" ++ rest))
@@ -124,21 +124,21 @@ binding_tests text =
     ∷ (InvalidChannelBinding, ¬ HasBinding text (codes "n,,"))
     ∷ []
 
--- its tests of the nonce
+-- its tests of the nonce (RFC 5802, section 5.1)
 abbrev pub nonce_tests : List ℕ → List ℕ → List (ServerScramErrorKind × Type 0)
 nonce_tests nonce text =
     (CannotParseClientFinalMessage, (rest : List ℕ) → ¬ Part text 1 (codes "r=" ++ rest))
     ∷ (IncorrectClientFinalNonce, ¬ Part text 1 (codes "r=" ++ nonce))
     ∷ []
 
--- its tests of how the proof is spelled
+-- its tests of how the proof is spelled (RFC 5802, section 5.1)
 abbrev pub spelling_tests : List ℕ → List (ServerScramErrorKind × Type 0)
 spelling_tests text =
     (ProofNotFoundInClientFinal, (before rest : List ℕ) → ¬ LastPart text before (codes "p=" ++ rest))
     ∷ (Base64DecodeError, (final : ClientFinal) → ¬ HasProof text final)
     ∷ []
 
--- all its tests of the text, in their order
+-- all its tests of the text (UTF-8: RFC 3629, section 3), in their order
 abbrev pub final_text_tests : List ℕ → List ℕ → List (ServerScramErrorKind × Type 0)
 final_text_tests nonce text = (Utf8Error, ¬ IsUtf8 text)
     ∷ (binding_tests text ++ (nonce_tests nonce text ++ spelling_tests text))
@@ -154,7 +154,7 @@ abbrev pub ReachesProof : List ℕ → List ℕ → Type 0
 ReachesProof nonce text = NoneHolds (binding_tests text) × NoneHolds (nonce_tests nonce text)
     × ((before : List ℕ) × (rest : List ℕ) × LastPart text before (codes "p=" ++ rest))
 
--- the server comes to ask for memory, with this nonce of both sides
+-- the server comes to ask for memory (RFC 5802, section 5.1), with this nonce of both sides
 abbrev pub ReachesBase64 : List ℕ → List ℕ → Type 0
 ReachesBase64 nonce text = IsUtf8 text × (ReachesBinding text ⊎ ReachesProof nonce text)
 
@@ -163,7 +163,7 @@ ReachesBase64 nonce text = IsUtf8 text × (ReachesBinding text ⊎ ReachesProof 
 unfoldable pub ReadsFinalText : List ℕ → List ℕ → Result ClientFinal ServerScramErrorKind → Type 0
 ReadsFinalText nonce text answer = Reads (final_text_tests nonce text) (NamesClientFinal nonce text) answer
 
--- its tests of the proof that was read
+-- its tests of the proof that was read (RFC 5802, section 3)
 abbrev pub proof_tests : Server → ClientFinal → List (ServerScramErrorKind × Type 0)
 proof_tests server final =
     (XorLengthMismatch, length final.proof ≢ digest_len server.version)

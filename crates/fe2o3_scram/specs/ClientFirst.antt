@@ -33,7 +33,7 @@ client_first_values first = record {
       first.client_first_message_bare.now;
 }
 
--- behind the GS2 header the message has this part at place k
+-- behind the GS2 header the message has this part at place k (RFC 5802, section 7)
 abbrev pub BarePart : List ℕ → ℕ → List ℕ → Type 0
 BarePart text k part = (bare : List ℕ) × (text ≡ codes "n,," ++ bare) × Part bare k part
 
@@ -43,7 +43,7 @@ pub record NamesClientFirst (text : List ℕ) (first : ClientFirst) : Type 0 whe
   pub user : Part first.bare 0 (codes "n=" ++ escaped first.user)
   pub nonce : Part first.bare 1 (codes "r=" ++ first.nonce)
 
--- the server's tests, in their order
+-- the server's tests (RFC 5802, section 5.1; UTF-8: RFC 3629, section 3), in their order
 abbrev pub client_first_tests : List ℕ → List (ServerScramErrorKind × Type 0)
 client_first_tests text =
     (Utf8Error, ¬ IsUtf8 text)

@@ -25,7 +25,7 @@ record_of version password salt count =
           server_key version salted;
     }
 
--- a finite map from user names to records: of the pairs of one name the first counts
+-- a finite map from user names to records (RFC 5802, section 3): of the pairs of one name the first counts
 abbrev pub Records : Type 0
 Records = List (List ℕ × Record)
 

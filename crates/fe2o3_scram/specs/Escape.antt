@@ -6,11 +6,11 @@ use Rattle.std.specs.List.{AllByRecursion}
 abbrev pub escaped_byte : ℕ → List ℕ
 escaped_byte byte = if byte == 44 then codes "=2C" else (if byte == 61 then codes "=3D" else byte ∷ [])
 
--- the name as it is sent
+-- the name as it is sent (RFC 5802, section 5.1)
 unfoldable pub escaped : List ℕ → List ℕ
 escaped [] = []
 escaped (byte ∷ name) = escaped_byte byte ++ escaped name
 
--- no byte is an equals sign
+-- no byte is an equals sign, so no escape stands in the text (RFC 5802, section 5.1)
 abbrev pub NoEquals : List ℕ → Type 0
 NoEquals text = AllByRecursion (λ byte. byte ≢ 61) text

@@ -21,13 +21,13 @@ digest Sha1 message = sha1 message
 digest Sha256 message = sha256 message
 digest Sha512 message = sha512 message
 
--- L, the length of a digest in bytes
+-- L, the length of a digest in bytes (RFC 2104, section 2)
 abbrev pub digest_len : ScramVersion → ℕ
 digest_len Sha1 = 20
 digest_len Sha256 = 32
 digest_len Sha512 = 64
 
--- B, the length in bytes of a block that the hash works on
+-- B, the length in bytes of a block that the hash works on (RFC 2104, section 2)
 abbrev pub block_len : ScramVersion → ℕ
 block_len Sha1 = 64
 block_len Sha256 = 64
@@ -37,7 +37,7 @@ block_len Sha512 = 128
 abbrev pub zero_filled : ℕ → List ℕ → List ℕ
 zero_filled n bytes = bytes ++ replicate (n - length bytes) 0
 
--- the key as one block: a key longer than a block stands for its digest, and zeros fill the block
+-- the key as one block (RFC 2104, section 2): a key longer than a block stands for its digest, and zeros fill the block
 unfoldable pub key_block : ScramVersion → List ℕ → List ℕ
 key_block version key = zero_filled (block_len version)
     (if nat_lt (block_len version) (length key) then digest version key else key)
@@ -46,12 +46,12 @@ key_block version key = zero_filled (block_len version)
 abbrev pub masked : ℕ → List ℕ → List ℕ
 masked mask bytes = map (λ byte. bit_xor byte mask) bytes
 
--- HMAC(key, message), with 0x36 as the inner and 0x5c as the outer mask
+-- HMAC(key, message), with 0x36 as the inner and 0x5c as the outer mask (RFC 2104, section 2)
 unfoldable pub hmac_of : ScramVersion → List ℕ → List ℕ → List ℕ
 hmac_of version key message = digest version (masked 0x5c (key_block version key)
     ++ digest version (masked 0x36 (key_block version key) ++ message))
 
--- the exclusive or of two texts of bytes, byte by byte
+-- the exclusive or of two texts of bytes, byte by byte (RFC 5802, section 2.2)
 unfoldable pub exclusive_or : List ℕ → List ℕ → List ℕ
 exclusive_or left right = map (λ (pair : ℕ × ℕ). bit_xor pair.0 pair.1) (zip left right)
 

@@ -4,33 +4,33 @@ use Rattle.fe2o3_scram.specs.declared.hmac.ScramVersion.{ScramVersion}
 use Rattle.fe2o3_scram.specs.Hmac.{digest, digest_len, hmac_of, exclusive_or}
 use Rattle.fe2o3_scram.specs.Texts.{joined}
 
--- ClientKey := HMAC(SaltedPassword, "Client Key")
+-- ClientKey := HMAC(SaltedPassword, "Client Key") (RFC 5802, section 3)
 abbrev pub client_key : ScramVersion → List ℕ → List ℕ
 client_key version salted = hmac_of version salted (codes "Client Key")
 
--- StoredKey := H(ClientKey)
+-- StoredKey := H(ClientKey) (RFC 5802, section 3)
 abbrev pub stored_key : ScramVersion → List ℕ → List ℕ
 stored_key version key = digest version key
 
--- ServerKey := HMAC(SaltedPassword, "Server Key")
+-- ServerKey := HMAC(SaltedPassword, "Server Key") (RFC 5802, section 3)
 abbrev pub server_key : ScramVersion → List ℕ → List ℕ
 server_key version salted = hmac_of version salted (codes "Server Key")
 
 -- AuthMessage := client-first-message-bare + "," + server-first-message + "," +
--- client-final-message-without-proof, as they were sent
+-- client-final-message-without-proof, as they were sent (RFC 5802, section 3)
 abbrev pub auth_message : List ℕ → List ℕ → List ℕ → List ℕ
 auth_message bare first without_proof = joined (bare ∷ first ∷ without_proof ∷ [])
 
--- ClientSignature := HMAC(StoredKey, AuthMessage)
+-- ClientSignature := HMAC(StoredKey, AuthMessage) (RFC 5802, section 3)
 abbrev pub client_signature : ScramVersion → List ℕ → List ℕ → List ℕ
 client_signature version stored auth = hmac_of version stored auth
 
--- ClientProof := ClientKey XOR ClientSignature, from the ClientKey and the AuthMessage
+-- ClientProof := ClientKey XOR ClientSignature, from the ClientKey and the AuthMessage (RFC 5802, section 3)
 abbrev pub client_proof : ScramVersion → List ℕ → List ℕ → List ℕ
 client_proof version key auth = exclusive_or key (client_signature version (stored_key version key) auth)
 
 -- the key that a server recovers from a proof: ClientProof XOR ClientSignature, from the StoredKey, the
--- ClientProof and the AuthMessage
+-- ClientProof and the AuthMessage (RFC 5802, section 3)
 abbrev pub recovered_client_key : ScramVersion → List ℕ → List ℕ → List ℕ → List ℕ
 recovered_client_key version stored proof auth = exclusive_or proof (client_signature version stored auth)
 
@@ -43,10 +43,11 @@ OkWhereSized version text result P = MatchResult result (λ value. (length text 
 abbrev pub CostsOne : {X F : Type 0} → Result X F → ℕ → ℕ → Type 0
 CostsOne result before after = MatchResult result (λ _. after ≡ before + 1) (λ _. after ≡ before)
 
--- the proof meets the StoredKey: H(ClientKey) = StoredKey of the ClientKey that is recovered from it
+-- the proof meets the StoredKey (RFC 5802, section 3): H(ClientKey) = StoredKey of the ClientKey that is recovered
+-- from it
 abbrev pub MeetsStoredKey : ScramVersion → List ℕ → List ℕ → List ℕ → Type 0
 MeetsStoredKey version stored proof auth = stored_key version (recovered_client_key version stored proof auth) ≡ stored
 
--- ServerSignature := HMAC(ServerKey, AuthMessage)
+-- ServerSignature := HMAC(ServerKey, AuthMessage) (RFC 5802, section 3)
 abbrev pub server_signature : ScramVersion → List ℕ → List ℕ → List ℕ
 server_signature version key auth = hmac_of version key auth

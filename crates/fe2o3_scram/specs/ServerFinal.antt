@@ -35,7 +35,7 @@ FinalCosts (Err fault) before after = after ≡ before
 abbrev pub HasSignature : List ℕ → List ℕ → Type 0
 HasSignature text signature = IsBytes signature × Part text 0 (codes "v=" ++ base64_text signature)
 
--- the client's tests of the text, in their order
+-- the client's tests of the text (RFC 5802, section 5.1; UTF-8: RFC 3629, section 3), in their order
 abbrev pub server_final_tests : List ℕ → List (ScramErrorKind × Type 0)
 server_final_tests text =
     (Utf8Error, ¬ IsUtf8 text)

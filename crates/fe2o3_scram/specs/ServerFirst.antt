@@ -24,11 +24,11 @@ pub record ServerFirst : Type 0 where
 abbrev pub server_first_values : CodeServerFirst → ServerFirst
 server_first_values first = record { nonce = first.nonce.now; salt = first.salt.items; count = first.iterations }
 
--- the second part is this salt
+-- the second part is this salt (RFC 5802, section 5.1)
 abbrev pub HasSalt : List ℕ → List ℕ → Type 0
 HasSalt text salt = IsBytes salt × Part text 1 (codes "s=" ++ base64_text salt)
 
--- the third part is this count
+-- the third part is this count (RFC 5802, section 5.1)
 abbrev pub HasCount : List ℕ → ℕ → Type 0
 HasCount text count = (digits : List ℕ) × Part text 2 (codes "i=" ++ digits) × IsCount digits count
 
@@ -53,7 +53,7 @@ client_of nonce password limit = record { nonce = nonce; password = password; li
 abbrev pub no_limit : ℕ
 no_limit = 4294967295
 
--- the client's tests of the nonce, in their order
+-- the client's tests of the nonce (RFC 5802, section 5.1), in their order
 abbrev pub nonce_tests : List ℕ → List ℕ → List (ScramErrorKind × Type 0)
 nonce_tests client_nonce text =
     (InsufficientParts, (part : List ℕ) → ¬ Part text 2 part)
@@ -62,14 +62,14 @@ nonce_tests client_nonce text =
     ∷ (ClientNonceMismatch, (rest : List ℕ) → ¬ Part text 0 (codes "r=" ++ (client_nonce ++ rest)))
     ∷ []
 
--- its tests of the salt
+-- its tests of the salt (RFC 5802, section 5.1)
 abbrev pub salt_tests : List ℕ → List (ScramErrorKind × Type 0)
 salt_tests text =
     (SaltNotFound, (rest : List ℕ) → ¬ Part text 1 (codes "s=" ++ rest))
     ∷ (Base64DecodeError, (salt : List ℕ) → ¬ HasSalt text salt)
     ∷ []
 
--- its tests of the iteration count
+-- its tests of the iteration count (RFC 5802, section 5.1)
 abbrev pub count_tests : ℕ → List ℕ → List (ScramErrorKind × Type 0)
 count_tests limit text =
     (IterationCountNotFound, (rest : List ℕ) → ¬ Part text 2 (codes "i=" ++ rest))
@@ -77,7 +77,7 @@ count_tests limit text =
     ∷ (IterationCountTooLarge, (count : ℕ) × HasCount text count × (limit < count))
     ∷ []
 
--- its test of its own password
+-- its test of its own password (RFC 4013, section 2)
 abbrev pub password_tests : List ℕ → List (ScramErrorKind × Type 0)
 password_tests password = (NormalizeError, ¬ IsPrintable password) ∷ []
 

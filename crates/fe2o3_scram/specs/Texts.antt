@@ -26,7 +26,7 @@ pub record Parts (text : List ℕ) (parts : List (List ℕ)) : Type 0 where
 abbrev pub Part : List ℕ → ℕ → List ℕ → Type 0
 Part text k part = (parts : List (List ℕ)) × Parts text parts × (slice_get parts k ≡ Some part)
 
--- the text has several parts, this one is the last, and before stands in front of its comma
+-- the text has several parts, this one is the last, and before stands in front of its comma (RFC 5802, section 7)
 abbrev pub LastPart : List ℕ → List ℕ → List ℕ → Type 0
 LastPart text before part = NoComma part × (text ≡ joined (before ∷ part ∷ []))
 
@@ -38,7 +38,7 @@ Begins text prefix = (rest : List ℕ) × (text ≡ prefix ++ rest)
 abbrev pub alphabet : List ℕ
 alphabet = codes "ABCDEFGHIJKLMNOPQRSTUVWXYZabcdefghijklmnopqrstuvwxyz0123456789+/"
 
--- the one spelling of the bytes: a symbol for each six bits, and `=` up to a multiple of four
+-- the one spelling of the bytes: a symbol for each six bits, and `=` up to a multiple of four (RFC 4648, section 4)
 unfoldable pub base64_text : List ℕ → List ℕ
 base64_text bytes = encode alphabet 61 true bytes
 

@@ -31,7 +31,8 @@ returns-in_default-2-clause-err c =
     λ _. inr (
       λ none. none spelling c.in-Some.ensures,
       inl (
-        no_binding c.args.client_final.now spelling c.in-Some.ensures (rw c.in_default-2.is at c.in_ok-bytes_of.ensures),
+        no_binding c.args.client_final.now spelling c.in-Some.ensures
+            (rw c.in_default-2.is at c.in_ok-bytes_of.ensures),
         refl,
       ),
     )

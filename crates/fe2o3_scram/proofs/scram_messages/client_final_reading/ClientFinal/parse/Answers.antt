@@ -17,7 +17,8 @@ returns-in_err-test_binding c =
     rw (from.1, from.2) (
       λ memory. (c.in-Ok.ensures.cases.1, inl (rw same at (c.in_err-test_binding.ensures.memory memory))),
       λ other. binding_refused c.args.client_server_nonce.now c.args.text.now
-          c.in-Ok.ensures.cases.1 c.in_err-test_binding.field-0.0 (rw same at (c.in_err-test_binding.ensures.err other)),
+          c.in-Ok.ensures.cases.1 c.in_err-test_binding.field-0.0
+          (rw same at (c.in_err-test_binding.ensures.err other)),
     )
 
 pub returns-in_err-test_nonce : goal.returns-in_err-test_nonce
