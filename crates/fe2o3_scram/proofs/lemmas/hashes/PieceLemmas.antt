@@ -1,6 +1,5 @@
 -- Texts that come in pieces, as a loop over the pieces meets them.
 use Rattle.std.proofs.Common.{◌≡◌, ◌<◌, ◌≤◌, ◌+◌, Bor, ℕ, List, [], ◌∷◌, ◌++◌, length, take, map, get_or, refl, sym, ap, ◌∙◌, append_assoc, arith}
-use Rattle.std.specs.List.{concat}
 use Rattle.std.proofs.lemmas.List.{take_more, map-append, append-nil}
 use Rattle.std.proofs.lemmas.List.Folds.{concat-append}
 use Rattle.fe2o3_scram.specs.private.Pieces.{whole}

@@ -1,5 +1,4 @@
-use Rattle.std.proofs.Common.{◌≡◌, ◌+◌, arith}
-use Rattle.fe2o3_scram.specs.Pbkdf2Hi.{round_of}
+use Rattle.std.proofs.Common.{arith}
 use Rattle.fe2o3_scram.proofs.lemmas.hashes.HiRoundLemmas.{next_round, next_salted}
 use Rattle.fe2o3_scram.proofs.pbkdf2_hi.rounds.Goals as goal
 

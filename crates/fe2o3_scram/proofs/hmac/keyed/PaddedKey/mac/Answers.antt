@@ -1,6 +1,5 @@
-use Rattle.std.proofs.Common.{[], ◌++◌, take, subst}
+use Rattle.std.proofs.Common.{[], subst}
 use Rattle.fe2o3_scram.specs.Hmac.{masked, key_block}
-use Rattle.fe2o3_scram.specs.private.Pieces.{whole}
 use Rattle.fe2o3_scram.proofs.lemmas.hashes.PieceLemmas.{whole-more}
 use Rattle.fe2o3_scram.proofs.hmac.keyed.PaddedKey.mac.Goals as goal
 
