@@ -151,10 +151,10 @@ fn rounds<const N: usize, H: Hasher<N>>(
     ensures counted { meter.new ≡ meter.old + iterations }
 {
     let mut round = password.mac(&[salt, &1u32.to_be_bytes()], meter);
-    let mut salted = round;
+    let mut sum = round;
     for _done in 1..iterations {
         round = password.mac(&[&round], meter);
-        xor(&mut salted, &round);
+        xor(&mut sum, &round);
     }
-    salted
+    sum
 }

@@ -11,7 +11,7 @@ loop-done-preserved g c =
       salted = λ key is.
           let round = next_round g.H.Hasher.hash key c.args.salt.now c.loop-done.round c.mac-round-in-loop-done.result
           c.loop-done._done from (c.loop-done.invariant.round key is) (c.mac-round-in-loop-done.ensures.value key is) in
-          next_salted g.H.Hasher.hash key c.args.salt.now c.loop-done.salted c.mac-round-in-loop-done.result
+          next_salted g.H.Hasher.hash key c.args.salt.now c.loop-done.sum c.mac-round-in-loop-done.result
           c.xor.new.lhs c.loop-done._done from (c.loop-done.invariant.salted key is) round c.xor.ensures;
       counted = omega (arith, c.mac-round-in-loop-done.ensures.counted, c.loop-done.invariant.counted);
     }

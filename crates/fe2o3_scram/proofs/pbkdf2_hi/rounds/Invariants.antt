@@ -8,6 +8,6 @@ invariant-loop-done g l = record {
   round : (key : List ℕ) → HasPads g.H.Hasher.has_taken g.H.Hasher.hash l.password.inner l.password.outer key
       → l.round ≡ round_of g.H.Hasher.hash key l.salt l._done;
   salted : (key : List ℕ) → HasPads g.H.Hasher.has_taken g.H.Hasher.hash l.password.inner l.password.outer key
-      → l.salted ≡ salted_of g.H.Hasher.hash key l.salt l._done;
+      → l.sum ≡ salted_of g.H.Hasher.hash key l.salt l._done;
   counted : l.meter ≡ l.fn.meter + l._done;
 }
