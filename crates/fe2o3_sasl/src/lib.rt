@@ -5,6 +5,8 @@
 #![tactic(auto)]
 
 pub mod laws;
+mod mechanism_names;
+pub mod sasl_acceptor;
 
 pub use fe2o3_scram::credentials::{
     DEFAULT_SCRAM_ITERATIONS, ScramCredentialProvider, SingleScramCredential, StoredPassword,
