@@ -7,6 +7,7 @@
 pub mod laws;
 mod mechanism_names;
 pub mod sasl_acceptor;
+pub mod sasl_profile;
 
 pub use fe2o3_scram::credentials::{
     DEFAULT_SCRAM_ITERATIONS, ScramCredentialProvider, SingleScramCredential, StoredPassword,

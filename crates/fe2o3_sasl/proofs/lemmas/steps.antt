@@ -1,1 +1,2 @@
 pub mod AcceptorReplyLemmas
+pub mod ProfileReplyLemmas
