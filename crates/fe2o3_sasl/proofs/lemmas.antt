@@ -3,5 +3,6 @@ pub mod frames
 pub mod histories
 pub mod machines
 pub mod positions
+pub mod steps
 pub mod two_sides
 pub mod unaltered

@@ -14,6 +14,7 @@ pub mod Laws
 pub mod MechanismLaws
 pub mod Headline
 pub mod examples
+pub mod private
 pub use Rattle.fe2o3_scram.specs.Texts
 pub use Rattle.fe2o3_scram.specs.Escape
 pub use Rattle.fe2o3_scram.specs.SaslprepAscii

@@ -1,12 +1,23 @@
 -- What an acceptor and a profile do with a list of frame bodies (AMQP 1.0, part 5, section 5.3.2).
-use Rattle.std.specs.Prelude.{◌≡◌, ◌⊎◌, ℕ, Option, List, [], ◌∷◌, Result, Ok, Err}
+use Rattle.std.specs.Prelude.{◌≡◌, ◌⊎◌, ℕ, Option, option_map, List, [], ◌∷◌, length, Result, Ok, Err}
 use Rattle.fe2o3_sasl_wire.specs.declared.sasl_frames.error.Error.{Error}
 use Rattle.fe2o3_sasl_wire.specs.declared.sasl_frames.error.Error.TheVariants as faults
+use Rattle.fe2o3_sasl_wire.specs.AmqpTypes.{binary_bytes}
 use Rattle.fe2o3_sasl_wire.specs.SaslFrames.{canonical, SaslFrame}
 use Rattle.fe2o3_sasl_wire.specs.SaslFrames as frames
-use Rattle.fe2o3_sasl.specs.Events.{Given, ServerSays, Challenged, Concluded, Failed, ClientSays, Started, Answered, Reported, Refused, ClientFault, Frame, OutOfMemory}
+use Rattle.fe2o3_scram.specs.declared.hmac.ScramVersion.{ScramVersion}
+use Rattle.fe2o3_sasl.specs.Events.{Given, Login, ServerSays, Challenged, Concluded, Failed, ClientSays, Started, Answered, Reported, Refused, ClientFault, Frame, OutOfMemory}
 use Rattle.fe2o3_sasl.specs.ServerHistory.{SpellsBody, carried}
-use Rattle.fe2o3_sasl.specs.SaslProfile.{Profile, profile_machine, ProfileAllocates}
+use Rattle.fe2o3_sasl.specs.SaslProfile.{Profile, profile_machine, ProfileAllocates, client_fault}
+use Rattle.fe2o3_sasl.specs.Hex.{SpellsHex}
+use Rattle.fe2o3_sasl.specs.declared.runs.events.ClientReply.{ClientReply}
+use Rattle.fe2o3_sasl.specs.declared.runs.events.ClientReply.TheVariants as client_replies
+use Rattle.fe2o3_sasl.specs.declared.runs.events.Event.{Event}
+use Rattle.fe2o3_sasl.specs.declared.runs.events.EventError.{EventError}
+use Rattle.fe2o3_sasl.specs.declared.runs.events.EventError.TheVariants as event_faults
+use Rattle.fe2o3_sasl.specs.declared.runs.events.ServerReply.{ServerReply}
+use Rattle.fe2o3_sasl.specs.declared.runs.events.ServerReply.TheVariants as server_replies
+use Rattle.fe2o3_sasl.specs.declared.sasl_profile.error.ProfileError.{ProfileError}
 
 -- a frame is sent in its canonical body, and only then the next state holds; a frame without one leaves the state
 abbrev pub Sends : {S A : Type 0} → A → (List ℕ → A) → Option (List ℕ) → S → S → A → S → Type 0
@@ -77,3 +88,45 @@ Runs Step state [] replies last = (replies ≡ []) × (last ≡ state)
 Runs {S} {A} Step state (event ∷ events) replies last =
     (says : A) × (next : S) × (others : List A) × Step state event says next × (replies ≡ says ∷ others)
     × Runs Step next events others last
+
+-- ---- the code's values
+
+-- the event that a value is
+abbrev pub given : Event → Given
+given event = record { body = event.body.items; nonce = event.nonce }
+
+-- two texts spell an event in hexadecimal digits of either case, its nonce of 32 bytes
+abbrev pub SpellsEvent : List ℕ → List ℕ → Given → Type 0
+SpellsEvent nonce body event = (length event.nonce ≡ 32) × SpellsHex nonce event.nonce × SpellsHex body event.body
+
+-- why two texts give no event: they spell none; or there is no memory
+abbrev pub RefusesHex : List ℕ → List ℕ → EventError → Type 0
+RefusesHex nonce body event_faults.Invalid = (event : Given) → ¬ SpellsEvent nonce body event
+RefusesHex nonce body event_faults.OutOfMemory = Unit {0}
+
+-- what a server says with a reply
+abbrev pub server_reply : ServerReply → ServerSays
+server_reply (server_replies.Challenge body) = Challenged body.items
+server_reply (server_replies.Outcome code body) = Concluded code body.items
+
+-- and with what a step answered
+abbrev pub server_answer : Result ServerReply Error → ServerSays
+server_answer (Ok reply) = server_reply reply
+server_answer (Err fault) = Failed fault
+
+-- what a client says with a reply
+abbrev pub client_reply : ClientReply → ClientSays
+client_reply (client_replies.Init body) = Started body.items
+client_reply (client_replies.Response body) = Answered body.items
+client_reply (client_replies.Outcome outcome) =
+    Reported outcome.code (option_map binary_bytes outcome.additional_data)
+
+-- and with what a step answered
+abbrev pub client_answer : Result ClientReply ProfileError → ClientSays
+client_answer (Ok reply) = client_reply reply
+client_answer (Err fault) = Refused (client_fault fault)
+
+-- the login of these words
+abbrev pub login_of : ScramVersion → List ℕ → List ℕ → ℕ → Login
+login_of version user password limit =
+    record { version = version; user = user; password = password; limit = limit }

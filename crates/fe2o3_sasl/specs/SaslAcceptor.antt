@@ -1,10 +1,14 @@
 -- What an acceptor answers to one frame (AMQP 1.0, part 5, section 5.3.2).
-use Rattle.std.specs.Prelude.{◌≡◌, ◌≢◌, ◌⊎◌, ℕ, Option, Some, None, List, [], ◌∷◌, codes, slice_get, Result, Ok}
+use Rattle.std.specs.Prelude.{◌≡◌, ◌≢◌, ◌⊎◌, ℕ, Option, Some, None, List, [], ◌∷◌, codes, slice_get, string_bytes, Result, Ok}
 use Rattle.std.specs.List.{AllByRecursion, join_with_byte}
 use Rattle.fe2o3_sasl_wire.specs.declared.amqp_types.SaslCode.{SaslCode}
 use Rattle.fe2o3_sasl_wire.specs.declared.amqp_types.SaslCode.TheVariants as outcomes
+use Rattle.fe2o3_sasl_wire.specs.AmqpTypes.{challenge_frame, outcome_frame}
 use Rattle.fe2o3_sasl_wire.specs.SaslFrames as frames
 use Rattle.fe2o3_sasl_wire.specs.SaslFrames.{SaslFrame}
+use Rattle.fe2o3_sasl.specs.declared.sasl_acceptor.SaslPlainMechanism.{SaslPlainMechanism}
+use Rattle.fe2o3_sasl.specs.declared.sasl_acceptor.SaslServerFrame.{SaslServerFrame}
+use Rattle.fe2o3_sasl.specs.declared.sasl_acceptor.SaslServerFrame.TheVariants as server_frames
 use Rattle.fe2o3_scram.specs.declared.scram_messages.error.ServerScramErrorKind.{ServerScramErrorKind}
 use Rattle.fe2o3_scram.specs.Credentials.{Provider}
 use Rattle.fe2o3_scram.specs.Hmac.{mechanism_name}
@@ -77,3 +81,12 @@ acceptor_machine AnonymousAcceptor nonce (frames.Response text) reply next =
 acceptor_machine acceptor nonce (frames.Init mechanism None hostname) reply next =
     (reply ≡ ends_with outcomes.Auth) × (next ≡ acceptor)
 acceptor_machine acceptor nonce frame reply next = ⊥
+
+-- the acceptor of PLAIN that a value is
+abbrev pub plain_acceptor : SaslPlainMechanism → Acceptor
+plain_acceptor mechanism = PlainAcceptor (string_bytes mechanism.username) (string_bytes mechanism.password)
+
+-- the frame that an acceptor sends
+abbrev pub sent_frame : SaslServerFrame → SaslFrame
+sent_frame (server_frames.Challenge challenge) = challenge_frame challenge
+sent_frame (server_frames.Outcome outcome) = outcome_frame outcome

@@ -1,18 +1,31 @@
 -- What a client's profile answers to one frame (AMQP 1.0, part 5, section 5.3.2).
-use Rattle.std.specs.Prelude.{◌≡◌, ◌⊎◌, ℕ, Option, Some, None, List, ◌∷◌, ◌++◌, codes, Result, Ok, Err}
+use Rattle.std.specs.Prelude.{◌≡◌, ◌≢◌, ◌⊎◌, ℕ, Option, Some, None, List, [], ◌∷◌, ◌++◌, codes, string_bytes, Result, Ok, Err}
 use Rattle.std.specs.List.{Contains}
 use Rattle.std.specs.Str.{IsUtf8}
 use Rattle.fe2o3_sasl_wire.specs.declared.amqp_types.SaslCode.TheVariants as outcomes
+use Rattle.fe2o3_sasl_wire.specs.declared.sasl_frames.error.Error.{Error}
+use Rattle.fe2o3_sasl_wire.specs.declared.sasl_frames.error.Error.TheVariants as wire_faults
+use Rattle.fe2o3_sasl_wire.specs.AmqpTypes.{init_frame, response_frame, outcome_frame}
 use Rattle.fe2o3_sasl_wire.specs.SaslFrames as frames
 use Rattle.fe2o3_sasl_wire.specs.SaslFrames.{SaslFrame}
 use Rattle.fe2o3_scram.specs.declared.scram_messages.error.ScramErrorKind.{ScramErrorKind}
+use Rattle.fe2o3_scram.specs.declared.scram_messages.error.ScramErrorKind.TheVariants as kinds
 use Rattle.fe2o3_scram.specs.declared.scram_messages.error.ScramErrorKind.TheVariants.{Utf8Error, ServerSignatureMismatch}
 use Rattle.fe2o3_scram.specs.Texts.{base64_text}
 use Rattle.fe2o3_scram.specs.ClientFirst.{client_first}
 use Rattle.fe2o3_scram.specs.ScramClient as client_states
 use Rattle.fe2o3_scram.specs.ScramClient.{ClientSide, started, AnswersIn, BelievesIn}
-use Rattle.fe2o3_sasl.specs.Events.{Login, ClientFault, NotImplemented, Scram}
 use Rattle.fe2o3_scram.specs.Hmac.{mechanism_name}
+use Rattle.fe2o3_sasl.specs.Events.{Login, ClientFault, NotImplemented, Scram, Frame, OutOfMemory}
+use Rattle.fe2o3_sasl.specs.declared.sasl_profile.error.ProfileError.{ProfileError}
+use Rattle.fe2o3_sasl.specs.declared.sasl_profile.error.ProfileError.TheVariants as faults
+use Rattle.fe2o3_sasl.specs.declared.sasl_profile.error.UrlError.{UrlError}
+use Rattle.fe2o3_sasl.specs.declared.sasl_profile.error.UrlError.TheVariants as url_faults
+use Rattle.fe2o3_sasl.specs.declared.sasl_profile.Negotiation.{Negotiation}
+use Rattle.fe2o3_sasl.specs.declared.sasl_profile.Negotiation.TheVariants as negotiations
+use Rattle.fe2o3_sasl.specs.declared.sasl_profile.SaslProfile.{SaslProfile}
+use Rattle.fe2o3_sasl.specs.declared.sasl_profile.SaslProfile.TheVariants as profiles
+use Rattle.url.specs.Parts.{Parts}
 
 -- the profiles: SCRAM of the three versions, PLAIN, ANONYMOUS and EXTERNAL
 pub data Profile : Type 0 where
@@ -85,3 +98,55 @@ scram_profile login = ScramProfile (record {
   limit = login.limit;
   state = client_states.Initial;
 })
+
+-- what a profile answers to a frame: what its machine replies, or want of memory, where the profile stays
+abbrev pub ProfileAnswers : Profile → Option (List ℕ) → List ℕ → SaslFrame → Result SaslFrame ClientFault → Profile
+    → Type 0
+ProfileAnswers profile hostname nonce frame (Err OutOfMemory) next = ProfileAllocates profile frame × (next ≡ profile)
+ProfileAnswers profile hostname nonce frame answer next = profile_machine profile hostname nonce frame answer next
+
+-- the profile that a value is
+abbrev pub profile_of : SaslProfile → Profile
+profile_of profiles.Anonymous = AnonymousProfile
+profile_of (profiles.Plain username password) = PlainProfile (string_bytes username) (string_bytes password)
+profile_of profiles.External = ExternalProfile
+profile_of (profiles.ScramSha1 scram) = ScramProfile scram
+profile_of (profiles.ScramSha256 scram) = ScramProfile scram
+profile_of (profiles.ScramSha512 scram) = ScramProfile scram
+
+-- the frame that a profile answers with
+abbrev pub negotiated_frame : Negotiation → SaslFrame
+negotiated_frame (negotiations.Init init) = init_frame init
+negotiated_frame (negotiations.Response response) = response_frame response
+negotiated_frame (negotiations.Outcome outcome) = outcome_frame outcome
+
+-- the fault that a value is
+abbrev pub client_fault : ProfileError → ClientFault
+client_fault faults.NotImplemented = NotImplemented
+client_fault (faults.Scram kind) = Scram kind
+client_fault (faults.Frame fault) = Frame fault
+client_fault faults.OutOfMemory = OutOfMemory
+
+-- what a call answered, as a frame or a fault
+abbrev pub answered : {A : Type 0} → (A → SaslFrame) → Result A ProfileError → Result SaslFrame ClientFault
+answered frame (Ok value) = Ok (frame value)
+answered frame (Err fault) = Err (client_fault fault)
+
+-- the fault for a refusal of SCRAM: want of memory is not inside another fault
+abbrev pub fault_of_kind : ScramErrorKind → ProfileError
+fault_of_kind kinds.OutOfMemory = faults.OutOfMemory
+fault_of_kind kind = faults.Scram kind
+
+-- likewise for a frame that is not read or not written
+abbrev pub fault_of_frame : Error → ProfileError
+fault_of_frame wire_faults.OutOfMemory = faults.OutOfMemory
+fault_of_frame fault = faults.Frame fault
+
+-- an address names a user and a password
+abbrev pub HasCredentials : Parts → Type 0
+HasCredentials url = (url.username ≢ []) × (url.password ≢ [])
+
+-- why an address gives no profile: it does not name both; or there is no memory, and then it does
+abbrev pub RefusesUrl : Parts → UrlError → Type 0
+RefusesUrl url url_faults.NoCredentials = ¬ HasCredentials url
+RefusesUrl url url_faults.OutOfMemory = HasCredentials url

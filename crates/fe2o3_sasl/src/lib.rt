@@ -1,11 +1,32 @@
 //! SASL for AMQP 1.0, after the authentication layer of `fe2o3-amqp` 0.18.4: SCRAM and frames joined.
 //!
+//! A client takes a [`SaslProfile`], a server a [`SaslAcceptor`]. Whoever negotiates a connection hands
+//! the body of each frame that comes in to [`profile_step`] or to [`acceptor_step`], and sends the body
+//! of the reply. [`run_profile`] and [`run_acceptor`] do so for a list of bodies, and
+//! [`scram_client_run`] and [`scram_server_run`] say what every login over SCRAM has, whatever the
+//! bodies are.
+//!
 //! The modules of `fe2o3_scram` stand here under their own names, so that whoever speaks SCRAM over
 //! AMQP names this crate alone. [`laws`] says what holds of every list of frame bodies.
 #![tactic(auto)]
 
 pub mod laws;
+mod mechanism_names;
+pub mod runs;
+pub mod sasl_acceptor;
+pub mod sasl_profile;
 
+pub use crate::runs::{
+    ClientReply, Event, EventError, ServerReply, acceptor_step, profile_step, run_acceptor,
+    run_profile, scram_client_run, scram_client_run_limited, scram_server_run,
+};
+pub use crate::sasl_acceptor::{
+    SaslAcceptor, SaslAcceptorExt, SaslAnonymousMechanism, SaslPlainMechanism, SaslServerFrame,
+};
+pub use crate::sasl_profile::{
+    Negotiation, ProfileError, SaslProfile, SaslScramSha1, SaslScramSha256, SaslScramSha512,
+    UrlError,
+};
 pub use fe2o3_scram::credentials::{
     DEFAULT_SCRAM_ITERATIONS, ScramCredentialProvider, SingleScramCredential, StoredPassword,
 };

@@ -1,10 +1,10 @@
 -- The parts of a message of PLAIN are the pieces between its zero bytes, and no others.
-use Rattle.std.proofs.Common.{◌≡◌, ℕ, true, false, not, eqb, List, [], ◌∷◌, ◌++◌, refl, sym, ◌∙◌, ap}
-use Rattle.std.specs.Prelude.{slice_get, Some}
-use Rattle.std.specs.List.{slice_split, join_with_byte, list_all, AllByRecursion}
+use Rattle.std.proofs.Common.{◌≡◌, ◌≢◌, ℕ, Bool, true, false, not, eqb, cond, List, [], ◌∷◌, ◌++◌, refl, sym, ◌∙◌, ap, subst}
+use Rattle.std.specs.Prelude.{slice_get, Option, None, Some, option_map, MatchOption}
+use Rattle.std.specs.List.{slice_split, onto_first, join_with_byte, list_all, AllByRecursion}
 use Rattle.std.proofs.lemmas.Bool.{ne_eqb, and_parts, not-true, eqb-false}
 use Rattle.std.proofs.lemmas.List.Elements.{All-from_recursion}
-use Rattle.std.proofs.lemmas.List.Splits.{slice_split_at, slice_split_none}
+use Rattle.std.proofs.lemmas.List.Splits.{join_with_byte-slice_split, slice_split_at, slice_split_none}
 use Rattle.std.proofs.lemmas.Option.{none-some, same_Some}
 use Rattle.fe2o3_sasl.specs.SaslAcceptor.{NoZero, ZeroPart, NamesPlain}
 
@@ -63,3 +63,34 @@ no_zero-test [] passes = tt
 no_zero-test (x ∷ text) passes =
     let both = and_parts (not (eqb x 0)) (list_all (λ byte. not (eqb byte 0)) text) passes in
     (eqb-false x 0 (not-true (eqb x 0) both.0), no_zero-test text both.1)
+
+-- ---- a search among the pieces
+
+apart-onto_first : (x : ℕ) (parts : List (List ℕ)) → x ≢ 0 → AllByRecursion NoZero parts
+    → AllByRecursion NoZero (onto_first x parts)
+apart-onto_first x [] plain apart = ((plain, tt), tt)
+apart-onto_first x (part ∷ parts) plain apart = ((plain, apart.0), apart.1)
+
+apart-step : (x : ℕ) (parts : List (List ℕ)) (zero : Bool) → eqb x 0 ≡ zero → AllByRecursion NoZero parts
+    → AllByRecursion NoZero (cond zero ([] ∷ parts) (onto_first x parts))
+apart-step x parts true is apart = (tt, apart)
+apart-step x parts false is apart = apart-onto_first x parts (eqb-false x 0 is) apart
+
+apart-between : (text : List ℕ) → AllByRecursion NoZero (between text)
+apart-between [] = (tt, tt)
+apart-between (x ∷ text) = apart-step x (between text) (eqb x 0) refl (apart-between text)
+
+-- what was found at a place is the part there
+pub zero_part_found : {A : Type 0} (now : A → List ℕ) (text : List ℕ) (k : ℕ) (found : Option A)
+    → option_map now found ≡ slice_get (between text) k
+    → MatchOption found ((part : List ℕ) → ¬ ZeroPart text k part) (λ part. ZeroPart text k (now part))
+zero_part_found now text k None is = λ part has. none-some part (is ∙ among text part k has)
+zero_part_found now text k (Some part) is =
+    (between text, apart-between text, join_with_byte-slice_split 0 text, sym is)
+
+-- it is the one that is wanted exactly where both are the same text
+pub wanted_part : (text : List ℕ) (k : ℕ) (part wanted : List ℕ) (same : Bool) → ZeroPart text k part
+    → (same ≡ true → part ≡ wanted) × (part ≡ wanted → same ≡ true)
+    → (same ≡ true → ZeroPart text k wanted) × (ZeroPart text k wanted → same ≡ true)
+wanted_part text k part wanted same is both =
+    (λ yes. subst (ZeroPart text k) (both.0 yes) is, λ has. both.1 (one_zero_part text k part wanted is has))

@@ -1,0 +1,6 @@
+pub mod AcceptorReplyLemmas
+pub mod HexEventLemmas
+pub mod LongerRunLemmas
+pub mod ProfileReplyLemmas
+pub mod WrittenReplyLemmas
+pub mod WrittenStepLemmas

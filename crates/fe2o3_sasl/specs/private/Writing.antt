@@ -1,0 +1,34 @@
+-- Which frames are answered, and how replies are written in bodies. Contracts of private functions alone cite this.
+use Rattle.std.specs.Prelude.{◌≡◌, ℕ, Bool, true, false, List, Option, Some, None, Result, Ok, Err}
+use Rattle.fe2o3_sasl_wire.specs.SaslFrames as frames
+use Rattle.fe2o3_sasl_wire.specs.SaslFrames.{SaslFrame}
+use Rattle.fe2o3_sasl_wire.specs.declared.sasl_frames.error.Error.{Error}
+use Rattle.fe2o3_sasl_wire.specs.declared.sasl_frames.error.Error.TheVariants as faults
+use Rattle.fe2o3_sasl.specs.declared.sasl_profile.error.ProfileError.{ProfileError}
+use Rattle.fe2o3_sasl.specs.declared.sasl_profile.error.ProfileError.TheVariants as profile_faults
+use Rattle.fe2o3_sasl.specs.SaslProfile.{Profile, ScramProfile}
+
+-- whether a profile answers challenges
+abbrev pub is_scram : Profile → Bool
+is_scram (ScramProfile client) = true
+is_scram profile = false
+
+-- an init or a response
+abbrev pub IsRequest : SaslFrame → Type 0
+IsRequest (frames.Init mechanism response hostname) = Unit {0}
+IsRequest (frames.Response text) = Unit {0}
+IsRequest frame = ⊥
+
+-- the frame is written in its canonical body, and the reply says so; it has none; or memory is wanting
+abbrev pub Writes : {A X : Type 0} → (X → A) → (List ℕ → A) → Option (List ℕ) → Result X Error → Type 0
+Writes view says body (Ok reply) = (written : List ℕ) × (body ≡ Some written) × (view reply ≡ says written)
+Writes view says body (Err faults.TooLarge) = body ≡ None
+Writes view says body (Err faults.OutOfMemory) = Unit {0}
+Writes view says body (Err fault) = ⊥
+
+-- the same of a client's frame
+abbrev pub WritesBody : {X : Type 0} → (X → List ℕ) → Option (List ℕ) → Result X ProfileError → Type 0
+WritesBody view body (Ok written) = body ≡ Some (view written)
+WritesBody view body (Err profile_faults.OutOfMemory) = Unit {0}
+WritesBody view body (Err (profile_faults.Frame fault)) = (fault ≡ faults.TooLarge) × (body ≡ None)
+WritesBody view body (Err fault) = ⊥

@@ -1,0 +1,445 @@
+//! The client's side of a negotiation: what it answers to the frames of a server (AMQP 1.0, part 5,
+//! section 5.3.2).
+
+ghost use Rattle.std.specs.Prelude.{◌≡◌, ◌↔◌, ◌++◌, Option, ℕ, List, ◌∷◌, IfOk, IfErr, OnOk, OnErr, IsSome, IsTrue, IsAscii, option_map, string_bytes};
+ghost use Rattle.std.specs.List.{Contains};
+ghost use Rattle.fe2o3_sasl_wire.specs.AmqpTypes.{binary_bytes, init_frame, response_frame, outcome_frame};
+ghost use Rattle.fe2o3_sasl_wire.specs.FrameView.{shown, viewed_frame};
+ghost use Rattle.fe2o3_sasl_wire.specs.Owned.{owned_frame};
+ghost use Rattle.fe2o3_sasl_wire.specs.SaslFrames.{Init, Challenge, Outcome};
+ghost use Rattle.fe2o3_scram.specs.ScramClient.{started};
+ghost use Rattle.fe2o3_sasl.specs.SaslProfile.{ScramProfile, PlainProfile, scram_profile, profile_name, initial_response, after_init, ProfileAnswers, RefusesUrl, HasCredentials, answered, negotiated_frame, profile_of};
+ghost use Rattle.fe2o3_sasl.specs.private.Writing.{is_scram};
+
+mod error;
+mod scram;
+
+use crate::OutOfMemory;
+use crate::mechanism_names::{ANONYMOUS, EXTERNAL, PLAIN, symbol_of};
+pub use error::{ProfileError, UrlError};
+use fe2o3_sasl_wire::{
+    Binary, Frame, FrameView, SaslCode, SaslInit, SaslMechanisms, SaslOutcome, SaslResponse, Symbol,
+};
+use fe2o3_scram::hmac::ScramVersion;
+pub use scram::{SaslScramSha1, SaslScramSha256, SaslScramSha512};
+use scram::{answer, believe, first_message};
+use std::alloc::{AllocError, Global};
+use std::fmt;
+use url::Url;
+
+/// What a client logs in with.
+#[derive(Drop)]
+pub enum SaslProfile {
+    /// ANONYMOUS (RFC 4505).
+    Anonymous,
+
+    /// PLAIN (RFC 4616).
+    Plain {
+        /// The user name.
+        username: String,
+
+        /// The password.
+        password: String,
+    },
+
+    /// EXTERNAL (RFC 4422, appendix A).
+    External,
+
+    /// SCRAM-SHA-1.
+    ScramSha1(SaslScramSha1),
+
+    /// SCRAM-SHA-256.
+    ScramSha256(SaslScramSha256),
+
+    /// SCRAM-SHA-512.
+    ScramSha512(SaslScramSha512),
+}
+
+/// What a profile answers with.
+#[derive(Drop)]
+pub enum Negotiation {
+    /// An init, to the mechanisms of the server.
+    Init(SaslInit),
+
+    /// A response, to a challenge.
+    Response(SaslResponse),
+
+    /// The outcome that the server told, which ends the negotiation.
+    Outcome(SaslOutcome),
+}
+
+impl SaslProfile {
+    /// PLAIN for this user with this password. The words go out as they are.
+    pub fn plain(username: String, password: String) -> SaslProfile
+        ensures { profile_of result ≡ PlainProfile (string_bytes username) (string_bytes password) }
+    {
+        SaslProfile::Plain { username, password }
+    }
+
+    /// PLAIN for the user name and the password of an address, whose percent escapes stay as they
+    /// are. NoCredentials where one of the two is empty or absent.
+    pub fn from_url(alloc: Global, url: &Url) -> Result<SaslProfile, UrlError>
+        ensures ok { IfOk result (λ profile. profile_of profile ≡ PlainProfile url.now.username url.now.password) }
+        ensures both { IfOk result (λ _. HasCredentials url.now) }
+        ensures err { IfErr result (λ fault. RefusesUrl url.now fault) }
+    {
+        let username = url.username();
+        if username.is_empty() {
+            return Err(UrlError::NoCredentials);
+        }
+        let Some(password) = url.password() else {
+            return Err(UrlError::NoCredentials);
+        };
+        Ok(SaslProfile::Plain {
+            username: String::from_str(alloc, username)?,
+            password: String::from_str(alloc, password)?,
+        })
+    }
+
+    /// SCRAM of this version that has sent nothing, and refuses an iteration count above the limit.
+    pub(crate) fn scram(
+        username: String,
+        password: String,
+        version: ScramVersion,
+        limit: u32,
+    ) -> SaslProfile
+        ensures { profile_of result ≡ scram_profile (record {
+          version = version;
+          user = string_bytes username;
+          password =
+              string_bytes password;
+          limit = limit;
+        }) }
+    {
+        match version {
+            ScramVersion::Sha1 => {
+                SaslProfile::from(SaslScramSha1::new(username, password).with_iteration_limit(
+                    limit,
+                ))
+            }
+            ScramVersion::Sha256 => {
+                SaslProfile::from(SaslScramSha256::new(username, password).with_iteration_limit(
+                    limit,
+                ))
+            }
+            ScramVersion::Sha512 => {
+                SaslProfile::from(SaslScramSha512::new(username, password).with_iteration_limit(
+                    limit,
+                ))
+            }
+        }
+    }
+
+    /// The name of the mechanism.
+    pub(crate) fn name(&self) -> &'static str
+        ensures name { result.now ≡ profile_name (profile_of self.now) }
+        ensures ascii { IsAscii result.now }
+    {
+        match self {
+            SaslProfile::Anonymous => ANONYMOUS,
+            SaslProfile::Plain { .. } => PLAIN,
+            SaslProfile::External => EXTERNAL,
+            SaslProfile::ScramSha1(scram) => scram.client.version().mechanism(),
+            SaslProfile::ScramSha256(scram) => scram.client.version().mechanism(),
+            SaslProfile::ScramSha512(scram) => scram.client.version().mechanism(),
+        }
+    }
+
+    /// The name of the mechanism, as a symbol.
+    pub fn mechanism(&self, alloc: Global) -> Result<Symbol, OutOfMemory>
+        ensures { IfOk result (λ symbol. symbol ≡ profile_name (profile_of self.now)) }
+    {
+        symbol_of(alloc, self.name())
+    }
+
+    /// What the init says first: nothing for ANONYMOUS and EXTERNAL, the message of PLAIN, and for
+    /// SCRAM the client-first message of a fresh start, with a nonce of 32 bytes. A refusal leaves
+    /// the profile as it was.
+    pub fn initial_response(
+        &mut self,
+        alloc: Global,
+        nonce: &[u8; 32],
+    ) -> Result<Option<Binary>, OutOfMemory>
+        ensures ok { IfOk result (λ response.
+            option_map binary_bytes response ≡ initial_response (profile_of self.old) nonce.now) }
+        ensures started { OnOk result (profile_of self.new ≡ after_init (profile_of self.old) nonce.now) }
+        ensures err { OnErr result (profile_of self.new ≡ profile_of self.old) }
+    {
+        match self {
+            SaslProfile::Anonymous | SaslProfile::External => Ok(None),
+            SaslProfile::Plain { username, password } => {
+                Ok(Some(plain_message(alloc, username, password)?))
+            }
+            SaslProfile::ScramSha1(scram) => {
+                Ok(Some(first_message(&mut scram.client, alloc, nonce)?))
+            }
+            SaslProfile::ScramSha256(scram) => {
+                Ok(Some(first_message(&mut scram.client, alloc, nonce)?))
+            }
+            SaslProfile::ScramSha512(scram) => {
+                Ok(Some(first_message(&mut scram.client, alloc, nonce)?))
+            }
+        }
+    }
+
+    /// Answers a frame of the server: mechanisms with the profile's name by an init with this
+    /// hostname, a challenge by a response, an outcome by itself. NotImplemented for mechanisms
+    /// without the name, for a challenge to a profile other than SCRAM, and for an init or a
+    /// response; else what SCRAM refuses. A refusal leaves the profile as it was.
+    pub fn on_frame(
+        &mut self,
+        alloc: Global,
+        frame: Frame,
+        hostname: Option<&str>,
+        nonce: &[u8; 32],
+    ) -> Result<Negotiation, ProfileError>
+        ensures answer { ProfileAnswers (profile_of self.old) (shown hostname.entry) nonce.now (owned_frame frame)
+            (answered negotiated_frame result) (profile_of self.new) }
+        ensures err { OnErr result (profile_of self.new ≡ profile_of self.old) }
+    {
+        match frame {
+            Frame::Mechanisms(mechanisms) => {
+                if !has_name(&mechanisms, self.name()) {
+                    return Err(ProfileError::NotImplemented);
+                }
+                Ok(Negotiation::Init(self.start(alloc, hostname, nonce)?))
+            }
+            Frame::Challenge(challenge) => {
+                Ok(Negotiation::Response(self.respond(alloc, &challenge.challenge.0)?))
+            }
+            Frame::Outcome(outcome) => {
+                self.conclude(alloc, &outcome)?;
+                Ok(Negotiation::Outcome(outcome))
+            }
+            Frame::Init(_) | Frame::Response(_) => Err(ProfileError::NotImplemented),
+        }
+    }
+
+    /// Answers a frame that is read where it stands, as `on_frame` answers the frame that it shows.
+    pub fn on_view(
+        &mut self,
+        alloc: Global,
+        view: FrameView<'_>,
+        hostname: Option<&str>,
+        nonce: &[u8; 32],
+    ) -> Result<Negotiation, ProfileError>
+        ensures answer { ProfileAnswers (profile_of self.old) (shown hostname.entry) nonce.now (viewed_frame view.entry)
+            (answered negotiated_frame result) (profile_of self.new) }
+        ensures err { OnErr result (profile_of self.new ≡ profile_of self.old) }
+    {
+        match view {
+            FrameView::Mechanisms(names) => {
+                if !names.contains(self.name()) {
+                    return Err(ProfileError::NotImplemented);
+                }
+                Ok(Negotiation::Init(self.start(alloc, hostname, nonce)?))
+            }
+            FrameView::Challenge(challenge) => {
+                Ok(Negotiation::Response(self.respond(alloc, challenge)?))
+            }
+            FrameView::Outcome {
+                code,
+                additional_data,
+            } => {
+                let outcome = outcome_of(alloc, code, additional_data)?;
+                self.conclude(alloc, &outcome)?;
+                Ok(Negotiation::Outcome(outcome))
+            }
+            FrameView::Init { .. } | FrameView::Response(_) => Err(ProfileError::NotImplemented),
+        }
+    }
+
+    /// The init for a server that has the mechanism.
+    pub(crate) fn start(
+        &mut self,
+        alloc: Global,
+        hostname: Option<&str>,
+        nonce: &[u8; 32],
+    ) -> Result<SaslInit, OutOfMemory>
+        ensures ok { IfOk result (λ init. init_frame init ≡ Init (profile_name (profile_of self.old))
+            (initial_response (profile_of self.old) nonce.now) (shown hostname.entry)) }
+        ensures started { OnOk result (profile_of self.new ≡ after_init (profile_of self.old) nonce.now) }
+        ensures err { OnErr result (profile_of self.new ≡ profile_of self.old) }
+    {
+        let mechanism = self.mechanism(alloc)?;
+        let hostname = match hostname {
+            Some(hostname) => Some(String::from_str(alloc, hostname)?),
+            None => None,
+        };
+        let initial_response = self.initial_response(alloc, nonce)?;
+        Ok(SaslInit {
+            mechanism,
+            initial_response,
+            hostname,
+        })
+    }
+
+    /// Whether challenges are answered.
+    pub(crate) fn is_scram(&self) -> bool
+        ensures { result ≡ is_scram (profile_of self.now) }
+    {
+        match self {
+            SaslProfile::Anonymous | SaslProfile::Plain { .. } | SaslProfile::External => false,
+            SaslProfile::ScramSha1(_) | SaslProfile::ScramSha256(_) | SaslProfile::ScramSha512(_) =>
+                true,
+        }
+    }
+
+    /// The response to a challenge.
+    pub(crate) fn respond(
+        &mut self,
+        alloc: Global,
+        challenge: &[u8],
+    ) -> Result<SaslResponse, ProfileError>
+        ensures answer { (hostname : Option (List ℕ)) (nonce : List ℕ) → ProfileAnswers (profile_of self.old) hostname
+            nonce (Challenge challenge.now) (answered response_frame result) (profile_of self.new) }
+        ensures err { OnErr result (profile_of self.new ≡ profile_of self.old) }
+    {
+        match self {
+            SaslProfile::Anonymous | SaslProfile::Plain { .. } | SaslProfile::External => {
+                Err(ProfileError::NotImplemented)
+            }
+            SaslProfile::ScramSha1(scram) => answer(&mut scram.client, alloc, challenge),
+            SaslProfile::ScramSha256(scram) => answer(&mut scram.client, alloc, challenge),
+            SaslProfile::ScramSha512(scram) => answer(&mut scram.client, alloc, challenge),
+        }
+    }
+
+    /// Whether the outcome is reported.
+    pub(crate) fn conclude(
+        &mut self,
+        alloc: Global,
+        outcome: &SaslOutcome,
+    ) -> Result<(), ProfileError>
+        ensures answer { (hostname : Option (List ℕ)) (nonce : List ℕ) → ProfileAnswers (profile_of self.old) hostname
+            nonce (outcome_frame outcome.now) (answered (λ _. outcome_frame outcome.now) result)
+            (profile_of self.new) }
+        ensures err { OnErr result (profile_of self.new ≡ profile_of self.old) }
+    {
+        match self {
+            SaslProfile::Anonymous | SaslProfile::Plain { .. } | SaslProfile::External => Ok(()),
+            SaslProfile::ScramSha1(scram) => believe(&mut scram.client, alloc, outcome),
+            SaslProfile::ScramSha256(scram) => believe(&mut scram.client, alloc, outcome),
+            SaslProfile::ScramSha512(scram) => believe(&mut scram.client, alloc, outcome),
+        }
+    }
+}
+
+impl Clone for SaslProfile {
+    ghost is_clone = { λ profile copy. profile_of copy ≡ profile_of profile };
+
+    fn clone(&self) -> Result<Self, AllocError> {
+        Ok(match self {
+            SaslProfile::Anonymous => SaslProfile::Anonymous,
+            SaslProfile::Plain { username, password } => SaslProfile::Plain {
+                username: username.clone()?,
+                password: password.clone()?,
+            },
+            SaslProfile::External => SaslProfile::External,
+            SaslProfile::ScramSha1(scram) => SaslProfile::ScramSha1(scram.clone()?),
+            SaslProfile::ScramSha256(scram) => SaslProfile::ScramSha256(scram.clone()?),
+            SaslProfile::ScramSha512(scram) => SaslProfile::ScramSha512(scram.clone()?),
+        })
+    }
+}
+
+impl From<SaslScramSha1> for SaslProfile {
+    ghost from_gives = { λ scram profile. profile_of profile ≡ ScramProfile scram };
+
+    fn from(scram: SaslScramSha1) -> Self {
+        SaslProfile::ScramSha1(scram)
+    }
+}
+
+impl From<SaslScramSha256> for SaslProfile {
+    ghost from_gives = { λ scram profile. profile_of profile ≡ ScramProfile scram };
+
+    fn from(scram: SaslScramSha256) -> Self {
+        SaslProfile::ScramSha256(scram)
+    }
+}
+
+impl From<SaslScramSha512> for SaslProfile {
+    ghost from_gives = { λ scram profile. profile_of profile ≡ ScramProfile scram };
+
+    fn from(scram: SaslScramSha512) -> Self {
+        SaslProfile::ScramSha512(scram)
+    }
+}
+
+impl fmt::Debug for SaslProfile {
+    /// The mechanism and the user name, without the password.
+    fn fmt<W: fmt::Write>(&self, f: &mut fmt::Formatter<W>) -> fmt::Result {
+        match self {
+            SaslProfile::Anonymous => f.write_str("Anonymous"),
+            SaslProfile::Plain { username, .. } => {
+                write!(f, "Plain {{ username: {username:?}, .. }}")
+            }
+            SaslProfile::External => f.write_str("External"),
+            SaslProfile::ScramSha1(scram) => write!(f, "ScramSha1({scram:?})"),
+            SaslProfile::ScramSha256(scram) => write!(f, "ScramSha256({scram:?})"),
+            SaslProfile::ScramSha512(scram) => write!(f, "ScramSha512({scram:?})"),
+        }
+    }
+}
+
+impl fmt::Debug for Negotiation {
+    /// The mechanism of an init and the code of an outcome, without what the mechanism says.
+    fn fmt<W: fmt::Write>(&self, f: &mut fmt::Formatter<W>) -> fmt::Result {
+        match self {
+            Negotiation::Init(init) => {
+                let mechanism = init.mechanism.as_str();
+                write!(f, "Init {{ mechanism: {mechanism:?}, .. }}")
+            }
+            Negotiation::Response(_) => f.write_str("Response { .. }"),
+            Negotiation::Outcome(outcome) => {
+                let code = outcome.code;
+                write!(f, "Outcome {{ code: {code:?}, .. }}")
+            }
+        }
+    }
+}
+
+/// The message of PLAIN: no authorization identity, the user name and the password, the last two
+/// each behind a zero byte (RFC 4616, section 2).
+fn plain_message(alloc: Global, username: &str, password: &str) -> Result<Binary, OutOfMemory>
+    ensures { IfOk result (λ message. binary_bytes message ≡ 0 ∷ username.now ++ 0 ∷ password.now) }
+{
+    let mut message = Vec::with_capacity(alloc, 0)?;
+    message.push(0)?;
+    message.extend_from_slice(username.as_bytes())?;
+    message.push(0)?;
+    message.extend_from_slice(password.as_bytes())?;
+    Ok(Binary(message))
+}
+
+/// Whether the name stands among the mechanisms.
+fn has_name(mechanisms: &SaslMechanisms, name: &str) -> bool
+    ensures { IsTrue result ↔ Contains mechanisms.now.sasl_server_mechanisms.0.items name.now }
+{
+    for symbol in &mechanisms.sasl_server_mechanisms.0 {
+        if symbol.as_str() == name {
+            return true;
+        }
+    }
+    false
+}
+
+/// An outcome with a copy of its data.
+pub(crate) fn outcome_of(
+    alloc: Global,
+    code: SaslCode,
+    additional_data: Option<&[u8]>,
+) -> Result<SaslOutcome, OutOfMemory>
+    ensures ok { IfOk result (λ outcome. outcome_frame outcome ≡ Outcome code (shown additional_data.entry)) }
+    ensures err { IfErr result (λ _. IsSome (shown additional_data.entry)) }
+{
+    let additional_data = match additional_data {
+        Some(data) => Some(Binary(Vec::from_slice(alloc, data)?)),
+        None => None,
+    };
+    Ok(SaslOutcome {
+        code,
+        additional_data,
+    })
+}
