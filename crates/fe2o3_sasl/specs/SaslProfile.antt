@@ -1,5 +1,5 @@
 -- What a client's profile answers to one frame (AMQP 1.0, part 5, section 5.3.2).
-use Rattle.std.specs.Prelude.{◌≡◌, ◌≢◌, ◌⊎◌, ℕ, Bool, true, false, Option, Some, None, List, [], ◌∷◌, ◌++◌, codes, string_bytes, Result, Ok, Err}
+use Rattle.std.specs.Prelude.{◌≡◌, ◌≢◌, ◌⊎◌, ℕ, Option, Some, None, List, [], ◌∷◌, ◌++◌, codes, string_bytes, Result, Ok, Err}
 use Rattle.std.specs.List.{Contains}
 use Rattle.std.specs.Str.{IsUtf8}
 use Rattle.fe2o3_sasl_wire.specs.declared.amqp_types.SaslCode.TheVariants as outcomes
@@ -99,11 +99,6 @@ scram_profile login = ScramProfile (record {
   state = client_states.Initial;
 })
 
--- whether a profile answers challenges
-abbrev pub is_scram : Profile → Bool
-is_scram (ScramProfile client) = true
-is_scram profile = false
-
 -- what a profile answers to a frame: what its machine replies, or want of memory, where the profile stays
 abbrev pub ProfileAnswers : Profile → Option (List ℕ) → List ℕ → SaslFrame → Result SaslFrame ClientFault → Profile
     → Type 0
@@ -137,12 +132,12 @@ abbrev pub answered : {A : Type 0} → (A → SaslFrame) → Result A ProfileErr
 answered frame (Ok value) = Ok (frame value)
 answered frame (Err fault) = Err (client_fault fault)
 
--- the fault for a refusal of SCRAM, and for a frame that is not read or not written: want of memory is not inside
--- another
+-- the fault for a refusal of SCRAM: want of memory is not inside another fault
 abbrev pub fault_of_kind : ScramErrorKind → ProfileError
 fault_of_kind kinds.OutOfMemory = faults.OutOfMemory
 fault_of_kind kind = faults.Scram kind
 
+-- likewise for a frame that is not read or not written
 abbrev pub fault_of_frame : Error → ProfileError
 fault_of_frame wire_faults.OutOfMemory = faults.OutOfMemory
 fault_of_frame fault = faults.Frame fault

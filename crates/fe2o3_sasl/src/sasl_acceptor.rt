@@ -115,7 +115,8 @@ fn outcome(code: SaslCode) -> SaslServerFrame
 
 /// The part at place `k`, counted from 0, of bytes that are cut at each zero.
 fn zero_part(bytes: &[u8], k: usize) -> Option<&[u8]>
-    ensures { MatchOption result ((part : List ℕ) → ¬ ZeroPart bytes.now k part) (λ part. ZeroPart bytes.now k part.now) }
+    ensures { MatchOption result ((part : List ℕ) → ¬ ZeroPart bytes.now k part)
+        (λ part. ZeroPart bytes.now k part.now) }
 {
     bytes.split(|byte| *byte == 0).nth(k)
 }

@@ -8,7 +8,8 @@ ghost use Rattle.fe2o3_sasl_wire.specs.FrameView.{shown, viewed_frame};
 ghost use Rattle.fe2o3_sasl_wire.specs.Owned.{owned_frame};
 ghost use Rattle.fe2o3_sasl_wire.specs.SaslFrames.{Init, Challenge, Outcome};
 ghost use Rattle.fe2o3_scram.specs.ScramClient.{started};
-ghost use Rattle.fe2o3_sasl.specs.SaslProfile.{ScramProfile, PlainProfile, scram_profile, profile_name, initial_response, after_init, ProfileAnswers, RefusesUrl, HasCredentials, answered, is_scram, negotiated_frame, profile_of};
+ghost use Rattle.fe2o3_sasl.specs.SaslProfile.{ScramProfile, PlainProfile, scram_profile, profile_name, initial_response, after_init, ProfileAnswers, RefusesUrl, HasCredentials, answered, negotiated_frame, profile_of};
+ghost use Rattle.fe2o3_sasl.specs.private.Writing.{is_scram};
 
 mod error;
 mod scram;

@@ -1,11 +1,17 @@
--- How frames are written in the bodies of replies. Contracts of private functions alone cite this.
-use Rattle.std.specs.Prelude.{◌≡◌, ℕ, List, Option, Some, None, Result, Ok, Err}
+-- Which frames are answered, and how replies are written in bodies. Contracts of private functions alone cite this.
+use Rattle.std.specs.Prelude.{◌≡◌, ℕ, Bool, true, false, List, Option, Some, None, Result, Ok, Err}
 use Rattle.fe2o3_sasl_wire.specs.SaslFrames as frames
 use Rattle.fe2o3_sasl_wire.specs.SaslFrames.{SaslFrame}
 use Rattle.fe2o3_sasl_wire.specs.declared.sasl_frames.error.Error.{Error}
 use Rattle.fe2o3_sasl_wire.specs.declared.sasl_frames.error.Error.TheVariants as faults
 use Rattle.fe2o3_sasl.specs.declared.sasl_profile.error.ProfileError.{ProfileError}
 use Rattle.fe2o3_sasl.specs.declared.sasl_profile.error.ProfileError.TheVariants as profile_faults
+use Rattle.fe2o3_sasl.specs.SaslProfile.{Profile, ScramProfile}
+
+-- whether a profile answers challenges
+abbrev pub is_scram : Profile → Bool
+is_scram (ScramProfile client) = true
+is_scram profile = false
 
 -- an init or a response
 abbrev pub IsRequest : SaslFrame → Type 0

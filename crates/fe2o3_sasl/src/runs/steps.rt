@@ -7,9 +7,9 @@ ghost use Rattle.fe2o3_sasl_wire.specs.FrameView.{shown, viewed_frame};
 ghost use Rattle.fe2o3_sasl_wire.specs.Owned.{owned_frame};
 ghost use Rattle.fe2o3_sasl_wire.specs.SaslFrames.{canonical, RefusesFrame, Challenge as ChallengeFrame, Mechanisms as MechanismsFrame, Outcome as OutcomeFrame};
 ghost use Rattle.fe2o3_sasl.specs.SaslAcceptor.{sent_frame};
-ghost use Rattle.fe2o3_sasl.specs.SaslProfile.{profile_name, profile_of, is_scram};
+ghost use Rattle.fe2o3_sasl.specs.SaslProfile.{profile_name, profile_of};
 ghost use Rattle.fe2o3_sasl.specs.Runs.{AcceptorAnswers, AcceptorSteps, ProfileReplies, ProfileSteps, server_says, given, server_answer, server_reply, client_answer};
-ghost use Rattle.fe2o3_sasl.specs.private.Writing.{IsRequest, Writes, WritesBody};
+ghost use Rattle.fe2o3_sasl.specs.private.Writing.{is_scram, IsRequest, Writes, WritesBody};
 
 use crate::OutOfMemory;
 use crate::runs::events::{ClientReply, Event, ServerReply};

@@ -8,10 +8,10 @@ use Rattle.fe2o3_sasl_wire.specs.SaslFrames as frames
 use Rattle.fe2o3_sasl_wire.specs.SaslFrames.{SaslFrame, canonical}
 use Rattle.fe2o3_sasl.specs.Events.{ClientFault, NotImplemented, Scram, Frame, OutOfMemory, Started, Answered, Reported, Refused}
 use Rattle.fe2o3_sasl.specs.Runs.{ProfileReplies, Sends}
-use Rattle.fe2o3_sasl.specs.SaslProfile.{Profile, ScramProfile, PlainProfile, AnonymousProfile, ExternalProfile, profile_name, initial_response, after_init, profile_machine, ProfileAllocates, ProfileAnswers, client_fault, is_scram}
+use Rattle.fe2o3_sasl.specs.SaslProfile.{Profile, ScramProfile, PlainProfile, AnonymousProfile, ExternalProfile, profile_name, initial_response, after_init, profile_machine, ProfileAllocates, ProfileAnswers, client_fault}
 use Rattle.fe2o3_sasl.specs.declared.sasl_profile.error.ProfileError.{ProfileError}
 use Rattle.fe2o3_sasl.specs.declared.sasl_profile.error.ProfileError.TheVariants as profile_faults
-use Rattle.fe2o3_sasl.specs.private.Writing.{WritesBody}
+use Rattle.fe2o3_sasl.specs.private.Writing.{is_scram, WritesBody}
 
 -- a refusal of the profile is what it replies
 pub refusal_replies : (hostname : Option (List ℕ)) (profile : Profile) (nonce : List ℕ) (frame : SaslFrame)
