@@ -1,0 +1,53 @@
+//! Faults: their texts, and what they are made of.
+
+use fe2o3_sasl::OutOfMemory;
+use fe2o3_sasl::sasl_profile::{ProfileError, UrlError};
+use fe2o3_sasl::scram_messages::ScramErrorKind;
+use fe2o3_sasl_wire::Error;
+use std::test::Fail;
+
+/// A text for each kind of a profile's fault.
+static PROFILE_TEXTS: [(ProfileError, &str); 4] = [
+    (ProfileError::NotImplemented, "Not implemented"),
+    (ProfileError::Scram(ScramErrorKind::Utf8Error), "Scram"),
+    (ProfileError::Frame(Error::DecodeError), "Frame"),
+    (ProfileError::OutOfMemory, "OutOfMemory"),
+];
+
+#[test]
+fn texts_of_faults(rt: HostRuntime) -> Result<(), Fail> {
+    let alloc = rt.alloc();
+    for (fault, text) in &PROFILE_TEXTS {
+        assert_eq!(rt; fault.to_string(alloc)?.as_str(), *text);
+    }
+    for (fault, text) in [
+        (UrlError::NoCredentials, "NoCredentials"),
+        (UrlError::OutOfMemory, "OutOfMemory"),
+    ] {
+        assert_eq!(rt; fault.to_string(alloc)?.as_str(), text);
+    }
+    Ok(())
+}
+
+#[test]
+fn want_of_memory_is_inside_no_other_fault(rt: HostRuntime) {
+    let wanted = ProfileError::OutOfMemory;
+    assert_eq!(rt; ProfileError::from(OutOfMemory), wanted);
+    assert_eq!(rt; ProfileError::from(ScramErrorKind::OutOfMemory), wanted);
+    assert_eq!(rt; ProfileError::from(Error::OutOfMemory), wanted);
+    assert_eq!(rt; UrlError::from(OutOfMemory), UrlError::OutOfMemory);
+}
+
+#[test]
+fn other_faults_are_kept(rt: HostRuntime) {
+    for kind in [
+        ScramErrorKind::Utf8Error,
+        ScramErrorKind::IllegalClientState,
+        ScramErrorKind::IterationCountTooLarge,
+    ] {
+        assert_eq!(rt; ProfileError::from(kind), ProfileError::Scram(kind));
+    }
+    for fault in [Error::DecodeError, Error::NotImplemented, Error::TooLarge] {
+        assert_eq!(rt; ProfileError::from(fault), ProfileError::Frame(fault));
+    }
+}

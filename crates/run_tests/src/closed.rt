@@ -1,0 +1,84 @@
+//! An acceptor that the library does not know.
+
+ghost use Rattle.std.specs.Prelude.{◌≡◌, Bool, true, ℕ, List, [], IfOk, OnErr};
+ghost use Rattle.fe2o3_sasl_wire.specs.declared.amqp_types.SaslCode.TheVariants.{Sys};
+ghost use Rattle.fe2o3_sasl.specs.SaslAcceptor.{ends_with, sent_frame};
+
+use fe2o3_sasl::OutOfMemory;
+use fe2o3_sasl::sasl_acceptor::{SaslAcceptor, SaslServerFrame};
+use fe2o3_sasl_wire::{Array, SaslCode, SaslInit, SaslOutcome, SaslResponse, Symbol};
+use std::alloc::{AllocError, Global};
+
+/// A server that is closed: it names no mechanism, tells everyone to come again, and remembers
+/// whether anyone came.
+#[derive(Debug, Drop)]
+pub struct Closed {
+    asked: bool,
+}
+
+impl Closed {
+    /// A server that nobody has asked.
+    pub fn new() -> Closed {
+        Closed { asked: false }
+    }
+
+    /// Whether anyone has asked.
+    pub fn is_asked(&self) -> bool {
+        self.asked
+    }
+
+    /// What everyone is told.
+    fn turn_away(&mut self) -> SaslServerFrame
+        ensures reply { sent_frame result ≡ ends_with Sys }
+        ensures asked { self.new.asked ≡ true }
+    {
+        self.asked = true;
+        SaslServerFrame::Outcome(SaslOutcome {
+            code: SaslCode::Sys,
+            additional_data: None,
+        })
+    }
+}
+
+impl Clone for Closed {
+    ghost is_clone = { λ closed copy. copy ≡ closed };
+
+    fn clone(&self) -> Result<Closed, AllocError> {
+        Ok(Closed { asked: self.asked })
+    }
+}
+
+impl SaslAcceptor for Closed {
+    ghost State = { Bool };
+
+    ghost state = { λ closed. closed.asked };
+
+    ghost names = { λ _. [] };
+
+    ghost machine = { λ asked nonce frame reply next. (reply ≡ ends_with Sys) × (next ≡ true) };
+
+    ghost clone_keeps = { λ closed copy same i. (same i).asked };
+
+    fn mechanisms(&self, alloc: Global) -> Result<Array<Symbol>, OutOfMemory> {
+        Ok(Array(Vec::new(alloc)))
+    }
+
+    fn on_init(
+        &mut self,
+        _alloc: Global,
+        init: SaslInit,
+        _nonce: &[u8; 32],
+    ) -> Result<SaslServerFrame, OutOfMemory> {
+        drop(init);
+        Ok(self.turn_away())
+    }
+
+    fn on_response(
+        &mut self,
+        _alloc: Global,
+        response: SaslResponse,
+    ) -> Result<SaslServerFrame, OutOfMemory> {
+        drop(response);
+        Ok(self.turn_away())
+    }
+}

@@ -1,0 +1,108 @@
+//! Runs of SCRAM over bodies of frames, each with the replies of one side.
+
+use crate::Unconfirmed;
+use bytes::BytesMut;
+use fe2o3_sasl::credentials::SingleScramCredential;
+use fe2o3_sasl::hmac::ScramVersion;
+use fe2o3_sasl::runs::{ClientReply, Event, ServerReply, scram_client_run, scram_server_run};
+use fe2o3_sasl::sasl_profile::ProfileError;
+use fe2o3_sasl_wire::{Error, Frame, FrameCodec, SaslOutcome};
+use std::alloc::{AllocError, Global};
+
+/// A run as the file has it.
+#[derive(Drop)]
+struct Run<'a> {
+    /// The side, and what it is made of.
+    side: Vec<&'a str>,
+
+    /// What comes in.
+    events: Vec<Event>,
+
+    /// What is answered to each.
+    answers: Vec<&'a str>,
+}
+
+/// Checks the run that a paragraph spells, and answers how many events it has.
+pub fn check(alloc: Global, paragraph: &str) -> Result<usize, Unconfirmed> {
+    let run = read(alloc, paragraph)?;
+    let found = replies(alloc, &run.side, &run.events)?;
+    for (found, wanted) in found.into_iter().zip(run.answers.iter()) {
+        if found.as_str() != *wanted {
+            return Err(Unconfirmed::Other(found));
+        }
+    }
+    Ok(run.answers.len())
+}
+
+/// Reads a paragraph: a line for the side, and one for each event.
+fn read<'a>(alloc: Global, paragraph: &'a str) -> Result<Run<'a>, Unconfirmed> {
+    let mut run = Run {
+        side: Vec::new(alloc),
+        events: Vec::new(alloc),
+        answers: Vec::new(alloc),
+    };
+    for line in paragraph.lines() {
+        if line.is_empty() || line.starts_with('#') {
+            continue;
+        }
+        match line.split_once(" => ") {
+            Some((event, answer)) => {
+                run.events.push(event_of(alloc, event)?)?;
+                run.answers.push(answer)?;
+            }
+            None => {
+                for word in line.split(' ') {
+                    run.side.push(word)?;
+                }
+            }
+        }
+    }
+    Ok(run)
+}
+
+/// The event of a nonce and a body.
+fn event_of(alloc: Global, words: &str) -> Result<Event, Unconfirmed> {
+    let (nonce, body) = words.split_once(' ').ok_or(Unconfirmed::Malformed)?;
+    match Event::from_hex(alloc, nonce, body) {
+        Ok(event) => Ok(event),
+        Err(_) => Err(Unconfirmed::Malformed),
+    }
+}
+
+/// What the side answers to the events, in the words of the file.
+fn replies(alloc: Global, side: &[&str], events: &[Event]) -> Result<Vec<String>, Unconfirmed> {
+    match side {
+        ["server", version, user, password, salt] => {
+            let version = version_of(version)?;
+            let user = text_of(alloc, user)?;
+            let password = text_of(alloc, password)?;
+            let salt = Event::from_hex(alloc, salt, "")?.nonce;
+            let credential = SingleScramCredential::new(alloc, user, &password, version, salt)?;
+            server_words(alloc, &scram_server_run(alloc, &credential, events)?)
+        }
+        ["client", version, user, password] => {
+            let version = version_of(version)?;
+            let user = text_of(alloc, user)?;
+            let password = text_of(alloc, password)?;
+            client_words(alloc, &scram_client_run(alloc, &user, &password, version, events)?)
+        }
+        _ => Err(Unconfirmed::Malformed),
+    }
+}
+
+/// The version of this name.
+fn version_of(mechanism: &str) -> Result<ScramVersion, Unconfirmed> {
+    ScramVersion::from_mechanism(mechanism).ok_or(Unconfirmed::Malformed)
+}
+
+/// The text of hexadecimal digits, where `-` is the empty text.
+fn text_of(alloc: Global, digits: &str) -> Result<String, Unconfirmed> {
+    let digits = if digits == "-" { "" } else { digits };
+    let Ok(bytes) = hex::decode(alloc, digits) else {
+        return Err(Unconfirmed::Malformed);
+    };
+    match String::from_utf8(bytes) {
+        Ok(text) => Ok(text),
+        Err(_) => Err(Unconfirmed::Malformed),
+    }
+}
