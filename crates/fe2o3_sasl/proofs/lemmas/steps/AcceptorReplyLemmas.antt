@@ -29,16 +29,16 @@ init_answered provider other state next nonce mechanism text hostname answer rep
     inr (name, (answer, next, from, is, moved provider other next same))
 
 -- what is replied to one that is refused, where memory is not wanting
-pub init_refused : {X V E : Type 0} (sent : X → SaslFrame) (view : V → Option (List ℕ)) (provider other : Provider)
+pub init_refused : {X V E Allocates : Type 0} (sent : X → SaslFrame) (view : V → Option (List ℕ)) (provider other : Provider)
     (state next : ServerState) (nonce mechanism text : List ℕ) (hostname : Option (List ℕ))
     (kind : ServerScramErrorKind) (result : Result X E)
     → other ≡ provider → mechanism ≡ mechanism_name provider.version
-    → Gives OutOfMemory view (Err kind) (λ answer. ChallengesFrom state provider nonce text answer next)
+    → Gives OutOfMemory Allocates view (Err kind) (λ answer. ChallengesFrom state provider nonce text answer next)
     → IfOk result (λ frame. (kind ≢ OutOfMemory) × (sent frame ≡ ends_with outcomes.Auth))
     → IfOk result (λ frame. acceptor_machine (ScramAcceptor provider state) nonce
     (frames.Init mechanism (Some text) hostname) (sent frame) (ScramAcceptor other next))
 init_refused sent view provider other state next nonce mechanism text hostname kind (Ok frame) same name from is =
-    inr (name, (Err kind, next, from is.0, is.1, moved provider other next same))
+    inr (name, (Err kind, next, from.1 is.0, is.1, moved provider other next same))
 init_refused sent view provider other state next nonce mechanism text hostname kind (Err fault) same name from is = tt
 
 -- what is replied to a response that has an answer
@@ -51,13 +51,13 @@ response_answered provider other state next nonce text answer reply same from is
     (answer, next, from, is, moved provider other next same)
 
 -- what is replied to one that is refused, where memory is not wanting
-pub response_refused : {X V E : Type 0} (sent : X → SaslFrame) (view : V → Option (List ℕ)) (provider other : Provider)
+pub response_refused : {X V E Allocates : Type 0} (sent : X → SaslFrame) (view : V → Option (List ℕ)) (provider other : Provider)
     (state next : ServerState) (text : List ℕ) (kind : ServerScramErrorKind) (result : Result X E)
     → other ≡ provider
-    → Gives OutOfMemory view (Err kind) (λ answer. ConcludesFrom state provider text answer next)
+    → Gives OutOfMemory Allocates view (Err kind) (λ answer. ConcludesFrom state provider text answer next)
     → IfOk result (λ frame. (kind ≢ OutOfMemory) × (sent frame ≡ ends_with outcomes.Auth))
     → IfOk result (λ frame. (nonce : List ℕ) → acceptor_machine (ScramAcceptor provider state) nonce
     (frames.Response text) (sent frame) (ScramAcceptor other next))
 response_refused sent view provider other state next text kind (Ok frame) same from is =
-    λ nonce. (Err kind, next, from is.0, is.1, moved provider other next same)
+    λ nonce. (Err kind, next, from.1 is.0, is.1, moved provider other next same)
 response_refused sent view provider other state next text kind (Err fault) same from is = tt

@@ -37,9 +37,9 @@ kind_cases kinds.IllegalClientState = inr (λ e. absurd (cc), refl)
 kind_cases kinds.ServerSignatureMismatch = inr (λ e. absurd (cc), refl)
 
 -- a challenge that the client refuses
-pub challenge_refused : {V : Type 0} (view : V → List ℕ) (client next : ClientSide) (hostname : Option (List ℕ))
+pub challenge_refused : {V Allocates : Type 0} (view : V → List ℕ) (client next : ClientSide) (hostname : Option (List ℕ))
     (nonce text : List ℕ) (kind : ScramErrorKind) → IsUtf8 text → next ≡ client
-    → Gives kinds.OutOfMemory view (Err kind) (λ answer. AnswersIn client.state client text answer next)
+    → Gives kinds.OutOfMemory Allocates view (Err kind) (λ answer. AnswersIn client.state client text answer next)
     → ProfileAnswers (ScramProfile client) hostname nonce (frames.Challenge text)
     (Err (client_fault (fault_of_kind kind))) (ScramProfile next)
 challenge_refused view client next hostname nonce text kind utf8 same from = go (kind_cases kind)
@@ -55,7 +55,7 @@ challenge_refused view client next hostname nonce text kind utf8 same from = go 
     go : KindCases kind → ProfileAnswers (ScramProfile client) hostname nonce (frames.Challenge text)
         (Err (client_fault (fault_of_kind kind))) (ScramProfile next)
     go (inl h) = refused faults.OutOfMemory h.1 (tt, ap (λ (side : ClientSide). ScramProfile side) same)
-    go (inr h) = refused (faults.Scram kind) h.1 (inr (utf8, (Err kind, next, from h.0, refl, refl)))
+    go (inr h) = refused (faults.Scram kind) h.1 (inr (utf8, (Err kind, next, from.1 h.0, refl, refl)))
 
 -- ---- the search for a name
 
