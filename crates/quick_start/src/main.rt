@@ -1,10 +1,13 @@
-//! A login with SCRAM-SHA-256: a client and a server in one program, which prints their messages.
+//! Two logins with SCRAM-SHA-256, each of a client and a server in one program: over texts, whose
+//! messages it prints, and over frame bodies.
 #![tactic(auto)]
 
 mod client;
+mod frames;
 mod server;
 
 use crate::client::{Connection, log_in};
+use crate::frames::{ServerEnd, log_in_over_frames};
 use crate::server::Server;
 use anyhow::Result;
 use std::alloc::Global;
@@ -52,5 +55,7 @@ fn main(rt: HostRuntime) -> Result<()> {
         output: &mut output,
     };
     log_in(rt.alloc(), &mut connection)?;
-    connection.print(b"logged in")
+    connection.print(b"logged in")?;
+    log_in_over_frames(rt.alloc(), &mut ServerEnd::new(rt.alloc())?)?;
+    connection.print(b"logged in over frames")
 }
