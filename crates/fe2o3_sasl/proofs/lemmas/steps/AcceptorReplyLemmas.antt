@@ -1,5 +1,5 @@
 -- What the machine of a SCRAM acceptor replies, from what a SCRAM server answers.
-use Rattle.std.proofs.Common.{◌≡◌, ◌≢◌, ℕ, Option, Some, List, refl, ap, ◌∙◌, inr, Result, Ok, Err}
+use Rattle.std.proofs.Common.{◌≡◌, ◌≢◌, ℕ, Option, Some, List, ap, inr, Result, Ok, Err}
 use Rattle.std.specs.Prelude.{IfOk}
 use Rattle.fe2o3_sasl_wire.specs.declared.amqp_types.SaslCode.TheVariants as outcomes
 use Rattle.fe2o3_sasl_wire.specs.SaslFrames as frames
@@ -10,7 +10,7 @@ use Rattle.fe2o3_scram.specs.Credentials.{Provider}
 use Rattle.fe2o3_scram.specs.Hmac.{mechanism_name}
 use Rattle.fe2o3_scram.specs.Readings.{Gives}
 use Rattle.fe2o3_scram.specs.ScramServer.{ServerState, ChallengesFrom, ConcludesFrom}
-use Rattle.fe2o3_sasl.specs.SaslAcceptor.{Acceptor, ScramAcceptor, acceptor_machine, ends_with, server_frame}
+use Rattle.fe2o3_sasl.specs.SaslAcceptor.{ScramAcceptor, acceptor_machine, ends_with, server_frame}
 
 -- the acceptor of the same provider in another state
 moved : (provider other : Provider) (next : ServerState) → other ≡ provider

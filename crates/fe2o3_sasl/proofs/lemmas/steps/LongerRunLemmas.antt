@@ -1,5 +1,5 @@
 -- A run goes on by one step, and what holds of every history holds of a run from a fresh start.
-use Rattle.std.proofs.Common.{◌≡◌, ℕ, Option, None, List, [], ◌∷◌, ◌++◌, ◌+◌, ◌<◌, map, length, take, get_or, refl, sym, ap, ◌∙◌, subst, Result, Ok, Err}
+use Rattle.std.proofs.Common.{◌≡◌, ℕ, None, List, [], ◌∷◌, ◌++◌, ◌+◌, ◌<◌, map, length, take, get_or, refl, sym, ap, ◌∙◌, subst, Result, Ok, Err}
 use Rattle.std.specs.Prelude.{IfOk}
 use Rattle.std.proofs.lemmas.List.{take_more, map-append}
 use Rattle.fe2o3_sasl.specs.Events.{Given, Login, ServerSays, ClientSays}

@@ -1,5 +1,4 @@
 use Rattle.std.proofs.Common.{◌∙◌, ap, map}
-use Rattle.fe2o3_scram.specs.ScramServer as server_states
 use Rattle.fe2o3_sasl.specs.Runs.{given, server_answer}
 use Rattle.fe2o3_sasl.specs.SaslAcceptor.{ScramAcceptor}
 use Rattle.fe2o3_sasl.proofs.lemmas.steps.LongerRunLemmas.{if_ok_map, server_run_is_history}
