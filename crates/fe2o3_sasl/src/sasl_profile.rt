@@ -7,7 +7,6 @@ ghost use Rattle.fe2o3_sasl_wire.specs.AmqpTypes.{binary_bytes, init_frame, resp
 ghost use Rattle.fe2o3_sasl_wire.specs.FrameView.{shown, viewed_frame};
 ghost use Rattle.fe2o3_sasl_wire.specs.Owned.{owned_frame};
 ghost use Rattle.fe2o3_sasl_wire.specs.SaslFrames.{Init, Challenge, Outcome};
-ghost use Rattle.fe2o3_scram.specs.ScramClient.{started};
 ghost use Rattle.fe2o3_sasl.specs.SaslProfile.{ScramProfile, PlainProfile, scram_profile, profile_name, initial_response, after_init, ProfileAnswers, RefusesUrl, HasCredentials, answered, negotiated_frame, profile_of};
 ghost use Rattle.fe2o3_sasl.specs.private.Writing.{is_scram};
 
@@ -21,6 +20,7 @@ use fe2o3_sasl_wire::{
     Binary, Frame, FrameView, SaslCode, SaslInit, SaslMechanisms, SaslOutcome, SaslResponse, Symbol,
 };
 use fe2o3_scram::hmac::ScramVersion;
+use fe2o3_scram::scram_client::ScramClient;
 pub use scram::{SaslScramSha1, SaslScramSha256, SaslScramSha512};
 use scram::{answer, believe, first_message};
 use std::alloc::{AllocError, Global};
@@ -111,22 +111,11 @@ impl SaslProfile {
           limit = limit;
         }) }
     {
+        let client = ScramClient::new(username, password, version).with_iteration_limit(limit);
         match version {
-            ScramVersion::Sha1 => {
-                SaslProfile::from(SaslScramSha1::new(username, password).with_iteration_limit(
-                    limit,
-                ))
-            }
-            ScramVersion::Sha256 => {
-                SaslProfile::from(SaslScramSha256::new(username, password).with_iteration_limit(
-                    limit,
-                ))
-            }
-            ScramVersion::Sha512 => {
-                SaslProfile::from(SaslScramSha512::new(username, password).with_iteration_limit(
-                    limit,
-                ))
-            }
+            ScramVersion::Sha1 => SaslProfile::ScramSha1(SaslScramSha1 { client }),
+            ScramVersion::Sha256 => SaslProfile::ScramSha256(SaslScramSha256 { client }),
+            ScramVersion::Sha512 => SaslProfile::ScramSha512(SaslScramSha512 { client }),
         }
     }
 

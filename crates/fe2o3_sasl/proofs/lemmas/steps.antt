@@ -1,5 +1,6 @@
 pub mod AcceptorReplyLemmas
 pub mod HexEventLemmas
+pub mod HexTextLemmas
 pub mod LongerRunLemmas
 pub mod ProfileReplyLemmas
 pub mod WrittenReplyLemmas

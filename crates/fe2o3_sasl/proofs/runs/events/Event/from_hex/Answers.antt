@@ -1,6 +1,22 @@
-use Rattle.fe2o3_sasl.proofs.lemmas.steps.HexEventLemmas.{nonce_refused}
+use Rattle.std.proofs.Common.{rules, inl, inr}
+use Rattle.fe2o3_sasl.proofs.lemmas.steps.HexEventLemmas.{event_read, nonce_refused, body_refused}
 use Rattle.fe2o3_sasl.proofs.runs.events.Event.from_hex.Goals as goal
 
 pub returns-in_default-clause-err : goal.returns-in_default-clause-err
 returns-in_default-clause-err c =
     nonce_refused c.args.nonce.now c.args.body.now c.in_default.field-0 c.in_default.ensures
+
+pub returns-in-Ok-decode-clause-ok : goal.returns-in-Ok-decode-clause-ok
+returns-in-Ok-decode-clause-ok c =
+    event_read c.args.nonce.now c.args.body.now c.in-Ok.nonce c.in-Ok-decode.body.items c.in-Ok.ensures
+    c.in-Ok-decode.ensures.ok
+
+pub returns-in-Err : goal.returns-in-Err
+returns-in-Err c =
+    record {
+      ok = tt;
+      err = λ event spells. elim c.in-Err.ensures.err [
+        | inl memory ↦ absurd (search rules)
+        | inr is ↦ body_refused c.args.nonce.now c.args.body.now c.in-Err.field-0 is event spells
+      ];
+    }
