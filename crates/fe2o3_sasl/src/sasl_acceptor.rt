@@ -1,7 +1,7 @@
 //! The server's side of a negotiation: what it answers to an init and to a response (AMQP 1.0, part
 //! 5, section 5.3.2).
 
-ghost use Rattle.std.specs.Prelude.{◌≡◌, ◌≢◌, ◌↔◌, ⊤, Ok, Some, ℕ, List, [], ◌∷◌, true, refl, IfOk, IsOk, OnErr, MatchOption, IsAscii, option_map, string_bytes};
+ghost use Rattle.std.specs.Prelude.{◌≡◌, ◌≢◌, ◌↔◌, ⊤, Ok, Some, ℕ, List, [], ◌∷◌, true, refl, IfOk, IfErr, IsOk, OnErr, MatchOption, IsAscii, option_map, string_bytes};
 ghost use Rattle.fe2o3_sasl_wire.specs.AmqpTypes.{init_frame, response_frame, mechanisms_frame};
 ghost use Rattle.fe2o3_sasl_wire.specs.SaslFrames.{SaslFrame, Mechanisms, Challenge, Outcome};
 ghost use Rattle.fe2o3_sasl_wire.specs.declared.amqp_types.SaslCode.TheVariants.{Ok as OkCode, Auth};
@@ -373,7 +373,8 @@ fn conclusion(answer: Option<Vec<u8>>) -> SaslServerFrame
 
 /// A refusal is Auth. Want of memory is none.
 fn refusal(kind: ServerScramErrorKind) -> Result<SaslServerFrame, OutOfMemory>
-    ensures { IfOk result (λ frame. (kind ≢ ScramOutOfMemory) × (sent_frame frame ≡ ends_with Auth)) }
+    ensures auth { IfOk result (λ frame. (kind ≢ ScramOutOfMemory) × (sent_frame frame ≡ ends_with Auth)) }
+    ensures memory { IfErr result (λ _. kind ≡ ScramOutOfMemory) }
 {
     match kind {
         ServerScramErrorKind::OutOfMemory => Err(OutOfMemory),

@@ -27,4 +27,4 @@ returns-clause-ok g c =
     (state_in c.args.self.now) (state_in c.compute_server_first_message.new.self) c.args.nonce.now
     c.args.init.mechanism c.in-Some.client_first.0.items (option_map string_bytes c.args.init.hostname)
     c.in-Err.kind c.refusal.result (ap (λ p. m.meaning p) c.compute_server_first_message.ensures.provider)
-    (search rules) answers c.refusal.ensures)
+    (search rules) answers c.refusal.ensures.auth)

@@ -23,4 +23,4 @@ returns-clause-ok g c =
     response_refused sent_frame (option_map (λ (message : Vec ℕ Global). message.items))
     (m.meaning (provider_in c.args.self.now)) (m.meaning (provider_in c.compute_server_final_message.new.self))
     (state_in c.args.self.now) (state_in c.compute_server_final_message.new.self) _ c.in-Err.kind c.refusal.result
-    (ap (λ p. m.meaning p) c.compute_server_final_message.ensures.provider) answers c.refusal.ensures
+    (ap (λ p. m.meaning p) c.compute_server_final_message.ensures.provider) answers c.refusal.ensures.auth
