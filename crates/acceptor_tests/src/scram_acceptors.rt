@@ -48,21 +48,50 @@ fn on_response<A: SaslAcceptor>(
     in_words(alloc, &reply)
 }
 
+/// Hands in the client-first message, which is challenged.
+fn is_challenged<A: SaslAcceptor, R: Abort + AllocGlobal>(
+    rt: &R,
+    acceptor: &mut A,
+    mechanism: &str,
+) -> Result<(), Fail> {
+    let reply = on_init(rt.alloc(), acceptor, mechanism, Some(CLIENT_FIRST))?;
+    let wanted = challenge(rt.alloc())?;
+    assert_eq!(rt; reply, wanted, "{mechanism}");
+    Ok(())
+}
+
+/// Hands in the client-final message, which is accepted.
+fn is_accepted<A: SaslAcceptor, R: Abort + AllocGlobal>(
+    rt: &R,
+    acceptor: &mut A,
+    login: &Login,
+) -> Result<(), Fail> {
+    let reply = on_response(rt.alloc(), acceptor, login.client_final)?;
+    let wanted = outcome(rt.alloc(), login)?;
+    assert_eq!(rt; reply, wanted);
+    Ok(())
+}
+
+/// Hands in a response, which is refused.
+fn is_refused<A: SaslAcceptor, R: Abort + AllocGlobal>(
+    rt: &R,
+    acceptor: &mut A,
+    message: &str,
+) -> Result<(), Fail> {
+    let reply = on_response(rt.alloc(), acceptor, message)?;
+    assert_eq!(rt; reply.as_str(), "Outcome Auth", "{message}");
+    Ok(())
+}
+
 /// Logs in, and then sends the same response again.
 fn logs_in_once<A: SaslAcceptor, R: Abort + AllocGlobal>(
     rt: &R,
     acceptor: &mut A,
     login: &Login,
 ) -> Result<(), Fail> {
-    let alloc = rt.alloc();
-    let mechanism = login.version.mechanism();
-    let reply = on_init(alloc, acceptor, mechanism, Some(CLIENT_FIRST))?;
-    assert_eq!(rt; reply, challenge(alloc)?, "{mechanism}");
-    let reply = on_response(alloc, acceptor, login.client_final)?;
-    assert_eq!(rt; reply, outcome(alloc, login)?, "{mechanism}");
-    let reply = on_response(alloc, acceptor, login.client_final)?;
-    assert_eq!(rt; reply.as_str(), "Outcome Auth", "{mechanism}");
-    Ok(())
+    is_challenged(rt, acceptor, login.version.mechanism())?;
+    is_accepted(rt, acceptor, login)?;
+    is_refused(rt, acceptor, login.client_final)
 }
 
 #[test]
@@ -100,57 +129,48 @@ static REFUSED_INITS: [(&str, Option<&str>); 9] = [
 
 #[test]
 fn a_refused_init_is_auth_and_changes_nothing(rt: HostRuntime) -> Result<(), Fail> {
-    let alloc = rt.alloc();
     let login = &LOGINS[1];
-    let mut acceptor = ScramAuthenticator::new(credential(alloc, login.version)?);
-    let reply = on_init(alloc, &mut acceptor, "SCRAM-SHA-256", Some(CLIENT_FIRST))?;
-    assert_eq!(rt; reply, challenge(alloc)?);
+    let mut acceptor = ScramAuthenticator::new(credential(rt.alloc(), login.version)?);
+    is_challenged(&rt, &mut acceptor, "SCRAM-SHA-256")?;
     for (mechanism, message) in &REFUSED_INITS {
-        let reply = on_init(alloc, &mut acceptor, mechanism, *message)?;
+        let reply = on_init(rt.alloc(), &mut acceptor, mechanism, *message)?;
         assert_eq!(rt; reply.as_str(), "Outcome Auth", "{mechanism} {message:?}");
     }
-    for message in ["", "c=biws,r=x,p=AAAA", WRONG_PROOF] {
-        let reply = on_response(alloc, &mut acceptor, message)?;
-        assert_eq!(rt; reply.as_str(), "Outcome Auth", "{message}");
-    }
-    let reply = on_response(alloc, &mut acceptor, login.client_final)?;
-    assert_eq!(rt; reply, outcome(alloc, login)?);
-    Ok(())
+    is_accepted(&rt, &mut acceptor, login)
 }
 
 #[test]
-fn a_response_needs_a_challenge(rt: HostRuntime) -> Result<(), Fail> {
-    let alloc = rt.alloc();
+fn a_refused_response_is_auth_and_changes_nothing(rt: HostRuntime) -> Result<(), Fail> {
     let login = &LOGINS[1];
-    let mut acceptor = ScramAuthenticator::new(credential(alloc, login.version)?);
-    let reply = on_response(alloc, &mut acceptor, login.client_final)?;
-    assert_eq!(rt; reply.as_str(), "Outcome Auth");
-    Ok(())
+    let mut acceptor = ScramAuthenticator::new(credential(rt.alloc(), login.version)?);
+    // There is no challenge yet.
+    is_refused(&rt, &mut acceptor, login.client_final)?;
+    is_challenged(&rt, &mut acceptor, "SCRAM-SHA-256")?;
+    for message in ["", "c=biws,r=x,p=AAAA", WRONG_PROOF] {
+        is_refused(&rt, &mut acceptor, message)?;
+    }
+    is_accepted(&rt, &mut acceptor, login)
 }
 
 #[test]
 fn a_hostname_says_nothing(rt: HostRuntime) -> Result<(), Fail> {
     let alloc = rt.alloc();
     let mut acceptor = ScramAuthenticator::new(credential(alloc, ScramVersion::Sha256)?);
-    for hostname in ["", "example.com"] {
-        let mut login = init(alloc, "SCRAM-SHA-256", Some(CLIENT_FIRST))?;
-        login.hostname = Some(hostname.to_string(alloc)?);
-        let reply = acceptor.on_init(alloc, login, &[2; 32])?;
-        assert_eq!(rt; in_words(alloc, &reply)?, challenge(alloc)?, "{hostname}");
-    }
+    let mut login = init(alloc, "SCRAM-SHA-256", Some(CLIENT_FIRST))?;
+    login.hostname = Some("example.com".to_string(alloc)?);
+    let reply = acceptor.on_init(alloc, login, &[2; 32])?;
+    let found = in_words(alloc, &reply)?;
+    let wanted = challenge(alloc)?;
+    assert_eq!(rt; found, wanted);
     Ok(())
 }
 
 #[test]
 fn a_clone_stands_where_the_acceptor_stood(rt: HostRuntime) -> Result<(), Fail> {
-    let alloc = rt.alloc();
     let login = &LOGINS[1];
-    let mut acceptor = ScramAuthenticator::new(credential(alloc, login.version)?);
-    on_init(alloc, &mut acceptor, "SCRAM-SHA-256", Some(CLIENT_FIRST))?;
+    let mut acceptor = ScramAuthenticator::new(credential(rt.alloc(), login.version)?);
+    is_challenged(&rt, &mut acceptor, "SCRAM-SHA-256")?;
     let mut copy = acceptor.clone()?;
-    for side in [&mut acceptor, &mut copy] {
-        let reply = on_response(alloc, side, login.client_final)?;
-        assert_eq!(rt; reply, outcome(alloc, login)?);
-    }
-    Ok(())
+    is_accepted(&rt, &mut acceptor, login)?;
+    is_accepted(&rt, &mut copy, login)
 }

@@ -176,16 +176,28 @@ fn another_challenge_changes_nothing(rt: HostRuntime) -> Result<(), Fail> {
     believe(&rt, &mut profile, login)
 }
 
+/// A count as high as the limit is accepted.
+fn is_accepted<R: Abort + AllocGlobal>(rt: &R, login: &Login) -> Result<(), Fail> {
+    let mut bounded = profile(rt.alloc(), login.version, "pencil", 4096)?;
+    start(rt, &mut bounded)?;
+    let mut copy = bounded.clone()?;
+    respond(rt, &mut copy, login)
+}
+
+/// A count above the limit is refused.
+fn is_refused<R: Abort + AllocGlobal>(rt: &R, login: &Login) -> Result<(), Fail> {
+    let mut bounded = profile(rt.alloc(), login.version, "pencil", 4095)?;
+    start(rt, &mut bounded)?;
+    let mut copy = bounded.clone()?;
+    let wanted = "Scram(IterationCountTooLarge)";
+    on_challenge(rt, &mut copy, SERVER_FIRST.as_bytes(), wanted)
+}
+
 #[test]
 fn each_version_keeps_its_limit(rt: HostRuntime) -> Result<(), Fail> {
     for login in &LOGINS {
-        let mut bounded = profile(rt.alloc(), login.version, "pencil", 4096)?;
-        start(&rt, &mut bounded)?;
-        respond(&rt, &mut bounded.clone()?, login)?;
-        let mut bounded = profile(rt.alloc(), login.version, "pencil", 4095)?.clone()?;
-        start(&rt, &mut bounded)?;
-        let wanted = "Scram(IterationCountTooLarge)";
-        on_challenge(&rt, &mut bounded, SERVER_FIRST.as_bytes(), wanted)?;
+        is_accepted(&rt, login)?;
+        is_refused(&rt, login)?;
     }
     Ok(())
 }

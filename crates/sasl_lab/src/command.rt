@@ -1,15 +1,19 @@
 //! The words of the program.
 
 use crate::client_final::ClientFinal;
+use crate::login::Login;
 use crate::stop::Stop;
 use std::alloc::Global;
 use std::io::Write;
 
 /// What the words ask for.
-#[derive(Debug, Drop)]
+#[derive(Drop)]
 pub enum Command<'a> {
     /// The client's answer to a server-first message.
     ClientFinal(ClientFinal<'a>),
+
+    /// The bodies of a login.
+    Login(Login<'a>),
 }
 
 impl<'a> Command<'a> {
@@ -18,6 +22,7 @@ impl<'a> Command<'a> {
         let (first, rest) = words.split_first()?;
         match first.as_str() {
             "client-final" => Some(Command::ClientFinal(ClientFinal::from_words(rest)?)),
+            "login" => Some(Command::Login(Login::from_words(rest)?)),
             _ => None,
         }
     }
@@ -26,6 +31,7 @@ impl<'a> Command<'a> {
     pub fn run<W: Write>(&self, alloc: Global, output: &mut W) -> Result<(), Stop> {
         match self {
             Command::ClientFinal(client_final) => client_final.run(alloc, output),
+            Command::Login(login) => login.run(alloc, output),
         }
     }
 }

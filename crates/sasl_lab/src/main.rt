@@ -1,8 +1,12 @@
-//! The program `sasl_lab`, which makes SCRAM messages from the words that it is given.
+//! The program `sasl_lab`, which makes SCRAM messages and whole logins from the words that it is
+//! given.
 #![tactic(auto)]
 
 mod client_final;
 mod command;
+mod login;
+#[cfg(test)]
+mod login_tests;
 mod stop;
 #[cfg(test)]
 mod tests;

@@ -1,6 +1,7 @@
 //! What stops the program before its end.
 
-use fe2o3_sasl::ScramErrorKind;
+use fe2o3_sasl::{ProfileError, ScramErrorKind, ServerScramErrorKind};
+use fe2o3_sasl_wire::{Error, SaslCode};
 use std::alloc::{AllocError, AllocFailed};
 use std::io;
 use std::io::Write;
@@ -14,8 +15,17 @@ pub enum Stop {
     /// The words could not be read.
     Input,
 
-    /// A SCRAM message was refused.
+    /// The client refused a SCRAM message.
     Scram(ScramErrorKind),
+
+    /// The server refused a password.
+    Server(ServerScramErrorKind),
+
+    /// A frame was not read, not written, or not implemented.
+    Frame(Error),
+
+    /// The negotiation ended otherwise than by Ok.
+    Outcome(SaslCode),
 
     /// A request for memory was refused.
     OutOfMemory,
@@ -47,6 +57,9 @@ impl Stop {
             Stop::WrongWords => writeln!(output, "wrong words"),
             Stop::Input => writeln!(output, "refused Input"),
             Stop::Scram(kind) => writeln!(output, "refused {kind:?}"),
+            Stop::Server(kind) => writeln!(output, "refused {kind:?}"),
+            Stop::Frame(fault) => writeln!(output, "refused {fault:?}"),
+            Stop::Outcome(code) => writeln!(output, "refused {code:?}"),
             Stop::OutOfMemory => writeln!(output, "refused OutOfMemory"),
             Stop::Output => Ok(()),
         }
@@ -55,7 +68,13 @@ impl Stop {
     fn status(&self) -> u8 {
         match self {
             Stop::WrongWords => 2,
-            Stop::Input | Stop::Scram(_) | Stop::OutOfMemory | Stop::Output => 1,
+            Stop::Input
+            | Stop::Scram(_)
+            | Stop::Server(_)
+            | Stop::Frame(_)
+            | Stop::Outcome(_)
+            | Stop::OutOfMemory
+            | Stop::Output => 1,
         }
     }
 }
@@ -63,6 +82,29 @@ impl Stop {
 impl From<ScramErrorKind> for Stop {
     fn from(kind: ScramErrorKind) -> Stop {
         Stop::Scram(kind)
+    }
+}
+
+impl From<ServerScramErrorKind> for Stop {
+    fn from(kind: ServerScramErrorKind) -> Stop {
+        Stop::Server(kind)
+    }
+}
+
+impl From<Error> for Stop {
+    fn from(fault: Error) -> Stop {
+        Stop::Frame(fault)
+    }
+}
+
+impl From<ProfileError> for Stop {
+    fn from(fault: ProfileError) -> Stop {
+        match fault {
+            ProfileError::NotImplemented => Stop::Frame(Error::NotImplemented),
+            ProfileError::Scram(kind) => Stop::Scram(kind),
+            ProfileError::Frame(fault) => Stop::Frame(fault),
+            ProfileError::OutOfMemory => Stop::OutOfMemory,
+        }
     }
 }
 

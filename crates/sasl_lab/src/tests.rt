@@ -230,7 +230,7 @@ static RUNS: [(&str, &str, u8); 36] = [
 ];
 
 /// The words of a command line behind the program's name, each cut at one space.
-fn words_of(alloc: Global, line: &str) -> Result<Vec<String>, AllocError> {
+pub fn words_of(alloc: Global, line: &str) -> Result<Vec<String>, AllocError> {
     let mut words = Vec::new(alloc);
     for word in line.split(' ').skip(1) {
         words.push(String::from_str(alloc, word)?)?;
@@ -324,10 +324,26 @@ fn names_each_refusal(rt: HostRuntime) -> Result<(), Fail> {
 
 /// A writer with room for so many bytes, which then refuses every write.
 #[derive(Drop)]
-struct Full {
+pub struct Full {
     room: usize,
     written: Vec<u8>,
     refused: u32,
+}
+
+impl Full {
+    /// A writer with this much room.
+    pub fn new(alloc: Global, room: usize) -> Full {
+        Full {
+            room,
+            written: Vec::new(alloc),
+            refused: 0,
+        }
+    }
+
+    /// Whether it holds the beginning of the text, has no room left, and refused one write.
+    pub fn is_full_of(&self, text: &str) -> bool {
+        self.room == 0 && self.refused == 1 && text.as_bytes().starts_with(&self.written)
+    }
 }
 
 impl Write for Full {
@@ -366,11 +382,7 @@ fn prints_nothing_after_a_failed_write(rt: HostRuntime) -> Result<(), Fail> {
     for (line, whole, wanted_status) in runs {
         let words = words_of(alloc, line)?;
         for room in 0..whole.len() + 1 {
-            let mut output = Full {
-                room,
-                written: Vec::new(alloc),
-                refused: 0,
-            };
+            let mut output = Full::new(alloc, room);
             let status = lab(alloc, &words, &mut Cursor::new(b""), &mut output);
             let is_whole = room == whole.len();
             assert_eq!(rt;

@@ -3,6 +3,7 @@
 #![tactic(auto)]
 
 mod frames;
+mod runs;
 
 use std::alloc::Global;
 use std::fs;
@@ -15,15 +16,28 @@ pub enum Unconfirmed {
     /// The libraries answer this in its place.
     Other(String),
 
-    /// The line does not begin with a body.
+    /// The line or the run is not of the file's form.
     Malformed,
 
     /// There was no memory, or a frame that was read could not be written.
     Failed,
 }
 
+/// Prints what was not confirmed, with what is answered in its place.
+fn report<W: Write>(
+    output: &mut W,
+    name: &str,
+    text: &str,
+    fault: Unconfirmed,
+) -> Result<(), io::Error> {
+    match fault {
+        Unconfirmed::Other(answer) => writeln!(output, "{name}: {text}: not confirmed: {answer}"),
+        fault => writeln!(output, "{name}: {text}: not confirmed: {fault:?}"),
+    }
+}
+
 /// Checks each line of a file that is neither empty nor a comment, and prints how many there are.
-fn replay<W: Write>(
+fn replay_bodies<W: Write>(
     alloc: Global,
     name: &str,
     text: &str,
@@ -36,19 +50,36 @@ fn replay<W: Write>(
             continue;
         }
         lines = lines.saturating_add(1);
-        match frames::check(alloc, line) {
-            Ok(()) => {}
-            Err(Unconfirmed::Other(answer)) => {
-                confirmed = false;
-                writeln!(output, "{name}: {line}: not confirmed: {answer}")?;
-            }
-            Err(fault) => {
-                confirmed = false;
-                writeln!(output, "{name}: {line}: not confirmed: {fault:?}")?;
-            }
+        if let Err(fault) = frames::check(alloc, line) {
+            confirmed = false;
+            report(output, name, line, fault)?;
         }
     }
     writeln!(output, "{name}: {lines} bodies")?;
+    Ok(confirmed)
+}
+
+/// Checks each run of a file, behind its first paragraph, and prints how many runs and bodies there
+/// are.
+fn replay_runs<W: Write>(
+    alloc: Global,
+    name: &str,
+    text: &str,
+    output: &mut W,
+) -> Result<bool, io::Error> {
+    let (mut runs, mut bodies) = (0u64, 0usize);
+    let mut confirmed = true;
+    for paragraph in text.split("\n\n").skip(1) {
+        runs = runs.saturating_add(1);
+        match runs::check(alloc, paragraph) {
+            Ok(len) => bodies = bodies.saturating_add(len),
+            Err(fault) => {
+                confirmed = false;
+                report(output, name, paragraph, fault)?;
+            }
+        }
+    }
+    writeln!(output, "{name}: {runs} runs, {bodies} bodies")?;
     Ok(confirmed)
 }
 
@@ -58,7 +89,11 @@ fn replay_all(rt: &HostRuntime) -> Result<bool, io::Error> {
     let mut confirmed = true;
     for name in ["frames.txt", "peers.txt"] {
         let text = fs::read_to_string(rt, name)?;
-        confirmed &= replay(rt.alloc(), name, text.as_str(), &mut output)?;
+        confirmed &= replay_bodies(rt.alloc(), name, text.as_str(), &mut output)?;
+    }
+    for name in ["runs.txt", "peer-runs.txt"] {
+        let text = fs::read_to_string(rt, name)?;
+        confirmed &= replay_runs(rt.alloc(), name, text.as_str(), &mut output)?;
     }
     Ok(confirmed)
 }

@@ -6,8 +6,16 @@ use fe2o3_sasl::credentials::SingleScramCredential;
 use fe2o3_sasl::hmac::ScramVersion;
 use fe2o3_sasl::runs::{ClientReply, Event, ServerReply, scram_client_run, scram_server_run};
 use fe2o3_sasl::sasl_profile::ProfileError;
-use fe2o3_sasl_wire::{Error, Frame, FrameCodec, SaslOutcome};
-use std::alloc::{AllocError, Global};
+use fe2o3_sasl::scram_messages::ServerScramErrorKind;
+use fe2o3_sasl_wire::{Error, Frame, FrameCodec};
+use hex::FromHex;
+use std::alloc::Global;
+
+impl From<ServerScramErrorKind> for Unconfirmed {
+    fn from(_error: ServerScramErrorKind) -> Self {
+        Unconfirmed::Failed
+    }
+}
 
 /// A run as the file has it.
 #[derive(Drop)]
@@ -76,7 +84,7 @@ fn replies(alloc: Global, side: &[&str], events: &[Event]) -> Result<Vec<String>
             let version = version_of(version)?;
             let user = text_of(alloc, user)?;
             let password = text_of(alloc, password)?;
-            let salt = Event::from_hex(alloc, salt, "")?.nonce;
+            let salt = salt_of(salt)?;
             let credential = SingleScramCredential::new(alloc, user, &password, version, salt)?;
             server_words(alloc, &scram_server_run(alloc, &credential, events)?)
         }
@@ -84,7 +92,10 @@ fn replies(alloc: Global, side: &[&str], events: &[Event]) -> Result<Vec<String>
             let version = version_of(version)?;
             let user = text_of(alloc, user)?;
             let password = text_of(alloc, password)?;
-            client_words(alloc, &scram_client_run(alloc, &user, &password, version, events)?)
+            client_words(
+                alloc,
+                &scram_client_run(alloc, &user, &password, version, events)?,
+            )
         }
         _ => Err(Unconfirmed::Malformed),
     }
@@ -93,6 +104,14 @@ fn replies(alloc: Global, side: &[&str], events: &[Event]) -> Result<Vec<String>
 /// The version of this name.
 fn version_of(mechanism: &str) -> Result<ScramVersion, Unconfirmed> {
     ScramVersion::from_mechanism(mechanism).ok_or(Unconfirmed::Malformed)
+}
+
+/// The 32 bytes of hexadecimal digits.
+fn salt_of(digits: &str) -> Result<[u8; 32], Unconfirmed> {
+    match <[u8; 32] as FromHex>::from_hex(digits) {
+        Ok(salt) => Ok(salt),
+        Err(_) => Err(Unconfirmed::Malformed),
+    }
 }
 
 /// The text of hexadecimal digits, where `-` is the empty text.
@@ -105,4 +124,57 @@ fn text_of(alloc: Global, digits: &str) -> Result<String, Unconfirmed> {
         Ok(text) => Ok(text),
         Err(_) => Err(Unconfirmed::Malformed),
     }
+}
+
+/// The body of a frame, in hexadecimal digits.
+fn digits_of(alloc: Global, frame: Frame) -> Result<String, Unconfirmed> {
+    let mut body = BytesMut::new(alloc);
+    FrameCodec {}.encode(frame, &mut body)?;
+    Ok(hex::encode(alloc, body.as_slice())?)
+}
+
+/// A server's replies in the words of the file.
+fn server_words(
+    alloc: Global,
+    replies: &[Result<ServerReply, Error>],
+) -> Result<Vec<String>, Unconfirmed> {
+    let mut words = Vec::with_capacity(alloc, replies.len())?;
+    for reply in replies {
+        words.push(match reply {
+            Ok(ServerReply::Challenge { body }) => {
+                format!(in alloc; "Challenge {}", hex::encode(alloc, body)?)?
+            }
+            Ok(ServerReply::Outcome { code, body }) => {
+                format!(in alloc; "Outcome:{code:?} {}", hex::encode(alloc, body)?)?
+            }
+            Err(fault) => format!(in alloc; "{fault:?}")?,
+        })?;
+    }
+    Ok(words)
+}
+
+/// A client's replies in the words of the file.
+fn client_words(
+    alloc: Global,
+    replies: &[Result<ClientReply, ProfileError>],
+) -> Result<Vec<String>, Unconfirmed> {
+    let mut words = Vec::with_capacity(alloc, replies.len())?;
+    for reply in replies {
+        words.push(match reply {
+            Ok(ClientReply::Init { body }) => {
+                format!(in alloc; "Init {}", hex::encode(alloc, body)?)?
+            }
+            Ok(ClientReply::Response { body }) => {
+                format!(in alloc; "Response {}", hex::encode(alloc, body)?)?
+            }
+            Ok(ClientReply::Outcome(outcome)) => {
+                let body = digits_of(alloc, Frame::Outcome(outcome.clone()?))?;
+                format!(in alloc; "Outcome:{:?} {body}", outcome.code)?
+            }
+            Err(ProfileError::Scram(kind)) => format!(in alloc; "{kind:?}")?,
+            Err(ProfileError::Frame(fault)) => format!(in alloc; "{fault:?}")?,
+            Err(fault) => format!(in alloc; "{fault:?}")?,
+        })?;
+    }
+    Ok(words)
 }
