@@ -1,5 +1,5 @@
 //! A login over frame bodies, as a connection layer does it: each body that comes in is an event,
-//! and the reply has the body to send.
+//! and the reply has the body to send. Nonces and salts are made of random bytes, here of fixed ones.
 
 use anyhow::{Result, bail, ensure};
 use bytes::BytesMut;
@@ -17,7 +17,7 @@ pub struct ServerEnd {
 }
 
 impl ServerEnd {
-    /// A server that knows `user`. A salt is made of random bytes, here of a fixed one.
+    /// A server that knows `user`.
     pub fn new(alloc: Global) -> Result<ServerEnd> {
         let username = "user".to_string(alloc)?;
         let version = ScramVersion::Sha256;
@@ -35,7 +35,7 @@ impl ServerEnd {
         Ok(body.into_vec()?)
     }
 
-    /// The body to send back. A nonce is made of random bytes, here of a fixed one.
+    /// The body to send back.
     pub fn answer(&mut self, alloc: Global, body: Vec<u8>) -> Result<Vec<u8>> {
         let event = Event {
             body,
@@ -48,26 +48,52 @@ impl ServerEnd {
     }
 }
 
-/// Logs in as `user`. A nonce is made of random bytes, here of a fixed one.
-pub fn log_in_over_frames(alloc: Global, server: &mut ServerEnd) -> Result<()> {
-    let username = "user".to_string(alloc)?;
-    let password = "pencil".to_string(alloc)?;
-    let scram = SaslScramSha256::new(username, password).with_iteration_limit(100_000);
-    let mut profile = SaslProfile::from(scram);
-    let mut body = server.offer(alloc)?;
-    for _ in 0..3 {
+/// The client's end of a connection.
+#[derive(Drop)]
+pub struct ClientEnd {
+    profile: SaslProfile,
+}
+
+impl ClientEnd {
+    /// A client that logs in as `user`.
+    pub fn new(alloc: Global) -> Result<ClientEnd> {
+        let username = "user".to_string(alloc)?;
+        let password = "pencil".to_string(alloc)?;
+        let scram = SaslScramSha256::new(username, password).with_iteration_limit(100_000);
+        Ok(ClientEnd {
+            profile: SaslProfile::from(scram),
+        })
+    }
+
+    /// The body to send back, or `None` once the client is logged in.
+    pub fn answer(&mut self, alloc: Global, body: Vec<u8>) -> Result<Option<Vec<u8>>> {
         let event = Event {
             body,
             nonce: [1; 32],
         };
-        match profile_step(alloc, &mut profile, &event, None)? {
-            ClientReply::Init { body: init } => body = server.answer(alloc, init)?,
-            ClientReply::Response { body: response } => body = server.answer(alloc, response)?,
+        match profile_step(alloc, &mut self.profile, &event, None)? {
+            ClientReply::Init { body } => Ok(Some(body)),
+            ClientReply::Response { body } => Ok(Some(body)),
             ClientReply::Outcome(outcome) => {
                 ensure!(outcome.code == SaslCode::Ok, "refused");
-                return Ok(());
+                Ok(None)
             }
         }
+    }
+}
+
+/// Carries the bodies from end to end, until the client is logged in.
+pub fn log_in_over_frames(
+    alloc: Global,
+    client: &mut ClientEnd,
+    server: &mut ServerEnd,
+) -> Result<()> {
+    let mut body = server.offer(alloc)?;
+    for _ in 0..3 {
+        let Some(answer) = client.answer(alloc, body)? else {
+            return Ok(());
+        };
+        body = server.answer(alloc, answer)?;
     }
     bail!("no outcome")
 }

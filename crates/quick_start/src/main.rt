@@ -7,7 +7,7 @@ mod frames;
 mod server;
 
 use crate::client::{Connection, log_in};
-use crate::frames::{ServerEnd, log_in_over_frames};
+use crate::frames::{ClientEnd, ServerEnd, log_in_over_frames};
 use crate::server::Server;
 use anyhow::Result;
 use std::alloc::Global;
@@ -47,15 +47,28 @@ impl<W: Write> Connection for Printed<'_, W> {
     }
 }
 
+/// A login over texts, whose messages are printed.
+fn over_texts<W: Write>(alloc: Global, output: &mut W) -> Result<()> {
+    let mut connection = Printed {
+        alloc,
+        server: Server::new(alloc)?,
+        output,
+    };
+    log_in(alloc, &mut connection)?;
+    connection.print(b"logged in")
+}
+
+/// A login over frame bodies.
+fn over_frames<W: Write>(alloc: Global, output: &mut W) -> Result<()> {
+    let mut client = ClientEnd::new(alloc)?;
+    let mut server = ServerEnd::new(alloc)?;
+    log_in_over_frames(alloc, &mut client, &mut server)?;
+    writeln!(output, "logged in over frames")?;
+    Ok(())
+}
+
 fn main(rt: HostRuntime) -> Result<()> {
     let mut output = io::writer(&rt);
-    let mut connection = Printed {
-        alloc: rt.alloc(),
-        server: Server::new(rt.alloc())?,
-        output: &mut output,
-    };
-    log_in(rt.alloc(), &mut connection)?;
-    connection.print(b"logged in")?;
-    log_in_over_frames(rt.alloc(), &mut ServerEnd::new(rt.alloc())?)?;
-    connection.print(b"logged in over frames")
+    over_texts(rt.alloc(), &mut output)?;
+    over_frames(rt.alloc(), &mut output)
 }
