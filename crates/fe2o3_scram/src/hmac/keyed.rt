@@ -88,8 +88,8 @@ impl<const N: usize, H: Hasher<N>> PaddedKey<N, H> {
         self.close(inner, meter)
     }
 
-    /// The HMAC of a message that the inner hasher has taken in behind the inner pad. Every HMAC value is made here, and
-    /// the meter counts it.
+    /// The HMAC of a message that the inner hasher has taken in behind the inner pad. Every HMAC value is made here,
+    /// and the meter counts it.
     #[tactic(auto, unfolding(crate::specs::Hmac::hmac_of))]
     fn close(&self, inner: H, meter: &mut Meter) -> [u8; N]
         requires { meter.old + 1 < 2 ^ 64 }
