@@ -153,7 +153,7 @@ fn rounds<const N: usize, H: Hasher<N>>(
     let mut round = password.mac(&[salt, &1u32.to_be_bytes()], meter);
     let mut sum = round;
     for _done in 1..iterations {
-        round = password.mac(&[&round], meter);
+        round = password.mac_one(&round, meter);
         xor(&mut sum, &round);
     }
     sum

@@ -1,8 +1,8 @@
 //! HMAC with the pads of a key taken in once (RFC 2104, section 4). None of this takes memory.
 
-ghost use Rattle.std.specs.Prelude.{◌≡◌, ◌≤◌, ◌<◌, ◌+◌, ◌^◌, ℕ, List, length};
+ghost use Rattle.std.specs.Prelude.{◌≡◌, ◌≤◌, ◌<◌, ◌+◌, ◌^◌, ◌++◌, ℕ, List, length};
 ghost use Rattle.fe2o3_scram.specs.declared.hmac.ScramVersion.{ScramVersion};
-ghost use Rattle.fe2o3_scram.specs.Hmac.{hmac_of, block_len, masked, zero_filled, digest_bytes, version_of};
+ghost use Rattle.fe2o3_scram.specs.Hmac.{hmac_of, block_len, key_block, masked, zero_filled, digest_bytes, version_of};
 ghost use Rattle.fe2o3_scram.specs.private.Hashers.{HasPads, IsKeyOf};
 ghost use Rattle.fe2o3_scram.specs.private.Pieces.{whole};
 
@@ -62,20 +62,43 @@ impl<const N: usize, H: Hasher<N>> PaddedKey<N, H> {
         }
     }
 
-    /// The HMAC of the message that the pieces make, one behind the other. Every HMAC value is made here, and the
-    /// meter counts it.
-    #[tactic(auto, unfolding(crate::specs::Hmac::hmac_of))]
+    /// The HMAC of the message that the pieces make, one behind the other. The meter counts it.
     pub fn mac(&self, message: &[&[u8]], meter: &mut Meter) -> [u8; N]
         requires { meter.old + 1 < 2 ^ 64 }
         ensures value { (key : List ℕ) → HasPads H.has_taken H.hash self.now.inner self.now.outer key
             → result ≡ hmac_of H.hash key (whole message.now) }
         ensures counted { meter.new ≡ meter.old + 1 }
     {
-        meter.add_one();
         let mut inner = self.inner.copy();
         for piece in message {
             inner.take_in(piece);
         }
+        self.close(inner, meter)
+    }
+
+    /// The HMAC of a message in one piece. The meter counts it.
+    pub fn mac_one(&self, message: &[u8], meter: &mut Meter) -> [u8; N]
+        requires { meter.old + 1 < 2 ^ 64 }
+        ensures value { (key : List ℕ) → HasPads H.has_taken H.hash self.now.inner self.now.outer key
+            → result ≡ hmac_of H.hash key message.now }
+        ensures counted { meter.new ≡ meter.old + 1 }
+    {
+        let mut inner = self.inner.copy();
+        inner.take_in(message);
+        self.close(inner, meter)
+    }
+
+    /// The HMAC of a message that the inner hasher has taken in behind the inner pad. Every HMAC value is made here,
+    /// and the meter counts it.
+    #[tactic(auto, unfolding(crate::specs::Hmac::hmac_of))]
+    fn close(&self, inner: H, meter: &mut Meter) -> [u8; N]
+        requires { meter.old + 1 < 2 ^ 64 }
+        ensures value { (key message : List ℕ) → HasPads H.has_taken H.hash self.now.inner self.now.outer key
+            → H.has_taken inner (masked 0x36 (key_block H.hash key) ++ message)
+            → result ≡ hmac_of H.hash key message }
+        ensures counted { meter.new ≡ meter.old + 1 }
+    {
+        meter.add_one();
         let mut outer = self.outer.copy();
         outer.take_in(&inner.into_digest());
         outer.into_digest()

@@ -1,6 +1,5 @@
 -- The rounds of Hi, as a loop that counts up from 1 meets them.
 use Rattle.std.proofs.Common.{◌≡◌, ℕ, zero, suc, ◌+◌, ◌≤◌, List, [], ◌∷◌, ◌++◌, refl, sym, ap, ◌∙◌, arith, add-one}
-use Rattle.std.proofs.lemmas.List.{append-nil}
 use Rattle.fe2o3_scram.specs.declared.hmac.ScramVersion.{ScramVersion}
 use Rattle.fe2o3_scram.specs.Hmac.{hmac_of, exclusive_or}
 use Rattle.fe2o3_scram.specs.Pbkdf2Hi.{round_of, salted_of}
@@ -27,12 +26,12 @@ unfolding salted_of
 salted_of-next v password salt zero from = absurd (omega (arith, from))
 salted_of-next v password salt (suc n) from = rw add-one refl
 
--- the value of one more round, whose message is the round before as a single piece
+-- the value of one more round, whose message is the round before
 pub next_round : (v : ScramVersion) (password salt round value : List ℕ) (n : ℕ) → 1 ≤ n
-    → round ≡ round_of v password salt n → value ≡ hmac_of v password (round ++ [])
+    → round ≡ round_of v password salt n → value ≡ hmac_of v password round
     → value ≡ round_of v password salt (n + 1)
 next_round v password salt round value n from is made =
-    made ∙ ap (hmac_of v password) (append-nil round ∙ is) ∙ sym (round_of-next v password salt n from)
+    made ∙ ap (hmac_of v password) is ∙ sym (round_of-next v password salt n from)
 
 -- and the sum with it
 pub next_salted : (v : ScramVersion) (password salt salted round sum : List ℕ) (n : ℕ) → 1 ≤ n
