@@ -29,8 +29,8 @@ init_answered provider other state next nonce mechanism text hostname answer rep
     inr (name, (answer, next, from, is, moved provider other next same))
 
 -- what is replied to one that is refused, where memory is not wanting
-pub init_refused : {X V E Allocates : Type 0} (sent : X → SaslFrame) (view : V → Option (List ℕ)) (provider other : Provider)
-    (state next : ServerState) (nonce mechanism text : List ℕ) (hostname : Option (List ℕ))
+pub init_refused : {X V E Allocates : Type 0} (sent : X → SaslFrame) (view : V → Option (List ℕ))
+    (provider other : Provider) (state next : ServerState) (nonce mechanism text : List ℕ) (hostname : Option (List ℕ))
     (kind : ServerScramErrorKind) (result : Result X E)
     → other ≡ provider → mechanism ≡ mechanism_name provider.version
     → Gives OutOfMemory Allocates view (Err kind) (λ answer. ChallengesFrom state provider nonce text answer next)
@@ -51,8 +51,8 @@ response_answered provider other state next nonce text answer reply same from is
     (answer, next, from, is, moved provider other next same)
 
 -- what is replied to one that is refused, where memory is not wanting
-pub response_refused : {X V E Allocates : Type 0} (sent : X → SaslFrame) (view : V → Option (List ℕ)) (provider other : Provider)
-    (state next : ServerState) (text : List ℕ) (kind : ServerScramErrorKind) (result : Result X E)
+pub response_refused : {X V E Allocates : Type 0} (sent : X → SaslFrame) (view : V → Option (List ℕ))
+    (provider other : Provider) (state next : ServerState) (text : List ℕ) (kind : ServerScramErrorKind) (result : Result X E)
     → other ≡ provider
     → Gives OutOfMemory Allocates view (Err kind) (λ answer. ConcludesFrom state provider text answer next)
     → IfOk result (λ frame. (kind ≢ OutOfMemory) × (sent frame ≡ ends_with outcomes.Auth))

@@ -37,8 +37,8 @@ kind_cases kinds.IllegalClientState = inr (λ e. absurd (cc), refl)
 kind_cases kinds.ServerSignatureMismatch = inr (λ e. absurd (cc), refl)
 
 -- a challenge that the client refuses
-pub challenge_refused : {V Allocates : Type 0} (view : V → List ℕ) (client next : ClientSide) (hostname : Option (List ℕ))
-    (nonce text : List ℕ) (kind : ScramErrorKind) → IsUtf8 text → next ≡ client
+pub challenge_refused : {V Allocates : Type 0} (view : V → List ℕ) (client next : ClientSide)
+    (hostname : Option (List ℕ)) (nonce text : List ℕ) (kind : ScramErrorKind) → IsUtf8 text → next ≡ client
     → Gives kinds.OutOfMemory Allocates view (Err kind) (λ answer. AnswersIn client.state client text answer next)
     → ProfileAnswers (ScramProfile client) hostname nonce (frames.Challenge text)
     (Err (client_fault (fault_of_kind kind))) (ScramProfile next)
