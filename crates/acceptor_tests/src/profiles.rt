@@ -2,9 +2,9 @@
 //! before it is started. User `user` with the password `pencil`, and a nonce of 32 bytes 01.
 
 use crate::bodies::*;
-use crate::negotiations::{answer, profiles, sha256};
+use crate::negotiations::{answer, plain, profiles, sha1, sha256, sha512};
 use fe2o3_sasl::sasl_profile::SaslProfile;
-use std::alloc::Global;
+use std::alloc::{AllocError, Global};
 use std::process::Abort;
 use std::test::Fail;
 
@@ -124,26 +124,37 @@ fn every_profile_reports_an_outcome_that_is_not_ok(rt: HostRuntime) -> Result<()
     Ok(())
 }
 
-/// The profiles that are no SCRAM, and those that are.
-fn plain_and_scram(alloc: Global) -> Result<(Vec<SaslProfile>, Vec<SaslProfile>), Fail> {
-    let mut plain = profiles(alloc, "user", "pencil")?;
-    let scram = plain.split_off(3)?;
-    Ok((plain, scram))
+/// The profiles of other mechanisms than SCRAM.
+fn others(alloc: Global) -> Result<Vec<SaslProfile>, AllocError> {
+    let mut profiles = Vec::with_capacity(alloc, 3)?;
+    profiles.push(SaslProfile::Anonymous)?;
+    profiles.push(plain(alloc, "user", "pencil")?)?;
+    profiles.push(SaslProfile::External)?;
+    Ok(profiles)
 }
 
 #[test]
 fn other_profiles_answer_no_challenge_and_believe_any_outcome(rt: HostRuntime) -> Result<(), Fail> {
-    let (mut plain, _) = plain_and_scram(rt.alloc())?;
+    let mut others = others(rt.alloc())?;
     for digits in [CHALLENGE_A, CHALLENGE_FF] {
-        all_answer(&rt, &mut plain, digits, "NotImplemented")?;
+        all_answer(&rt, &mut others, digits, "NotImplemented")?;
     }
-    all_answer(&rt, &mut plain, OUTCOME_OK, "Outcome Ok none")?;
-    all_answer(&rt, &mut plain, OUTCOME_OK_WITH_DATA, "Outcome Ok v=AA==")
+    all_answer(&rt, &mut others, OUTCOME_OK, "Outcome Ok none")?;
+    all_answer(&rt, &mut others, OUTCOME_OK_WITH_DATA, "Outcome Ok v=AA==")
+}
+
+/// The profiles of SCRAM.
+fn scram(alloc: Global) -> Result<Vec<SaslProfile>, AllocError> {
+    let mut profiles = Vec::with_capacity(alloc, 3)?;
+    profiles.push(sha1(alloc, "user", "pencil")?)?;
+    profiles.push(sha256(alloc, "user", "pencil")?)?;
+    profiles.push(sha512(alloc, "user", "pencil")?)?;
+    Ok(profiles)
 }
 
 #[test]
 fn scram_that_is_not_started_refuses(rt: HostRuntime) -> Result<(), Fail> {
-    let (_, mut scram) = plain_and_scram(rt.alloc())?;
+    let mut scram = scram(rt.alloc())?;
     all_answer(&rt, &mut scram, CHALLENGE_A, "Scram(IllegalClientState)")?;
     // The text is tested before the state.
     all_answer(&rt, &mut scram, CHALLENGE_FF, "Scram(Utf8Error)")?;
