@@ -13,6 +13,13 @@ use hex::FromHex;
 use std::alloc::Global;
 use std::io::Write;
 
+/// The two sides of a login.
+#[derive(Drop)]
+struct Sides {
+    server: ScramAuthenticator<SingleScramCredential>,
+    client: SaslProfile,
+}
+
 /// The words behind `login`.
 #[derive(Drop)]
 pub struct Login<'a> {
@@ -42,19 +49,27 @@ impl<'a> Login<'a> {
 
     /// Prints each body on a line, as it is made.
     pub fn run<W: Write>(&self, alloc: Global, output: &mut W) -> Result<(), Stop> {
-        let mut server = self.server(alloc)?;
-        let mut client = self.client(alloc)?;
-        let mut body = offer(alloc, &server)?;
-        print(alloc, output, &body)?;
-        // An init and a challenge, a response and an outcome.
-        for _ in 0..2 {
-            let Some(answer) = self.tell_client(alloc, &mut client, body, output)? else {
-                return Ok(());
-            };
-            body = self.tell_server(alloc, &mut server, answer, output)?;
-        }
-        self.tell_client(alloc, &mut client, body, output)?;
-        Ok(())
+        let mut sides = Sides {
+            server: self.server(alloc)?,
+            client: self.client(alloc)?,
+        };
+        let mechanisms = offer(alloc, &sides.server)?;
+        print(alloc, output, &mechanisms)?;
+        let challenge = self.round(alloc, &mut sides, mechanisms, output)?;
+        let outcome = self.round(alloc, &mut sides, challenge, output)?;
+        self.report(alloc, &mut sides.client, outcome)
+    }
+
+    /// Hands a body to the client and its answer to the server, and gives the server's answer.
+    fn round<W: Write>(
+        &self,
+        alloc: Global,
+        sides: &mut Sides,
+        body: Vec<u8>,
+        output: &mut W,
+    ) -> Result<Vec<u8>, Stop> {
+        let answer = self.tell_client(alloc, &mut sides.client, body, output)?;
+        self.tell_server(alloc, &mut sides.server, answer, output)
     }
 
     /// A server that knows the user and the password.
@@ -76,24 +91,30 @@ impl<'a> Login<'a> {
         })
     }
 
-    /// Hands a body to the client, and prints the body of its answer. An outcome has none.
+    /// Hands a body to the client, and prints the body of its answer.
     fn tell_client<W: Write>(
         &self,
         alloc: Global,
         client: &mut SaslProfile,
         body: Vec<u8>,
         output: &mut W,
-    ) -> Result<Option<Vec<u8>>, Stop> {
+    ) -> Result<Vec<u8>, Stop> {
         let nonce = self.client_nonce;
         match profile_step(alloc, client, &Event { body, nonce }, None)? {
             ClientReply::Init { body } | ClientReply::Response { body } => {
                 print(alloc, output, &body)?;
-                Ok(Some(body))
+                Ok(body)
             }
-            ClientReply::Outcome(outcome) => {
-                ended_ok(outcome.code)?;
-                Ok(None)
-            }
+            ClientReply::Outcome(outcome) => Err(Stop::Outcome(outcome.code)),
+        }
+    }
+
+    /// Hands the body of the outcome to the client.
+    fn report(&self, alloc: Global, client: &mut SaslProfile, body: Vec<u8>) -> Result<(), Stop> {
+        let nonce = self.client_nonce;
+        match profile_step(alloc, client, &Event { body, nonce }, None)? {
+            ClientReply::Outcome(outcome) => ended_ok(outcome.code),
+            ClientReply::Init { .. } | ClientReply::Response { .. } => Ok(()),
         }
     }
 
