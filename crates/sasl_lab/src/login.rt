@@ -49,14 +49,28 @@ impl<'a> Login<'a> {
 
     /// Prints each body on a line, as it is made.
     pub fn run<W: Write>(&self, alloc: Global, output: &mut W) -> Result<(), Stop> {
-        let mut sides = Sides {
-            server: self.server(alloc)?,
-            client: self.client(alloc)?,
-        };
-        let mechanisms = offer(alloc, &sides.server)?;
-        print(alloc, output, &mechanisms)?;
-        let challenge = self.round(alloc, &mut sides, mechanisms, output)?;
-        let outcome = self.round(alloc, &mut sides, challenge, output)?;
+        let mut sides = self.sides(alloc)?;
+        let mechanisms = offer(alloc, &sides.server, output)?;
+        self.play(alloc, &mut sides, mechanisms, output)
+    }
+
+    /// Both sides, before the login.
+    fn sides(&self, alloc: Global) -> Result<Sides, Stop> {
+        let server = self.server(alloc)?;
+        let client = self.client(alloc)?;
+        Ok(Sides { server, client })
+    }
+
+    /// Plays the login from the body of the mechanisms to its end.
+    fn play<W: Write>(
+        &self,
+        alloc: Global,
+        sides: &mut Sides,
+        mechanisms: Vec<u8>,
+        output: &mut W,
+    ) -> Result<(), Stop> {
+        let challenge = self.round(alloc, sides, mechanisms, output)?;
+        let outcome = self.round(alloc, sides, challenge, output)?;
         self.report(alloc, &mut sides.client, outcome)
     }
 
@@ -146,15 +160,18 @@ fn bytes_of(word: &str) -> Option<[u8; 32]> {
     <[u8; 32] as FromHex>::from_hex(word).ok()
 }
 
-/// The body of the mechanisms that the server offers.
-fn offer(
+/// The body of the mechanisms that the server offers, which is printed.
+fn offer<W: Write>(
     alloc: Global,
     server: &ScramAuthenticator<SingleScramCredential>,
+    output: &mut W,
 ) -> Result<Vec<u8>, Stop> {
     let mechanisms = server.sasl_mechanisms(alloc)?;
     let mut body = BytesMut::new(alloc);
     FrameCodec {}.encode(Frame::Mechanisms(mechanisms), &mut body)?;
-    Ok(body.into_vec()?)
+    let body = body.into_vec()?;
+    print(alloc, output, &body)?;
+    Ok(body)
 }
 
 /// Prints a body on a line.

@@ -81,24 +81,45 @@ fn event_of(alloc: Global, words: &str) -> Result<Event, Unconfirmed> {
 fn replies(alloc: Global, side: &[&str], events: &[Event]) -> Result<Vec<String>, Unconfirmed> {
     match side {
         ["server", version, user, password, salt] => {
-            let version = version_of(version)?;
-            let user = text_of(alloc, user)?;
-            let password = text_of(alloc, password)?;
-            let salt = salt_of(salt)?;
-            let credential = SingleScramCredential::new(alloc, user, &password, version, salt)?;
+            let credential = credential(alloc, version, user, password, salt)?;
             server_words(alloc, &scram_server_run(alloc, &credential, events)?)
         }
         ["client", version, user, password] => {
-            let version = version_of(version)?;
-            let user = text_of(alloc, user)?;
-            let password = text_of(alloc, password)?;
-            client_words(
-                alloc,
-                &scram_client_run(alloc, &user, &password, version, events)?,
-            )
+            client_replies(alloc, version, user, password, events)
         }
         _ => Err(Unconfirmed::Malformed),
     }
+}
+
+/// The credential of a server.
+fn credential(
+    alloc: Global,
+    version: &str,
+    user: &str,
+    password: &str,
+    salt: &str,
+) -> Result<SingleScramCredential, Unconfirmed> {
+    let (version, salt) = (version_of(version)?, salt_of(salt)?);
+    let user = text_of(alloc, user)?;
+    let password = text_of(alloc, password)?;
+    Ok(SingleScramCredential::new(alloc, user, &password, version, salt)?)
+}
+
+/// What a client answers to the events.
+fn client_replies(
+    alloc: Global,
+    version: &str,
+    user: &str,
+    password: &str,
+    events: &[Event],
+) -> Result<Vec<String>, Unconfirmed> {
+    let version = version_of(version)?;
+    let user = text_of(alloc, user)?;
+    let password = text_of(alloc, password)?;
+    client_words(
+        alloc,
+        &scram_client_run(alloc, &user, &password, version, events)?,
+    )
 }
 
 /// The version of this name.
