@@ -37,11 +37,11 @@ static UNEQUAL: [&str; 9] = [
 
 #[test]
 fn a_frame_equals_its_clone(rt: HostRuntime) -> Result<(), Fail> {
-    for digits in UNEQUAL {
+    for digits in UNEQUAL.iter() {
         let frame = decoded(rt.alloc(), digits)?;
         let copy = frame.clone()?;
         assert!(rt; copy == frame, "{digits}");
-        assert_eq!(rt; encoded(rt.alloc(), copy)?.as_str(), digits);
+        assert_eq!(rt; encoded(rt.alloc(), copy)?.as_str(), *digits);
     }
     Ok(())
 }
