@@ -1,6 +1,6 @@
 -- What is found on two lists of frame bodies, and how each finding is judged: the project's own words, over the
 -- keys of RFC 5802, section 3.
-use Rattle.std.specs.Prelude.{◌≡◌, ◌≢◌, ◌⊎◌, ℕ, ◌<◌, Option, Some, None, List, [], ◌∷◌, ◌++◌, map}
+use Rattle.std.specs.Prelude.{◌≡◌, ◌≢◌, ◌⊎◌, ℕ, ◌<◌, Option, Some, None, option_map, List, [], ◌∷◌, ◌++◌, map, string_bytes}
 use Rattle.std.specs.List.{AllByRecursion, Contains}
 use Rattle.fe2o3_sasl.specs.ClientHistory.{Answering, OpenAnswer}
 use Rattle.fe2o3_sasl.specs.Events.{Given, Login, ClientSays, ServerSays}
@@ -10,6 +10,12 @@ use Rattle.fe2o3_scram.specs.ClientFinal.{recovered_key}
 use Rattle.fe2o3_scram.specs.Hmac.{digest}
 use Rattle.fe2o3_scram.specs.Keys.{client_key}
 use Rattle.fe2o3_sasl.specs.Complete.{ServerComplete, ClientComplete}
+use Rattle.fe2o3_sasl.specs.declared.audit.Finding as code_finding
+use Rattle.fe2o3_sasl.specs.declared.audit.FindingKind as code_kind
+use Rattle.fe2o3_sasl.specs.declared.audit.FindingKind.TheVariants as kinds
+use Rattle.fe2o3_sasl.specs.declared.audit.Parameters as code_parameters
+use Rattle.fe2o3_sasl.specs.declared.audit.Verdict as code_verdict
+use Rattle.fe2o3_sasl.specs.declared.audit.Verdict.TheVariants as verdicts
 use Rattle.fe2o3_sasl.specs.ServerHistory.{Accepted, full_nonce, server_at}
 use Rattle.fe2o3_sasl.specs.TwoSides.{Sides, sides_of, Histories, Takes, Shows, Agree, IsPlainInit, MessagesCollide, client_message, server_message, salted_at, server_key_at}
 
@@ -151,3 +157,34 @@ abbrev pub AuditsEvents : Login → List Given → Provider → List Given → L
 AuditsEvents login client_events provider server_events findings =
     (client_replies : List ClientSays) × (server_replies : List ServerSays)
     × Audits (sides_of login client_events client_replies provider server_events server_replies) findings
+
+-- the parameters that the code's value holds
+abbrev pub parameters_of : code_parameters.Parameters → Parameters
+parameters_of values = record {
+  full_nonce = string_bytes values.full_nonce;
+  salt = values.salt.items;
+  iterations = values.iterations;
+}
+
+-- the verdict that the code's value is
+abbrev pub verdict_of : code_verdict.Verdict → Verdict
+verdict_of (verdicts.Agreed user nonce parameters) =
+    Agreed (string_bytes user) (string_bytes nonce) (option_map parameters_of parameters)
+verdict_of (verdicts.SameMac client_key client_text server_key server_text) =
+    SameMac client_key.items client_text.items server_key.items server_text.items
+verdict_of (verdicts.SameHash client_key recovered) = SameHash client_key.items recovered.items
+verdict_of verdicts.OtherKey = OtherKey
+
+-- the kind that the code's value is
+abbrev pub kind_of : code_kind.FindingKind → FindingKind
+kind_of kinds.Verifier = OfVerifier
+kind_of kinds.Proof = OfProof
+
+-- the finding that the code's value is
+abbrev pub finding_of : code_finding.Finding → Finding
+finding_of finding = record {
+  kind = kind_of finding.kind;
+  client = finding.client;
+  server = finding.server;
+  verdict = verdict_of finding.verdict;
+}

@@ -1,2 +1,6 @@
 -- What contracts of private functions cite. Nobody has to believe it.
 pub mod Writing
+pub mod Receipts
+pub mod ClientReceipts
+pub mod ServerReceipts
+pub mod Findings

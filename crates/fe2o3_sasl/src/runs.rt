@@ -15,6 +15,9 @@ mod events;
 mod steps;
 
 use crate::OutOfMemory;
+pub use crate::audit::{
+    AuditError, Finding, FindingKind, Parameters, Verdict, audit, audit_limited,
+};
 use crate::sasl_acceptor::SaslAcceptor;
 use crate::sasl_profile::{ProfileError, SaslProfile};
 pub use events::{ClientReply, Event, EventError, ServerReply};

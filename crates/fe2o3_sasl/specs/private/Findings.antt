@@ -1,0 +1,97 @@
+-- What is found of two receipts. Contracts of private functions alone cite this.
+use Rattle.std.specs.Prelude.{ℕ, Bool, List, [], ◌∷◌, Option, option_map, if◌then◌else◌, nat_eq, string_bytes}
+use Rattle.std.specs.List.{flat_map}
+use Rattle.std.specs.Cmp.Lexicographic.{pointwise}
+use Rattle.fe2o3_scram.specs.Hmac.{digest_bytes}
+use Rattle.fe2o3_sasl.specs.Audit.{Verdict, Agreed, SameMac, SameHash, OtherKey, OfVerifier, OfProof, Finding, parameters_of}
+use Rattle.fe2o3_sasl.specs.declared.audit.receipts.ClientReceipt as code_client
+use Rattle.fe2o3_sasl.specs.declared.audit.receipts.ServerReceipt as code_server
+use Rattle.fe2o3_sasl.specs.private.Receipts.{ClientReceipt, ServerReceipt}
+
+-- ---- what the private types hold
+
+-- the receipt that a value of a client is
+abbrev pub client_receipt : code_client.ClientReceipt → ClientReceipt
+client_receipt receipt = record {
+  place = receipt.place;
+  shown = receipt.shown.items;
+  message = receipt.message.items;
+  client_key = digest_bytes receipt.client_key;
+  stored_key = digest_bytes receipt.stored_key;
+  server_key = digest_bytes receipt.server_key;
+}
+
+-- the receipt that a value of a server is
+abbrev pub server_receipt : code_server.ServerReceipt → ServerReceipt
+server_receipt receipt = record {
+  place = receipt.place;
+  verifier = receipt.verifier.items;
+  proof = receipt.proof.items;
+  message = receipt.message.items;
+  user = string_bytes receipt.username;
+  nonce = string_bytes receipt.client_nonce;
+  parameters = option_map parameters_of receipt.parameters;
+  stored_key = receipt.stored_key.items;
+  server_key = receipt.server_key.items;
+  recovered = receipt.recovered_key.items;
+}
+
+-- ---- what is found
+
+-- the texts are equal
+abbrev pub same : List ℕ → List ℕ → Bool
+same left right = pointwise nat_eq left right
+
+-- what both sides agree on
+abbrev pub agreed_on : ServerReceipt → Verdict
+agreed_on server = Agreed server.user server.nonce server.parameters
+
+-- the verdict on a verifier
+abbrev pub verifier_verdict : ClientReceipt → ServerReceipt → Verdict
+verifier_verdict client server =
+    if same client.message server.message then agreed_on server
+    else SameMac client.server_key client.message server.server_key server.message
+
+-- the verdict on a proof
+abbrev pub proof_verdict : ClientReceipt → ServerReceipt → Verdict
+proof_verdict client server =
+    if same client.stored_key server.stored_key
+    then (if same client.message server.message then agreed_on server
+    else (if same client.client_key server.recovered
+    then SameMac server.stored_key client.message server.stored_key server.message
+    else SameHash client.client_key server.recovered))
+    else OtherKey
+
+-- the client took the verifier that the server gave
+abbrev pub is_taken : ClientReceipt → ServerReceipt → Bool
+is_taken client server = same client.shown server.verifier
+
+-- the server accepted the proof that the client showed
+abbrev pub is_shown : ClientReceipt → ServerReceipt → Bool
+is_shown client server = same client.shown server.proof
+
+-- what is found of a verifier
+abbrev pub verifier_finding : ClientReceipt → ServerReceipt → Finding
+verifier_finding client server = record {
+  kind = OfVerifier;
+  client = client.place;
+  server = server.place;
+  verdict = verifier_verdict client server;
+}
+
+-- what is found of a proof
+abbrev pub proof_finding : ClientReceipt → ServerReceipt → Finding
+proof_finding client server = record {
+  kind = OfProof;
+  client = client.place;
+  server = server.place;
+  verdict = proof_verdict client server;
+}
+
+-- what is found of two receipts
+abbrev pub found : {A B F : Type 0} → (A → B → Bool) → (A → B → F) → A → B → List F
+found meets finding left right = if meets left right then (finding left right ∷ []) else []
+
+-- what is found of two lists of receipts
+abbrev pub findings_of : {A B F : Type 0} → (A → B → Bool) → (A → B → F) → List A → List B → List F
+findings_of meets finding lefts rights = flat_map (λ left. flat_map (found meets finding left) rights) lefts

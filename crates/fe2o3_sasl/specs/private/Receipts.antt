@@ -1,0 +1,107 @@
+-- What an audit keeps of positions, as plain data. Contracts of private functions alone cite this.
+use Rattle.std.specs.Prelude.{◌≡◌, ◌⊎◌, ℕ, ◌<◌, Option, Some, List, [], ◌∷◌, slice_get}
+use Rattle.std.specs.List.{AllByRecursion}
+use Rattle.fe2o3_sasl_wire.specs.declared.amqp_types.SaslCode.TheVariants as outcomes
+use Rattle.fe2o3_scram.specs.Credentials.{Provider}
+use Rattle.fe2o3_scram.specs.Hmac.{digest}
+use Rattle.fe2o3_scram.specs.Texts.{Part}
+use Rattle.fe2o3_sasl.specs.Audit.{Parameters, AreParameters, client_key_at, recovered_at}
+use Rattle.fe2o3_sasl.specs.ClientHistory.{Answering, AnswersAt, OpenAnswer}
+use Rattle.fe2o3_sasl.specs.Events.{Given, Login, IsRecord, ServerSays, Concluded, ClientSays, Answered, Reported}
+use Rattle.fe2o3_sasl.specs.ServerHistory.{Accepted, AcceptsAt, final_message}
+use Rattle.fe2o3_sasl.specs.TwoSides.{client_message, server_message, server_key_at, proof_at}
+
+-- of a position of the client: what it showed or took there, and the AuthMessage and the keys of its answer
+pub record ClientReceipt : Type 0 where
+  pub place : ℕ
+  pub shown : List ℕ
+  pub message : List ℕ
+  pub client_key : List ℕ
+  pub stored_key : List ℕ
+  pub server_key : List ℕ
+
+-- of a position where the server answered Ok: the verifier that it gave, the proof that it accepted, and what both
+-- were about
+pub record ServerReceipt : Type 0 where
+  pub place : ℕ
+  pub verifier : List ℕ
+  pub proof : List ℕ
+  pub message : List ℕ
+  pub user : List ℕ
+  pub nonce : List ℕ
+  pub parameters : Option Parameters
+  pub stored_key : List ℕ
+  pub server_key : List ℕ
+  pub recovered : List ℕ
+
+-- the receipt is of this answer
+pub record OfAnswer (login : Login) (answer : Answering) (receipt : ClientReceipt) : Type 0 where
+  pub message : receipt.message ≡ client_message login answer
+  pub client_key : receipt.client_key ≡ client_key_at login answer
+  pub stored_key : receipt.stored_key ≡ digest login.version (client_key_at login answer)
+  pub server_key : receipt.server_key ≡ server_key_at login answer
+
+-- the receipt is of this accepted response
+pub record OfAccepted (provider : Provider) (accepted : Accepted) (receipt : ServerReceipt) : Type 0 where
+  pub kept : IsRecord accepted.challenge.stored
+  pub verifier : receipt.verifier ≡ final_message provider accepted
+  pub proof : receipt.proof ≡ accepted.final.proof
+  pub message : receipt.message ≡ server_message accepted
+  pub user : receipt.user ≡ accepted.challenge.client.user
+  pub nonce : receipt.nonce ≡ accepted.challenge.client.nonce
+  pub parameters : AreParameters accepted receipt.parameters
+  pub stored_key : receipt.stored_key ≡ accepted.challenge.stored.stored_key
+  pub server_key : receipt.server_key ≡ accepted.challenge.stored.server_key
+  pub recovered : receipt.recovered ≡ recovered_at provider accepted
+
+-- the receipt of a response of the client, with the proof that it showed
+abbrev pub IsShownReceipt : Login → List Given → List ClientSays → ClientReceipt → Type 0
+IsShownReceipt login events replies receipt =
+    (body : List ℕ) × (answer : Answering) × (slice_get replies receipt.place ≡ Some (Answered body))
+    × AnswersAt login events replies receipt.place answer × (receipt.shown ≡ proof_at login answer)
+    × OfAnswer login answer receipt
+
+-- the receipt of a reported Ok, with the verifier that the client took
+abbrev pub IsTakenReceipt : Login → List Given → List ClientSays → ClientReceipt → Type 0
+IsTakenReceipt login events replies receipt =
+    (text : List ℕ) × (answer : Answering)
+    × (slice_get replies receipt.place ≡ Some (Reported outcomes.Ok (Some text)))
+    × OpenAnswer login events replies receipt.place answer × Part text 0 receipt.shown
+    × OfAnswer login answer receipt
+
+-- the receipt of an Ok of the server
+abbrev pub IsOkReceipt : Provider → List Given → List ServerSays → ServerReceipt → Type 0
+IsOkReceipt provider events replies receipt =
+    (body : List ℕ) × (accepted : Accepted)
+    × (slice_get replies receipt.place ≡ Some (Concluded outcomes.Ok body))
+    × AcceptsAt provider events replies receipt.place accepted × OfAccepted provider accepted receipt
+
+-- a response at this position
+abbrev pub RespondsAt : List ClientSays → ℕ → Type 0
+RespondsAt replies k = (body : List ℕ) × (slice_get replies k ≡ Some (Answered body))
+
+-- a reported Ok
+abbrev pub ReportsAt : List ClientSays → ℕ → Type 0
+ReportsAt replies k = (more : Option (List ℕ)) × (slice_get replies k ≡ Some (Reported outcomes.Ok more))
+
+-- an Ok of the server
+abbrev pub ConcludesAt : List ServerSays → ℕ → Type 0
+ConcludesAt replies k = (body : List ℕ) × (slice_get replies k ≡ Some (Concluded outcomes.Ok body))
+
+-- the item is in the list
+abbrev pub Member : {X : Type 0} → X → List X → Type 0
+Member item [] = ⊥
+Member item (first ∷ items) = (first ≡ item) ⊎ Member item items
+
+-- the positions rise
+abbrev pub Rising : {X : Type 0} → (X → ℕ) → List X → Type 0
+Rising place [] = Unit {0}
+Rising place (first ∷ items) = AllByRecursion (λ item. place first < place item) items × Rising place items
+
+-- of the positions before i, exactly those of which At holds have a receipt, one each, in order
+pub record Covers {X : Type 0} (Is : X → Type 0) (place : X → ℕ) (At : ℕ → Type 0) (i : ℕ) (receipts : List X)
+    : Type 0 where
+  pub each : AllByRecursion Is receipts
+  pub below : AllByRecursion (λ receipt. place receipt < i) receipts
+  pub rising : Rising place receipts
+  pub every : (k : ℕ) → k < i → At k → (receipt : X) × Member receipt receipts × (place receipt ≡ k)

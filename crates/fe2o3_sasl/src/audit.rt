@@ -1,0 +1,236 @@
+//! What two lists of frame bodies, one of a client and one of a server, say of the two sides.
+//!
+//! Both lists are run afresh. A finding is a position of the client and a position of the server that
+//! belong together: an Ok that the client reported on the verifier of an Ok of the server, or a
+//! response of the client whose proof the server accepted. Its verdict says whether both sides mean
+//! one login, and, where not, which texts or keys of theirs collide.
+
+ghost use Rattle.std.specs.Prelude.{◌≡◌, IfOk, map};
+ghost use Rattle.fe2o3_scram.specs.ServerFirst.{no_limit};
+ghost use Rattle.fe2o3_sasl.specs.Audit.{AuditsEvents, finding_of};
+ghost use Rattle.fe2o3_sasl.specs.Runs.{given, login_of};
+ghost use Rattle.fe2o3_sasl.specs.declared.audit.AuditError.TheVariants.{OutOfMemory as NoMemory};
+
+mod client_receipts;
+mod matching;
+mod receipts;
+mod server_receipts;
+
+use crate::audit::client_receipts::{client_is_complete, client_receipts};
+use crate::audit::matching::{match_proofs, match_verifiers};
+use crate::audit::server_receipts::{server_is_complete, server_receipts};
+use crate::runs::{Event, scram_client_run_limited, scram_server_run};
+use fe2o3_scram::credentials::ScramCredentialProvider;
+use fe2o3_scram::hmac::ScramVersion;
+use std::alloc::{AllocError, Global};
+use std::fmt;
+use std::vec::AllocFailed;
+use thiserror::Error;
+
+/// Why there is no audit.
+#[derive(Clone, Copy, Debug, PartialEq, Eq, Error)]
+pub enum AuditError {
+    /// A request for memory was refused, be it inside a step of one of the two runs. The call can be
+    /// made again.
+    #[error("Out of memory")]
+    OutOfMemory,
+}
+
+impl From<AllocError> for AuditError {
+    ghost from_gives = { λ _ error. error ≡ NoMemory };
+
+    fn from(_error: AllocError) -> Self {
+        AuditError::OutOfMemory
+    }
+}
+
+impl<T: Drop> From<AllocFailed<T>> for AuditError {
+    ghost from_gives = { λ _ error. error ≡ NoMemory };
+
+    fn from(_error: AllocFailed<T>) -> Self {
+        AuditError::OutOfMemory
+    }
+}
+
+/// What else both sides agree on.
+#[derive(Debug, Drop)]
+pub struct Parameters {
+    /// The nonce of both sides.
+    pub full_nonce: String,
+
+    /// The salt.
+    pub salt: Vec<u8>,
+
+    /// The iteration count.
+    pub iterations: u32,
+}
+
+/// How the two sides of a finding stand.
+#[derive(Drop)]
+pub enum Verdict {
+    /// Both sides mean one login, of which these are the values.
+    Agreed {
+        /// The user, plain.
+        username: String,
+
+        /// The client's nonce.
+        client_nonce: String,
+
+        /// What else they agree on: given exactly where the client's first message had no part but
+        /// the user name and the nonce.
+        parameters: Option<Parameters>,
+    },
+
+    /// Two AuthMessages that differ have one HMAC value, each under its key.
+    SameMac {
+        /// The client's key.
+        client_key: Vec<u8>,
+
+        /// The client's AuthMessage.
+        client_text: Vec<u8>,
+
+        /// The server's key.
+        server_key: Vec<u8>,
+
+        /// The server's AuthMessage.
+        server_text: Vec<u8>,
+    },
+
+    /// Two keys that differ have one digest.
+    SameHash {
+        /// The client's ClientKey.
+        client_key: Vec<u8>,
+
+        /// The key that the server recovered from the proof.
+        recovered_key: Vec<u8>,
+    },
+
+    /// The client's ClientKey is not the one whose digest the server stores.
+    OtherKey,
+}
+
+impl fmt::Debug for Verdict {
+    /// The user and the parameters; of keys and messages their lengths.
+    fn fmt<W: fmt::Write>(&self, f: &mut fmt::Formatter<W>) -> fmt::Result {
+        match self {
+            Verdict::Agreed {
+                username,
+                parameters,
+                ..
+            } => {
+                write!(
+                    f,
+                    "Agreed {{ username: {username:?}, parameters: {parameters:?}, .. }}"
+                )
+            }
+            Verdict::SameMac {
+                client_text,
+                server_text,
+                ..
+            } => {
+                let client = client_text.len();
+                let server = server_text.len();
+                write!(
+                    f,
+                    "SameMac {{ client_text: {client} bytes, server_text: {server} bytes, .. }}"
+                )
+            }
+            Verdict::SameHash { .. } => write!(f, "SameHash {{ .. }}"),
+            Verdict::OtherKey => write!(f, "OtherKey"),
+        }
+    }
+}
+
+/// What a finding is about.
+#[derive(Clone, Copy, Debug, PartialEq, Eq)]
+pub enum FindingKind {
+    /// A verifier of the server that the client took.
+    Verifier,
+
+    /// A proof of the client that the server accepted.
+    Proof,
+}
+
+/// A position of the client and a position of the server that belong together.
+#[derive(Debug, Drop)]
+pub struct Finding {
+    /// What the finding is about.
+    pub kind: FindingKind,
+
+    /// The position in the client's list, from 0.
+    pub client: usize,
+
+    /// The position in the server's list, from 0.
+    pub server: usize,
+
+    /// How the two sides stand.
+    pub verdict: Verdict,
+}
+
+/// What the two lists of bodies say of the client of this user and the server of these credentials:
+/// a finding for each verifier that the client took and the server gave, and then one for each proof
+/// that the client showed and the server accepted, each by the client's position and then by the
+/// server's. The client accepts every iteration count from 1 on.
+///
+/// The one refusal is `OutOfMemory`, and nothing was done.
+pub fn audit<C: ScramCredentialProvider>(
+    alloc: Global,
+    user: &str,
+    password: &str,
+    version: ScramVersion,
+    client_events: &[Event],
+    credentials: &C,
+    server_events: &[Event],
+) -> Result<Vec<Finding>, AuditError>
+    ensures { IfOk result (λ findings. AuditsEvents (login_of version user.now password.now no_limit)
+        (map given client_events.now) (C.meaning credentials.now) (map given server_events.now)
+        (map finding_of findings.items)) }
+{
+    audit_limited(
+        alloc,
+        user,
+        password,
+        version,
+        u32::MAX,
+        client_events,
+        credentials,
+        server_events,
+    )
+}
+
+/// As `audit`, of a client that refuses an iteration count above the limit.
+pub fn audit_limited<C: ScramCredentialProvider>(
+    alloc: Global,
+    user: &str,
+    password: &str,
+    version: ScramVersion,
+    limit: u32,
+    client_events: &[Event],
+    credentials: &C,
+    server_events: &[Event],
+) -> Result<Vec<Finding>, AuditError>
+    ensures { IfOk result (λ findings. AuditsEvents (login_of version user.now password.now limit)
+        (map given client_events.now) (C.meaning credentials.now) (map given server_events.now)
+        (map finding_of findings.items)) }
+{
+    let client_replies =
+        scram_client_run_limited(alloc, user, password, version, limit, client_events)?;
+    let server_replies = scram_server_run(alloc, credentials, server_events)?;
+    if !client_is_complete(&client_replies) || !server_is_complete(&server_replies) {
+        return Err(AuditError::OutOfMemory);
+    }
+    let client = client_receipts(
+        alloc,
+        user,
+        password,
+        version,
+        limit,
+        client_events,
+        &client_replies,
+    )?;
+    let oks = server_receipts(alloc, credentials, server_events, &server_replies)?;
+    let mut findings = Vec::new(alloc);
+    match_verifiers(alloc, &mut findings, &client.taken, &oks)?;
+    match_proofs(alloc, &mut findings, &client.shown, &oks)?;
+    Ok(findings)
+}

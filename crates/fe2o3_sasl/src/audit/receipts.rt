@@ -1,0 +1,32 @@
+//! What is kept of the positions of two runs.
+
+use crate::audit::Parameters;
+use fe2o3_scram::hmac::DigestBytes;
+
+/// Of a position of the client: the proof that it showed there or the verifier that it took, and
+/// what its answer was about.
+#[derive(Drop)]
+pub(crate) struct ClientReceipt {
+    pub place: usize,
+    pub shown: Vec<u8>,
+    pub message: Vec<u8>,
+    pub client_key: DigestBytes,
+    pub stored_key: DigestBytes,
+    pub server_key: DigestBytes,
+}
+
+/// Of a position where the server answered Ok: the verifier that it gave, the proof that it
+/// accepted, and what both were about.
+#[derive(Drop)]
+pub(crate) struct ServerReceipt {
+    pub place: usize,
+    pub verifier: Vec<u8>,
+    pub proof: Vec<u8>,
+    pub message: Vec<u8>,
+    pub username: String,
+    pub client_nonce: String,
+    pub parameters: Option<Parameters>,
+    pub stored_key: Vec<u8>,
+    pub server_key: Vec<u8>,
+    pub recovered_key: Vec<u8>,
+}
