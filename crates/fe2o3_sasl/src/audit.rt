@@ -22,9 +22,8 @@ use crate::audit::server_receipts::{server_is_complete, server_receipts};
 use crate::runs::{Event, scram_client_run_limited, scram_server_run};
 use fe2o3_scram::credentials::ScramCredentialProvider;
 use fe2o3_scram::hmac::ScramVersion;
-use std::alloc::{AllocError, Global};
+use std::alloc::{AllocError, AllocFailed, Global};
 use std::fmt;
-use std::vec::AllocFailed;
 use thiserror::Error;
 
 /// Why there is no audit.
@@ -32,7 +31,7 @@ use thiserror::Error;
 pub enum AuditError {
     /// A request for memory was refused, be it inside a step of one of the two runs. The call can be
     /// made again.
-    #[error("Out of memory")]
+    #[error("OutOfMemory")]
     OutOfMemory,
 }
 
