@@ -1,1 +1,2 @@
+pub mod ClientReceiptLemmas
 pub mod CoverLemmas
