@@ -1,4 +1,5 @@
 pub mod AuditLemmas
+pub mod ClientReceiptLemmas
 pub mod CoverLemmas
 pub mod FoundLemmas
 pub mod RepeatedFindingLemmas
