@@ -3,3 +3,4 @@ pub mod ClientReceiptLemmas
 pub mod CoverLemmas
 pub mod FoundLemmas
 pub mod RepeatedFindingLemmas
+pub mod ServerReceiptLemmas
