@@ -1,7 +1,6 @@
 -- The receipts of a client's run.
 use Rattle.std.proofs.Common.{◌≡◌, ℕ, suc, ◌≤◌, ◌+◌, false, true≢false, Option, Some, None, List, [], ◌∷◌, ◌++◌, refl, sym, ap, ◌∙◌, subst, arith, inl, inr, ⊎_elim, Result, Ok, Err}
 use Rattle.std.specs.Prelude.{slice_get}
-use Rattle.std.specs.List.{AllByRecursion}
 use Rattle.std.proofs.lemmas.Option.{same_Some, slice_get_within}
 use Rattle.fe2o3_sasl_wire.specs.declared.amqp_types.SaslCode.TheVariants as outcomes
 use Rattle.fe2o3_sasl_wire.specs.declared.sasl_frames.error.Error.{Error}
@@ -16,7 +15,7 @@ use Rattle.fe2o3_sasl.specs.Events.{Given, Login, ClientSays, Started, Answered,
 use Rattle.fe2o3_sasl.specs.Positions.{test_at, IsLastOpen}
 use Rattle.fe2o3_sasl.specs.private.ClientReceipts.{ClientSoFar, ShownFor, TakenFor, ClientKeeps}
 use Rattle.fe2o3_sasl.specs.private.Receipts.{ClientReceipt, OfAnswer, IsShownReceipt, IsTakenReceipt, RespondsAt, ReportsAt, Member}
-use Rattle.fe2o3_sasl.proofs.lemmas.audit.CoverLemmas.{covers_none, covers_skip, covers_push, member_last, member_each}
+use Rattle.fe2o3_sasl.proofs.lemmas.audit.CoverLemmas.{covers_skip, covers_push, member_last, member_each}
 use Rattle.fe2o3_sasl.proofs.lemmas.frames.SpellingLemmas.{carried_not}
 use Rattle.fe2o3_sasl.proofs.lemmas.positions.PositionLemmas.{some_at, opens_here, was_open, one_open}
 use Rattle.fe2o3_sasl.proofs.lemmas.two_sides.HeadlineLemmas.{reports_ok_exactly}
@@ -88,14 +87,6 @@ module _ (login : Login) (events : List Given) (replies : List ClientSays)
 
   abbrev Taken : ClientReceipt → Type 0
   Taken receipt = IsTakenReceipt login events replies receipt
-
-  pub nothing_yet : ClientSoFar login events replies 0 0 [] []
-  nothing_yet = record {
-    shows = covers_none Shown (λ r. r.place) (RespondsAt replies);
-    takes = covers_none Taken (λ r. r.place) (ReportsAt replies);
-    started = λ s h. absurd (let b = h.before in omega arith);
-    answered = λ j h. absurd (let b = h.before in omega arith);
-  }
 
   -- no start here: what can be answered stays
   no_start : (i start : ℕ) (says : ClientSays) → slice_get replies i ≡ Some says → is_start says ≡ false

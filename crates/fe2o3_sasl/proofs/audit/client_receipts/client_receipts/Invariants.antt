@@ -1,4 +1,4 @@
-use Rattle.std.proofs.Common.{◌≡◌, ◌≤◌, map}
+use Rattle.std.proofs.Common.{◌≤◌, map}
 use Rattle.fe2o3_sasl.specs.Runs.{given, client_answer}
 use Rattle.fe2o3_sasl.specs.private.ClientReceipts.{ClientSoFar, KeptKeys, login_at}
 use Rattle.fe2o3_sasl.specs.private.Findings.{client_receipt}
