@@ -83,8 +83,13 @@ fn receipt_of<C: ScramCredentialProvider>(
         stored.server_key,
     );
     let message = message(alloc, opened, client_final.without_proof)?;
-    let recovered_key =
-        recovered_key(alloc, version, stored.stored_key, &client_final.proof, &message)?;
+    let recovered_key = recovered_key(
+        alloc,
+        version,
+        stored.stored_key,
+        &client_final.proof,
+        &message,
+    )?;
     Ok(ServerReceipt {
         place,
         verifier: verifier(alloc, version, stored.server_key, &message)?,
@@ -107,15 +112,10 @@ fn is_record(salt: &[u8], iterations: u32, stored_key: &[u8], server_key: &[u8])
       stored_key = stored_key.now;
       server_key = server_key.now;
     }) }
-{
-}
+{}
 
 /// AuthMessage, as the server has it.
-fn message(
-    alloc: Global,
-    opened: &Opened<'_>,
-    without_proof: &str,
-) -> Result<Vec<u8>, OutOfMemory>
+fn message(alloc: Global, opened: &Opened<'_>, without_proof: &str) -> Result<Vec<u8>, OutOfMemory>
     requires { HoldsMessage opened.now }
     ensures { IfOk result (λ text. text.items ≡ auth_message_of (opened_challenge opened.now).client.bare
         (first_message (opened_challenge opened.now)) without_proof.now) }

@@ -1,7 +1,6 @@
-use Rattle.std.proofs.Common.{◌≡◌, ◌++◌, ◌∙◌, refl, codes}
+use Rattle.std.proofs.Common.{◌≡◌, refl}
 use Rattle.fe2o3_scram.specs.ClientFinal.{client_final_values}
-use Rattle.fe2o3_scram.specs.Keys.{auth_message, recovered_client_key, server_signature}
-use Rattle.fe2o3_scram.specs.Texts.{base64_text}
+use Rattle.fe2o3_scram.specs.Keys.{auth_message}
 use Rattle.fe2o3_sasl.specs.ServerHistory.{first_message}
 use Rattle.fe2o3_sasl.specs.private.ServerReceipts.{opened_challenge}
 use Rattle.fe2o3_sasl.proofs.audit.server_receipts.accepted.receipt_of.Goals as goal
@@ -16,9 +15,7 @@ returns-clause-accepted g c =
     c.in_ok-message.ensures in
     record {
       kept = c.is_record.ensures;
-      verifier =
-          c.in_ok-verifier.ensures ∙ (λ i. codes "v=" ++ base64_text (server_signature (version i)
-          opened.stored.server_key ((c.deref-3.ensures.value ∙ auth) i)));
+      verifier = rw (c.deref-3.ensures.value, auth, version) at c.in_ok-verifier.ensures;
       proof = refl;
       message = auth;
       user = c.in_ok-to_string.ensures.ok;
@@ -26,7 +23,5 @@ returns-clause-accepted g c =
       parameters = c.in_ok-parameters.ensures final;
       stored_key = c.in_ok-to_vec.ensures.items_if_clones_equal (λ x y same. same);
       server_key = c.in_ok-to_vec-2.ensures.items_if_clones_equal (λ x y same. same);
-      recovered =
-          c.in_ok-recovered_key.ensures ∙ (λ i. recovered_client_key (version i) opened.stored.stored_key
-          (c.deref.ensures.value i) ((c.deref-2.ensures.value ∙ auth) i));
+      recovered = rw (c.deref.ensures.value, c.deref-2.ensures.value, auth, version) at c.in_ok-recovered_key.ensures;
     }
