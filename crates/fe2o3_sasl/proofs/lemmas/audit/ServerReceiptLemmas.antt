@@ -14,11 +14,11 @@ use Rattle.fe2o3_scram.proofs.lemmas.messages.OneValueLemmas.{one_client_first_v
 use Rattle.fe2o3_scram.proofs.lemmas.texts.PartsLemmas.{pieces, Parts-pieces, one_list_of_parts}
 use Rattle.fe2o3_sasl.specs.Events.{Given, ServerSays, Challenged, Concluded, Failed}
 use Rattle.fe2o3_sasl.specs.Positions.{test_at, IsLastOpen}
-use Rattle.fe2o3_sasl.specs.ServerHistory.{Challenging, Accepted, AcceptsAt, FitsAsInit, FitsAt, Open, ServerHistory, SpellsBody, is_challenge, is_ok, server_at}
+use Rattle.fe2o3_sasl.specs.ServerHistory.{Challenging, Accepted, AcceptsAt, FitsAsInit, FitsAt, Open, ServerHistory, SpellsBody, is_challenge, is_ok}
 use Rattle.fe2o3_sasl.specs.TwoSides.{HasParts}
-use Rattle.fe2o3_sasl.specs.private.Receipts.{ServerReceipt, OfAccepted, IsOkReceipt, ConcludesAt, Covers}
+use Rattle.fe2o3_sasl.specs.private.Receipts.{ServerReceipt, OfAccepted, IsOkReceipt, ConcludesAt}
 use Rattle.fe2o3_sasl.specs.private.ServerReceipts.{ServerSoFar, OpenedFor, OkFor, ServerKeeps}
-use Rattle.fe2o3_sasl.proofs.lemmas.audit.CoverLemmas.{covers_none, covers_skip, covers_push}
+use Rattle.fe2o3_sasl.proofs.lemmas.audit.CoverLemmas.{covers_skip, covers_push}
 use Rattle.fe2o3_sasl.proofs.lemmas.frames.SpellingLemmas.{one_spelled_frame}
 use Rattle.fe2o3_sasl.proofs.lemmas.histories.OneServerHistoryLemmas.{one_fits}
 use Rattle.fe2o3_sasl.proofs.lemmas.histories.ServerLawLemmas.{ok_accepts, accepted_response}
@@ -78,12 +78,6 @@ accepting challenge final = record { challenge = challenge; final = final }
 
 module _ (provider : Provider) (events : List Given) (replies : List ServerSays)
     (history : ServerHistory provider events replies) where
-  pub no_ok_yet : ServerSoFar provider events replies 0 0 []
-  no_ok_yet = record {
-    concludes = covers_none (IsOkReceipt provider events replies) (λ receipt. receipt.place) (ConcludesAt replies);
-    challenged = λ j is. absurd (let before = is.before in omega arith);
-  }
-
   -- a reply that is no challenge opens nothing
   no_challenge : (i challenge : ℕ) (says : ServerSays) → slice_get replies i ≡ Some says → is_challenge says ≡ false
       → ((j : ℕ) → IsLastOpen is_challenge is_ok replies i j → challenge ≡ j) → (j : ℕ)
@@ -168,7 +162,7 @@ module _ (provider : Provider) (events : List Given) (replies : List ServerSays)
       → ServerSoFar provider events replies i challenge oks → ServerSoFar provider events replies i next oks'
   moved i next challenge oks oks' e f known =
       subst (λ (z : ℕ × List ServerReceipt). ServerSoFar provider events replies i z.0 z.1) (λ j. (sym e j, sym f j))
-          known
+      known
 
   -- a reply that leaves nothing
   kept : (i challenge next : ℕ) (oks oks' : List ServerReceipt) (says : ServerSays)
@@ -205,7 +199,7 @@ module _ (provider : Provider) (events : List Given) (replies : List ServerSays)
   server_next i challenge next oks oks' init event says at first here keeps known =
       let e : suc i ≡ i + 1 = omega arith in
       subst (λ (z : ℕ). ServerSoFar provider events replies z next oks') e
-          (step i challenge next oks oks' init event says at first here keeps known)
+      (step i challenge next oks oks' init event says at first here keeps known)
 
 -- the last challenge stands before the next position
 pub challenge_behind : (provider : Provider) (i challenge next : ℕ) (oks oks' : List ServerReceipt)

@@ -6,6 +6,7 @@ ghost use Rattle.fe2o3_scram.specs.ClientFinal.{ClientFinal as Final, HasProof, 
 ghost use Rattle.fe2o3_scram.specs.Keys.{auth_message as auth_message_of, recovered_client_key, server_signature};
 ghost use Rattle.fe2o3_scram.specs.Texts.{base64_text};
 ghost use Rattle.fe2o3_sasl.specs.Audit.{AreParameters, parameters_of};
+ghost use Rattle.fe2o3_sasl.specs.Events.{IsRecord};
 ghost use Rattle.fe2o3_sasl.specs.ServerHistory.{SpellsBody, first_message};
 ghost use Rattle.fe2o3_sasl.specs.TwoSides.{HasParts};
 ghost use Rattle.fe2o3_sasl.specs.private.Findings.{server_receipt};
@@ -75,9 +76,20 @@ fn receipt_of<C: ScramCredentialProvider>(
 {
     let version = *credentials.scram_version();
     let stored = &opened.stored_password;
+    is_record(
+        stored.salt,
+        stored.iterations,
+        stored.stored_key,
+        stored.server_key,
+    );
     let message = message(alloc, opened, client_final.without_proof)?;
-    let recovered_key =
-        recovered_key(alloc, version, stored.stored_key, &client_final.proof, &message)?;
+    let recovered_key = recovered_key(
+        alloc,
+        version,
+        stored.stored_key,
+        &client_final.proof,
+        &message,
+    )?;
     Ok(ServerReceipt {
         place,
         verifier: verifier(alloc, version, stored.server_key, &message)?,
@@ -92,12 +104,18 @@ fn receipt_of<C: ScramCredentialProvider>(
     })
 }
 
+/// What is kept of a password is bytes, and a count of 32 bits.
+fn is_record(salt: &[u8], iterations: u32, stored_key: &[u8], server_key: &[u8])
+    ensures { IsRecord (record {
+      salt = salt.now;
+      count = iterations;
+      stored_key = stored_key.now;
+      server_key = server_key.now;
+    }) }
+{}
+
 /// AuthMessage, as the server has it.
-fn message(
-    alloc: Global,
-    opened: &Opened<'_>,
-    without_proof: &str,
-) -> Result<Vec<u8>, OutOfMemory>
+fn message(alloc: Global, opened: &Opened<'_>, without_proof: &str) -> Result<Vec<u8>, OutOfMemory>
     requires { HoldsMessage opened.now }
     ensures { IfOk result (λ text. text.items ≡ auth_message_of (opened_challenge opened.now).client.bare
         (first_message (opened_challenge opened.now)) without_proof.now) }

@@ -39,9 +39,12 @@ pub(crate) fn opened_again<'a, C: ScramCredentialProvider>(
     };
     let server_nonce = STANDARD.encode(alloc, &init.nonce)?;
     let version = credentials.scram_version();
-    let Ok(Some(server_first)) =
-        version.compute_server_first_message(alloc, text, &server_nonce, credentials)
-    else {
+    let Ok(Some(server_first)) = version.compute_server_first_message(
+        alloc,
+        text,
+        &server_nonce,
+        credentials,
+    ) else {
         return Err(OutOfMemory);
     };
     let Ok(client_first) = ClientFirst::parse(alloc, text) else {
@@ -67,7 +70,8 @@ fn initial_response(body: &[u8]) -> Option<&[u8]>
         Ok(
             (
                 FrameView::Init {
-                    initial_response, ..
+                    initial_response,
+                    ..
                 },
                 _,
             ),

@@ -5,4 +5,5 @@ use Rattle.fe2o3_sasl.specs.Runs.{server_answer}
 use Rattle.fe2o3_sasl.proofs.audit.server_receipts.server_is_complete.Given as goal
 
 abbrev pub invariant-loop-reply : goal.invariant-loop-reply
-invariant-loop-reply l = (k : ℕ) → slice_get (map server_answer (take l.reply-index l.replies)) k ≢ Some (no_memory)
+invariant-loop-reply l =
+    (k : ℕ) → slice_get (map server_answer (take l.reply-index l.replies)) k ≢ Some no_memory
