@@ -30,6 +30,11 @@ pub member_last : {X : Type 0} (xs : List X) (y : X) → Member y (xs ++ y ∷ [
 member_last [] y = inl refl
 member_last (x ∷ xs) y = inr (member_last xs y)
 
+pub member_each : {X : Type 0} (P : X → Type 0) (xs : List X) (x : X) → AllByRecursion P xs → Member x xs → P x
+member_each P [] x h m = absurd m
+member_each P (y ∷ xs) x h (inl e) = subst (λ (z : _). P z) e h.0
+member_each P (y ∷ xs) x h (inr m) = member_each P xs x h.1 m
+
 -- ---- one position more
 
 module _ {X : Type 0} (Is : X → Type 0) (place : X → ℕ) (At : ℕ → Type 0) where
