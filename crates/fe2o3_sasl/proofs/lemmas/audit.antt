@@ -2,5 +2,6 @@ pub mod AuditLemmas
 pub mod ClientReceiptLemmas
 pub mod CoverLemmas
 pub mod FoundLemmas
+pub mod IndexLemmas
 pub mod RepeatedFindingLemmas
 pub mod ServerReceiptLemmas

@@ -1,9 +1,14 @@
 -- What is found of two receipts. Contracts of private functions alone cite this.
-use Rattle.std.specs.Prelude.{ℕ, Bool, List, [], ◌∷◌, Option, option_map, if◌then◌else◌, nat_eq, string_bytes}
+use Rattle.std.specs.Prelude.{ℕ, Bool, List, [], ◌∷◌, map, option_map, if◌then◌else◌, nat_eq, string_bytes, Vec}
 use Rattle.std.specs.List.{flat_map}
-use Rattle.std.specs.Cmp.Lexicographic.{pointwise}
+use Rattle.std.specs.BTreeMap.{BTreeMap, get_by}
+use Rattle.std.specs.Borrow.{Bor}
+use Rattle.std.specs.Cmp.Lexicographic.{pointwise, slice_cmp}
+use Rattle.std.specs.Option.{option_map_or}
+use Rattle.std.specs.Ordering.{nat_cmp}
+use Rattle.std.specs.declared.alloc.Global.{Global}
 use Rattle.fe2o3_scram.specs.Hmac.{digest_bytes}
-use Rattle.fe2o3_sasl.specs.Audit.{Verdict, Agreed, SameMac, SameHash, OtherKey, OfVerifier, OfProof, Finding, parameters_of}
+use Rattle.fe2o3_sasl.specs.Audit.{Verdict, Agreed, SameMac, SameHash, OtherKey, FindingKind, OfVerifier, OfProof, Finding, parameters_of}
 use Rattle.fe2o3_sasl.specs.declared.audit.receipts.ClientReceipt as code_client
 use Rattle.fe2o3_sasl.specs.declared.audit.receipts.ServerReceipt as code_server
 use Rattle.fe2o3_sasl.specs.private.Receipts.{ClientReceipt, ServerReceipt}
@@ -95,3 +100,33 @@ found meets finding left right = if meets left right then (finding left right �
 -- what is found of two lists of receipts
 abbrev pub findings_of : {A B F : Type 0} → (A → B → Bool) → (A → B → F) → List A → List B → List F
 findings_of meets finding lefts rights = flat_map (λ left. flat_map (found meets finding left) rights) lefts
+
+-- ---- the same for both kinds, with the server's receipts in an index
+
+-- what a finding of this kind compares with what the client has
+abbrev pub key_of : FindingKind → ServerReceipt → List ℕ
+key_of OfVerifier server = server.verifier
+key_of OfProof server = server.proof
+
+-- the receipts meet in it
+abbrev pub meets_on : FindingKind → ClientReceipt → ServerReceipt → Bool
+meets_on kind client server = same client.shown (key_of kind server)
+
+-- the verdict
+abbrev pub verdict_on : FindingKind → ClientReceipt → ServerReceipt → Verdict
+verdict_on OfVerifier client server = verifier_verdict client server
+verdict_on OfProof client server = proof_verdict client server
+
+-- what is found
+abbrev pub finding_on : FindingKind → ClientReceipt → ServerReceipt → Finding
+finding_on kind client server = record {
+  kind = kind;
+  client = client.place;
+  server = server.place;
+  verdict = verdict_on kind client server;
+}
+
+-- the receipts that an index has at these bytes
+abbrev pub row_at : BTreeMap (Bor (List ℕ)) (Vec (Bor code_server.ServerReceipt) Global) → List ℕ → List ServerReceipt
+row_at index bytes = map (λ server. server_receipt server.now)
+    (option_map_or (λ row. row.items) (get_by (λ key. slice_cmp nat_cmp bytes key.now) index) [])

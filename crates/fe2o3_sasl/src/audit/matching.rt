@@ -1,108 +1,82 @@
-//! The findings of two lists of receipts. Receipts are compared, and never events: what a receipt
-//! shows is a digest or its text, so most pairs differ in their first bytes.
+//! The findings of two lists of receipts. The server's stand in an index by what they are compared by,
+//! so that the work grows with the receipts and the findings, and not with the pairs.
 
-ghost use Rattle.std.specs.Prelude.{◌≡◌, ◌++◌, map, IfOk, OnOk, option_map};
-ghost use Rattle.std.specs.List.{flat_map};
-ghost use Rattle.fe2o3_sasl.specs.Audit.{finding_of, verdict_of, parameters_of};
-ghost use Rattle.fe2o3_sasl.specs.private.Findings.{client_receipt, server_receipt, agreed_on, verifier_verdict, proof_verdict, is_taken, is_shown, verifier_finding, proof_finding, found, findings_of};
+ghost use Rattle.std.specs.Prelude.{◌≡◌, ◌++◌, ◌∷◌, [], ℕ, List, if◌then◌else◌, map, filter, IfOk, OnOk};
+ghost use Rattle.fe2o3_sasl.specs.Audit.{finding_of, kind_of};
+ghost use Rattle.fe2o3_sasl.specs.private.Findings.{client_receipt, server_receipt, same, is_taken, is_shown, verifier_finding, proof_finding, findings_of, key_of, finding_on, meets_on, row_at};
+
+mod verdicts;
 
 use crate::OutOfMemory;
+use crate::audit::matching::verdicts::judge;
 use crate::audit::receipts::{ClientReceipt, ServerReceipt};
-use crate::audit::{Finding, FindingKind, Parameters, Verdict};
+use crate::audit::{Finding, FindingKind};
 use std::alloc::Global;
+use std::collections::BTreeMap;
 
-/// The parameters again.
-fn copy(alloc: Global, parameters: &Parameters) -> Result<Parameters, OutOfMemory>
-    ensures { IfOk result (λ copy. parameters_of copy ≡ parameters_of parameters.now) }
+/// The server's receipts by the bytes that a finding of some kind compares, each row in the list's
+/// order. It is a tree, since these bytes come from strangers, who could flood a hash table.
+type Index<'a> = BTreeMap<&'a [u8], Vec<&'a ServerReceipt>>;
+
+/// The bytes of a server's receipt that a finding of this kind compares.
+fn key(kind: FindingKind, server: &ServerReceipt) -> &[u8]
+    ensures { result.now ≡ key_of (kind_of kind) (server_receipt server.now) }
 {
-    Ok(Parameters {
-        full_nonce: parameters.full_nonce.clone()?,
-        salt: parameters.salt.clone()?,
-        iterations: parameters.iterations,
-    })
+    match kind {
+        FindingKind::Verifier => &server.verifier,
+        FindingKind::Proof => &server.proof,
+    }
 }
 
-/// What both sides agree on, as the server has it.
-fn agreed(alloc: Global, server: &ServerReceipt) -> Result<Verdict, OutOfMemory>
-    ensures { IfOk result (λ verdict. verdict_of verdict ≡ agreed_on (server_receipt server.now)) }
+/// Puts the receipt behind those that the index has at these bytes. Refuses with `OutOfMemory`.
+fn put<'a>(
+    index: &mut Index<'a>,
+    bytes: &'a [u8],
+    server: &'a ServerReceipt,
+) -> Result<(), OutOfMemory>
+    ensures { OnOk result ((other : List ℕ) → row_at index.new other
+        ≡ (if same other bytes.now then row_at index.old other ++ server_receipt server.now ∷ []
+        else row_at index.old other)) }
 {
-    let parameters = match &server.parameters {
-        Some(parameters) => Some(copy(alloc, parameters)?),
-        None => None,
+    index.entry(bytes)?.or_default().push(server)?;
+    Ok(())
+}
+
+/// The index of the receipts for findings of this kind. Refuses with `OutOfMemory`.
+fn index_of<'a>(
+    alloc: Global,
+    kind: FindingKind,
+    oks: &'a [ServerReceipt],
+) -> Result<Index<'a>, OutOfMemory>
+    ensures { IfOk result (λ index. (bytes : List ℕ) → row_at index bytes
+        ≡ filter (λ server. same bytes (key_of (kind_of kind) server)) (map server_receipt oks.now)) }
+{
+    let mut index = BTreeMap::new(alloc);
+    for server in oks {
+        put(&mut index, key(kind, server), server)?;
+    }
+    Ok(index)
+}
+
+/// Adds the findings of a client's receipt, one for each receipt that the index has at its bytes.
+/// Refuses with `OutOfMemory`.
+fn match_client<'a>(
+    alloc: Global,
+    kind: FindingKind,
+    findings: &mut Vec<Finding>,
+    client: &ClientReceipt,
+    index: &Index<'a>,
+) -> Result<(), OutOfMemory>
+    ensures { OnOk result (map finding_of findings.new.items ≡ map finding_of findings.old.items
+        ++ map (finding_on (kind_of kind) (client_receipt client.now)) (row_at index.now client.now.shown.items)) }
+{
+    let Some(row) = index.get(client.shown.as_slice()) else {
+        return Ok(());
     };
-    Ok(Verdict::Agreed {
-        username: server.username.clone()?,
-        client_nonce: server.client_nonce.clone()?,
-        parameters,
-    })
-}
-
-/// The verdict on a verifier that the client took.
-fn judge_verifier(
-    alloc: Global,
-    client: &ClientReceipt,
-    server: &ServerReceipt,
-) -> Result<Verdict, OutOfMemory>
-    ensures { IfOk result (λ verdict. verdict_of verdict ≡ verifier_verdict (client_receipt client.now)
-        (server_receipt server.now)) }
-{
-    if client.message == server.message {
-        agreed(alloc, server)
-    } else {
-        Ok(Verdict::SameMac {
-            client_key: client.server_key.as_slice().to_vec(alloc)?,
-            client_text: client.message.clone()?,
-            server_key: server.server_key.clone()?,
-            server_text: server.message.clone()?,
-        })
-    }
-}
-
-/// The verdict on a proof that the client showed.
-fn judge_proof(
-    alloc: Global,
-    client: &ClientReceipt,
-    server: &ServerReceipt,
-) -> Result<Verdict, OutOfMemory>
-    ensures { IfOk result (λ verdict. verdict_of verdict ≡ proof_verdict (client_receipt client.now)
-        (server_receipt server.now)) }
-{
-    if client.stored_key.as_slice() != server.stored_key.as_slice() {
-        return Ok(Verdict::OtherKey);
-    }
-    if client.message == server.message {
-        return agreed(alloc, server);
-    }
-    let client_key = client.client_key.as_slice();
-    if client_key == server.recovered_key.as_slice() {
-        Ok(Verdict::SameMac {
-            client_key: server.stored_key.clone()?,
-            client_text: client.message.clone()?,
-            server_key: server.stored_key.clone()?,
-            server_text: server.message.clone()?,
-        })
-    } else {
-        Ok(Verdict::SameHash {
-            client_key: client_key.to_vec(alloc)?,
-            recovered_key: server.recovered_key.clone()?,
-        })
-    }
-}
-
-/// Adds what is found of a verifier that the client took.
-fn match_verifier(
-    alloc: Global,
-    findings: &mut Vec<Finding>,
-    client: &ClientReceipt,
-    server: &ServerReceipt,
-) -> Result<(), OutOfMemory>
-    ensures { OnOk result (map finding_of findings.new.items ≡ map finding_of findings.old.items ++ found is_taken
-        verifier_finding (client_receipt client.now) (server_receipt server.now)) }
-{
-    if client.shown == server.verifier {
-        let verdict = judge_verifier(alloc, client, server)?;
+    for server in row {
+        let verdict = judge(alloc, kind, client, *server)?;
         findings.push(Finding {
-            kind: FindingKind::Verifier,
+            kind,
             client: client.place,
             server: server.place,
             verdict,
@@ -111,61 +85,28 @@ fn match_verifier(
     Ok(())
 }
 
-/// Adds what is found of a proof that the client showed.
-fn match_proof(
+/// Adds the findings of this kind, by the client's position and then by the server's. Refuses with
+/// `OutOfMemory`.
+fn match_receipts(
     alloc: Global,
+    kind: FindingKind,
     findings: &mut Vec<Finding>,
-    client: &ClientReceipt,
-    server: &ServerReceipt,
-) -> Result<(), OutOfMemory>
-    ensures { OnOk result (map finding_of findings.new.items ≡ map finding_of findings.old.items ++ found is_shown
-        proof_finding (client_receipt client.now) (server_receipt server.now)) }
-{
-    if client.shown == server.proof {
-        let verdict = judge_proof(alloc, client, server)?;
-        findings.push(Finding {
-            kind: FindingKind::Proof,
-            client: client.place,
-            server: server.place,
-            verdict,
-        })?;
-    }
-    Ok(())
-}
-
-/// Adds what is found of one verifier.
-fn match_taken(
-    alloc: Global,
-    findings: &mut Vec<Finding>,
-    client: &ClientReceipt,
+    clients: &[ClientReceipt],
     oks: &[ServerReceipt],
 ) -> Result<(), OutOfMemory>
-    ensures { OnOk result (map finding_of findings.new.items ≡ map finding_of findings.old.items ++ flat_map
-        (found is_taken verifier_finding (client_receipt client.now)) (map server_receipt oks.now)) }
+    ensures { OnOk result (map finding_of findings.new.items ≡ map finding_of findings.old.items
+        ++ findings_of (meets_on (kind_of kind)) (finding_on (kind_of kind)) (map client_receipt clients.now)
+        (map server_receipt oks.now)) }
 {
-    for server in oks {
-        match_verifier(alloc, findings, client, server)?;
+    let index = index_of(alloc, kind, oks)?;
+    for client in clients {
+        match_client(alloc, kind, findings, client, &index)?;
     }
     Ok(())
 }
 
-/// Adds what is found of one proof.
-fn match_shown(
-    alloc: Global,
-    findings: &mut Vec<Finding>,
-    client: &ClientReceipt,
-    oks: &[ServerReceipt],
-) -> Result<(), OutOfMemory>
-    ensures { OnOk result (map finding_of findings.new.items ≡ map finding_of findings.old.items ++ flat_map
-        (found is_shown proof_finding (client_receipt client.now)) (map server_receipt oks.now)) }
-{
-    for server in oks {
-        match_proof(alloc, findings, client, server)?;
-    }
-    Ok(())
-}
-
-/// Adds the findings of the verifiers, by the client's position and then by the server's.
+/// Adds the findings of the verifiers, by the client's position and then by the server's. Refuses with
+/// `OutOfMemory`.
 pub(crate) fn match_verifiers(
     alloc: Global,
     findings: &mut Vec<Finding>,
@@ -175,13 +116,11 @@ pub(crate) fn match_verifiers(
     ensures { OnOk result (map finding_of findings.new.items ≡ map finding_of findings.old.items ++ findings_of
         is_taken verifier_finding (map client_receipt taken.now) (map server_receipt oks.now)) }
 {
-    for client in taken {
-        match_taken(alloc, findings, client, oks)?;
-    }
-    Ok(())
+    match_receipts(alloc, FindingKind::Verifier, findings, taken, oks)
 }
 
-/// Adds the findings of the proofs, by the client's position and then by the server's.
+/// Adds the findings of the proofs, by the client's position and then by the server's. Refuses with
+/// `OutOfMemory`.
 pub(crate) fn match_proofs(
     alloc: Global,
     findings: &mut Vec<Finding>,
@@ -191,8 +130,5 @@ pub(crate) fn match_proofs(
     ensures { OnOk result (map finding_of findings.new.items ≡ map finding_of findings.old.items ++ findings_of
         is_shown proof_finding (map client_receipt shown.now) (map server_receipt oks.now)) }
 {
-    for client in shown {
-        match_shown(alloc, findings, client, oks)?;
-    }
-    Ok(())
+    match_receipts(alloc, FindingKind::Proof, findings, shown, oks)
 }
