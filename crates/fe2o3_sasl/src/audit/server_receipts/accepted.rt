@@ -25,7 +25,8 @@ use fe2o3_scram::keys::auth_message;
 use fe2o3_scram::scram_messages::ClientFinal;
 use std::alloc::Global;
 
-/// The receipt of an Ok to the response in this body.
+/// The receipt of an Ok to the response in this body. The one refusal is `OutOfMemory`, also of a
+/// body that is no response to this challenge.
 pub(crate) fn ok_receipt<C: ScramCredentialProvider>(
     alloc: Global,
     credentials: &C,
@@ -41,7 +42,8 @@ pub(crate) fn ok_receipt<C: ScramCredentialProvider>(
     receipt_of(alloc, credentials, place, opened, client_final)
 }
 
-/// What the response in this body names.
+/// What the response in this body names. The one refusal is `OutOfMemory`, also of a body that is no
+/// response with this nonce.
 fn response_again<'a>(
     alloc: Global,
     client_server_nonce: &[u8],
@@ -144,7 +146,8 @@ fn verifier(
     Ok(text.into_bytes())
 }
 
-/// The ClientKey that the proof gives away.
+/// The ClientKey that the proof gives away. The one refusal is `OutOfMemory`, also of a proof that is
+/// not as long as a digest.
 fn recovered_key(
     alloc: Global,
     version: ScramVersion,

@@ -24,7 +24,8 @@ pub(crate) struct Opened<'a> {
     pub stored_password: StoredPassword<'a>,
 }
 
-/// The challenge to the init in this event.
+/// The challenge to the init in this event. The one refusal is `OutOfMemory`, also of an event that
+/// is not answered with a challenge.
 pub(crate) fn opened_again<'a, C: ScramCredentialProvider>(
     alloc: Global,
     credentials: &'a C,
@@ -61,7 +62,7 @@ pub(crate) fn opened_again<'a, C: ScramCredentialProvider>(
     })
 }
 
-/// The client-first message in the body of an init.
+/// The client-first message in the body of an init, or `None` where there is none.
 fn initial_response(body: &[u8]) -> Option<&[u8]>
     ensures { MatchOption result ⊤ (λ text. (mechanism : List ℕ) × (hostname : Option (List ℕ))
         × SpellsBody body.now (Ok (Init mechanism (Some text.now) hostname))) }
