@@ -112,6 +112,13 @@ pub(crate) fn code_at(bytes: &[u8]) -> Option<(SaslCode, &[u8])>
     Some((code, rest))
 }
 
+/// Whether bytes are ASCII.
+fn is_ascii(bytes: &[u8]) -> bool
+    ensures { result ≡ is_ascii bytes.now }
+{
+    bytes.is_ascii()
+}
+
 /// The text of bytes that are ASCII.
 #[inline(always)]
 pub(crate) fn ascii_text(bytes: &[u8]) -> Option<&str>
@@ -130,6 +137,19 @@ pub(crate) fn utf8_text(bytes: &[u8]) -> Option<&str>
     ensures { option_map (λ x. x.now) result ≡ (if is_utf8 bytes.now then Some bytes.now else None) }
 {
     str::from_utf8(bytes).ok()
+}
+
+/// The bytes after a symbol without its constructor.
+#[inline(always)]
+#[tactic(auto, unfolding(crate::specs::private::Reading::element_at))]
+pub(crate) fn element_rest(form: Form, bytes: &[u8]) -> Option<&[u8]>
+    ensures { option_map (λ x. x.now) result ≡ option_map (λ x. x.1) (element_at form bytes.now) }
+{
+    let (content, rest) = content_at(form, bytes)?;
+    if !is_ascii(content) {
+        return None;
+    }
+    Some(rest)
 }
 
 /// A symbol without its constructor, as it stands in an array.

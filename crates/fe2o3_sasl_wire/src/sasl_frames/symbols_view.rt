@@ -5,7 +5,9 @@ ghost use Rattle.std.specs.List.{AllByRecursion};
 ghost use Rattle.fe2o3_sasl_wire.specs.private.Reading.{elements_at, element_at, array_at, one_at, symbols_at};
 
 use crate::sasl_frames::forms::{ARRAY_8, ARRAY_32, Form, SYMBOL_8, SYMBOL_32};
-use crate::sasl_frames::reading::{byte_at, content_at, element_at, form_at, number_at};
+use crate::sasl_frames::reading::{
+    byte_at, content_at, element_at, element_rest, form_at, number_at,
+};
 use std::fmt;
 use std::marker::Model;
 
@@ -41,7 +43,7 @@ fn elements_rest(form: Form, count: u32, bytes: &[u8]) -> Option<&[u8]>
 {
     let mut rest = bytes;
     for _ in 0..count {
-        let (_, after) = element_at(form, rest)?;
+        let after = element_rest(form, rest)?;
         rest = after;
     }
     Some(rest)

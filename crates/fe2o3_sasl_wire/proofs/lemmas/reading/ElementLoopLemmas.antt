@@ -46,6 +46,16 @@ rest-with_first name (Some x) = refl
 pub record Leaves (form : Form) (left : ℕ) (bytes : List ℕ) (total : Option (List ℕ)) : Type 0 where
   pub same : rest_of (elements_at form left bytes) ≡ total
 
+-- what stands before the bytes after an element
+pub rest_read : (read : Option (List ℕ × List ℕ)) {after : List ℕ} → Some after ≡ option_map (λ x. x.1) read
+    → (name : List ℕ) × (read ≡ Some (name, after))
+rest_read None h = absurd cc
+rest_read (Some x) {after} h = (x.0, ap (λ (y : List ℕ). Some (x.0, y)) (sym (some_is after x.1 h)))
+
+pub rest_unread : (read : Option (List ℕ × List ℕ)) → None ≡ option_map (λ x. x.1) read → read ≡ None
+rest_unread None h = refl
+rest_unread (Some x) h = absurd cc
+
 pub rest_goes_on : {form : Form} {count i : ℕ} {bytes name after : List ℕ} {total : Option (List ℕ)} → i < count
     → element_at form bytes ≡ Some (name, after) → Leaves form (count - i) bytes total
     → Leaves form (count - (i + 1)) after total

@@ -1,6 +1,6 @@
 -- Texts that are tested, as the answers of tests.
-use Rattle.std.proofs.Common.{◌≡◌, ℕ, zero, suc, true, cond, ltb, List, [], ◌∷◌, Some, None, Result, Ok, Err, refl, sym, ap, ◌∙◌, arith, option_map}
-use Rattle.std.specs.Prelude.{MatchResult, IfSome, IsUtf8, IsAscii}
+use Rattle.std.proofs.Common.{◌≡◌, ℕ, zero, suc, Bool, true, false, cond, ltb, List, [], ◌∷◌, Some, None, Result, Ok, Err, refl, sym, ap, ◌∙◌, arith, option_map}
+use Rattle.std.specs.Prelude.{MatchResult, MatchBool, IfSome, IsUtf8, IsAscii}
 use Rattle.std.specs.Str.{is_utf8, IsNotAscii}
 use Rattle.std.specs.Result.{result_ok}
 use Rattle.std.specs.Borrow.{Bor}
@@ -41,3 +41,8 @@ pub shown_ascii : {E : Type 0} (r : Result (Bor (List ℕ)) E) (b : List ℕ) (Q
     → IfSome (result_ok r) (λ x. IsAscii x.now)
 shown_ascii (Ok s) b Q a h = rw h.0 a
 shown_ascii (Err e) b Q a h = tt
+
+pub tells_ascii : (r : Bool) (b : List ℕ) → MatchBool r (IsAscii b) (IsNotAscii b) → r ≡ is_ascii b
+tells_ascii true b a = sym (is_ascii-from_IsAscii b a)
+tells_ascii false b n =
+    sym (false_from_ne_true (is_ascii b) (λ t. let a = IsAscii-from_is_ascii b t in omega (arith, a n.0, n.1)))
