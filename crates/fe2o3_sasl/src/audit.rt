@@ -212,8 +212,14 @@ pub fn audit_limited<C: ScramCredentialProvider>(
         (map given client_events.now) (C.meaning credentials.now) (map given server_events.now)
         (map finding_of findings.items)) }
 {
-    let client_replies =
-        scram_client_run_limited(alloc, user, password, version, limit, client_events)?;
+    let client_replies = scram_client_run_limited(
+        alloc,
+        user,
+        password,
+        version,
+        limit,
+        client_events,
+    )?;
     let server_replies = scram_server_run(alloc, credentials, server_events)?;
     if !client_is_complete(&client_replies) {
         return Err(AuditError::OutOfMemory);

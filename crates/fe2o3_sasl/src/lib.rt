@@ -17,9 +17,7 @@ pub mod runs;
 pub mod sasl_acceptor;
 pub mod sasl_profile;
 
-pub use crate::audit::{
-    AuditError, Finding, FindingKind, Parameters, Verdict, audit_limited,
-};
+pub use crate::audit::{AuditError, Finding, FindingKind, Parameters, Verdict, audit_limited};
 pub use crate::runs::{
     ClientReply, Event, EventError, ServerReply, acceptor_step, profile_step, run_acceptor,
     run_profile, scram_client_run, scram_client_run_limited, scram_server_run,

@@ -1,4 +1,4 @@
-use Rattle.std.proofs.Common.{◌≡◌, ◌++◌, List, [], map, length, sym, ap, ◌∙◌, subst}
+use Rattle.std.proofs.Common.{◌++◌, map, length, ◌∙◌, subst}
 use Rattle.fe2o3_scram.specs.Credentials.{Provider}
 use Rattle.fe2o3_sasl.specs.Audit.{finding_of}
 use Rattle.fe2o3_sasl.specs.Complete.{ClientComplete, ServerComplete}

@@ -1,18 +1,17 @@
 -- What is found of exact receipts is what an audit lists.
-use Rattle.std.proofs.Common.{◌≡◌, ◌≢◌, ◌⊎◌, ℕ, ◌<◌, Bool, true, false, true≢false, cond, Option, Some, None, List, [], ◌∷◌, ◌++◌, map, length, refl, sym, ap, ◌∙◌, subst, arith}
-use Rattle.std.specs.Prelude.{nat_eq, slice_get}
-use Rattle.std.specs.List.{AllByRecursion}
+use Rattle.std.proofs.Common.{◌≡◌, ◌≢◌, ℕ, Bool, true, false, cond, Option, Some, List, ◌++◌, map, length, refl, sym, ap, ◌∙◌, subst, arith}
+use Rattle.std.specs.Prelude.{slice_get}
 use Rattle.std.specs.Cmp.Lexicographic.{same_text}
 use Rattle.std.proofs.lemmas.Cmp.{nat_list_eq_equiv}
 use Rattle.std.proofs.lemmas.List.{length-map}
-use Rattle.std.proofs.lemmas.Option.{same_Some, slice_get_within}
+use Rattle.std.proofs.lemmas.Option.{slice_get_within}
 use Rattle.fe2o3_sasl_wire.specs.declared.amqp_types.SaslCode.TheVariants as outcomes
 use Rattle.fe2o3_sasl.specs.Audit.{Parameters, Verdict, Agreed, SameMac, SameHash, OtherKey, AreAgreed, JudgesVerifier, JudgesProof, Finding, place_of, IsVerifierFinding, IsProofFinding, Audits, AuditsEvents}
-use Rattle.fe2o3_sasl.specs.ClientHistory.{Answering, AnswersAt, OpenAnswer, ClientHistory}
+use Rattle.fe2o3_sasl.specs.ClientHistory.{Answering, AnswersAt, ClientHistory}
 use Rattle.fe2o3_sasl.specs.Complete.{ClientComplete, ServerComplete}
 use Rattle.fe2o3_sasl.specs.Events.{Given, Login, ServerSays, Concluded, ClientSays, Answered, Reported}
 use Rattle.fe2o3_sasl.specs.ServerHistory.{Accepted, AcceptsAt, ServerHistory, final_message}
-use Rattle.fe2o3_sasl.specs.TwoSides.{Sides, sides_of, Histories, OkAt, Takes, Shows, proof_at}
+use Rattle.fe2o3_sasl.specs.TwoSides.{Sides, Histories, OkAt, Takes, Shows, proof_at}
 use Rattle.fe2o3_sasl.specs.private.Findings.{same, agreed_on, verifier_verdict, proof_verdict, is_taken, is_shown, verifier_finding, proof_finding, findings_of}
 use Rattle.fe2o3_sasl.specs.private.Receipts.{ClientReceipt, ServerReceipt, OfAnswer, OfAccepted, IsShownReceipt, IsTakenReceipt, IsOkReceipt, RespondsAt, ReportsAt, ConcludesAt, Member, Covers}
 use Rattle.fe2o3_scram.specs.Credentials.{Provider}

@@ -1,16 +1,14 @@
 -- Findings that repeat a position are of events with one nonce.
-use Rattle.std.proofs.Common.{◌≡◌, ◌≢◌, ◌⊎◌, ⊎_elim, ℕ, zero, suc, ◌<◌, Bool, true, false, Option, Some, None, List, [], ◌∷◌, ◌++◌, refl, sym, ap, ◌∙◌, subst, arith, inl, inr}
+use Rattle.std.proofs.Common.{◌≡◌, ◌⊎◌, ℕ, zero, suc, ◌<◌, true, false, Option, Some, None, List, [], ◌∷◌, ◌++◌, refl, sym, subst, arith, inl, inr}
 use Rattle.std.specs.Prelude.{slice_get}
 use Rattle.std.specs.List.{AllByRecursion, Contains}
-use Rattle.fe2o3_sasl_wire.specs.declared.amqp_types.SaslCode.TheVariants as outcomes
-use Rattle.fe2o3_scram.specs.Credentials.{Provider}
 use Rattle.fe2o3_sasl.specs.Audit.{Parameters, Verdict, Agreed, AreAgreed, JudgesVerifier, JudgesProof, FindingKind, OfVerifier, OfProof, Finding, IsVerifierFinding, IsProofFinding, Audits}
-use Rattle.fe2o3_sasl.specs.ClientHistory.{Answering, AnswersAt, OpenAnswer, is_start, is_answer, ends_answer}
-use Rattle.fe2o3_sasl.specs.Events.{AreGiven, IsRecord, ClientSays, Started, Answered, Reported, Refused}
-use Rattle.fe2o3_sasl.specs.Laws.{Start, FromTwoStarts, FromTwoChallenges, TakesAgreed, ShowsAgreed, HoldsRecords, IsAgreed, HasParameters, ListsBoth, RepeatedClientFindings, RepeatedServerFindings, closes_nothing}
+use Rattle.fe2o3_sasl.specs.ClientHistory.{Answering, OpenAnswer, is_start, is_answer, ends_answer}
+use Rattle.fe2o3_sasl.specs.Events.{IsRecord, ClientSays, Started, Answered, Reported, Refused}
+use Rattle.fe2o3_sasl.specs.Laws.{Start, FromTwoStarts, FromTwoChallenges, TakesAgreed, ShowsAgreed, HoldsRecords, RepeatedClientFindings, RepeatedServerFindings}
 use Rattle.fe2o3_sasl.specs.Positions.{test_at, IsLastOpen}
 use Rattle.fe2o3_sasl.specs.ServerHistory.{Accepted}
-use Rattle.fe2o3_sasl.specs.TwoSides.{Sides, OkAt, Takes, Shows, IsPlainInit, client_message, server_message}
+use Rattle.fe2o3_sasl.specs.TwoSides.{Sides, OkAt, IsPlainInit}
 use Rattle.fe2o3_sasl.proofs.lemmas.audit.FoundLemmas.{each_append, each_weaker}
 use Rattle.fe2o3_sasl.proofs.lemmas.histories.RepeatedNonceLemmas.{not_none, repeated_client_positions, repeated_server_positions}
 use Rattle.fe2o3_sasl.proofs.lemmas.two_sides.EqualMessageLemmas.{is_challenging, accepts_open}
