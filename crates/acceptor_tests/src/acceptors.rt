@@ -3,6 +3,7 @@
 use crate::frames::{in_words, init, response};
 use fe2o3_sasl::sasl_acceptor::{SaslAcceptor, SaslAnonymousMechanism, SaslPlainMechanism};
 use std::alloc::Global;
+use std::process::Abort;
 use std::test::Fail;
 
 /// An acceptor of PLAIN.
@@ -36,74 +37,83 @@ static MESSAGES: [(Option<&str>, &str); 16] = [
     (None, "Outcome Auth"),
 ];
 
+/// The acceptor's answer to an init is this, in words.
+fn answers_init<A: SaslAcceptor, R: Abort + AllocGlobal>(
+    rt: &R,
+    acceptor: &mut A,
+    mechanism: &str,
+    message: Option<&str>,
+    wanted: &str,
+) -> Result<(), Fail> {
+    let login = init(rt.alloc(), mechanism, message)?;
+    let reply = acceptor.on_init(rt.alloc(), login, &[0; 32])?;
+    let words = in_words(rt.alloc(), &reply)?;
+    assert_eq!(rt; words.as_str(), wanted, "{mechanism} {message:?}");
+    Ok(())
+}
+
+/// The acceptor's answer to a response is this, in words.
+fn answers_response<A: SaslAcceptor, R: Abort + AllocGlobal>(
+    rt: &R,
+    acceptor: &mut A,
+    message: &str,
+    wanted: &str,
+) -> Result<(), Fail> {
+    let reply = acceptor.on_response(rt.alloc(), response(rt.alloc(), message)?)?;
+    let words = in_words(rt.alloc(), &reply)?;
+    assert_eq!(rt; words.as_str(), wanted, "{message:?}");
+    Ok(())
+}
+
 #[test]
 fn plain_tests_the_second_and_the_third_part(rt: HostRuntime) -> Result<(), Fail> {
-    let alloc = rt.alloc();
-    let mut acceptor = plain(alloc, "guest", "guest")?;
+    let mut acceptor = plain(rt.alloc(), "guest", "guest")?;
     for (message, wanted) in &MESSAGES {
-        let reply = acceptor.on_init(alloc, init(alloc, "PLAIN", *message)?, &[0; 32])?;
-        assert_eq!(rt; in_words(alloc, &reply)?.as_str(), *wanted, "{message:?}");
+        answers_init(&rt, &mut acceptor, "PLAIN", *message, wanted)?;
     }
     Ok(())
 }
 
 #[test]
-fn plain_takes_any_mechanism_and_no_response(rt: HostRuntime) -> Result<(), Fail> {
-    let alloc = rt.alloc();
-    let mut acceptor = plain(alloc, "guest", "guest")?.clone()?;
+fn plain_takes_any_mechanism(rt: HostRuntime) -> Result<(), Fail> {
+    let mut acceptor = plain(rt.alloc(), "guest", "guest")?.clone()?;
     for mechanism in ["EXTERNAL", "plain", ""] {
-        let login = init(alloc, mechanism, Some("\0guest\0guest"))?;
-        let reply = acceptor.on_init(alloc, login, &[0; 32])?;
-        assert_eq!(rt;
-            in_words(alloc, &reply)?.as_str(),
-            "Outcome Ok",
-            "{mechanism}"
-        );
+        let message = Some("\0guest\0guest");
+        answers_init(&rt, &mut acceptor, mechanism, message, "Outcome Ok")?;
     }
+    Ok(())
+}
+
+#[test]
+fn plain_takes_no_response(rt: HostRuntime) -> Result<(), Fail> {
+    let mut acceptor = plain(rt.alloc(), "guest", "guest")?;
     for message in ["\0guest\0guest", ""] {
-        let reply = acceptor.on_response(alloc, response(alloc, message)?)?;
-        assert_eq!(rt;
-            in_words(alloc, &reply)?.as_str(),
-            "Outcome Sys",
-            "{message:?}"
-        );
+        answers_response(&rt, &mut acceptor, message, "Outcome Sys")?;
     }
     Ok(())
 }
 
 #[test]
 fn plain_may_have_empty_words(rt: HostRuntime) -> Result<(), Fail> {
-    let alloc = rt.alloc();
-    let mut acceptor = plain(alloc, "", "")?;
+    let mut acceptor = plain(rt.alloc(), "", "")?;
     for (message, wanted) in [
         ("\0\0", "Outcome Ok"),
         ("\0", "Outcome Auth"),
         ("\0\0x", "Outcome Auth"),
     ] {
-        let reply = acceptor.on_init(alloc, init(alloc, "PLAIN", Some(message))?, &[0; 32])?;
-        assert_eq!(rt; in_words(alloc, &reply)?.as_str(), wanted, "{message:?}");
+        answers_init(&rt, &mut acceptor, "PLAIN", Some(message), wanted)?;
     }
     Ok(())
 }
 
 #[test]
 fn anonymous_lets_everyone_in(rt: HostRuntime) -> Result<(), Fail> {
-    let alloc = rt.alloc();
     let mut acceptor = SaslAnonymousMechanism::default().clone()?;
     for message in [None, Some(""), Some("someone@example.com")] {
-        let login = init(alloc, "ANONYMOUS", message)?;
-        let reply = acceptor.on_init(alloc, login, &[0; 32])?;
-        assert_eq!(rt;
-            in_words(alloc, &reply)?.as_str(),
-            "Outcome Ok",
-            "{message:?}"
-        );
+        answers_init(&rt, &mut acceptor, "ANONYMOUS", message, "Outcome Ok")?;
     }
-    let reply = acceptor.on_init(alloc, init(alloc, "PLAIN", None)?, &[0; 32])?;
-    assert_eq!(rt; in_words(alloc, &reply)?.as_str(), "Outcome Ok");
-    let reply = acceptor.on_response(alloc, response(alloc, "x")?)?;
-    assert_eq!(rt; in_words(alloc, &reply)?.as_str(), "Outcome Ok");
-    Ok(())
+    answers_init(&rt, &mut acceptor, "PLAIN", None, "Outcome Ok")?;
+    answers_response(&rt, &mut acceptor, "x", "Outcome Ok")
 }
 
 #[test]

@@ -1,28 +1,14 @@
-//! Tests of the acceptors and the profiles of `fe2o3_sasl` over frames. Expected values come from the
-//! standards and from Python's `hmac` and `hashlib`.
+//! Tests of the acceptors of `fe2o3_sasl` over frames. Expected values come from the standards and from
+//! Python's `hmac` and `hashlib`.
 #![tactic(auto)]
 
 #[cfg(test)]
 mod acceptors;
 #[cfg(test)]
-mod addresses;
-#[cfg(test)]
-mod bodies;
-#[cfg(test)]
-mod debug_texts;
-#[cfg(test)]
-mod faults;
-#[cfg(test)]
 mod frames;
 #[cfg(test)]
 mod messages;
 #[cfg(test)]
-mod negotiations;
-#[cfg(test)]
 mod offers;
 #[cfg(test)]
-mod profiles;
-#[cfg(test)]
 mod scram_acceptors;
-#[cfg(test)]
-mod scram_profiles;

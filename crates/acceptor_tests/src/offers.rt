@@ -9,6 +9,7 @@ use fe2o3_sasl::sasl_acceptor::{
 use fe2o3_sasl::scram_server::ScramAuthenticator;
 use fe2o3_sasl_wire::{Frame, FrameCodec};
 use std::alloc::Global;
+use std::process::Abort;
 use std::test::Fail;
 
 /// The body that offers ANONYMOUS alone.
@@ -46,16 +47,24 @@ fn names<A: SaslAcceptor>(alloc: Global, acceptor: &A) -> Result<usize, Fail> {
     Ok(acceptor.mechanisms(alloc)?.0.len())
 }
 
+/// The acceptor has one name, and this is the body that offers it.
+fn offers<A: SaslAcceptor, R: Abort + AllocGlobal>(
+    rt: &R,
+    acceptor: &A,
+    wanted: &str,
+) -> Result<(), Fail> {
+    let offer = offer(rt.alloc(), acceptor)?;
+    assert_eq!(rt; offer.as_str(), wanted);
+    assert_eq!(rt; names(rt.alloc(), acceptor)?, 1);
+    Ok(())
+}
+
 #[test]
 fn plain_and_anonymous_offer_themselves(rt: HostRuntime) -> Result<(), Fail> {
     let alloc = rt.alloc();
     let plain = SaslPlainMechanism::new("user".to_string(alloc)?, "pencil".to_string(alloc)?);
-    assert_eq!(rt; offer(alloc, &plain)?.as_str(), PLAIN);
-    assert_eq!(rt; names(alloc, &plain)?, 1);
-    let anonymous = SaslAnonymousMechanism::new();
-    assert_eq!(rt; offer(alloc, &anonymous)?.as_str(), ANONYMOUS);
-    assert_eq!(rt; names(alloc, &anonymous)?, 1);
-    Ok(())
+    offers(&rt, &plain, PLAIN)?;
+    offers(&rt, &SaslAnonymousMechanism::new(), ANONYMOUS)
 }
 
 #[test]
@@ -64,9 +73,7 @@ fn scram_offers_its_version(rt: HostRuntime) -> Result<(), Fail> {
     for (version, wanted) in SCRAM {
         let username = "user".to_string(alloc)?;
         let credential = SingleScramCredential::new(alloc, username, "pencil", version, [3; 32])?;
-        let authenticator = ScramAuthenticator::new(credential);
-        assert_eq!(rt; offer(alloc, &authenticator)?.as_str(), wanted);
-        assert_eq!(rt; names(alloc, &authenticator)?, 1);
+        offers(&rt, &ScramAuthenticator::new(credential), wanted)?;
     }
     Ok(())
 }

@@ -27,19 +27,26 @@ static FIRST_WORDS: [(&str, Option<&str>); 6] = [
     ),
 ];
 
+/// The profile has this mechanism, and says this first.
+fn speaks_first<R: Abort + AllocGlobal>(
+    rt: &R,
+    profile: &mut SaslProfile,
+    mechanism: &str,
+    message: Option<&str>,
+) -> Result<(), Fail> {
+    let name = profile.mechanism(rt.alloc())?;
+    assert_eq!(rt; name.as_str(), mechanism);
+    let response = profile.initial_response(rt.alloc(), &[1; 32])?;
+    let found = response.as_ref().map(|bytes| bytes.0.as_slice());
+    assert_eq!(rt; found, message.map(|text| text.as_bytes()), "{mechanism}");
+    Ok(())
+}
+
 #[test]
 fn names_its_mechanism_and_speaks_first(rt: HostRuntime) -> Result<(), Fail> {
-    let alloc = rt.alloc();
-    let mut profiles = profiles(alloc, "user", "pencil")?;
+    let mut profiles = profiles(rt.alloc(), "user", "pencil")?;
     for (profile, (mechanism, message)) in profiles.iter_mut().zip(FIRST_WORDS.iter()) {
-        assert_eq!(rt; profile.mechanism(alloc)?.as_str(), *mechanism);
-        let response = profile.initial_response(alloc, &[1; 32])?;
-        let wanted = message.map(|text| text.as_bytes());
-        assert_eq!(rt;
-            response.as_ref().map(|bytes| bytes.0.as_slice()),
-            wanted,
-            "{mechanism}"
-        );
+        speaks_first(&rt, profile, mechanism, *message)?;
     }
     Ok(())
 }
@@ -54,16 +61,26 @@ static INITS: [&str; 6] = [
     "Init SCRAM-SHA-512 n,,n=user,r=AQEBAQEBAQEBAQEBAQEBAQEBAQEBAQEBAQEBAQEBAQE=",
 ];
 
+/// The profile starts with this init and this hostname.
+fn starts<R: Abort + AllocGlobal>(
+    rt: &R,
+    profile: &mut SaslProfile,
+    init: &str,
+    hostname: Option<&str>,
+) -> Result<(), Fail> {
+    let found = answer(rt.alloc(), profile, ALL_MECHANISMS, hostname)?;
+    let wanted = format!(in rt.alloc(); "{init} {}", hostname.unwrap_or("none"))?;
+    assert_eq!(rt; found, wanted);
+    Ok(())
+}
+
 #[test]
 fn takes_its_mechanism_among_several(rt: HostRuntime) -> Result<(), Fail> {
-    let alloc = rt.alloc();
-    let mut profiles = profiles(alloc, "user", "pencil")?;
+    let mut profiles = profiles(rt.alloc(), "user", "pencil")?;
     for (profile, init) in profiles.iter_mut().zip(INITS.iter()) {
-        for hostname in [None, Some(""), Some("example.com")] {
-            let found = answer(alloc, profile, ALL_MECHANISMS, hostname)?;
-            let wanted = format!(in alloc; "{init} {}", hostname.unwrap_or("none"))?;
-            assert_eq!(rt; found, wanted);
-        }
+        starts(&rt, profile, init, None)?;
+        starts(&rt, profile, init, Some(""))?;
+        starts(&rt, profile, init, Some("example.com"))?;
     }
     Ok(())
 }

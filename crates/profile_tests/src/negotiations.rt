@@ -4,7 +4,7 @@ use crate::bodies::bytes_of;
 use fe2o3_sasl::sasl_profile::{
     Negotiation, ProfileError, SaslProfile, SaslScramSha1, SaslScramSha256, SaslScramSha512,
 };
-use fe2o3_sasl_wire::{Binary, FrameView, view_frame};
+use fe2o3_sasl_wire::{Binary, Frame, FrameView, SaslInit, SaslOutcome, SaslResponse, view_frame};
 use std::alloc::{AllocError, Global};
 use std::test::Fail;
 
@@ -63,31 +63,30 @@ fn push_text(text: &mut String, bytes: Option<&Binary>) -> Result<(), Fail> {
     Ok(())
 }
 
-/// A negotiation in words: `Init MECHANISM RESPONSE HOSTNAME`, `Response TEXT`, `Outcome CODE DATA`,
-/// where what is absent is `none`.
-fn in_words(alloc: Global, negotiation: &Negotiation) -> Result<String, Fail> {
-    match negotiation {
-        Negotiation::Init(init) => {
-            let mut text = format!(in alloc; "Init {}", init.mechanism.as_str())?;
-            push_text(&mut text, init.initial_response.as_ref())?;
-            text.push_str(" ")?;
-            match &init.hostname {
-                Some(hostname) => text.push_str(hostname)?,
-                None => text.push_str("none")?,
-            }
-            Ok(text)
-        }
-        Negotiation::Response(response) => {
-            let mut text = "Response".to_string(alloc)?;
-            push_text(&mut text, Some(&response.response))?;
-            Ok(text)
-        }
-        Negotiation::Outcome(outcome) => {
-            let mut text = format!(in alloc; "Outcome {:?}", outcome.code)?;
-            push_text(&mut text, outcome.additional_data.as_ref())?;
-            Ok(text)
-        }
+/// An init in words: `Init MECHANISM RESPONSE HOSTNAME`, where what is absent is `none`.
+fn init_in_words(alloc: Global, init: &SaslInit) -> Result<String, Fail> {
+    let mut text = format!(in alloc; "Init {}", init.mechanism.as_str())?;
+    push_text(&mut text, init.initial_response.as_ref())?;
+    text.push_str(" ")?;
+    match &init.hostname {
+        Some(hostname) => text.push_str(hostname)?,
+        None => text.push_str("none")?,
     }
+    Ok(text)
+}
+
+/// A response in words: `Response TEXT`.
+fn response_in_words(alloc: Global, response: &SaslResponse) -> Result<String, Fail> {
+    let mut text = "Response".to_string(alloc)?;
+    push_text(&mut text, Some(&response.response))?;
+    Ok(text)
+}
+
+/// An outcome in words: `Outcome CODE DATA`, where data that is absent is `none`.
+fn outcome_in_words(alloc: Global, outcome: &SaslOutcome) -> Result<String, Fail> {
+    let mut text = format!(in alloc; "Outcome {:?}", outcome.code)?;
+    push_text(&mut text, outcome.additional_data.as_ref())?;
+    Ok(text)
 }
 
 /// An answer in words: a negotiation, or the fault.
@@ -96,9 +95,23 @@ fn answer_in_words(
     answer: &Result<Negotiation, ProfileError>,
 ) -> Result<String, Fail> {
     match answer {
-        Ok(negotiation) => in_words(alloc, negotiation),
+        Ok(Negotiation::Init(init)) => init_in_words(alloc, init),
+        Ok(Negotiation::Response(response)) => response_in_words(alloc, response),
+        Ok(Negotiation::Outcome(outcome)) => outcome_in_words(alloc, outcome),
         Err(fault) => Ok(format!(in alloc; "{fault:?}")?),
     }
+}
+
+/// What a clone of the profile answers to a frame, in words.
+fn owned_answer(
+    alloc: Global,
+    profile: &SaslProfile,
+    frame: Frame,
+    hostname: Option<&str>,
+) -> Result<String, Fail> {
+    let mut copy = profile.clone()?;
+    let answer = copy.on_frame(alloc, frame, hostname, &[1; 32]);
+    answer_in_words(alloc, &answer)
 }
 
 /// What the profile answers to a frame, with a nonce of 32 bytes 01. A clone has to answer the same to
@@ -109,12 +122,10 @@ pub fn answer_to(
     view: FrameView<'_>,
     hostname: Option<&str>,
 ) -> Result<String, Fail> {
-    let frame = view.to_frame(alloc)?;
-    let mut copy = profile.clone()?;
-    let owned = copy.on_frame(alloc, frame, hostname, &[1; 32]);
+    let owned = owned_answer(alloc, profile, view.to_frame(alloc)?, hostname)?;
     let viewed = profile.on_view(alloc, view, hostname, &[1; 32]);
     let words = answer_in_words(alloc, &viewed)?;
-    if answer_in_words(alloc, &owned)? != words {
+    if owned != words {
         return Err("on_frame and on_view differ".into());
     }
     Ok(words)
