@@ -6,6 +6,9 @@ ghost use Rattle.std.proofs.Common.{ap};
 ghost use Rattle.fe2o3_scram.specs.Credentials.{Provider, record_at, record_of, kept};
 ghost use Rattle.fe2o3_scram.specs.SaslprepAscii.{IsPrintable};
 
+pub mod scram_record;
+
+pub use crate::credentials::scram_record::{RecordError, ScramRecord};
 use crate::hmac::{Meter, ScramVersion};
 use crate::scram_messages::error::ServerScramErrorKind;
 use std::alloc::{AllocError, Global};

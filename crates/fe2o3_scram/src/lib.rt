@@ -25,7 +25,8 @@ pub mod scram_server;
 mod texts;
 
 pub use crate::credentials::{
-    DEFAULT_SCRAM_ITERATIONS, ScramCredentialProvider, SingleScramCredential, StoredPassword,
+    DEFAULT_SCRAM_ITERATIONS, RecordError, ScramCredentialProvider, ScramRecord,
+    SingleScramCredential, StoredPassword,
 };
 pub use crate::hmac::{DigestBytes, Meter, ScramVersion, UnknownMechanism};
 pub use crate::keys::auth_message;
