@@ -25,7 +25,7 @@ pub mod scram_server;
 mod texts;
 
 pub use crate::credentials::{
-    DEFAULT_SCRAM_ITERATIONS, RecordError, ScramCredentialProvider, ScramRecord,
+    DEFAULT_SCRAM_ITERATIONS, RecordError, RecordTextError, ScramCredentialProvider, ScramRecord,
     SingleScramCredential, StoredPassword,
 };
 pub use crate::hmac::{DigestBytes, Meter, ScramVersion, UnknownMechanism};
