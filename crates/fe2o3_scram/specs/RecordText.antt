@@ -1,5 +1,5 @@
 -- The text of a record (RFC 5803, section 2), as it is written and as it is read.
-use Rattle.std.specs.Prelude.{ℕ, List, [], ◌∷◌, ◌++◌, ◌≡◌, ◌≢◌, ◌⊎◌, ◌≤◌, ◌<◌, ◌^◌, codes, length, Result, Ok, Err}
+use Rattle.std.specs.Prelude.{ℕ, List, [], ◌∷◌, ◌++◌, ◌≡◌, ◌≢◌, ◌⊎◌, ◌≤◌, ◌<◌, ◌^◌, codes, length, Result, Err}
 use Rattle.std.specs.Fmt.{decimal}
 use Rattle.std.specs.List.{AllByRecursion}
 use Rattle.base64.specs.GeneralPurpose.{IsBytes}
@@ -110,8 +110,8 @@ ReadsRecord text answer = (((fields : Fields) → ¬ HasFields text fields) × (
 
 -- the reader comes to the salt, for which it asks for memory: the text has five fields, of which the first two have
 -- passed their tests
-abbrev pub ReachesSalt : List ℕ → Type 0
-ReachesSalt text = (fields : Fields) × HasFields text fields × NoneHolds (head_tests fields)
+abbrev pub ReachesValues : List ℕ → Type 0
+ReachesValues text = (fields : Fields) × HasFields text fields × NoneHolds (head_tests fields)
 
 -- a record whose text is read again: it has a count, and its keys are as long as a digest
 pub record IsReadable (kept : VersionedRecord) : Type 0 where

@@ -26,7 +26,7 @@ mod texts;
 
 pub use crate::credentials::{
     DEFAULT_SCRAM_ITERATIONS, RecordError, RecordTextError, ScramCredentialProvider, ScramRecord,
-    SingleScramCredential, StoredPassword,
+    SingleScramCredential, StoredPassword, StoredScramCredential,
 };
 pub use crate::hmac::{DigestBytes, Meter, ScramVersion, UnknownMechanism};
 pub use crate::keys::auth_message;

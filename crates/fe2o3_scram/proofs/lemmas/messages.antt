@@ -3,6 +3,7 @@ pub mod ClientFinalLemmas
 pub mod ClientFirstLemmas
 pub mod ExchangeLemmas
 pub mod OneValueLemmas
+pub mod RecordLawLemmas
 pub mod RecordTextLemmas
 pub mod ServerFinalLemmas
 pub mod ServerFirstLemmas

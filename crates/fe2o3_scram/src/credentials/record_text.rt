@@ -4,7 +4,7 @@ ghost use Rattle.std.specs.Prelude.{◌≡◌, ◌≢◌, ◌⊎◌, ◌↔◌, 
 ghost use Rattle.fe2o3_scram.specs.Credentials.{VersionedRecord};
 ghost use Rattle.fe2o3_scram.specs.Hmac.{mechanism_name};
 ghost use Rattle.fe2o3_scram.specs.Readings.{Gives, IsFirst, NoneHolds};
-ghost use Rattle.fe2o3_scram.specs.RecordText.{ArePlain, Fields, HasFields, NamesRecord, Plain, ReachesSalt, ReadsRecord, fields_values, head_tests, record_text, value_tests};
+ghost use Rattle.fe2o3_scram.specs.RecordText.{ArePlain, Fields, HasFields, NamesRecord, Plain, ReachesValues, ReadsRecord, fields_values, head_tests, record_text, value_tests};
 ghost use Rattle.fe2o3_scram.specs.Texts.{IsBase64, IsPlainCount};
 ghost use Rattle.fe2o3_scram.specs.declared.credentials.record_text.RecordTextError.TheVariants.{OutOfMemory as OutOfMemoryError};
 
@@ -83,7 +83,7 @@ impl ScramRecord {
     /// `KeyLengthMismatch` where a key is not as long as a digest. `OutOfMemory` is answered only
     /// where none of the first three holds.
     pub fn parse(alloc: Global, text: &str) -> Result<Self, RecordTextError>
-        ensures { Gives RecordTextError.OutOfMemory (ReachesSalt text.now) (λ (read : VersionedRecord). read) result
+        ensures { Gives RecordTextError.OutOfMemory (ReachesValues text.now) (λ (read : VersionedRecord). read) result
             (ReadsRecord text.now) }
     {
         let Some(fields) = fields_of(text) else {

@@ -1,14 +1,13 @@
 -- The reading of a record's text.
-use Rattle.std.proofs.Common.{◌≡◌, ◌≢◌, ◌⊎◌, ◌<◌, ◌≤◌, ℕ, List, [], ◌∷◌, ◌++◌, length, codes, Result, Ok, Err, refl, sym, ◌∙◌, ap, subst, inl, inr, arith}
+use Rattle.std.proofs.Common.{◌≡◌, ◌≢◌, ℕ, List, ◌∷◌, ◌++◌, length, codes, Result, Ok, Err, refl, sym, ◌∙◌, ap, subst, inl, inr}
 use Rattle.std.specs.Prelude.{IfErr, IfOk}
-use Rattle.base64.specs.GeneralPurpose.{IsBytes}
 use Rattle.fe2o3_scram.specs.declared.hmac.ScramVersion.{ScramVersion}
 use Rattle.fe2o3_scram.specs.declared.credentials.record_text.RecordTextError.{RecordTextError}
-use Rattle.fe2o3_scram.specs.declared.credentials.record_text.RecordTextError.TheVariants.{PartsMismatch, KeyLengthMismatch, OutOfMemory}
+use Rattle.fe2o3_scram.specs.declared.credentials.record_text.RecordTextError.TheVariants.{PartsMismatch, OutOfMemory}
 use Rattle.fe2o3_scram.specs.Credentials.{VersionedRecord}
 use Rattle.fe2o3_scram.specs.Hmac.{mechanism_name, digest_len}
 use Rattle.fe2o3_scram.specs.Readings.{Gives, IsFirst, NoneHolds}
-use Rattle.fe2o3_scram.specs.RecordText.{ArePlain, Fields, HasFields, IsKey, NamesRecord, ReachesSalt, ReadsRecord, head_tests, value_tests}
+use Rattle.fe2o3_scram.specs.RecordText.{ArePlain, Fields, HasFields, IsKey, NamesRecord, ReachesValues, ReadsRecord, head_tests, value_tests}
 use Rattle.fe2o3_scram.specs.Texts.{Cut, IsBase64}
 use Rattle.fe2o3_scram.proofs.lemmas.hashes.NameLemmas.{one_version}
 use Rattle.fe2o3_scram.proofs.lemmas.texts.Base64Lemmas.{one_spelled}
@@ -168,7 +167,7 @@ record_read text fields read has none too names =
     inr (fields, has, (NoneHolds-append (head_tests fields) (value_tests fields) none too, names))
 
 pub salt_reached : (text : List ℕ) (fields : Fields) → HasFields text fields → NoneHolds (head_tests fields)
-    → ReachesSalt text
+    → ReachesValues text
 salt_reached text fields has none = (fields, has, none)
 
 -- what comes of the values
@@ -176,7 +175,7 @@ pub values_given : (text : List ℕ) (fields : Fields) (result : Result Versione
     → HasFields text fields → NoneHolds (head_tests fields) → IfOk result (λ _. NoneHolds (value_tests fields))
     → IfOk result (λ read. NamesRecord fields read)
     → IfErr result (λ error. error ≢ OutOfMemory → IsFirst (value_tests fields) error)
-    → Gives OutOfMemory (ReachesSalt text) (λ (read : VersionedRecord). read) result (ReadsRecord text)
+    → Gives OutOfMemory (ReachesValues text) (λ (read : VersionedRecord). read) result (ReadsRecord text)
 values_given text fields (Ok read) has none too names err = record_read text fields read has none too names
 values_given text fields (Err fault) has none too names err =
     (λ _. salt_reached text fields has none, λ other. values_refused text fields fault has none (err other))

@@ -1,10 +1,10 @@
 -- A text spells one count.
-use Rattle.std.proofs.Common.{◌≡◌, ◌≢◌, ◌⊎◌, ◌<◌, ◌≤◌, ◌^◌, ℕ, List, [], ◌∷◌, ◌++◌, codes, length, get_or, refl, sym, ◌∙◌, ap, subst, inl, inr, arith}
+use Rattle.std.proofs.Common.{◌≡◌, ◌⊎◌, ◌<◌, ◌^◌, ℕ, List, [], ◌∷◌, ◌++◌, codes, length, get_or, refl, sym, ◌∙◌, ap, subst, inl, inr, arith}
 use Rattle.std.proofs.lemmas.Fmt.{decimal_is_IsNumeral, decimal-digits_value, decimal_injective, first_decimal}
 use Rattle.std.proofs.lemmas.Str.Parse.{digit_from_value, numerals_by_value, tells_digits}
 use Rattle.std.specs.Fmt.{decimal}
 use Rattle.std.specs.Prelude.{Option, None, Some, MatchOption}
-use Rattle.std.specs.Str.Parse.{AllDigits, IsNumeral, digits_value}
+use Rattle.std.specs.Str.Parse.{IsNumeral, digits_value}
 use Rattle.fe2o3_scram.specs.Texts.{Begins, IsCount, IsPlainCount}
 
 -- a plus is no digit
@@ -32,7 +32,7 @@ count_of_decimal n count small is = let numeral = decimal_is_IsNumeral n small i
 -- ---- a count without a sign or leading zeros
 
 -- it is a count
-plain_is_count : (text : List ℕ) (count : ℕ) → IsPlainCount text count → IsCount text count
+pub plain_is_count : (text : List ℕ) (count : ℕ) → IsPlainCount text count → IsCount text count
 plain_is_count text count is =
     let numeral = decimal_is_IsNumeral count (omega (arith, is.2)) in (
       decimal count,

@@ -1,9 +1,8 @@
 -- Texts that are cut at the first of some byte.
-use Rattle.std.proofs.Common.{◌≡◌, ◌≢◌, ◌⊎◌, ◌<◌, ℕ, zero, suc, List, [], ◌∷◌, ◌++◌, Bor, length, get_or, replicate, refl, sym, ◌∙◌, ap, subst, inl, inr, arith}
+use Rattle.std.proofs.Common.{◌≡◌, ◌≢◌, ◌⊎◌, ◌<◌, ℕ, suc, List, [], ◌∷◌, ◌++◌, Bor, length, get_or, refl, sym, ◌∙◌, ap, subst, inl, inr, arith}
 use Rattle.std.proofs.lemmas.Str.Pattern.{IsSplitOnceResult, split_parts}
 use Rattle.std.specs.Prelude.{Option, None, Some, MatchOption}
-use Rattle.base64.specs.Rfc4648.{encode_symbols, padding_len}
-use Rattle.fe2o3_scram.specs.Texts.{Cut, Without, alphabet, base64_text}
+use Rattle.fe2o3_scram.specs.Texts.{Cut, Without}
 use Rattle.fe2o3_scram.proofs.lemmas.texts.DecisionLemmas.{Decided, same_number_or}
 
 -- a text is cut in one way

@@ -1,4 +1,4 @@
-use Rattle.std.proofs.Common.{rules, ◌≡◌, true, false}
+use Rattle.std.proofs.Common.{rules}
 use Rattle.fe2o3_scram.specs.RecordText.{ArePlain}
 use Rattle.fe2o3_scram.proofs.lemmas.messages.RecordTextLemmas.{made, no_count, no_salt, no_keys, not_plain}
 use Rattle.fe2o3_scram.proofs.credentials.record_text.fields_of.Goals as goal

@@ -1,4 +1,3 @@
-use Rattle.std.proofs.Common.{refl}
 use Rattle.std.proofs.lemmas.Result.{err_from_is_err_and}
 use Rattle.fe2o3_scram.specs.RecordText.{Fields, fields_values}
 use Rattle.fe2o3_scram.proofs.lemmas.messages.RecordTextLemmas.{head_refused, not_the_head, parts_refused, values_given}
