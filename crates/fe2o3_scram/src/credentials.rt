@@ -7,10 +7,12 @@ ghost use Rattle.fe2o3_scram.specs.Credentials.{Provider, record_at, record_of, 
 ghost use Rattle.fe2o3_scram.specs.SaslprepAscii.{IsPrintable};
 
 pub mod record_text;
+pub mod scram_credentials;
 pub mod scram_record;
 pub mod stored_credential;
 
 pub use crate::credentials::record_text::RecordTextError;
+pub use crate::credentials::scram_credentials::{AddRecordError, ScramCredentials};
 pub use crate::credentials::scram_record::{RecordError, ScramRecord};
 pub use crate::credentials::stored_credential::StoredScramCredential;
 use crate::hmac::{Meter, ScramVersion};

@@ -1,8 +1,8 @@
 //! The text of a record (RFC 5803, section 2).
 
-ghost use Rattle.std.specs.Prelude.{◌≡◌, ◌≢◌, ◌⊎◌, ◌↔◌, IsTrue, ℕ, List, IfOk, IfErr, MatchOption, string_bytes};
+ghost use Rattle.std.specs.Prelude.{◌≡◌, ◌≢◌, ◌⊎◌, ◌↔◌, IsTrue, ℕ, List, length, IfOk, IfErr, MatchOption, string_bytes};
 ghost use Rattle.fe2o3_scram.specs.Credentials.{VersionedRecord};
-ghost use Rattle.fe2o3_scram.specs.Hmac.{mechanism_name};
+ghost use Rattle.fe2o3_scram.specs.Hmac.{digest_len, mechanism_name};
 ghost use Rattle.fe2o3_scram.specs.Readings.{Gives, IsFirst, NoneHolds};
 ghost use Rattle.fe2o3_scram.specs.RecordText.{ArePlain, Fields, HasFields, NamesRecord, Plain, ReachesValues, ReadsRecord, fields_values, head_tests, record_text, value_tests};
 ghost use Rattle.fe2o3_scram.specs.Texts.{IsBase64, IsPlainCount};
@@ -201,6 +201,13 @@ fn bytes_in(alloc: Global, field: &str) -> Result<Vec<u8>, RecordTextError>
     }
 }
 
+/// Whether the key is as long as a digest of the version.
+fn is_sized(key: &[u8], scram_version: ScramVersion) -> bool
+    ensures { IsTrue result ↔ (length key.now ≡ digest_len scram_version) }
+{
+    key.len() == scram_version.digest_len()
+}
+
 /// The salt and the keys of the fields, which name this version and this count.
 #[tactic(auto, using(crate::proofs::lemmas::messages::RecordTextLemmas::keys))]
 fn read_values(
@@ -219,10 +226,10 @@ fn read_values(
     let salt = bytes_in(alloc, fields.salt)?;
     let stored_key = bytes_in(alloc, fields.stored_key)?;
     let server_key = bytes_in(alloc, fields.server_key)?;
-    if stored_key.len() != scram_version.digest_len() {
+    if !is_sized(&stored_key, scram_version) {
         return Err(RecordTextError::KeyLengthMismatch);
     }
-    if server_key.len() != scram_version.digest_len() {
+    if !is_sized(&server_key, scram_version) {
         return Err(RecordTextError::KeyLengthMismatch);
     }
     Ok(ScramRecord::from_parts(scram_version, salt, iterations, stored_key, server_key))

@@ -3,8 +3,8 @@ use Rattle.fe2o3_scram.specs.Hmac.{digest_len}
 use Rattle.fe2o3_scram.proofs.lemmas.messages.RecordTextLemmas.{sized, unsized}
 use Rattle.fe2o3_scram.proofs.credentials.record_text.read_values.Goals as goal
 
-pub returns-then-len-digest_len-clause-err : goal.returns-then-len-digest_len-clause-err
-returns-then-len-digest_len-clause-err c =
+pub returns-then-not-is_sized-clause-err : goal.returns-then-not-is_sized-clause-err
+returns-then-not-is_sized-clause-err c =
     let stored = c.in_ok-stored_key.stored_key.items in
     let long : length stored ≢ digest_len c.args.scram_version = search rules in
     λ _. inr (
@@ -22,8 +22,8 @@ returns-then-len-digest_len-clause-err c =
       ),
     )
 
-pub returns-then-len-digest_len-2-clause-err : goal.returns-then-len-digest_len-2-clause-err
-returns-then-len-digest_len-2-clause-err c =
+pub returns-then-not-is_sized-2-clause-err : goal.returns-then-not-is_sized-2-clause-err
+returns-then-not-is_sized-2-clause-err c =
     let stored = c.in_ok-stored_key.stored_key.items in
     let server = c.in_ok-server_key.server_key.items in
     let fits : length stored ≡ digest_len c.args.scram_version = search rules in
