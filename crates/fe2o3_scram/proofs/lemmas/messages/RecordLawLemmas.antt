@@ -109,10 +109,14 @@ plain-decimal n small =
       without-digits 58 (decimal n) (inr (omega arith)) numeral.0.1,
     )
 
+plain-literal : (text : List ℕ) → list_all (λ other. not (eqb other 36)) text ≡ true
+    → list_all (λ other. not (eqb other 58)) text ≡ true → Plain text
+plain-literal text passes too = (without-test 36 text passes, without-test 58 text too)
+
 plain-mechanism_name : (version : ScramVersion) → Plain (mechanism_name version)
-plain-mechanism_name Sha1 = (without-test 36 (mechanism_name Sha1) refl, without-test 58 (mechanism_name Sha1) refl)
-plain-mechanism_name Sha256 = (without-test 36 (mechanism_name Sha256) refl, without-test 58 (mechanism_name Sha256) refl)
-plain-mechanism_name Sha512 = (without-test 36 (mechanism_name Sha512) refl, without-test 58 (mechanism_name Sha512) refl)
+plain-mechanism_name Sha1 = plain-literal (mechanism_name Sha1) refl refl
+plain-mechanism_name Sha256 = plain-literal (mechanism_name Sha256) refl refl
+plain-mechanism_name Sha512 = plain-literal (mechanism_name Sha512) refl refl
 
 -- a record's text has its fields
 has_its_fields : (kept : VersionedRecord) → IsReadable kept → HasFields (record_text kept) (fields_of kept)
