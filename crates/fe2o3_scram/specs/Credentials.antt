@@ -1,10 +1,14 @@
 -- What a server keeps of its users (RFC 5802, section 3).
-use Rattle.std.specs.Prelude.{ℕ, List, [], ◌∷◌, Option, Some, None, if◌then◌else◌, nat_eq}
+use Rattle.std.specs.Prelude.{ℕ, List, [], ◌∷◌, ◌≡◌, ◌≤◌, ◌+◌, Option, Some, None, Result, Ok, Err, if◌then◌else◌, nat_eq}
 use Rattle.std.specs.Cmp.Lexicographic.{pointwise}
 use Rattle.fe2o3_scram.specs.declared.hmac.ScramVersion.{ScramVersion}
 use Rattle.fe2o3_scram.specs.declared.credentials.StoredPassword.{StoredPassword}
+use Rattle.fe2o3_scram.specs.declared.credentials.scram_record.RecordError.{RecordError}
+use Rattle.fe2o3_scram.specs.declared.credentials.scram_record.RecordError.TheVariants.{NormalizeError, ZeroIterations, OutOfMemory}
 use Rattle.fe2o3_scram.specs.Keys.{client_key, stored_key, server_key}
 use Rattle.fe2o3_scram.specs.Pbkdf2Hi.{salted_of}
+use Rattle.fe2o3_scram.specs.Readings.{Reads}
+use Rattle.fe2o3_scram.specs.SaslprepAscii.{IsPrintable}
 
 -- what is kept of a password (RFC 5802, section 3)
 pub record Record : Type 0 where
@@ -24,6 +28,27 @@ record_of version password salt count =
       server_key =
           server_key version salted;
     }
+
+-- a record and the version that it is for
+pub record VersionedRecord : Type 0 where
+  pub version : ScramVersion
+  pub stored : Record
+
+-- the tests before a record is made of a password (RFC 4013, section 2; RFC 5802, section 5.1), in their order
+abbrev pub making_tests : List ℕ → ℕ → List (RecordError × Type 0)
+making_tests password count = (NormalizeError, ¬ IsPrintable password) ∷ (ZeroIterations, count ≡ 0) ∷ []
+
+-- what comes of making a record of a password (RFC 5802, section 3): the first refusal that holds, or its record
+abbrev pub MakesRecord : ScramVersion → List ℕ → List ℕ → ℕ → Result VersionedRecord RecordError → Type 0
+MakesRecord version password salt count answer = Reads (making_tests password count)
+    (λ made. made ≡ record { version = version; stored = record_of version password salt count }) answer
+
+-- its HMAC values (RFC 5802, section 3), as a meter shows them before and after: one for each iteration and one for
+-- each of two keys, none for a refusal, and at most so many where memory ran out
+abbrev pub MakingCosts : {A : Type 0} → ℕ → Result A RecordError → ℕ → ℕ → Type 0
+MakingCosts count (Ok made) before after = after ≡ before + (count + 2)
+MakingCosts count (Err OutOfMemory) before after = (before ≤ after) × (after ≤ before + (count + 2))
+MakingCosts count (Err fault) before after = after ≡ before
 
 -- a finite map from user names to records (RFC 5802, section 3): of the pairs of one name the first counts
 abbrev pub Records : Type 0

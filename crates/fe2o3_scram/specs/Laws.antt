@@ -1,5 +1,5 @@
 -- What holds of the definitions themselves. Each is the contract of a function of `laws`.
-use Rattle.std.specs.Prelude.{ℕ, List, ◌≡◌, length, Result, Ok}
+use Rattle.std.specs.Prelude.{ℕ, List, ◌≡◌, ◌≤◌, ◌<◌, ◌^◌, length, Result, Ok}
 use Rattle.base64.specs.Engines.{standard}
 use Rattle.base64.specs.GeneralPurpose.{IsBytes, decode_of}
 use Rattle.fe2o3_scram.specs.declared.hmac.ScramVersion.{ScramVersion}
@@ -7,10 +7,13 @@ use Rattle.fe2o3_scram.specs.declared.scram_messages.error.ScramErrorKind.{Scram
 use Rattle.fe2o3_scram.specs.Texts.{base64_text, IsBase64, NoComma, Parts}
 use Rattle.fe2o3_scram.specs.declared.scram_messages.error.ServerScramErrorKind.{ServerScramErrorKind}
 use Rattle.fe2o3_scram.specs.ClientFirst.{ClientFirst, ReadsClientFirst}
+use Rattle.fe2o3_scram.specs.Credentials.{VersionedRecord, record_of}
 use Rattle.fe2o3_scram.specs.Escape.{escaped}
 use Rattle.fe2o3_scram.specs.Exchanges.{Exchange, IsSound, Succeeds}
 use Rattle.fe2o3_scram.specs.Hmac.{mechanism_name, digest, digest_len, hmac_of}
 use Rattle.fe2o3_scram.specs.ClientFinal.{Server, ClientFinal, ReadsFinalText, ReadsClientFinal}
+use Rattle.fe2o3_scram.specs.RecordText.{IsReadable, ReadsRecord, record_text}
+use Rattle.fe2o3_scram.specs.declared.credentials.record_text.RecordTextError.{RecordTextError}
 use Rattle.fe2o3_scram.specs.ServerFinal.{ReadsSignature, ReadsServerFinal}
 use Rattle.fe2o3_scram.specs.ServerFirst.{Client, ServerFirst, ReadsServerFirst}
 
@@ -108,3 +111,26 @@ SomeClientFinal = (server : Server) (text : List ℕ)
 abbrev pub SomeServerFinal : Type 0
 SomeServerFinal = (signature text : List ℕ)
     → (answer : Result (Unit {0}) ScramErrorKind) × ReadsServerFinal signature text answer
+
+-- a record is read again from its text, where it has a count and its keys are as long as a digest
+abbrev pub RecordsAreReadAgain : Type 0
+RecordsAreReadAgain = (kept : VersionedRecord) → IsReadable kept → ReadsRecord (record_text kept) (Ok kept)
+
+-- no other text is read as this record
+abbrev pub OneSpelling : Type 0
+OneSpelling = (text : List ℕ) (kept : VersionedRecord) → ReadsRecord text (Ok kept)
+    → (text ≡ record_text kept) × IsReadable kept
+
+-- a record's text has at most one answer
+abbrev pub OneRecord : Type 0
+OneRecord = (text : List ℕ) (answer other : Result VersionedRecord RecordTextError) → ReadsRecord text answer
+    → ReadsRecord text other → answer ≡ other
+
+-- and it has one, whatever the text
+abbrev pub SomeRecord : Type 0
+SomeRecord = (text : List ℕ) → (answer : Result VersionedRecord RecordTextError) × ReadsRecord text answer
+
+-- a record that is made of a password is read again
+abbrev pub MadeRecordsAreReadable : Type 0
+MadeRecordsAreReadable = (version : ScramVersion) (password salt : List ℕ) (count : ℕ) → IsBytes salt → 1 ≤ count
+    → count < 2 ^ 32 → IsReadable (record { version = version; stored = record_of version password salt count })

@@ -6,6 +6,7 @@ pub mod Pbkdf2Hi
 pub mod Keys
 pub mod Credentials
 pub mod Readings
+pub mod RecordText
 pub mod Error
 pub mod ClientFirst
 pub mod ServerFirst

@@ -2,6 +2,7 @@
 -- padding (RFC 4648, section 4).
 -- A text is its list of bytes.
 use Rattle.std.specs.Prelude.{ℕ, List, [], ◌∷◌, ◌++◌, ◌≡◌, ◌≢◌, ◌<◌, length, slice_get, Some, true, codes, ◌⊎◌, ◌≤◌, ◌^◌}
+use Rattle.std.specs.Fmt.{decimal}
 use Rattle.std.specs.List.{AllByRecursion, join_with_byte}
 use Rattle.base64.specs.Rfc4648.{encode}
 use Rattle.base64.specs.GeneralPurpose.{IsBytes}
@@ -51,3 +52,15 @@ IsBase64 text bytes = IsBytes bytes × (text ≡ base64_text bytes)
 abbrev pub IsCount : List ℕ → ℕ → Type 0
 IsCount text count = (digits : List ℕ) × ((text ≡ digits) ⊎ (text ≡ 43 ∷ digits)) × IsNumeral 10 digits
     × (count ≡ digits_value 10 digits) × (1 ≤ count) × (count < 2 ^ 32)
+
+-- the byte does not stand in the text
+abbrev pub Without : ℕ → List ℕ → Type 0
+Without byte text = AllByRecursion (λ other. other ≢ byte) text
+
+-- the text is cut at the first of these bytes
+abbrev pub Cut : ℕ → List ℕ → List ℕ → List ℕ → Type 0
+Cut byte text before rest = Without byte before × (text ≡ before ++ byte ∷ rest)
+
+-- the text is this count in decimal, from 1 to 4294967295, with neither a sign nor leading zeros (RFC 5803, section 2)
+abbrev pub IsPlainCount : List ℕ → ℕ → Type 0
+IsPlainCount text count = (text ≡ decimal count) × (1 ≤ count) × (count < 2 ^ 32)

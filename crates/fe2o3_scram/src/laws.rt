@@ -2,7 +2,7 @@
 //! statement about every list of bytes, which the check has proved.
 
 ghost use Rattle.std.specs.Prelude.{◌≡◌};
-ghost use Rattle.fe2o3_scram.specs.Laws.{OneVersion, OneFinalText, OneSignature, DigestsAreSized, MacsAreSized, OneBytesOfBase64, Base64IsReadAgain, NoCommaInBase64, PartsExist, OneListOfParts, OneEscapedName, NoCommaInEscapedNames, OneClientFirst, OneServerFirst, OneClientFinal, OneServerFinal, SomeClientFirst, SomeServerFirst, SomeClientFinal, SomeServerFinal, UnalteredExchangesSucceed};
+ghost use Rattle.fe2o3_scram.specs.Laws.{OneVersion, OneFinalText, OneSignature, DigestsAreSized, MacsAreSized, OneBytesOfBase64, Base64IsReadAgain, NoCommaInBase64, PartsExist, OneListOfParts, OneEscapedName, NoCommaInEscapedNames, OneClientFirst, OneServerFirst, OneClientFinal, OneServerFinal, SomeClientFirst, SomeServerFirst, SomeClientFinal, SomeServerFinal, UnalteredExchangesSucceed, MadeRecordsAreReadable, OneRecord, OneSpelling, RecordsAreReadAgain, SomeRecord};
 
 use crate::hmac::ScramVersion;
 
@@ -65,4 +65,14 @@ pub fn each_text_is_read()
     ensures server_first { SomeServerFirst }
     ensures client_final { SomeClientFinal }
     ensures server_final { SomeServerFinal }
+{}
+
+/// A record is read again from its text, and no other text is read as that record. Each text has
+/// one answer. A record that is made of a password is one that is read again.
+pub fn record_texts()
+    ensures again { RecordsAreReadAgain }
+    ensures spelling { OneSpelling }
+    ensures one { OneRecord }
+    ensures some { SomeRecord }
+    ensures made { MadeRecordsAreReadable }
 {}

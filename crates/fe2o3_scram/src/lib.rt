@@ -25,7 +25,9 @@ pub mod scram_server;
 mod texts;
 
 pub use crate::credentials::{
-    DEFAULT_SCRAM_ITERATIONS, ScramCredentialProvider, SingleScramCredential, StoredPassword,
+    AddRecordError, DEFAULT_SCRAM_ITERATIONS, RecordError, RecordTextError,
+    ScramCredentialProvider, ScramCredentials, ScramRecord, SingleScramCredential, StoredPassword,
+    StoredScramCredential,
 };
 pub use crate::hmac::{DigestBytes, Meter, ScramVersion, UnknownMechanism};
 pub use crate::keys::auth_message;

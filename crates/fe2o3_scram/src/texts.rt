@@ -1,7 +1,7 @@
 //! The pieces of SCRAM messages: parts between commas, attributes, base64 and counts.
 
-ghost use Rattle.std.specs.Prelude.{◌≡◌, ◌++◌, ℕ, List, IfOk, OnOk, MatchOption, string_bytes};
-ghost use Rattle.fe2o3_scram.specs.Texts.{Begins, Part, LastPart, IsBase64, base64_text, IsCount};
+ghost use Rattle.std.specs.Prelude.{◌≡◌, ◌<◌, ◌++◌, ℕ, List, IfOk, OnOk, MatchOption, string_bytes};
+ghost use Rattle.fe2o3_scram.specs.Texts.{Begins, Cut, Part, LastPart, IsBase64, base64_text, IsCount, IsPlainCount};
 
 use crate::OutOfMemory;
 use base64::DecodeAllocError;
@@ -90,4 +90,29 @@ pub(crate) fn push_base64(text: &mut String, bytes: &[u8]) -> Result<(), OutOfMe
 /// How long the base64 text of so many bytes is. Room is reserved by it, and nothing rests on it.
 pub(crate) fn base64_len(len: usize) -> usize {
     len.div_ceil(3).saturating_mul(4)
+}
+
+/// The iteration count that the text spells without a sign or a leading zero, or `None` where it
+/// spells none, or 0.
+#[tactic(auto, using(crate::proofs::lemmas::texts::CountLemmas::plain_counts))]
+pub(crate) fn plain_count_of(text: &str) -> Option<u32>
+    ensures { MatchOption result ((count : ℕ) → ¬ IsPlainCount text.now count)
+        (λ count. IsPlainCount text.now count) }
+{
+    if let Some(_) = after(text, "+") {
+        return None;
+    }
+    if let Some(_) = after(text, "0") {
+        return None;
+    }
+    count_of(text)
+}
+
+/// What stands before the first separator, which is ASCII, and what follows it.
+pub(crate) fn cut(text: &str, separator: char) -> Option<(&str, &str)>
+    requires { separator < 128 }
+    ensures { MatchOption result ((before rest : List ℕ) → ¬ Cut separator text.now before rest)
+        (λ both. Cut separator text.now both.0.now both.1.now) }
+{
+    text.split_once(separator)
 }

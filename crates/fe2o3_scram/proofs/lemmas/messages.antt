@@ -3,6 +3,8 @@ pub mod ClientFinalLemmas
 pub mod ClientFirstLemmas
 pub mod ExchangeLemmas
 pub mod OneValueLemmas
+pub mod RecordLawLemmas
+pub mod RecordTextLemmas
 pub mod ServerFinalLemmas
 pub mod ServerFirstLemmas
 pub mod SomeReadingLemmas

@@ -1,6 +1,7 @@
 pub mod AsciiLemmas
 pub mod Base64Lemmas
 pub mod CountLemmas
+pub mod CutLemmas
 pub mod DecisionLemmas
 pub mod EscapingLemmas
 pub mod JoinedTextLemmas

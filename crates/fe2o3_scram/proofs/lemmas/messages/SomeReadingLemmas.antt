@@ -23,7 +23,7 @@ use Rattle.fe2o3_scram.proofs.lemmas.texts.DecisionLemmas.{Decided, Found, held,
 -- ---- lists of tests
 
 -- each of the tests is decided
-abbrev AllDecided : {F : Type 0} → List (F × Type 0) → Type 0
+abbrev pub AllDecided : {F : Type 0} → List (F × Type 0) → Type 0
 AllDecided [] = Unit {0}
 AllDecided (test ∷ tests) = Decided test.1 × AllDecided tests
 
@@ -50,7 +50,7 @@ first_or {F} (test ∷ tests) (inr fails, decided) = go (first_or tests decided)
     go (inr none) = inr (fails, none)
 
 -- where each test is decided, and something is named where none holds, there is an answer
-some_reading : {F V : Type 0} (tests : List (F × Type 0)) (Names : V → Type 0) → AllDecided tests
+pub some_reading : {F V : Type 0} (tests : List (F × Type 0)) (Names : V → Type 0) → AllDecided tests
     → (NoneHolds tests → (values : V) × Names values) → (answer : Result V F) × Reads tests Names answer
 some_reading {F} {V} tests Names decided named = go (first_or tests decided)
   where

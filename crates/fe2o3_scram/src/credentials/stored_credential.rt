@@ -1,0 +1,88 @@
+//! The record of one user as a provider.
+
+ghost use Rattle.std.specs.Prelude.{◌≡◌, [], ◌∷◌};
+ghost use Rattle.std.specs.String.{string_bytes};
+
+use crate::credentials::scram_record::ScramRecord;
+use crate::credentials::{ScramCredentialProvider, StoredPassword};
+use crate::hmac::ScramVersion;
+use std::alloc::AllocError;
+use std::fmt;
+use std::marker::Model;
+
+/// One user and the record of the user's password: what a server with a store of its own makes for
+/// one exchange, once `ClientFirst::parse` has told it whose record to fetch.
+///
+/// A server that is not to show which names it knows makes up a record for a name that it does not
+/// know, by `ScramRecord::from_parts`: with the count that its records have, keys that nobody can
+/// meet, and a salt that is the same for each login of that name and that nobody else can compute,
+/// as an HMAC value of the name under a secret of the server's.
+#[derive(Drop)]
+pub struct StoredScramCredential {
+    username: String,
+    kept: ScramRecord,
+}
+
+impl Model for StoredScramCredential {
+    ghost use Rattle.std.specs.Prelude.{[], ◌∷◌};
+    ghost use Rattle.std.specs.String.{string_bytes};
+    ghost use Rattle.fe2o3_scram.specs.Credentials.{Provider};
+
+    ghost Value = { Provider };
+
+    ghost view = { λ credential. record {
+      version = credential.kept.version;
+      records = (string_bytes credential.username, credential.kept.stored) ∷ [];
+    } };
+}
+
+impl StoredScramCredential {
+    /// The credential of a user with this record. The user name is plain, and not escaped.
+    pub fn new(username: String, kept: ScramRecord) -> Self
+        ensures { result ≡ record {
+          version = kept.version;
+          records = (string_bytes username, kept.stored) ∷ [];
+        } }
+    {
+        Self { username, kept }
+    }
+}
+
+impl fmt::Debug for StoredScramCredential {
+    /// The user name, and of the record what its own `Debug` shows.
+    fn fmt<W: fmt::Write>(&self, f: &mut fmt::Formatter<W>) -> fmt::Result {
+        write!(
+            f,
+            "StoredScramCredential {{ username: {:?}, record: {:?} }}",
+            self.username, self.kept
+        )
+    }
+}
+
+impl Clone for StoredScramCredential {
+    ghost is_clone = { λ credential copy. copy ≡ credential };
+
+    fn clone(&self) -> Result<Self, AllocError> {
+        Ok(Self {
+            username: self.username.clone()?,
+            kept: self.kept.clone()?,
+        })
+    }
+}
+
+impl ScramCredentialProvider for StoredScramCredential {
+    ghost meaning = { λ credential. credential };
+
+    ghost clone_keeps = { λ provider copy same. same };
+
+    fn scram_version(&self) -> &ScramVersion {
+        self.kept.scram_version()
+    }
+
+    fn get_stored_password<'a>(&'a self, username: &str) -> Option<StoredPassword<'a>> {
+        if self.username.as_str() != username {
+            return None;
+        }
+        Some(self.kept.as_stored_password())
+    }
+}
