@@ -9,7 +9,7 @@ use std::io::Cursor;
 use std::test::Fail;
 
 /// Words behind `login` with what is printed and the status that it ends with.
-static LOGINS: [(&str, &str, u8); 21] = [
+pub static LOGINS: [(&str, &str, u8); 21] = [
     // Each version.
     (
         "sasl_lab login SCRAM-SHA-1 user pencil 0303030303030303030303030303030303030303030303030303030303030303 010\
