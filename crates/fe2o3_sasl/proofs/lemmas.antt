@@ -1,3 +1,4 @@
+pub mod audit
 pub mod examples
 pub mod frames
 pub mod histories

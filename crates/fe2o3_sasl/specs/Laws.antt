@@ -1,12 +1,12 @@
 -- What holds of every history, and of every two. Each is the contract of a function of `laws`.
-use Rattle.std.specs.Prelude.{◌≡◌, ◌≢◌, ◌⊎◌, ℕ, suc, ◌<◌, ◌≤◌, Bool, true, false, Some, None, List, length, take, slice_get, Ok}
-use Rattle.std.specs.List.{filter}
+use Rattle.std.specs.Prelude.{◌≡◌, ◌≢◌, ◌⊎◌, ℕ, suc, ◌<◌, ◌≤◌, Bool, true, false, Option, Some, None, List, length, take, slice_get, Ok}
+use Rattle.std.specs.List.{Contains, filter}
 use Rattle.fe2o3_sasl_wire.specs.declared.amqp_types.SaslCode.TheVariants as outcomes
 use Rattle.fe2o3_sasl_wire.specs.declared.sasl_frames.error.Error.TheVariants as faults
 use Rattle.fe2o3_sasl_wire.specs.SaslFrames.{IsBytes}
 use Rattle.fe2o3_sasl_wire.specs.SaslFrames as frames
 use Rattle.fe2o3_sasl.specs.ClientHistory.{Answering, AnswersAt, OpenAnswer, ClientHistory, is_start, is_answer, ends_answer}
-use Rattle.fe2o3_scram.specs.Credentials.{Provider}
+use Rattle.fe2o3_scram.specs.Credentials.{Provider, Record, record_at}
 use Rattle.fe2o3_sasl.specs.Events.{Given, AreGiven, Login, IsLogin, IsRecord, ServerSays, Concluded, Failed, ClientSays}
 use Rattle.fe2o3_sasl.specs.Runs.{Runs, AcceptorSteps, ProfileSteps}
 use Rattle.fe2o3_sasl.specs.SaslAcceptor.{acceptor_machine, Acceptor, ScramAcceptor}
@@ -17,7 +17,7 @@ use Rattle.fe2o3_scram.specs.ScramServer as server_states
 use Rattle.fe2o3_sasl.specs.TwoSides.{Sides, Histories, Takes, Shows, Agree, HasParts, IsPlainInit, client_message, server_message}
 use Rattle.fe2o3_sasl.specs.Headline.{VerifierAgrees, EveryServer, EveryClient}
 use Rattle.fe2o3_sasl.specs.UnalteredRuns.{ClientLogsIn, ServerLogsIn}
-use Rattle.fe2o3_sasl.specs.Audit.{Verdict, JudgesVerifier, JudgesProof, Finding, AuditsEvents}
+use Rattle.fe2o3_sasl.specs.Audit.{Parameters, Verdict, Agreed, JudgesVerifier, JudgesProof, Finding, Audits, AuditsEvents}
 use Rattle.fe2o3_sasl.specs.Complete.{ClientComplete, ServerComplete}
 
 -- a history without want of memory is a function of the events
@@ -184,6 +184,44 @@ RepeatedServerPositions = (sides : Sides) (k n o : ℕ) (accepted other : Accept
     → n ≢ o → IsPlainInit accepted → IsPlainInit other
     → ((m l : ℕ) → TakesAgreed sides m k n accepted → TakesAgreed sides m l o other → FromTwoChallenges sides n o)
     × (ShowsAgreed sides k n accepted → ShowsAgreed sides k o other → FromTwoChallenges sides n o)
+
+-- each record of the provider is one that the code holds
+abbrev pub HoldsRecords : Provider → Type 0
+HoldsRecords provider = (name : List ℕ) (stored : Record) → record_at provider.records name ≡ Some stored
+    → IsRecord stored
+
+-- in this finding both sides agree
+abbrev pub IsAgreed : Finding → Type 0
+IsAgreed finding = (user nonce : List ℕ) × (parameters : Option Parameters)
+    × (finding.verdict ≡ Agreed user nonce parameters)
+
+-- and its parameters are given
+abbrev pub HasParameters : Finding → Type 0
+HasParameters finding = (user nonce : List ℕ) × (parameters : Parameters)
+    × (finding.verdict ≡ Agreed user nonce (Some parameters))
+
+-- an audit lists both findings, and they are of one kind
+pub record ListsBoth (sides : Sides) (findings : List Finding) (finding other : Finding) : Type 0 where
+  pub audits : Audits sides findings
+  pub one : Contains findings finding
+  pub two : Contains findings other
+  pub alike : finding.kind ≡ other.kind
+
+-- two agreed findings of one kind, of one Ok of the server and of two positions of the client, are of two starts
+-- with one nonce
+abbrev pub RepeatedClientFindings : Type 0
+RepeatedClientFindings = (sides : Sides) (findings : List Finding) (finding other : Finding)
+    → AreGiven sides.client_events → HoldsRecords sides.provider → ListsBoth sides findings finding other
+    → IsAgreed finding → IsAgreed other → finding.server ≡ other.server → finding.client ≢ other.client
+    → FromTwoStarts sides finding.client other.client
+
+-- two agreed findings of one kind with parameters, of one position of the client and of two Oks of the server, are of
+-- two challenges with one nonce
+abbrev pub RepeatedServerFindings : Type 0
+RepeatedServerFindings = (sides : Sides) (findings : List Finding) (finding other : Finding)
+    → AreGiven sides.server_events → HoldsRecords sides.provider → ListsBoth sides findings finding other
+    → HasParameters finding → HasParameters other → finding.client ≡ other.client → finding.server ≢ other.server
+    → FromTwoChallenges sides finding.server other.server
 
 -- the bodies of the events are bytes
 abbrev pub BodiesAreBytes : List Given → Type 0

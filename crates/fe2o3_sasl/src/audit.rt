@@ -215,7 +215,10 @@ pub fn audit_limited<C: ScramCredentialProvider>(
     let client_replies =
         scram_client_run_limited(alloc, user, password, version, limit, client_events)?;
     let server_replies = scram_server_run(alloc, credentials, server_events)?;
-    if !client_is_complete(&client_replies) || !server_is_complete(&server_replies) {
+    if !client_is_complete(&client_replies) {
+        return Err(AuditError::OutOfMemory);
+    }
+    if !server_is_complete(&server_replies) {
         return Err(AuditError::OutOfMemory);
     }
     let client = client_receipts(

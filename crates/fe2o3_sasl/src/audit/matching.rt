@@ -43,7 +43,8 @@ fn judge_verifier(
     client: &ClientReceipt,
     server: &ServerReceipt,
 ) -> Result<Verdict, OutOfMemory>
-    ensures { IfOk result (λ verdict. verdict_of verdict ≡ verifier_verdict (client_receipt client.now) (server_receipt server.now)) }
+    ensures { IfOk result (λ verdict. verdict_of verdict ≡ verifier_verdict (client_receipt client.now)
+        (server_receipt server.now)) }
 {
     if client.message == server.message {
         agreed(alloc, server)
@@ -63,7 +64,8 @@ fn judge_proof(
     client: &ClientReceipt,
     server: &ServerReceipt,
 ) -> Result<Verdict, OutOfMemory>
-    ensures { IfOk result (λ verdict. verdict_of verdict ≡ proof_verdict (client_receipt client.now) (server_receipt server.now)) }
+    ensures { IfOk result (λ verdict. verdict_of verdict ≡ proof_verdict (client_receipt client.now)
+        (server_receipt server.now)) }
 {
     if client.stored_key.as_slice() != server.stored_key.as_slice() {
         return Ok(Verdict::OtherKey);
@@ -94,7 +96,8 @@ fn match_verifier(
     client: &ClientReceipt,
     server: &ServerReceipt,
 ) -> Result<(), OutOfMemory>
-    ensures { OnOk result (map finding_of findings.new.items ≡ map finding_of findings.old.items ++ found is_taken verifier_finding (client_receipt client.now) (server_receipt server.now)) }
+    ensures { OnOk result (map finding_of findings.new.items ≡ map finding_of findings.old.items ++ found is_taken
+        verifier_finding (client_receipt client.now) (server_receipt server.now)) }
 {
     if client.shown == server.verifier {
         let verdict = judge_verifier(alloc, client, server)?;
@@ -115,7 +118,8 @@ fn match_proof(
     client: &ClientReceipt,
     server: &ServerReceipt,
 ) -> Result<(), OutOfMemory>
-    ensures { OnOk result (map finding_of findings.new.items ≡ map finding_of findings.old.items ++ found is_shown proof_finding (client_receipt client.now) (server_receipt server.now)) }
+    ensures { OnOk result (map finding_of findings.new.items ≡ map finding_of findings.old.items ++ found is_shown
+        proof_finding (client_receipt client.now) (server_receipt server.now)) }
 {
     if client.shown == server.proof {
         let verdict = judge_proof(alloc, client, server)?;
@@ -136,7 +140,8 @@ fn match_taken(
     client: &ClientReceipt,
     oks: &[ServerReceipt],
 ) -> Result<(), OutOfMemory>
-    ensures { OnOk result (map finding_of findings.new.items ≡ map finding_of findings.old.items ++ flat_map (found is_taken verifier_finding (client_receipt client.now)) (map server_receipt oks.now)) }
+    ensures { OnOk result (map finding_of findings.new.items ≡ map finding_of findings.old.items ++ flat_map
+        (found is_taken verifier_finding (client_receipt client.now)) (map server_receipt oks.now)) }
 {
     for server in oks {
         match_verifier(alloc, findings, client, server)?;
@@ -151,7 +156,8 @@ fn match_shown(
     client: &ClientReceipt,
     oks: &[ServerReceipt],
 ) -> Result<(), OutOfMemory>
-    ensures { OnOk result (map finding_of findings.new.items ≡ map finding_of findings.old.items ++ flat_map (found is_shown proof_finding (client_receipt client.now)) (map server_receipt oks.now)) }
+    ensures { OnOk result (map finding_of findings.new.items ≡ map finding_of findings.old.items ++ flat_map
+        (found is_shown proof_finding (client_receipt client.now)) (map server_receipt oks.now)) }
 {
     for server in oks {
         match_proof(alloc, findings, client, server)?;
@@ -166,7 +172,8 @@ pub(crate) fn match_verifiers(
     taken: &[ClientReceipt],
     oks: &[ServerReceipt],
 ) -> Result<(), OutOfMemory>
-    ensures { OnOk result (map finding_of findings.new.items ≡ map finding_of findings.old.items ++ findings_of is_taken verifier_finding (map client_receipt taken.now) (map server_receipt oks.now)) }
+    ensures { OnOk result (map finding_of findings.new.items ≡ map finding_of findings.old.items ++ findings_of
+        is_taken verifier_finding (map client_receipt taken.now) (map server_receipt oks.now)) }
 {
     for client in taken {
         match_taken(alloc, findings, client, oks)?;
@@ -181,7 +188,8 @@ pub(crate) fn match_proofs(
     shown: &[ClientReceipt],
     oks: &[ServerReceipt],
 ) -> Result<(), OutOfMemory>
-    ensures { OnOk result (map finding_of findings.new.items ≡ map finding_of findings.old.items ++ findings_of is_shown proof_finding (map client_receipt shown.now) (map server_receipt oks.now)) }
+    ensures { OnOk result (map finding_of findings.new.items ≡ map finding_of findings.old.items ++ findings_of
+        is_shown proof_finding (map client_receipt shown.now) (map server_receipt oks.now)) }
 {
     for client in shown {
         match_shown(alloc, findings, client, oks)?;

@@ -34,7 +34,7 @@ repeats events i j event again are apart at too same = (
 
 -- ---- one Ok of the server and two answers
 
-not_none : (says : Option ClientSays) → test_at closes_nothing says ≡ false
+pub not_none : (says : Option ClientSays) → test_at closes_nothing says ≡ false
 not_none None = refl
 not_none (Some says) = refl
 

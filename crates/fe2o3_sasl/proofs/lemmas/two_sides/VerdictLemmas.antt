@@ -177,7 +177,7 @@ shown_proofs_are_judged sides k n answer accepted histories kept shows =
 abbrev values_of : List ℕ → List ℕ → ℕ → Parameters
 values_of full salt iterations = record { full_nonce = full; salt = salt; iterations = iterations }
 
-one_value : (accepted : Accepted) (parameters other : Option Parameters) → AreParameters accepted parameters
+pub one_value : (accepted : Accepted) (parameters other : Option Parameters) → AreParameters accepted parameters
     → AreParameters accepted other → parameters ≡ other
 one_value accepted None None are too = refl
 one_value accepted None (Some other) are too = absurd (are too.0)

@@ -1,0 +1,9 @@
+use Rattle.std.proofs.Common.{◌≡◌, ◌++◌, map, take}
+use Rattle.fe2o3_sasl.specs.Audit.{finding_of}
+use Rattle.fe2o3_sasl.specs.private.Findings.{client_receipt, server_receipt, findings_of, is_shown, proof_finding}
+use Rattle.fe2o3_sasl.proofs.audit.matching.match_proofs.Given as goal
+
+abbrev pub invariant-loop-client : goal.invariant-loop-client
+invariant-loop-client l =
+    map finding_of l.findings.items ≡ map finding_of l.fn.findings.items ++ findings_of is_shown proof_finding
+    (map client_receipt (take l.client-index l.shown)) (map server_receipt l.oks)

@@ -1,0 +1,4 @@
+pub mod AuditLemmas
+pub mod CoverLemmas
+pub mod FoundLemmas
+pub mod RepeatedFindingLemmas
