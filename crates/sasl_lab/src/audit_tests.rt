@@ -237,6 +237,7 @@ fn digits_of_the_salt_have_either_case(rt: HostRuntime) -> Result<(), Fail> {
 }
 
 /// A reader that gives a text and then fails.
+#[derive(Drop)]
 struct Broken {
     text: &'static [u8],
     kind: io::ErrorKind,
