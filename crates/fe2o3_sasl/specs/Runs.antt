@@ -99,10 +99,10 @@ given event = record { body = event.body.items; nonce = event.nonce }
 abbrev pub SpellsEvent : List ℕ → List ℕ → Given → Type 0
 SpellsEvent nonce body event = (length event.nonce ≡ 32) × SpellsHex nonce event.nonce × SpellsHex body event.body
 
--- why two texts give no event: they spell none; or there is no memory
+-- why two texts give no event: they spell none; or there is no memory for the body, and then they spell one
 abbrev pub RefusesHex : List ℕ → List ℕ → EventError → Type 0
 RefusesHex nonce body event_faults.Invalid = (event : Given) → ¬ SpellsEvent nonce body event
-RefusesHex nonce body event_faults.OutOfMemory = Unit {0}
+RefusesHex nonce body event_faults.OutOfMemory = (event : Given) × SpellsEvent nonce body event
 
 -- what a server says with a reply
 abbrev pub server_reply : ServerReply → ServerSays

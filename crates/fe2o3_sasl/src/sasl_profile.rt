@@ -394,7 +394,11 @@ impl fmt::Debug for Negotiation {
 fn plain_message(alloc: Global, username: &str, password: &str) -> Result<Binary, OutOfMemory>
     ensures { IfOk result (λ message. binary_bytes message ≡ 0 ∷ username.now ++ 0 ∷ password.now) }
 {
-    let mut message = Vec::with_capacity(alloc, 0)?;
+    let room = username
+        .len()
+        .saturating_add(password.len())
+        .saturating_add(2);
+    let mut message = Vec::with_capacity(alloc, room)?;
     message.push(0)?;
     message.extend_from_slice(username.as_bytes())?;
     message.push(0)?;

@@ -62,7 +62,8 @@ ClientKeeps login place init event (Started body) start next shown shown' taken 
     (next ≡ place) × (shown' ≡ shown) × (taken' ≡ taken)
 ClientKeeps login place init event (Answered body) start next shown shown' taken taken' =
     (next ≡ start)
-    × ((receipt : ClientReceipt) × ShownFor login place init.nonce event.body receipt × (shown' ≡ shown ++ receipt ∷ []))
+    × ((receipt : ClientReceipt) × ShownFor login place init.nonce event.body receipt
+    × (shown' ≡ shown ++ receipt ∷ []))
     × (taken' ≡ taken)
 ClientKeeps login place init event (Reported code more) start next shown shown' taken taken' =
     (next ≡ start) × (shown' ≡ shown) × OutcomeKeeps place code more shown taken taken'
@@ -77,9 +78,11 @@ login_at words = login_of words.version words.user.now words.password.now words.
 
 -- the keys that the login's password has with this salt and this count
 pub record AreKeys (login : Login) (salt : List ℕ) (count : ℕ) (keys : ClientKeys) : Type 0 where
-  pub client : digest_bytes keys.client_key ≡ client_key login.version (salted_of login.version login.password salt count)
+  pub client : digest_bytes keys.client_key
+      ≡ client_key login.version (salted_of login.version login.password salt count)
   pub stored : digest_bytes keys.stored_key ≡ stored_key login.version (digest_bytes keys.client_key)
-  pub server : digest_bytes keys.server_key ≡ server_key login.version (salted_of login.version login.password salt count)
+  pub server : digest_bytes keys.server_key
+      ≡ server_key login.version (salted_of login.version login.password salt count)
 
 -- what is kept, if anything, are the keys of its salt and its count
 abbrev pub KeptKeys : Login → Option SaltedKeys → Type 0

@@ -1,12 +1,14 @@
 -- What the pass over a server's run knows and keeps. Contracts of private functions alone cite this.
-use Rattle.std.specs.Prelude.{◌≡◌, ℕ, Option, Some, List, [], ◌∷◌, ◌++◌, Ok}
+use Rattle.std.specs.Prelude.{◌≡◌, ℕ, Option, Some, List, [], ◌∷◌, ◌++◌, Ok, string_bytes}
 use Rattle.fe2o3_sasl_wire.specs.declared.amqp_types.SaslCode.TheVariants as outcomes
 use Rattle.fe2o3_sasl_wire.specs.declared.sasl_frames.error.Error.TheVariants as faults
 use Rattle.fe2o3_sasl_wire.specs.SaslFrames as frames
 use Rattle.fe2o3_scram.specs.ClientFinal.{ClientFinal, HasProof}
-use Rattle.fe2o3_scram.specs.ClientFirst.{ReadsClientFirst}
-use Rattle.fe2o3_scram.specs.Credentials.{Provider, record_at}
+use Rattle.fe2o3_scram.specs.ClientFirst.{ReadsClientFirst, client_first_values}
+use Rattle.fe2o3_scram.specs.Credentials.{Provider, record_at, kept}
+use Rattle.fe2o3_scram.specs.ServerFirst.{challenge_of, challenge_values}
 use Rattle.fe2o3_scram.specs.Texts.{base64_text}
+use Rattle.fe2o3_sasl.specs.declared.audit.server_receipts.challenges.Opened.{Opened}
 use Rattle.fe2o3_sasl.specs.Events.{Given, ServerSays, Challenged, Concluded, Failed}
 use Rattle.fe2o3_sasl.specs.Positions.{IsLastOpen}
 use Rattle.fe2o3_sasl.specs.ServerHistory.{SpellsBody, Challenging, is_challenge, is_ok}
@@ -21,6 +23,20 @@ pub record ServerSoFar (provider : Provider) (events : List Given) (replies : Li
     (oks : List ServerReceipt) : Type 0 where
   pub concludes : Covers (IsOkReceipt provider events replies) (λ receipt. receipt.place) (ConcludesAt replies) i oks
   pub challenged : (j : ℕ) → IsLastOpen is_challenge is_ok replies i j → challenge ≡ j
+
+-- the challenge that a value holds
+abbrev pub opened_challenge : Opened → Challenging
+opened_challenge opened = record {
+  client = client_first_values opened.client_first;
+  nonce = string_bytes opened.server_nonce;
+  stored = kept opened.stored_password;
+}
+
+-- the server-first message in it is that of the challenge
+abbrev pub HoldsMessage : Opened → Type 0
+HoldsMessage opened =
+    let challenge = opened_challenge opened in
+    challenge_values opened.server_first ≡ challenge_of challenge.client challenge.nonce challenge.stored
 
 -- the challenge to the init in this event
 pub record OpenedFor (provider : Provider) (init : Given) (challenge : Challenging) : Type 0 where

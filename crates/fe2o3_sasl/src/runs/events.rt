@@ -1,6 +1,8 @@
 //! What the runs are given and what they answer, with the bodies of the frames.
 
-ghost use Rattle.std.specs.Prelude.{◌≡◌, IfOk, IfErr};
+ghost use Rattle.std.specs.Prelude.{◌≡◌, ◌↔◌, IfOk, IfErr, IsTrue};
+ghost use Rattle.std.specs.Char.{is_ascii_hexdigit};
+ghost use Rattle.std.specs.List.{AllPass};
 ghost use Rattle.fe2o3_sasl.specs.Runs.{given, SpellsEvent, RefusesHex};
 
 use fe2o3_sasl_wire::{SaslCode, SaslOutcome};
@@ -25,14 +27,14 @@ pub enum EventError {
     #[error("Invalid")]
     Invalid,
 
-    /// There was no memory for the body. The call can be made again.
+    /// There was no memory for the body that the texts spell. The call can be made again.
     #[error("OutOfMemory")]
     OutOfMemory,
 }
 
 impl Event {
-    /// The event that two texts spell in hexadecimal digits of either case. Invalid where they
-    /// spell none.
+    /// The event that two texts spell in hexadecimal digits of either case. Invalid exactly where
+    /// they spell none: memory is asked for once both have passed, for the body.
     pub fn from_hex(alloc: Global, nonce: &str, body: &str) -> Result<Event, EventError>
         ensures ok { IfOk result (λ event. SpellsEvent nonce.now body.now (given event)) }
         ensures err { IfErr result (λ fault. RefusesHex nonce.now body.now fault) }
@@ -40,12 +42,22 @@ impl Event {
         let Ok(nonce) = <[u8; 32] as FromHex>::from_hex(nonce) else {
             return Err(EventError::Invalid);
         };
+        if !are_digits(body.as_bytes()) {
+            return Err(EventError::Invalid);
+        }
         match hex::decode(alloc, body) {
             Ok(body) => Ok(Event { body, nonce }),
             Err(FromHexError::OutOfMemory) => Err(EventError::OutOfMemory),
             Err(_) => Err(EventError::Invalid),
         }
     }
+}
+
+/// Whether each byte is a hexadecimal digit.
+fn are_digits(text: &[u8]) -> bool
+    ensures { IsTrue result ↔ AllPass is_ascii_hexdigit text.now }
+{
+    text.iter().all(|byte| byte.is_ascii_hexdigit())
 }
 
 impl fmt::Debug for Event {

@@ -85,7 +85,6 @@ impl fmt::Debug for FrameView<'_> {
 }
 
 /// The kind of frame with this code.
-#[inline(always)]
 fn kind_of_code(code: u64) -> Option<Kind>
     ensures { result ≡ kind_of_code code }
 {
@@ -100,7 +99,6 @@ fn kind_of_code(code: u64) -> Option<Kind>
 }
 
 /// The kind of frame with this name.
-#[inline(always)]
 #[tactic(auto, unfolding(crate::specs::private::Reading::kind_of_name))]
 fn kind_of_name(name: &str) -> Option<Kind>
     ensures { result ≡ kind_of_name name.now }
@@ -212,6 +210,7 @@ fn value_at(bytes: &[u8]) -> Option<(FrameView<'_>, &[u8])>
 /// than four bytes are a DecodeError, another type than 1 or data offset than 2 is NotImplemented, and
 /// anything else that begins with no frame is a DecodeError. Takes no memory, so it answers neither
 /// OutOfMemory nor TooLarge.
+#[inline(always)]
 pub fn view_frame(bytes: &[u8]) -> Result<(FrameView<'_>, usize), Error>
     ensures reads { ReadsBody bytes.now (viewed_answer result) }
     ensures not_out_of_memory { ¬ (IsErrOf result OutOfMemory) }

@@ -12,7 +12,6 @@ use crate::sasl_frames::symbols_view::{SymbolsView, symbols_at};
 use std::marker::Model;
 
 /// The bytes after a null.
-#[inline(always)]
 fn null_at(bytes: &[u8]) -> Option<&[u8]>
     ensures { option_map (λ x. x.now) result ≡ null_at bytes.now }
 {
@@ -163,7 +162,6 @@ impl<'a> Items<'a> {
     }
 
     /// That no item and no byte is left.
-    #[inline(always)]
     pub(crate) fn end(self) -> Option<()>
         ensures { option_map (λ _. tt) result ≡ ended self.entry }
     {

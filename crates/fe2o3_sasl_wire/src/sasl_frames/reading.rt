@@ -11,7 +11,6 @@ use crate::sasl_frames::forms::{
 };
 
 /// One byte.
-#[inline(always)]
 pub(crate) fn byte_at(bytes: &[u8]) -> Option<(u8, &[u8])>
     ensures { option_map (λ x. (x.0, x.1.now)) result ≡ byte_at bytes.now }
 {
@@ -22,7 +21,6 @@ pub(crate) fn byte_at(bytes: &[u8]) -> Option<(u8, &[u8])>
 }
 
 /// A number of four bytes.
-#[inline(always)]
 pub(crate) fn u32_at(bytes: &[u8]) -> Option<(u32, &[u8])>
     ensures { option_map (λ x. (x.0, x.1.now)) result ≡ four_at bytes.now }
 {
@@ -32,7 +30,6 @@ pub(crate) fn u32_at(bytes: &[u8]) -> Option<(u32, &[u8])>
 }
 
 /// A number of eight bytes.
-#[inline(always)]
 pub(crate) fn u64_at(bytes: &[u8]) -> Option<(u64, &[u8])>
     ensures { option_map (λ x. (x.0, x.1.now)) result ≡ eight_at bytes.now }
 {
@@ -42,7 +39,6 @@ pub(crate) fn u64_at(bytes: &[u8]) -> Option<(u64, &[u8])>
 }
 
 /// A size, a length or a count.
-#[inline(always)]
 pub(crate) fn number_at(form: Form, bytes: &[u8]) -> Option<(u32, &[u8])>
     ensures { option_map (λ x. (x.0, x.1.now)) result ≡ number_at form bytes.now }
 {
@@ -56,7 +52,6 @@ pub(crate) fn number_at(form: Form, bytes: &[u8]) -> Option<(u32, &[u8])>
 }
 
 /// A length, and that many bytes.
-#[inline(always)]
 #[tactic(auto, unfolding(crate::specs::private::Reading::content_at))]
 pub(crate) fn content_at(form: Form, bytes: &[u8]) -> Option<(&[u8], &[u8])>
     ensures { option_map (λ x. (x.0.now, x.1.now)) result ≡ content_at form bytes.now }
@@ -70,7 +65,6 @@ pub(crate) fn content_at(form: Form, bytes: &[u8]) -> Option<(&[u8], &[u8])>
 }
 
 /// The form that a constructor names.
-#[inline(always)]
 pub(crate) fn form_at(short: u8, long: u8, constructor: u8) -> Option<Form>
     ensures { result ≡ form_at short long constructor }
 {

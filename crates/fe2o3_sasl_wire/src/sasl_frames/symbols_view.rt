@@ -35,6 +35,7 @@ impl fmt::Debug for SymbolsView<'_> {
 }
 
 /// The bytes after this many elements.
+#[inline(always)]
 fn elements_rest(form: Form, count: u32, bytes: &[u8]) -> Option<&[u8]>
     ensures { option_map (λ x. x.now) result ≡ option_map (λ x. x.1) (elements_at form count bytes.now) }
 {

@@ -1,5 +1,5 @@
 -- Receipts that are made position by position.
-use Rattle.std.proofs.Common.{◌≡◌, ◌≢◌, ◌⊎◌, ℕ, zero, suc, ◌<◌, ◌+◌, Option, Some, None, List, [], ◌∷◌, ◌++◌, map, length, take, get_or, refl, sym, ap, ◌∙◌, subst, arith, inl, inr, ⊎_elim}
+use Rattle.std.proofs.Common.{◌≡◌, ◌≢◌, ℕ, zero, suc, ◌<◌, ◌+◌, Some, List, [], ◌∷◌, ◌++◌, map, length, take, get_or, refl, sym, ap, ◌∙◌, subst, arith, inl, inr, ⊎_elim}
 use Rattle.std.specs.Prelude.{slice_get}
 use Rattle.std.specs.List.{AllByRecursion}
 use Rattle.std.proofs.lemmas.List.{map-append, take_more}
@@ -29,6 +29,11 @@ member_front x (y ∷ xs) ys (inr m) = inr (member_front x xs ys m)
 pub member_last : {X : Type 0} (xs : List X) (y : X) → Member y (xs ++ y ∷ [])
 member_last [] y = inl refl
 member_last (x ∷ xs) y = inr (member_last xs y)
+
+pub member_each : {X : Type 0} (P : X → Type 0) (xs : List X) (x : X) → AllByRecursion P xs → Member x xs → P x
+member_each P [] x h m = absurd m
+member_each P (y ∷ xs) x h (inl e) = subst (λ (z : _). P z) e h.0
+member_each P (y ∷ xs) x h (inr m) = member_each P xs x h.1 m
 
 -- ---- one position more
 

@@ -1,5 +1,5 @@
 use Rattle.std.proofs.Common.{rules, inl, inr}
-use Rattle.fe2o3_sasl.proofs.lemmas.steps.HexEventLemmas.{event_read, nonce_refused, body_refused}
+use Rattle.fe2o3_sasl.proofs.lemmas.steps.HexEventLemmas.{event_read, event_spelled, nonce_refused, body_refused, character_refused}
 use Rattle.fe2o3_sasl.proofs.runs.events.Event.from_hex.Goals as goal
 
 pub returns-in_default-clause-err : goal.returns-in_default-clause-err
@@ -20,3 +20,11 @@ returns-in-Err c =
         | inr is ↦ body_refused c.args.nonce.now c.args.body.now c.in-Err.field-0 is event spells
       ];
     }
+
+pub returns-then-not-are_digits-clause-err : goal.returns-then-not-are_digits-clause-err
+returns-then-not-are_digits-clause-err c =
+    character_refused c.args.nonce.now c.args.body.now (search rules)
+
+pub returns-in-Err-OutOfMemory-clause-err : goal.returns-in-Err-OutOfMemory-clause-err
+returns-in-Err-OutOfMemory-clause-err c =
+    event_spelled c.args.nonce.now c.args.body.now c.in-Ok.nonce c.in-Ok.ensures (search rules) (search rules)

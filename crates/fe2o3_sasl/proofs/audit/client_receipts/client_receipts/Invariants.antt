@@ -1,0 +1,13 @@
+use Rattle.std.proofs.Common.{◌≤◌, map}
+use Rattle.fe2o3_sasl.specs.Runs.{given, client_answer}
+use Rattle.fe2o3_sasl.specs.private.ClientReceipts.{ClientSoFar, KeptKeys, login_at}
+use Rattle.fe2o3_sasl.specs.private.Findings.{client_receipt}
+use Rattle.fe2o3_sasl.proofs.audit.client_receipts.client_receipts.Given as goal
+
+abbrev pub invariant-loop-place : goal.invariant-loop-place
+invariant-loop-place l = record {
+  so_far : ClientSoFar (login_at l.words) (map given l.events) (map client_answer l.replies) l.place l.start
+      (map client_receipt l.receipts.shown.items) (map client_receipt l.receipts.taken.items);
+  behind : l.start ≤ l.place;
+  keys : KeptKeys (login_at l.words) l.kept;
+}

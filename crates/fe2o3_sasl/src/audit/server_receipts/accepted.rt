@@ -1,0 +1,186 @@
+//! The receipt of an Ok, made of the open challenge and of the response that was accepted.
+
+ghost use Rattle.std.specs.Prelude.{◌≡◌, ◌↔◌, ◌++◌, ℕ, List, Ok, true, codes, IfOk, option_map};
+ghost use Rattle.fe2o3_sasl_wire.specs.SaslFrames.{Response};
+ghost use Rattle.fe2o3_scram.specs.ClientFinal.{ClientFinal as Final, HasProof, client_final_values};
+ghost use Rattle.fe2o3_scram.specs.Keys.{auth_message as auth_message_of, recovered_client_key, server_signature};
+ghost use Rattle.fe2o3_scram.specs.Texts.{base64_text};
+ghost use Rattle.fe2o3_sasl.specs.Audit.{AreParameters, parameters_of};
+ghost use Rattle.fe2o3_sasl.specs.Events.{IsRecord};
+ghost use Rattle.fe2o3_sasl.specs.ServerHistory.{SpellsBody, first_message};
+ghost use Rattle.fe2o3_sasl.specs.TwoSides.{HasParts};
+ghost use Rattle.fe2o3_sasl.specs.private.Findings.{server_receipt};
+ghost use Rattle.fe2o3_sasl.specs.private.Receipts.{OfAccepted};
+ghost use Rattle.fe2o3_sasl.specs.private.ServerReceipts.{HoldsMessage, OkFor, opened_challenge};
+
+use crate::OutOfMemory;
+use crate::audit::Parameters;
+use crate::audit::receipts::ServerReceipt;
+use crate::audit::server_receipts::challenges::Opened;
+use base64::engine::general_purpose::STANDARD;
+use fe2o3_sasl_wire::{FrameView, view_frame};
+use fe2o3_scram::credentials::ScramCredentialProvider;
+use fe2o3_scram::hmac::{Meter, ScramVersion};
+use fe2o3_scram::keys::auth_message;
+use fe2o3_scram::scram_messages::ClientFinal;
+use std::alloc::Global;
+
+/// The receipt of an Ok to the response in this body.
+pub(crate) fn ok_receipt<C: ScramCredentialProvider>(
+    alloc: Global,
+    credentials: &C,
+    place: usize,
+    opened: &Opened<'_>,
+    body: &[u8],
+) -> Result<ServerReceipt, OutOfMemory>
+    requires { HoldsMessage opened.now }
+    ensures { IfOk result (λ receipt. OkFor (C.meaning credentials.now) place (opened_challenge opened.now) body.now
+        (server_receipt receipt)) }
+{
+    let client_final = response_again(alloc, &opened.server_first.client_server_nonce, body)?;
+    receipt_of(alloc, credentials, place, opened, client_final)
+}
+
+/// What the response in this body names.
+fn response_again<'a>(
+    alloc: Global,
+    client_server_nonce: &[u8],
+    body: &'a [u8],
+) -> Result<ClientFinal<'a>, OutOfMemory>
+    ensures { IfOk result (λ final. (text : List ℕ) × SpellsBody body.now (Ok (Response text))
+        × HasProof text (client_final_values final)) }
+{
+    let Ok((FrameView::Response(text), _)) = view_frame(body) else {
+        return Err(OutOfMemory);
+    };
+    let Ok(client_final) = ClientFinal::parse(alloc, client_server_nonce, text) else {
+        return Err(OutOfMemory);
+    };
+    Ok(client_final)
+}
+
+/// The receipt of an Ok to a response that names these values.
+fn receipt_of<C: ScramCredentialProvider>(
+    alloc: Global,
+    credentials: &C,
+    place: usize,
+    opened: &Opened<'_>,
+    client_final: ClientFinal<'_>,
+) -> Result<ServerReceipt, OutOfMemory>
+    requires { HoldsMessage opened.now }
+    ensures place { IfOk result (λ receipt. receipt.place ≡ place) }
+    ensures accepted { IfOk result (λ receipt. OfAccepted (C.meaning credentials.now) (record {
+      challenge = opened_challenge opened.now;
+      final = client_final_values client_final.entry;
+    }) (server_receipt receipt)) }
+{
+    let version = *credentials.scram_version();
+    let stored = &opened.stored_password;
+    is_record(
+        stored.salt,
+        stored.iterations,
+        stored.stored_key,
+        stored.server_key,
+    );
+    let message = message(alloc, opened, client_final.without_proof)?;
+    let recovered_key = recovered_key(
+        alloc,
+        version,
+        stored.stored_key,
+        &client_final.proof,
+        &message,
+    )?;
+    Ok(ServerReceipt {
+        place,
+        verifier: verifier(alloc, version, stored.server_key, &message)?,
+        proof: client_final.proof,
+        message,
+        username: opened.client_first.username.to_string(alloc)?,
+        client_nonce: opened.client_first.client_nonce.to_string(alloc)?,
+        parameters: parameters(alloc, opened)?,
+        stored_key: stored.stored_key.to_vec(alloc)?,
+        server_key: stored.server_key.to_vec(alloc)?,
+        recovered_key,
+    })
+}
+
+/// What is kept of a password is bytes, and a count of 32 bits.
+fn is_record(salt: &[u8], iterations: u32, stored_key: &[u8], server_key: &[u8])
+    ensures { IsRecord (record {
+      salt = salt.now;
+      count = iterations;
+      stored_key = stored_key.now;
+      server_key = server_key.now;
+    }) }
+{}
+
+/// AuthMessage, as the server has it.
+fn message(alloc: Global, opened: &Opened<'_>, without_proof: &str) -> Result<Vec<u8>, OutOfMemory>
+    requires { HoldsMessage opened.now }
+    ensures { IfOk result (λ text. text.items ≡ auth_message_of (opened_challenge opened.now).client.bare
+        (first_message (opened_challenge opened.now)) without_proof.now) }
+{
+    auth_message(
+        alloc,
+        opened.client_first.client_first_message_bare.as_bytes(),
+        &opened.server_first.message,
+        without_proof.as_bytes(),
+    )
+}
+
+/// The server-final message.
+fn verifier(
+    alloc: Global,
+    version: ScramVersion,
+    server_key: &[u8],
+    message: &[u8],
+) -> Result<Vec<u8>, OutOfMemory>
+    ensures { IfOk result (λ text. text.items
+        ≡ codes "v=" ++ base64_text (server_signature version server_key.now message.now)) }
+{
+    let signature = version.compute_server_signature(server_key, message, &mut Meter::new());
+    let mut text = String::from_str(alloc, "v=")?;
+    STANDARD.encode_string(signature.as_slice(), &mut text)?;
+    Ok(text.into_bytes())
+}
+
+/// The ClientKey that the proof gives away.
+fn recovered_key(
+    alloc: Global,
+    version: ScramVersion,
+    stored_key: &[u8],
+    proof: &[u8],
+    message: &[u8],
+) -> Result<Vec<u8>, OutOfMemory>
+    ensures { IfOk result (λ key. key.items
+        ≡ recovered_client_key version stored_key.now proof.now message.now) }
+{
+    match version.recovered_client_key(stored_key, proof, message, &mut Meter::new()) {
+        Ok(key) => key.as_slice().to_vec(alloc),
+        Err(_) => Err(OutOfMemory),
+    }
+}
+
+/// The parameters, where the client-first message has the user name and the nonce alone.
+fn parameters(alloc: Global, opened: &Opened<'_>) -> Result<Option<Parameters>, OutOfMemory>
+    ensures { IfOk result (λ parameters. (final : Final) → AreParameters
+        (record { challenge = opened_challenge opened.now; final = final }) (option_map parameters_of parameters)) }
+{
+    if !is_plain(opened.client_first.client_first_message_bare) {
+        return Ok(None);
+    }
+    let mut full_nonce = opened.client_first.client_nonce.to_string(alloc)?;
+    full_nonce.push_str(&opened.server_nonce)?;
+    Ok(Some(Parameters {
+        full_nonce,
+        salt: opened.stored_password.salt.to_vec(alloc)?,
+        iterations: opened.stored_password.iterations,
+    }))
+}
+
+/// Whether a client-first message without its GS2 header has exactly two parts.
+fn is_plain(bare: &str) -> bool
+    ensures { result ≡ true ↔ HasParts bare.now 2 }
+{
+    bare.split(',').count() == 2
+}
