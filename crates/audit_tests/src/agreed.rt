@@ -2,7 +2,7 @@
 //! and without them where it has more.
 
 use crate::logins::{CLIENT_NONCE, FULL_NONCE, Login, SHIFTED, WHOLE};
-use crate::sides::{find, find_limited, sides};
+use crate::sides::{events, find, find_limited};
 use fe2o3_sasl::audit::{Finding, FindingKind, Parameters, Verdict};
 use std::process::Abort;
 use std::test::Fail;
@@ -10,7 +10,7 @@ use std::test::Fail;
 /// The parameters of each login: the nonces of both sides, the salt of 32 bytes 03, count 4096.
 fn are_parameters<R: Abort + AllocGlobal>(rt: &R, parameters: &Parameters) {
     assert_eq!(rt; parameters.full_nonce.as_str(), FULL_NONCE);
-    assert_eq!(rt; parameters.salt.as_slice(), &[3; 32]);
+    assert_eq!(rt; parameters.salt.as_slice(), [3; 32].as_slice());
     assert_eq!(rt; parameters.iterations, 4096);
 }
 
@@ -60,7 +60,7 @@ fn are_agreed<R: Abort + AllocGlobal>(
 fn whole_logins(rt: HostRuntime) -> Result<(), Fail> {
     let alloc = rt.alloc();
     for login in &WHOLE {
-        let findings = find(alloc, login, &sides(alloc, login, 1, 1)?)?;
+        let findings = find(alloc, login, &events(alloc, login, 1, 1)?)?;
         are_agreed(&rt, login, &findings, true)?;
     }
     Ok(())
@@ -70,7 +70,7 @@ fn whole_logins(rt: HostRuntime) -> Result<(), Fail> {
 fn shifted_texts(rt: HostRuntime) -> Result<(), Fail> {
     let alloc = rt.alloc();
     for login in &SHIFTED {
-        let findings = find(alloc, login, &sides(alloc, login, 1, 1)?)?;
+        let findings = find(alloc, login, &events(alloc, login, 1, 1)?)?;
         are_agreed(&rt, login, &findings, false)?;
     }
     Ok(())
@@ -80,7 +80,7 @@ fn shifted_texts(rt: HostRuntime) -> Result<(), Fail> {
 fn a_limit_that_the_count_keeps(rt: HostRuntime) -> Result<(), Fail> {
     let alloc = rt.alloc();
     for login in &WHOLE {
-        let findings = find_limited(alloc, login, 4096, &sides(alloc, login, 1, 1)?)?;
+        let findings = find_limited(alloc, login, 4096, &events(alloc, login, 1, 1)?)?;
         are_agreed(&rt, login, &findings, true)?;
     }
     Ok(())

@@ -1,7 +1,7 @@
 //! Which findings an audit lists, and in which order.
 
 use crate::logins::{APART, WHOLE};
-use crate::sides::{find, find_limited, server, sides};
+use crate::sides::{events, find, find_limited, server};
 use fe2o3_sasl::audit::{FindingKind, audit};
 use std::test::Fail;
 
@@ -52,7 +52,7 @@ fn findings_stand_by_kind_client_and_server(rt: HostRuntime) -> Result<(), Fail>
     let alloc = rt.alloc();
     let login = &WHOLE[1];
     for (client, server, wanted) in &LISTS {
-        let findings = find(alloc, login, &sides(alloc, login, *client, *server)?)?;
+        let findings = find(alloc, login, &events(alloc, login, *client, *server)?)?;
         assert_eq!(rt; findings.len(), wanted.len(), "{client} {server}");
         for (finding, wanted) in findings.iter().zip(wanted.iter()) {
             let found = (finding.kind, finding.client, finding.server);
@@ -66,7 +66,7 @@ fn findings_stand_by_kind_client_and_server(rt: HostRuntime) -> Result<(), Fail>
 fn sides_that_take_nothing_of_each_other(rt: HostRuntime) -> Result<(), Fail> {
     let alloc = rt.alloc();
     for login in &APART {
-        let findings = find(alloc, login, &sides(alloc, login, 1, 1)?)?;
+        let findings = find(alloc, login, &events(alloc, login, 1, 1)?)?;
         assert!(rt; findings.is_empty(), "{}", login.init);
     }
     Ok(())
@@ -76,7 +76,7 @@ fn sides_that_take_nothing_of_each_other(rt: HostRuntime) -> Result<(), Fail> {
 fn a_limit_that_the_count_passes(rt: HostRuntime) -> Result<(), Fail> {
     let alloc = rt.alloc();
     for login in &WHOLE {
-        let sides = sides(alloc, login, 1, 1)?;
+        let sides = events(alloc, login, 1, 1)?;
         for limit in [0, 4095] {
             let findings = find_limited(alloc, login, limit, &sides)?;
             assert!(rt; findings.is_empty(), "{limit}");
@@ -92,7 +92,7 @@ static OTHERS: [(&str, &str); 3] = [("user", "crayon"), ("user", "p\ten"), ("nob
 fn another_client(rt: HostRuntime) -> Result<(), Fail> {
     let alloc = rt.alloc();
     let login = &WHOLE[1];
-    let sides = sides(alloc, login, 1, 1)?;
+    let sides = events(alloc, login, 1, 1)?;
     let credentials = server(alloc, login, "pencil")?;
     for (user, password) in OTHERS.iter() {
         let (client, server) = (&sides.client, &sides.server);
@@ -114,7 +114,7 @@ fn another_client(rt: HostRuntime) -> Result<(), Fail> {
 fn another_server(rt: HostRuntime) -> Result<(), Fail> {
     let alloc = rt.alloc();
     let login = &WHOLE[1];
-    let sides = sides(alloc, login, 1, 1)?;
+    let sides = events(alloc, login, 1, 1)?;
     let credentials = server(alloc, login, "crayon")?;
     let (client, server) = (&sides.client, &sides.server);
     let findings = audit(

@@ -23,7 +23,7 @@ fn event(alloc: Global, nonce: u8, digits: &str) -> Result<Event, Fail> {
 }
 
 /// What both sides of a login are given, the client so many times, and the server so many times.
-pub fn sides(alloc: Global, login: &Login, client: u32, server: u32) -> Result<Sides, Fail> {
+pub fn events(alloc: Global, login: &Login, client: u32, server: u32) -> Result<Sides, Fail> {
     let mut sides = Sides {
         client: Vec::new(alloc),
         server: Vec::new(alloc),
