@@ -80,12 +80,27 @@ static USERS: [Login; 3] = [
     },
 ];
 
-/// The five bodies of a login: mechanisms, init, challenge, response and outcome.
-fn bodies_of(login: usize) -> Result<[&'static str; 5], Fail> {
+/// The five bodies of a login.
+#[derive(Drop)]
+struct Bodies {
+    mechanisms: &'static str,
+    init: &'static str,
+    challenge: &'static str,
+    response: &'static str,
+    outcome: &'static str,
+}
+
+/// The bodies of a login in the table of logins.
+fn bodies_of(login: usize) -> Result<Bodies, Fail> {
     let (_, lines, _) = LOGINS[login];
     let mut lines = lines.lines();
-    let mut next = || lines.next().ok_or("a body");
-    Ok([next()?, next()?, next()?, next()?, next()?])
+    Ok(Bodies {
+        mechanisms: lines.next().ok_or("mechanisms")?,
+        init: lines.next().ok_or("an init")?,
+        challenge: lines.next().ok_or("a challenge")?,
+        response: lines.next().ok_or("a response")?,
+        outcome: lines.next().ok_or("an outcome")?,
+    })
 }
 
 /// Names of the events of both sides, with what is found: `M`, `Ch` and `Ou` are the client's
@@ -126,21 +141,21 @@ static LISTS: [(&str, &str); 18] = [
 
 /// The line of an event, by its name.
 fn event_line(alloc: Global, login: &Login, name: &str) -> Result<String, Fail> {
-    let [mechanisms, init, challenge, response, outcome] = bodies_of(login.bodies)?;
+    let bodies = bodies_of(login.bodies)?;
     let (name, behind) = match name.strip_suffix('+') {
         Some(name) => (name, "ffff"),
         None => (name, ""),
     };
     let (side, nonce, body) = match name {
-        "M" => ("c", ONES, mechanisms),
-        "M4" => ("c", FOURS, mechanisms),
-        "Ch" => ("c", ZEROS, challenge),
-        "Ou" => ("c", ZEROS, outcome),
-        "I" => ("s", TWOS, init),
-        "I4" => ("s", FOURS, init),
-        "U" => return spelled_otherwise(alloc, init),
+        "M" => ("c", ONES, bodies.mechanisms),
+        "M4" => ("c", FOURS, bodies.mechanisms),
+        "Ch" => ("c", ZEROS, bodies.challenge),
+        "Ou" => ("c", ZEROS, bodies.outcome),
+        "I" => ("s", TWOS, bodies.init),
+        "I4" => ("s", FOURS, bodies.init),
+        "U" => return spelled_otherwise(alloc, bodies.init),
         "N" => ("s", TWOS, login.nobody),
-        "Re" => ("s", ZEROS, response),
+        "Re" => ("s", ZEROS, bodies.response),
         _ => return Err("the name of an event".into()),
     };
     Ok(format!(in alloc; "{side} {nonce} {body}{behind}\n")?)
