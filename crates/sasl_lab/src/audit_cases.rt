@@ -186,10 +186,10 @@ fn finds_names_and_shifted_texts(rt: HostRuntime) -> Result<(), Fail> {
     Ok(())
 }
 
-/// Words, input and output of another implementation: a model in Python that looks positions up, apart
-/// from this repository's code. Bodies are respelled, lost, doubled and put into another order, and
-/// texts are shifted between two messages.
-static CASES: [(&str, &str, &str); 12] = [
+/// Words, input and output of another implementation, for SCRAM-SHA-1: a model in Python that looks positions
+/// up, apart from this repository's code. Bodies are respelled, lost, doubled and put into another
+/// order, and texts are shifted between two messages.
+static SHA_1: [(&str, &str, &str); 4] = [
     // An init of five parts: both sides agree on user name and nonce alone.
     (
         "sasl_lab audit SCRAM-SHA-1 user pencil 0303030303030303030303030303030303030303030303030303030303030303",
@@ -367,6 +367,20 @@ static CASES: [(&str, &str, &str); 12] = [
             151454241514542415145424151454241514542415145424151454241514542415145424151453d 07070707070707070707070707\
             07070707070707070707070707070707070707 4096\n",
     ),
+];
+
+#[test]
+fn finds_what_another_implementation_finds_at_sha_1(rt: HostRuntime) -> Result<(), Fail> {
+    for (words, input, findings) in &SHA_1 {
+        audits(&rt, words, input, findings)?;
+    }
+    Ok(())
+}
+
+/// Words, input and output of another implementation, for SCRAM-SHA-256: a model in Python that looks positions
+/// up, apart from this repository's code. Bodies are respelled, lost, doubled and put into another
+/// order, and texts are shifted between two messages.
+static SHA_256: [(&str, &str, &str); 4] = [
     // An init of nine parts, and the events of the server first.
     (
         "sasl_lab audit SCRAM-SHA-256 user pencil 0303030303030303030303030303030303030303030303030303030303030303",
@@ -523,6 +537,20 @@ static CASES: [(&str, &str, &str); 12] = [
             c 0404040404040404040404040404040404040404040404040404040404040404 02010000005343c00401a00178\n",
         "",
     ),
+];
+
+#[test]
+fn finds_what_another_implementation_finds_at_sha_256(rt: HostRuntime) -> Result<(), Fail> {
+    for (words, input, findings) in &SHA_256 {
+        audits(&rt, words, input, findings)?;
+    }
+    Ok(())
+}
+
+/// Words, input and output of another implementation, for SCRAM-SHA-512: a model in Python that looks positions
+/// up, apart from this repository's code. Bodies are respelled, lost, doubled and put into another
+/// order, and texts are shifted between two messages.
+static SHA_512: [(&str, &str, &str); 4] = [
     // An init of five parts, and the events of the two sides by turns.
     (
         "sasl_lab audit SCRAM-SHA-512 user pencil 0303030303030303030303030303030303030303030303030303030303030303",
@@ -712,8 +740,8 @@ static CASES: [(&str, &str, &str); 12] = [
 ];
 
 #[test]
-fn finds_what_another_implementation_finds(rt: HostRuntime) -> Result<(), Fail> {
-    for (words, input, findings) in &CASES {
+fn finds_what_another_implementation_finds_at_sha_512(rt: HostRuntime) -> Result<(), Fail> {
+    for (words, input, findings) in &SHA_512 {
         audits(&rt, words, input, findings)?;
     }
     Ok(())

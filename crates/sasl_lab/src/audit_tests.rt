@@ -92,7 +92,7 @@ struct Bodies {
 
 /// The bodies of a login in the table of logins.
 fn bodies_of(login: usize) -> Result<Bodies, Fail> {
-    let (_, lines, _) = LOGINS[login];
+    let (_, lines, _) = LOGINS.get(login).ok_or("a login")?;
     let mut lines = lines.lines();
     Ok(Bodies {
         mechanisms: lines.next().ok_or("mechanisms")?,
