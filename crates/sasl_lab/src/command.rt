@@ -1,10 +1,11 @@
 //! The words of the program.
 
+use crate::audit::Audit;
 use crate::client_final::ClientFinal;
 use crate::login::Login;
 use crate::stop::Stop;
 use std::alloc::Global;
-use std::io::Write;
+use std::io::{Read, Write};
 
 /// What the words ask for.
 #[derive(Drop)]
@@ -14,6 +15,9 @@ pub enum Command<'a> {
 
     /// The bodies of a login.
     Login(Login<'a>),
+
+    /// What two transcripts say of both sides.
+    Audit(Audit<'a>),
 }
 
 impl<'a> Command<'a> {
@@ -23,15 +27,22 @@ impl<'a> Command<'a> {
         match first.as_str() {
             "client-final" => Some(Command::ClientFinal(ClientFinal::from_words(rest)?)),
             "login" => Some(Command::Login(Login::from_words(rest)?)),
+            "audit" => Some(Command::Audit(Audit::from_words(rest)?)),
             _ => None,
         }
     }
 
-    /// Does it, and prints what comes of it.
-    pub fn run<W: Write>(&self, alloc: Global, output: &mut W) -> Result<(), Stop> {
+    /// Does it, and prints what comes of it. Only an audit reads the input.
+    pub fn run<R: Read, W: Write>(
+        &self,
+        alloc: Global,
+        input: &mut R,
+        output: &mut W,
+    ) -> Result<(), Stop> {
         match self {
             Command::ClientFinal(client_final) => client_final.run(alloc, output),
             Command::Login(login) => login.run(alloc, output),
+            Command::Audit(audit) => audit.run(alloc, input, output),
         }
     }
 }

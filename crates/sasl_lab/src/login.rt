@@ -1,6 +1,7 @@
 //! `login VERSION USER PASSWORD SALT-HEX CLIENT-NONCE-HEX SERVER-NONCE-HEX`: each body of a login, in
 //! which both sides are given what the other one sent.
 
+use crate::digits::bytes_of;
 use crate::stop::Stop;
 use bytes::BytesMut;
 use fe2o3_sasl::{
@@ -9,7 +10,6 @@ use fe2o3_sasl::{
     acceptor_step, profile_step,
 };
 use fe2o3_sasl_wire::{Frame, FrameCodec, SaslCode};
-use hex::FromHex;
 use std::alloc::Global;
 use std::io::Write;
 
@@ -153,11 +153,6 @@ impl<'a> Login<'a> {
             }
         }
     }
-}
-
-/// The 32 bytes that the word spells in hexadecimal digits of either case.
-fn bytes_of(word: &str) -> Option<[u8; 32]> {
-    <[u8; 32] as FromHex>::from_hex(word).ok()
 }
 
 /// The body of the mechanisms that the server offers, which is printed.

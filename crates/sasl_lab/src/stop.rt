@@ -1,5 +1,7 @@
 //! What stops the program before its end.
 
+use crate::transcript::TranscriptError;
+use fe2o3_sasl::audit::AuditError;
 use fe2o3_sasl::{ProfileError, ScramErrorKind, ServerScramErrorKind};
 use fe2o3_sasl_wire::{Error, SaslCode};
 use std::alloc::{AllocError, AllocFailed};
@@ -12,7 +14,10 @@ pub enum Stop {
     /// The words ask for nothing that the program does.
     WrongWords,
 
-    /// The words could not be read.
+    /// This line of the input, counted from 1, is no event.
+    WrongLine(usize),
+
+    /// The words or the input could not be read.
     Input,
 
     /// The client refused a SCRAM message.
@@ -35,8 +40,8 @@ pub enum Stop {
 }
 
 impl Stop {
-    /// Why the program's words could not be read.
-    pub fn of_words(error: io::Error) -> Stop {
+    /// Why the program's words, or its input, could not be read.
+    pub fn of_reading(error: io::Error) -> Stop {
         match error.kind() {
             io::ErrorKind::OutOfMemory => Stop::OutOfMemory,
             _ => Stop::Input,
@@ -55,6 +60,7 @@ impl Stop {
     fn print<W: Write>(&self, output: &mut W) -> io::Result<()> {
         match self {
             Stop::WrongWords => writeln!(output, "wrong words"),
+            Stop::WrongLine(number) => writeln!(output, "wrong line {number}"),
             Stop::Input => writeln!(output, "refused Input"),
             Stop::Scram(kind) => writeln!(output, "refused {kind:?}"),
             Stop::Server(kind) => writeln!(output, "refused {kind:?}"),
@@ -67,7 +73,7 @@ impl Stop {
 
     fn status(&self) -> u8 {
         match self {
-            Stop::WrongWords => 2,
+            Stop::WrongWords | Stop::WrongLine(_) => 2,
             Stop::Input
             | Stop::Scram(_)
             | Stop::Server(_)
@@ -104,6 +110,23 @@ impl From<ProfileError> for Stop {
             ProfileError::Scram(kind) => Stop::Scram(kind),
             ProfileError::Frame(fault) => Stop::Frame(fault),
             ProfileError::OutOfMemory => Stop::OutOfMemory,
+        }
+    }
+}
+
+impl From<TranscriptError> for Stop {
+    fn from(error: TranscriptError) -> Stop {
+        match error {
+            TranscriptError::WrongLine(number) => Stop::WrongLine(number),
+            TranscriptError::OutOfMemory => Stop::OutOfMemory,
+        }
+    }
+}
+
+impl From<AuditError> for Stop {
+    fn from(error: AuditError) -> Stop {
+        match error {
+            AuditError::OutOfMemory => Stop::OutOfMemory,
         }
     }
 }

@@ -340,6 +340,11 @@ impl Full {
         }
     }
 
+    /// Whether nothing was written, and nothing refused.
+    pub fn is_left_alone(&self) -> bool {
+        self.refused == 0 && self.written.is_empty()
+    }
+
     /// Whether it holds the beginning of the text, has no room left, and refused one write.
     pub fn is_full_of(&self, text: &str) -> bool {
         self.room == 0 && self.refused == 1 && text.as_bytes().starts_with(&self.written)

@@ -2,6 +2,7 @@
 //! the libraries do not confirm is printed with what they answer, and ends the program with status 1.
 #![tactic(auto)]
 
+mod audits;
 mod frames;
 mod runs;
 
@@ -59,27 +60,54 @@ fn replay_bodies<W: Write>(
     Ok(confirmed)
 }
 
-/// Checks each run of a file, behind its first paragraph, and prints how many runs and bodies there
-/// are.
-fn replay_runs<W: Write>(
+/// What the paragraphs of a file are.
+#[derive(Clone, Copy)]
+enum Paragraphs {
+    Runs,
+    Audits,
+}
+
+impl Paragraphs {
+    /// Checks a paragraph, and answers how many bodies or findings it has.
+    fn check(self, alloc: Global, paragraph: &str) -> Result<usize, Unconfirmed> {
+        match self {
+            Paragraphs::Runs => runs::check(alloc, paragraph),
+            Paragraphs::Audits => audits::check(alloc, paragraph),
+        }
+    }
+
+    /// The words for a paragraph and for what it has.
+    fn words(self) -> (&'static str, &'static str) {
+        match self {
+            Paragraphs::Runs => ("runs", "bodies"),
+            Paragraphs::Audits => ("audits", "findings"),
+        }
+    }
+}
+
+/// Checks each paragraph of a file behind the first, and prints how many there are, and how many
+/// bodies or findings they have.
+fn replay_paragraphs<W: Write>(
     alloc: Global,
+    kind: Paragraphs,
     name: &str,
     text: &str,
     output: &mut W,
 ) -> Result<bool, io::Error> {
-    let (mut runs, mut bodies) = (0u64, 0usize);
+    let (mut count, mut items) = (0u64, 0usize);
     let mut confirmed = true;
     for paragraph in text.split("\n\n").skip(1) {
-        runs = runs.saturating_add(1);
-        match runs::check(alloc, paragraph) {
-            Ok(len) => bodies = bodies.saturating_add(len),
+        count = count.saturating_add(1);
+        match kind.check(alloc, paragraph) {
+            Ok(len) => items = items.saturating_add(len),
             Err(fault) => {
                 confirmed = false;
                 report(output, name, paragraph, fault)?;
             }
         }
     }
-    writeln!(output, "{name}: {runs} runs, {bodies} bodies")?;
+    let (paragraphs, parts) = kind.words();
+    writeln!(output, "{name}: {count} {paragraphs}, {items} {parts}")?;
     Ok(confirmed)
 }
 
@@ -91,9 +119,13 @@ fn replay_all(rt: &HostRuntime) -> Result<bool, io::Error> {
         let text = fs::read_to_string(rt, name)?;
         confirmed &= replay_bodies(rt.alloc(), name, text.as_str(), &mut output)?;
     }
-    for name in ["runs.txt", "peer-runs.txt"] {
+    for (kind, name) in [
+        (Paragraphs::Runs, "runs.txt"),
+        (Paragraphs::Runs, "peer-runs.txt"),
+        (Paragraphs::Audits, "audits.txt"),
+    ] {
         let text = fs::read_to_string(rt, name)?;
-        confirmed &= replay_runs(rt.alloc(), name, text.as_str(), &mut output)?;
+        confirmed &= replay_paragraphs(rt.alloc(), kind, name, text.as_str(), &mut output)?;
     }
     Ok(confirmed)
 }

@@ -69,7 +69,7 @@ fn read<'a>(alloc: Global, paragraph: &'a str) -> Result<Run<'a>, Unconfirmed> {
 }
 
 /// The event of a nonce and a body.
-fn event_of(alloc: Global, words: &str) -> Result<Event, Unconfirmed> {
+pub fn event_of(alloc: Global, words: &str) -> Result<Event, Unconfirmed> {
     let (nonce, body) = words.split_once(' ').ok_or(Unconfirmed::Malformed)?;
     match Event::from_hex(alloc, nonce, body) {
         Ok(event) => Ok(event),
@@ -92,7 +92,7 @@ fn replies(alloc: Global, side: &[&str], events: &[Event]) -> Result<Vec<String>
 }
 
 /// The credential of a server.
-fn credential(
+pub fn credential(
     alloc: Global,
     version: &str,
     user: &str,
@@ -123,7 +123,7 @@ fn client_replies(
 }
 
 /// The version of this name.
-fn version_of(mechanism: &str) -> Result<ScramVersion, Unconfirmed> {
+pub fn version_of(mechanism: &str) -> Result<ScramVersion, Unconfirmed> {
     ScramVersion::from_mechanism(mechanism).ok_or(Unconfirmed::Malformed)
 }
 
@@ -136,7 +136,7 @@ fn salt_of(digits: &str) -> Result<[u8; 32], Unconfirmed> {
 }
 
 /// The text of hexadecimal digits, where `-` is the empty text.
-fn text_of(alloc: Global, digits: &str) -> Result<String, Unconfirmed> {
+pub fn text_of(alloc: Global, digits: &str) -> Result<String, Unconfirmed> {
     let digits = if digits == "-" { "" } else { digits };
     let Ok(bytes) = hex::decode(alloc, digits) else {
         return Err(Unconfirmed::Malformed);
