@@ -6,6 +6,8 @@
 #[cfg(test)]
 mod bodies;
 #[cfg(test)]
+mod extensions;
+#[cfg(test)]
 mod odd_bodies;
 #[cfg(test)]
 mod odd_records;
@@ -15,3 +17,5 @@ mod replies;
 mod sides;
 #[cfg(test)]
 mod store;
+#[cfg(test)]
+mod transcripts;
