@@ -1,10 +1,12 @@
 //! Replays outside vectors, the files of `data/`, and prints one line a file. A line of a file that
 //! the libraries do not confirm is printed with what they answer, and ends the program with status 1.
+//! Then plays the strangers, and prints a line of what came of them.
 #![tactic(auto)]
 
 mod audits;
 mod frames;
 mod runs;
+mod strangers;
 
 use std::alloc::Global;
 use std::fs;
@@ -111,7 +113,26 @@ fn replay_paragraphs<W: Write>(
     Ok(confirmed)
 }
 
-/// Replays every file.
+/// Plays the strangers, and prints how many lists there are and what came of them.
+fn play_strangers<W: Write>(alloc: Global, output: &mut W) -> Result<bool, io::Error> {
+    match strangers::play(alloc) {
+        Ok(counts) => {
+            let (lists, accepted) = (counts.lists, counts.accepted);
+            let (reported, found) = (counts.reported, counts.found);
+            writeln!(
+                output,
+                "strangers: {lists} lists, {accepted} accepted, {reported} reported, {found} findings"
+            )?;
+            Ok(true)
+        }
+        Err(fault) => {
+            report(output, "strangers", "play", fault)?;
+            Ok(false)
+        }
+    }
+}
+
+/// Replays every file, and plays the strangers.
 fn replay_all(rt: &HostRuntime) -> Result<bool, io::Error> {
     let mut output = io::writer(rt);
     let mut confirmed = true;
@@ -127,6 +148,7 @@ fn replay_all(rt: &HostRuntime) -> Result<bool, io::Error> {
         let text = fs::read_to_string(rt, name)?;
         confirmed &= replay_paragraphs(rt.alloc(), kind, name, text.as_str(), &mut output)?;
     }
+    confirmed &= play_strangers(rt.alloc(), &mut output)?;
     Ok(confirmed)
 }
 

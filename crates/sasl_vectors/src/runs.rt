@@ -155,7 +155,7 @@ fn digits_of(alloc: Global, frame: Frame) -> Result<String, Unconfirmed> {
 }
 
 /// A server's replies in the words of the file.
-fn server_words(
+pub fn server_words(
     alloc: Global,
     replies: &[Result<ServerReply, Error>],
 ) -> Result<Vec<String>, Unconfirmed> {
@@ -175,7 +175,7 @@ fn server_words(
 }
 
 /// A client's replies in the words of the file.
-fn client_words(
+pub fn client_words(
     alloc: Global,
     replies: &[Result<ClientReply, ProfileError>],
 ) -> Result<Vec<String>, Unconfirmed> {
