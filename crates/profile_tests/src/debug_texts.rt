@@ -12,8 +12,8 @@ static TEXTS: [&str; 6] = [
     "Anonymous",
     "Plain { username: \"user\", .. }",
     "External",
-    "ScramSha1(SaslScramSha1 { client: ScramClient { username: \"user\", scram: Sha1, iteration_limit: 4294967295, .. } \
-        })",
+    "ScramSha1(SaslScramSha1 { client: ScramClient { username: \"user\", scram: Sha1, iteration_limit: 4294967295, \
+        .. } })",
     "ScramSha256(SaslScramSha256 { client: ScramClient { username: \"user\", scram: Sha256, iteration_limit: \
         4294967295, .. } })",
     "ScramSha512(SaslScramSha512 { client: ScramClient { username: \"user\", scram: Sha512, iteration_limit: \

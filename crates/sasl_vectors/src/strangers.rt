@@ -10,14 +10,7 @@ use crate::Unconfirmed;
 use crate::strangers::logins::{Login, Quick, logins};
 use crate::strangers::numbers::Numbers;
 use crate::strangers::sides::{Sides, altered, client_list, server_list};
-use fe2o3_sasl::audit::AuditError;
 use std::alloc::Global;
-
-impl From<AuditError> for Unconfirmed {
-    fn from(_error: AuditError) -> Self {
-        Unconfirmed::Failed
-    }
-}
 
 /// How many lists each side is given.
 const LISTS: u32 = 5000;

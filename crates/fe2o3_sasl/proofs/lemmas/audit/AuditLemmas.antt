@@ -247,7 +247,8 @@ module _ (sides : Sides) (histories : Histories sides) where
             found.1,
             server.1,
             same_of found.0.shown server.0.verifier
-                (one_part t.text 0 found.0.shown (final_message sides.provider accepted) part t.one ∙ sym server.3.verifier),
+                (one_part t.text 0 found.0.shown (final_message sides.provider accepted) part t.one
+                ∙ sym server.3.verifier),
             found.2,
             server.2,
           )
