@@ -316,7 +316,7 @@ fn prints_nothing_after_a_failed_write(rt: HostRuntime) -> Result<(), Fail> {
     let words = words_of(alloc, WORDS)?;
     let input = input_of(alloc, &USERS[1], "M Ch Ou I Re")?;
     let whole = agreed(alloc, "verifier 2 1\nproof 1 1", USER)?;
-    let lines = [0, 1, 9, whole.len() / 2, whole.len() - 1];
+    let lines = [0, 1, 9, whole.len() / 2, whole.len().saturating_sub(1)];
     for room in lines {
         let mut output = Full::new(alloc, room);
         let mut input = Cursor::new(input.as_bytes());
