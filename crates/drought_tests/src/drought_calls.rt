@@ -141,14 +141,14 @@ const TRIES: usize = 1000;
 /// The call's answer with all memory taken but for about this room.
 fn answer_within<C: Call>(
     alloc: Global,
+    drought: &mut Drought,
     call: &C,
     subject: &mut C::Subject,
     room: usize,
 ) -> Result<Answer, Fail> {
-    let mut drought = Drought::begin(alloc)?;
     drought.leave(room)?;
     let answer = call.answer(alloc, subject);
-    drop(drought);
+    drought.rain();
     Ok(answer)
 }
 
@@ -165,10 +165,10 @@ fn after_refusal<C: Call>(alloc: Global, call: &C, subject: &mut C::Subject) -> 
 }
 
 /// What is found of the call where all memory is taken but for a room that grows from nothing.
-pub fn found<C: Call>(alloc: Global, call: &C) -> Result<Finding, Fail> {
+pub fn found<C: Call>(alloc: Global, drought: &mut Drought, call: &C) -> Result<Finding, Fail> {
     for refusals in 0..TRIES {
         let mut subject = call.subject(alloc)?;
-        match answer_within(alloc, call, &mut subject, refusals * STEP)? {
+        match answer_within(alloc, drought, call, &mut subject, refusals * STEP)? {
             Answer::WantOfMemory => {}
             Answer::Wrong => return Ok(Finding::WrongAnswer),
             Answer::Right if refusals == 0 => return Ok(Finding::NeverRefused),
@@ -183,8 +183,14 @@ pub fn found<C: Call>(alloc: Global, call: &C) -> Result<Finding, Fail> {
 
 /// Each of the calls wants memory until there is enough, and no refusal changes anything.
 pub fn stand<C: Call, R: Abort + AllocGlobal>(rt: &R, calls: &[C]) -> Result<(), Fail> {
+    let alloc = rt.alloc();
+    let mut drought = Drought::begin(alloc)?;
     for call in calls {
-        assert_eq!(rt; found(rt.alloc(), call)?, Finding::Stands, "{call:?}");
+        assert_eq!(rt;
+            found(alloc, &mut drought, call)?,
+            Finding::Stands,
+            "{call:?}"
+        );
     }
     Ok(())
 }

@@ -16,3 +16,5 @@ mod drought_messages;
 mod drought_records;
 #[cfg(test)]
 mod drought_values;
+#[cfg(test)]
+mod drought_wrong_bodies;
