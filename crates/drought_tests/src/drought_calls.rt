@@ -1,0 +1,196 @@
+//! Calls that can want memory, each tried with ever more room.
+
+use crate::drought::Drought;
+use fe2o3_sasl::KeyError;
+use fe2o3_sasl::credentials::{AddRecordError, RecordError, RecordTextError};
+use fe2o3_sasl::scram_messages::{ScramErrorKind, ServerScramErrorKind, UnescapeError};
+use std::alloc::{AllocError, Global};
+use std::fmt::Debug;
+use std::process::Abort;
+use std::test::Fail;
+
+/// The fault of a call that can want memory.
+pub trait Fault: Drop {
+    /// Whether it is the call's own `OutOfMemory`.
+    fn is_want_of_memory(&self) -> bool;
+}
+
+impl Fault for AllocError {
+    fn is_want_of_memory(&self) -> bool {
+        true
+    }
+}
+
+impl Fault for KeyError {
+    fn is_want_of_memory(&self) -> bool {
+        matches!(self, KeyError::OutOfMemory)
+    }
+}
+
+impl Fault for UnescapeError {
+    fn is_want_of_memory(&self) -> bool {
+        matches!(self, UnescapeError::OutOfMemory)
+    }
+}
+
+impl Fault for ScramErrorKind {
+    fn is_want_of_memory(&self) -> bool {
+        matches!(self, ScramErrorKind::OutOfMemory)
+    }
+}
+
+impl Fault for ServerScramErrorKind {
+    fn is_want_of_memory(&self) -> bool {
+        matches!(self, ServerScramErrorKind::OutOfMemory)
+    }
+}
+
+impl Fault for RecordError {
+    fn is_want_of_memory(&self) -> bool {
+        matches!(self, RecordError::OutOfMemory)
+    }
+}
+
+impl Fault for RecordTextError {
+    fn is_want_of_memory(&self) -> bool {
+        matches!(self, RecordTextError::OutOfMemory)
+    }
+}
+
+impl Fault for AddRecordError {
+    fn is_want_of_memory(&self) -> bool {
+        matches!(self, AddRecordError::OutOfMemory)
+    }
+}
+
+/// What a call answered.
+#[derive(Debug, Clone, Copy, PartialEq, Eq)]
+pub enum Answer {
+    /// Its own `OutOfMemory`.
+    WantOfMemory,
+
+    /// What it has to answer with ample memory.
+    Right,
+
+    /// Anything else.
+    Wrong,
+}
+
+/// The answer of a call that told whether what it made is right, or its fault.
+pub fn told<E: Fault>(outcome: Result<bool, E>) -> Answer {
+    match outcome {
+        Ok(true) => Answer::Right,
+        Ok(false) => Answer::Wrong,
+        Err(fault) => {
+            if fault.is_want_of_memory() {
+                Answer::WantOfMemory
+            } else {
+                Answer::Wrong
+            }
+        }
+    }
+}
+
+/// The answer that is right where this holds.
+pub fn right(holds: bool) -> Answer {
+    if holds { Answer::Right } else { Answer::Wrong }
+}
+
+/// A call that can want memory.
+pub trait Call: Debug {
+    /// What it works on.
+    type Subject: Drop;
+
+    /// What it works on, made afresh with ample memory.
+    fn subject(&self, alloc: Global) -> Result<Self::Subject, Fail>;
+
+    /// Its answer. What is compared takes no memory.
+    fn answer(&self, alloc: Global, subject: &mut Self::Subject) -> Answer;
+
+    /// Whether the subject is as it was made, beyond that the call is still right of it. Asked with
+    /// ample memory, and the call can be made thereafter.
+    fn stays(&self, alloc: Global, subject: &mut Self::Subject) -> Answer;
+}
+
+/// What is found of a call.
+#[derive(Debug, Clone, Copy, PartialEq, Eq)]
+pub enum Finding {
+    /// It wanted memory, at least once, until it was right. After each refusal the subject was as
+    /// before, and the same call with ample memory was right.
+    Stands,
+
+    /// It was right without memory.
+    NeverRefused,
+
+    /// It wanted memory where there was plenty, or for all room that was tried.
+    NeverGiven,
+
+    /// Its answer was neither right nor want of memory.
+    WrongAnswer,
+
+    /// A refusal changed its subject.
+    Changed,
+}
+
+/// By how many bytes of room each try has more than the one before it.
+const STEP: usize = 16;
+
+/// How many tries there are at most.
+const TRIES: usize = 1000;
+
+/// The call's answer with all memory taken but for about this room.
+fn answer_within<C: Call>(
+    alloc: Global,
+    drought: &mut Drought,
+    call: &C,
+    subject: &mut C::Subject,
+    room: usize,
+) -> Result<Answer, Fail> {
+    drought.leave(room)?;
+    let answer = call.answer(alloc, subject);
+    drought.rain();
+    Ok(answer)
+}
+
+/// What is wrong with the call behind a refusal, if anything is.
+fn after_refusal<C: Call>(alloc: Global, call: &C, subject: &mut C::Subject) -> Option<Finding> {
+    if call.stays(alloc, subject) != Answer::Right {
+        return Some(Finding::Changed);
+    }
+    match call.answer(alloc, subject) {
+        Answer::Right => None,
+        Answer::WantOfMemory => Some(Finding::NeverGiven),
+        Answer::Wrong => Some(Finding::Changed),
+    }
+}
+
+/// What is found of the call where all memory is taken but for a room that grows from nothing.
+pub fn found<C: Call>(alloc: Global, drought: &mut Drought, call: &C) -> Result<Finding, Fail> {
+    for refusals in 0..TRIES {
+        let mut subject = call.subject(alloc)?;
+        match answer_within(alloc, drought, call, &mut subject, refusals * STEP)? {
+            Answer::WantOfMemory => {}
+            Answer::Wrong => return Ok(Finding::WrongAnswer),
+            Answer::Right if refusals == 0 => return Ok(Finding::NeverRefused),
+            Answer::Right => return Ok(Finding::Stands),
+        }
+        if let Some(finding) = after_refusal(alloc, call, &mut subject) {
+            return Ok(finding);
+        }
+    }
+    Ok(Finding::NeverGiven)
+}
+
+/// Each of the calls wants memory until there is enough, and no refusal changes anything.
+pub fn stand<C: Call, R: Abort + AllocGlobal>(rt: &R, calls: &[C]) -> Result<(), Fail> {
+    let alloc = rt.alloc();
+    let mut drought = Drought::begin(alloc)?;
+    for call in calls {
+        assert_eq!(rt;
+            found(alloc, &mut drought, call)?,
+            Finding::Stands,
+            "{call:?}"
+        );
+    }
+    Ok(())
+}
