@@ -57,11 +57,42 @@ fn words<R: Env + AllocGlobal>(rt: &R) -> Result<Vec<String>, Stop> {
     Ok(words)
 }
 
+/// The words that the program takes.
+static USAGE: &str = "\
+usage: sasl_lab client-final VERSION USER PASSWORD CLIENT-NONCE SERVER-FIRST [LIMIT]
+       sasl_lab login VERSION USER PASSWORD SALT-HEX CLIENT-NONCE-HEX SERVER-NONCE-HEX
+       sasl_lab audit VERSION USER PASSWORD SALT-HEX
+client-final prints the client-final message, and the server-final message that the client accepts.
+login prints the five frame bodies of a login. audit reads lines 'c NONCE-HEX BODY-HEX' of a client
+and 's NONCE-HEX BODY-HEX' of a server, and prints what the logins of both have in common.
+VERSION: SCRAM-SHA-1, SCRAM-SHA-256 or SCRAM-SHA-512
+LIMIT: the largest iteration count that the client accepts, at most 4294967295
+SALT-HEX, and the nonces of login and audit: 64 hexadecimal digits
+status: 0 done, 1 refused, 2 wrong words or a wrong line
+";
+
+/// The usage, where the words ask for nothing that the program does.
+fn usage_for(words: &[String]) -> Option<&'static str> {
+    match Command::from_words(words) {
+        Some(_) => None,
+        None => Some(USAGE),
+    }
+}
+
+/// Does what the words ask, and tells the usage on standard error behind `wrong words`.
+fn run(rt: &HostRuntime, words: &[String]) -> u8 {
+    let status = lab(rt.alloc(), words, &mut rt.reader(), &mut io::writer(rt));
+    if let Some(usage) = usage_for(words) {
+        // The words are refused already, whether or not the usage can be written.
+        let _ = eprint!(rt; "{usage}");
+    }
+    status
+}
+
 fn main(rt: HostRuntime) -> ExitCode {
-    let mut output = io::writer(&rt);
     let status = match words(&rt) {
-        Ok(words) => lab(rt.alloc(), &words, &mut rt.reader(), &mut output),
-        Err(stop) => stop.end(&mut output),
+        Ok(words) => run(&rt, &words),
+        Err(stop) => stop.end(&mut io::writer(&rt)),
     };
     ExitCode::from(status)
 }

@@ -2,8 +2,8 @@
 //! section 5, and RFC 7677, section 3; the other answers were computed with Python's `hmac` and
 //! `hashlib`.
 
-use crate::lab;
 use crate::stop::Stop;
+use crate::{lab, usage_for};
 use fe2o3_sasl::ScramErrorKind;
 use std::alloc::{AllocError, Global};
 use std::io;
@@ -247,6 +247,23 @@ fn prints_the_messages_or_why_not(rt: HostRuntime) -> Result<(), Fail> {
         let status = lab(alloc, &words, &mut Cursor::new(b""), &mut output);
         assert_eq!(rt; str::from_utf8(&output)?, *wanted, "{line:?}");
         assert_eq!(rt; status, *wanted_status, "{line:?}");
+    }
+    Ok(())
+}
+
+#[test]
+fn tells_the_usage_of_wrong_words_alone(rt: HostRuntime) -> Result<(), Fail> {
+    let alloc = rt.alloc();
+    for (line, wanted, _) in &RUNS {
+        let told = usage_for(&words_of(alloc, line)?);
+        assert_eq!(rt; told.is_some(), *wanted == "wrong words\n", "{line:?}");
+        let Some(usage) = told else {
+            continue;
+        };
+        assert_eq!(rt; usage.lines().count(), 10);
+        for command in ["client-final", "login", "audit"] {
+            assert!(rt; usage.contains(command), "{command}");
+        }
     }
     Ok(())
 }
