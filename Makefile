@@ -1,15 +1,35 @@
-# Both targets need the Rattle kit's `rt` on the PATH, and nothing else.
-.PHONY: demo test
+# All of this needs the Rattle kit's `rt` on the PATH, and nothing else. CONTRIBUTING.md says how long
+# each takes. `tools/progress` tells the minutes, the stage and the crate on standard error.
+.PHONY: demo prove check test quiet
 
-# A client's answer to the server-first message of the SCRAM-SHA-256 example (RFC 7677, section 3),
-# and the server-final message that the client will accept.
+# The example of RFC 7677, beside what the standard prints, and a whole login over frame bodies. Nothing
+# is proved by it.
 demo:
-	@echo 'SCRAM-SHA-256, user "user", password "pencil": client-final, and the server-final it waits for'
-	@cd crates/sasl_lab && rt run -- client-final SCRAM-SHA-256 user pencil rOprNGfwEbeRWgbNEkqO \
-	    'r=rOprNGfwEbeRWgbNEkqO%hvYDpWUa2RaTCAfuxFIlj)hNlF$$k0,s=W22ZaJ0SNY7soEsUEjb6gQ==,i=4096'
+	@tools/demo try
+
+# The same with the program proved and built, crates/sasl_lab/out/sasl_lab; then the quick start.
+prove:
+	@tools/progress $$PPID &
+	@tools/demo run
+	cd crates/quick_start && rt run
+
+# The quick way for a change: proves what changed in the libraries, in order, and lays out every crate.
+check:
+	@tools/progress $$PPID &
+	cd crates/fe2o3_sasl_wire && rt check
+	cd crates/fe2o3_scram && rt check
+	cd crates/fe2o3_sasl && rt check
+	for crate in crates/*/; do (cd $$crate && rt fmt) || exit 1; done
 
 # The merge gate: the programs that the borrow checker has to refuse; then every proof from nothing,
 # the must-fail edits, the tests and the programs.
 test:
+	@tools/progress $$PPID &
 	sh tools/refused.sh
 	rt ci
+
+# The same into a log, whose last line it prints, with its status.
+quiet:
+	@log=$$(mktemp); echo "log: $$log"; \
+	$(MAKE) --no-print-directory test > $$log 2>&1; status=$$?; \
+	grep -v '^make' $$log | tail -n 1; exit $$status
