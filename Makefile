@@ -30,6 +30,6 @@ test:
 
 # The same into a log, whose last line it prints, with its status.
 quiet:
-	@log=$$(mktemp); echo "log: $$log"; \
+	@log=$$(mktemp "$${TMPDIR:-/tmp}/gate.XXXXXX"); echo "log: $$log"; \
 	$(MAKE) --no-print-directory test > $$log 2>&1; status=$$?; \
 	grep -v '^make' $$log | tail -n 1; exit $$status
