@@ -8,7 +8,7 @@ use Rattle.fe2o3_scram.specs.declared.scram_messages.error.ScramErrorKind.TheVar
 use Rattle.fe2o3_scram.specs.Texts.{base64_text}
 use Rattle.fe2o3_scram.specs.ClientFirst.{client_first_bare}
 use Rattle.fe2o3_scram.specs.ClientKeys.{ClientKeys, AnswersAndKeeps, AnswersWithKeys, KeyedCosts, RefusesWithKeys, keyed_client}
-use Rattle.fe2o3_scram.specs.ScramClient.{ClientSide, ClientState, Initial, ClientFirstSent, ClientFinalSent, Complete, holding, with_state}
+use Rattle.fe2o3_scram.specs.ScramClient.{ClientSide, ClientState, ClientFirstSent, ClientFinalSent, Complete, holding, with_state}
 use Rattle.fe2o3_scram.specs.ServerFirst.{Client, ReadsServerFirst}
 use Rattle.fe2o3_scram.specs.ServerFinal.{ReadsServerFinal}
 

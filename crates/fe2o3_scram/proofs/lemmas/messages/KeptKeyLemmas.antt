@@ -1,5 +1,5 @@
 -- A client that keeps the keys of its password answers as with the password.
-use Rattle.std.proofs.Common.{◌≡◌, ◌≢◌, ◌⊎◌, ℕ, List, [], ◌∷◌, ◌++◌, Result, Ok, Err, refl, sym, ◌∙◌, ap, subst, inl, inr}
+use Rattle.std.proofs.Common.{◌≡◌, ◌⊎◌, ℕ, List, [], ◌∷◌, ◌++◌, Result, Ok, Err, sym, ◌∙◌, ap, inl, inr}
 use Rattle.std.proofs.lemmas.List.Elements.{All-from_recursion}
 use Rattle.fe2o3_scram.specs.declared.client_keys.KeyedClientError.{KeyedClientError}
 use Rattle.fe2o3_scram.specs.declared.client_keys.KeyedClientError.TheVariants.{Scram, OtherKeys}
