@@ -11,8 +11,10 @@ pub mod Error
 pub mod ClientFirst
 pub mod ServerFirst
 pub mod ClientFinal
+pub mod ClientKeys
 pub mod ServerFinal
 pub mod ScramClient
+pub mod KeyedScramClient
 pub mod ScramServer
 pub mod Exchanges
 pub mod Laws

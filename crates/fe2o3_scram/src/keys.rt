@@ -8,7 +8,7 @@
 //! The meter counts the HMAC values that each makes, and stands below 2^64 - 1 before the call.
 
 ghost use Rattle.std.specs.Prelude.{◌≡◌, ◌<◌, ◌+◌, ◌^◌, ◌↔◌, IsTrue, IfOk};
-ghost use Rattle.fe2o3_scram.specs.Hmac.{digest_bytes, exclusive_or};
+ghost use Rattle.fe2o3_scram.specs.Hmac.{digest_bytes, exclusive_or, version_of};
 ghost use Rattle.fe2o3_scram.specs.Keys.{CostsOne, MeetsStoredKey, OkWhereSized, auth_message, client_key, client_proof, client_signature, recovered_client_key, server_key, server_signature, stored_key};
 ghost use Rattle.fe2o3_scram.specs.private.Pieces.{whole};
 
@@ -82,6 +82,7 @@ impl ScramVersion {
         requires { meter.old + 2 < 2 ^ 64 }
         ensures client { digest_bytes result.0 ≡ client_key self.now salted_password.now }
         ensures server { digest_bytes result.1 ≡ server_key self.now salted_password.now }
+        ensures version { version_of result.0 ≡ self.now }
         ensures counted { meter.new ≡ meter.old + 2 }
     {
         let key = HmacKey::new(*self, salted_password);

@@ -6,14 +6,17 @@
 //! messages with [`ScramVersion::compute_server_first_message`] and
 //! [`ScramVersion::compute_server_final_message`], from the records of a
 //! [`ScramCredentialProvider`]. [`ScramClient`] and [`ScramAuthenticator`] keep the messages of
-//! one exchange between the calls; [`laws`] says what holds of a whole exchange.
+//! one exchange between the calls; [`laws`] says what holds of a whole exchange. [`ScramClientKeys`]
+//! stands in place of the password, and [`KeyedScramClient`] is the client that keeps it.
 //!
 //! [`ClientFirst`], [`ServerFirst`], [`ClientFinal`] and [`ServerFinal`] are what the four messages
 //! name, and each has a `parse`. The keys, the proof and the signature stand in [`keys`].
 #![tactic(auto)]
 
+pub mod client_keys;
 pub mod credentials;
 pub mod hmac;
+pub mod keyed_scram_client;
 pub mod keys;
 pub mod laws;
 pub mod pbkdf2_hi;
@@ -24,12 +27,14 @@ pub mod scram_messages;
 pub mod scram_server;
 mod texts;
 
+pub use crate::client_keys::{KeyedClientError, ScramClientKeys};
 pub use crate::credentials::{
     AddRecordError, DEFAULT_SCRAM_ITERATIONS, RecordError, RecordTextError,
     ScramCredentialProvider, ScramCredentials, ScramRecord, SingleScramCredential, StoredPassword,
     StoredScramCredential,
 };
 pub use crate::hmac::{DigestBytes, Meter, ScramVersion, UnknownMechanism};
+pub use crate::keyed_scram_client::KeyedScramClient;
 pub use crate::keys::auth_message;
 pub use crate::pbkdf2_hi::KeyError;
 pub use crate::saslprep_ascii::{NormalizeError, saslprep};

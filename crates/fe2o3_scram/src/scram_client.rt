@@ -4,11 +4,13 @@ ghost use Rattle.std.specs.Prelude.{◌≡◌, ◌≤◌, ◌^◌, IfOk, OnOk, O
 ghost use Rattle.std.specs.String.{string_bytes};
 ghost use Rattle.fe2o3_scram.specs.Texts.{base64_text};
 ghost use Rattle.fe2o3_scram.specs.ClientFirst.{client_first};
+ghost use Rattle.fe2o3_scram.specs.KeyedScramClient.{AnswersAndKeepsIn, sent_values};
 ghost use Rattle.fe2o3_scram.specs.ScramClient.{Initial, AnswersIn, AnswerCostsIn, BelievesIn, ReachesSaltIn, ReachesVerifierIn, started, state_of};
 ghost use Rattle.fe2o3_scram.specs.Readings.{Gives};
 ghost use Rattle.fe2o3_scram.specs.ServerFirst.{no_limit};
 
 use crate::OutOfMemory;
+use crate::client_keys::ScramClientKeys;
 use crate::hmac::{Meter, ScramVersion};
 use crate::scram_messages::error::ScramErrorKind;
 use crate::texts::base64_of;
@@ -19,7 +21,7 @@ use std::marker::Model;
 
 /// What a client has sent last, and what it waits for.
 #[derive(Drop)]
-enum ScramClientState {
+pub(crate) enum ScramClientState {
     Initial,
     ClientFirstSent {
         client_nonce: String,
@@ -33,7 +35,7 @@ enum ScramClientState {
 
 impl ScramClientState {
     /// The same state.
-    fn copy(&self) -> Result<ScramClientState, OutOfMemory>
+    pub(crate) fn copy(&self) -> Result<ScramClientState, OutOfMemory>
         ensures { IfOk result (λ copy. state_of copy ≡ state_of self.now) }
     {
         Ok(match self {
@@ -191,14 +193,38 @@ impl ScramClient {
         ensures err { OnErr result (self.new ≡ self.old) }
         ensures cost { AnswerCostsIn self.old.state self.old server_first.now result meter.old meter.new }
     {
+        let (client_final, _keys) = self.compute_client_final_message_and_keys(
+            alloc,
+            server_first,
+            meter,
+        )?;
+        Ok(client_final)
+    }
+
+    /// As `compute_client_final_message_metered`, and hands out the keys that the answer was made by.
+    /// Keep them once `validate_server_final` has believed the server, and not before: until then
+    /// anybody may have named their salt.
+    pub fn compute_client_final_message_and_keys(
+        &mut self,
+        alloc: Global,
+        server_first: &str,
+        meter: &mut Meter,
+    ) -> Result<(Vec<u8>, ScramClientKeys), ScramErrorKind>
+        requires { meter.old ≤ 2 ^ 63 }
+        ensures answer { Gives ScramErrorKind.OutOfMemory (ReachesSaltIn self.old.state server_first.now)
+            sent_values result
+            (λ answer. AnswersAndKeepsIn self.old.state self.old server_first.now answer self.new) }
+        ensures err { OnErr result (self.new ≡ self.old) }
+        ensures cost { AnswerCostsIn self.old.state self.old server_first.now result meter.old meter.new }
+    {
         match &self.state {
             ScramClientState::ClientFirstSent {
                 client_nonce,
                 client_first_message_bare,
             } => {
-                let (client_final, server_signature) = self
+                let ((client_final, server_signature), keys) = self
                     .scram
-                    .compute_client_final_message_limited(
+                    .compute_client_final_message_and_keys(
                         alloc,
                         client_nonce,
                         &self.password,
@@ -208,7 +234,7 @@ impl ScramClient {
                         meter,
                     )?;
                 self.state = ScramClientState::ClientFinalSent { server_signature };
-                Ok(client_final)
+                Ok((client_final, keys))
             }
             _ => Err(ScramErrorKind::IllegalClientState),
         }

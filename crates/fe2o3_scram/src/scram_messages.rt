@@ -7,6 +7,7 @@ mod client_first;
 mod client_first_reading;
 pub mod error;
 pub mod escape;
+mod keyed_client_final;
 mod server_final;
 mod server_final_reading;
 mod server_first;

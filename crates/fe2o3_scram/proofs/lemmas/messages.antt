@@ -1,7 +1,9 @@
 pub mod AnswerCostLemmas
 pub mod ClientFinalLemmas
 pub mod ClientFirstLemmas
+pub mod ClientKeysLemmas
 pub mod ExchangeLemmas
+pub mod KeptKeyLemmas
 pub mod OneValueLemmas
 pub mod RecordLawLemmas
 pub mod RecordTextLemmas

@@ -43,6 +43,17 @@ impl DigestBytes {
         digest.map_err(|_| XorLengthMismatch)
     }
 
+    /// The version whose digest it is.
+    pub(crate) fn version(&self) -> ScramVersion
+        ensures { result ≡ version_of self.now }
+    {
+        match self {
+            DigestBytes::Sha1(_) => ScramVersion::Sha1,
+            DigestBytes::Sha256(_) => ScramVersion::Sha256,
+            DigestBytes::Sha512(_) => ScramVersion::Sha512,
+        }
+    }
+
     /// The bytes, 20, 32 or 64.
     pub fn as_slice(&self) -> &[u8]
         ensures { result.now ≡ digest_bytes self.now }

@@ -2,12 +2,13 @@
 
 ghost use Rattle.std.specs.Prelude.{◌≡◌, ◌≤◌, ◌+◌, ◌^◌, IfOk, IfErr, OnOk, OnErr, string_bytes};
 ghost use Rattle.fe2o3_scram.specs.ClientFinal.{AnswerCosts, answer_values, without_proof, client_final_of, answer_of, AnswersServerFirst};
+ghost use Rattle.fe2o3_scram.specs.ClientKeys.{AnswersAndKeeps, keys_of, kept_values};
 ghost use Rattle.fe2o3_scram.specs.Readings.{Gives};
 ghost use Rattle.fe2o3_scram.specs.ServerFirst.{ReachesSalt, client_of, no_limit, server_first_values};
 
 use crate::OutOfMemory;
+use crate::client_keys::ScramClientKeys;
 use crate::hmac::{Meter, ScramVersion};
-use crate::keys::auth_pieces;
 use crate::scram_messages::attributes::{CHANNEL_BINDING_KEY, GS2_HEADER, NONCE_KEY, PROOF_KEY};
 use crate::scram_messages::error::ScramErrorKind;
 use crate::scram_messages::server_first_reading::ServerFirst;
@@ -101,64 +102,101 @@ impl ScramVersion {
         ensures cost { AnswerCosts (client_of client_nonce.now password.now limit)
             server_first.now result meter.old meter.new }
     {
-        let first = ServerFirst::parse(alloc, client_nonce, password, limit, server_first)?;
-        let answer = self.answer(
+        let (answer, _keys) = self.compute_client_final_message_and_keys(
             alloc,
+            client_nonce,
             password,
-            client_first_message_bare,
             server_first,
-            &first,
+            client_first_message_bare,
+            limit,
             meter,
         )?;
         Ok(answer)
     }
 
-    /// The answer to a server-first message that was read.
+    /// As `compute_client_final_message_limited`, and hands out the keys that the answer was made by,
+    /// with the salt and the iteration count that the message names. Keep them once the server has
+    /// shown the signature, and not before: until then anybody may have named that salt.
+    pub fn compute_client_final_message_and_keys(
+        &self,
+        alloc: Global,
+        client_nonce: &str,
+        password: &str,
+        server_first: &str,
+        client_first_message_bare: &[u8],
+        limit: u32,
+        meter: &mut Meter,
+    ) -> Result<((Vec<u8>, Vec<u8>), ScramClientKeys), ScramErrorKind>
+        requires { meter.old ≤ 2 ^ 63 }
+        ensures answer { Gives ScramErrorKind.OutOfMemory (ReachesSalt client_nonce.now server_first.now)
+            kept_values result
+            (AnswersAndKeeps self.now (client_of client_nonce.now password.now limit)
+            client_first_message_bare.now server_first.now) }
+        ensures cost { AnswerCosts (client_of client_nonce.now password.now limit)
+            server_first.now result meter.old meter.new }
+    {
+        let first = ServerFirst::parse(alloc, client_nonce, password, limit, server_first)?;
+        let kept = self.answer(
+            alloc,
+            password,
+            client_first_message_bare,
+            server_first,
+            first,
+            meter,
+        )?;
+        Ok(kept)
+    }
+
+    /// The answer to a server-first message that was read, and the keys that it was made by.
     fn answer(
         &self,
         alloc: Global,
         password: &str,
         client_first_message_bare: &[u8],
         server_first: &str,
-        first: &ServerFirst<'_>,
+        first: ServerFirst<'_>,
         meter: &mut Meter,
-    ) -> Result<(Vec<u8>, Vec<u8>), ScramErrorKind>
-        requires some { 1 ≤ first.now.iterations }
+    ) -> Result<((Vec<u8>, Vec<u8>), ScramClientKeys), ScramErrorKind>
+        requires some { 1 ≤ first.iterations }
         requires meter { meter.old ≤ 2 ^ 63 }
-        ensures answer { IfOk result (λ answer. answer_values answer
+        ensures answer { IfOk result (λ kept. answer_values kept.0
             ≡ answer_of self.now password.now client_first_message_bare.now server_first.now
-            (server_first_values first.now)) }
-        ensures counted { OnOk result (meter.new ≡ meter.old + (first.now.iterations + 4)) }
+            (server_first_values first.entry)) }
+        ensures keys { IfOk result (λ kept. kept.1
+            ≡ keys_of self.now password.now first.entry.salt.items first.entry.iterations) }
+        ensures counted { OnOk result (meter.new ≡ meter.old + (first.entry.iterations + 4)) }
         ensures memory { IfErr result (λ kind. kind ≡ ScramErrorKind.OutOfMemory) }
-        ensures at_most { OnErr result (meter.new ≤ meter.old + (first.now.iterations + 4)) }
+        ensures at_most { OnErr result (meter.new ≤ meter.old + (first.entry.iterations + 4)) }
         ensures never_falls { meter.old ≤ meter.new }
     {
-        let mut message = without_proof(alloc, first.nonce, self.digest_len())?;
-        let auth_message = auth_pieces(
-            client_first_message_bare,
-            server_first.as_bytes(),
-            message.as_bytes(),
-        );
+        let message = without_proof(alloc, first.nonce, self.digest_len())?;
         let salted_password = self.salted_password(
             password.as_bytes(),
             &first.salt,
             first.iterations,
             meter,
         );
-        let (client_key, server_key) = self.client_and_server_key(
+        let keys = ScramClientKeys::from_salted_password(
+            *self,
+            first.salt,
+            first.iterations,
             salted_password.as_slice(),
             meter,
         );
-        let proof = self.client_proof_over(client_key.as_slice(), &auth_message, meter)?;
-        let signature = self.server_signature_over(server_key.as_slice(), &auth_message, meter);
-        push_proof(&mut message, proof.as_slice())?;
-        Ok((message.into_bytes(), signature.as_slice().to_vec(alloc)?))
+        let answer = keys.answer(
+            alloc,
+            message,
+            client_first_message_bare,
+            server_first,
+            meter,
+        )?;
+        Ok((answer, keys))
     }
 }
 
 /// What stands before the proof: the GS2 header in base64, and the nonce of both sides. There is room for a proof of
 /// this length behind it.
-fn without_proof(
+pub(super) fn without_proof(
     alloc: Global,
     client_server_nonce: &str,
     proof_len: usize,
@@ -178,7 +216,7 @@ fn without_proof(
 }
 
 /// Makes the client-final message of what stands before the proof.
-fn push_proof(text: &mut String, client_proof: &[u8]) -> Result<(), OutOfMemory>
+pub(super) fn push_proof(text: &mut String, client_proof: &[u8]) -> Result<(), OutOfMemory>
     ensures { OnOk result (string_bytes text.new ≡ client_final_of (string_bytes text.old) client_proof.now) }
 {
     text.push_str(",")?;
