@@ -6,11 +6,13 @@ ghost use Rattle.std.proofs.Common.{ap};
 ghost use Rattle.fe2o3_scram.specs.Credentials.{Provider, record_at, record_of, kept};
 ghost use Rattle.fe2o3_scram.specs.SaslprepAscii.{IsPrintable};
 
+pub mod record_lines;
 pub mod record_text;
 pub mod scram_credentials;
 pub mod scram_record;
 pub mod stored_credential;
 
+pub use crate::credentials::record_lines::{ReadLinesError, ReadLinesErrorKind, WriteLinesError};
 pub use crate::credentials::record_text::RecordTextError;
 pub use crate::credentials::scram_credentials::{AddRecordError, ScramCredentials};
 pub use crate::credentials::scram_record::{RecordError, ScramRecord};

@@ -25,9 +25,9 @@ pub mod scram_server;
 mod texts;
 
 pub use crate::credentials::{
-    AddRecordError, DEFAULT_SCRAM_ITERATIONS, RecordError, RecordTextError,
-    ScramCredentialProvider, ScramCredentials, ScramRecord, SingleScramCredential, StoredPassword,
-    StoredScramCredential,
+    AddRecordError, DEFAULT_SCRAM_ITERATIONS, ReadLinesError, ReadLinesErrorKind, RecordError,
+    RecordTextError, ScramCredentialProvider, ScramCredentials, ScramRecord, SingleScramCredential,
+    StoredPassword, StoredScramCredential, WriteLinesError,
 };
 pub use crate::hmac::{DigestBytes, Meter, ScramVersion, UnknownMechanism};
 pub use crate::keys::auth_message;
