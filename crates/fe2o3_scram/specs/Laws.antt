@@ -7,13 +7,16 @@ use Rattle.fe2o3_scram.specs.declared.scram_messages.error.ScramErrorKind.{Scram
 use Rattle.fe2o3_scram.specs.Texts.{base64_text, IsBase64, NoComma, Parts}
 use Rattle.fe2o3_scram.specs.declared.scram_messages.error.ServerScramErrorKind.{ServerScramErrorKind}
 use Rattle.fe2o3_scram.specs.ClientFirst.{ClientFirst, ReadsClientFirst}
-use Rattle.fe2o3_scram.specs.Credentials.{VersionedRecord, record_of}
+use Rattle.fe2o3_scram.specs.Credentials.{Record, Records, VersionedRecord, record_of}
 use Rattle.fe2o3_scram.specs.Escape.{escaped}
 use Rattle.fe2o3_scram.specs.Exchanges.{Exchange, IsSound, Succeeds}
 use Rattle.fe2o3_scram.specs.Hmac.{mechanism_name, digest, digest_len, hmac_of}
 use Rattle.fe2o3_scram.specs.ClientFinal.{Server, ClientFinal, ReadsFinalText, ReadsClientFinal}
 use Rattle.fe2o3_scram.specs.RecordText.{IsReadable, ReadsRecord, record_text}
 use Rattle.fe2o3_scram.specs.declared.credentials.record_text.RecordTextError.{RecordTextError}
+use Rattle.fe2o3_scram.specs.declared.credentials.record_lines.ReadLinesError.{ReadLinesError}
+use Rattle.fe2o3_scram.specs.RecordLines.{IsWritable, ReadsUsers, users_text}
+use Rattle.std.specs.List.{AllByRecursion}
 use Rattle.fe2o3_scram.specs.ServerFinal.{ReadsSignature, ReadsServerFinal}
 use Rattle.fe2o3_scram.specs.ServerFirst.{Client, ServerFirst, ReadsServerFirst}
 
@@ -134,3 +137,17 @@ SomeRecord = (text : List ℕ) → (answer : Result VersionedRecord RecordTextEr
 abbrev pub MadeRecordsAreReadable : Type 0
 MadeRecordsAreReadable = (version : ScramVersion) (password salt : List ℕ) (count : ℕ) → IsBytes salt → 1 ≤ count
     → count < 2 ^ 32 → IsReadable (record { version = version; stored = record_of version password salt count })
+
+-- what the code holds of a user: the count has 32 bits, and salt and keys are bytes
+abbrev pub HoldsBytes : List ℕ × Record → Type 0
+HoldsBytes user = (user.1.count < 2 ^ 32) × IsBytes user.1.salt × IsBytes user.1.stored_key × IsBytes user.1.server_key
+
+-- users who can be written are read again from their text
+abbrev pub UsersAreReadAgain : Type 0
+UsersAreReadAgain = (version : ScramVersion) (users : Records) → AllByRecursion (IsWritable version) users
+    → AllByRecursion HoldsBytes users → ReadsUsers version (users_text version users) (Ok users)
+
+-- a text of lines has at most one answer, so that no other line and no other fault is told
+abbrev pub OneUsersAnswer : Type 0
+OneUsersAnswer = (version : ScramVersion) (text : List ℕ) (answer other : Result Records ReadLinesError)
+    → ReadsUsers version text answer → ReadsUsers version text other → answer ≡ other

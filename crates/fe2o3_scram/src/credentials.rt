@@ -56,6 +56,24 @@ impl fmt::Debug for StoredPassword<'_> {
 
 /// A store of credentials: a version, and a finite map from user names to what is kept of their
 /// passwords. User names are plain, and not escaped.
+///
+/// A store of a caller's own means its entries in their order, as `records_in` of `specs/Stores.antt`
+/// says it, and shows its look-up by a lemma of `proofs/lemmas/providers/LookUpLemmas.antt`:
+/// `slice_looked_up` for the first of a name in a slice, `hash_map_looked_up` and
+/// `btree_map_looked_up` for `get` of a map, `looked_up` for any test of names. With a map from names
+/// to records the look-up is a function of one line, and its proof one line besides the imports:
+///
+/// ```text
+/// fn record_of<'a>(records: &'a BTreeMap<String, ScramRecord>, username: &str) -> Option<&'a ScramRecord>
+///     ensures { option_map (λ record. record.now.stored) result ≡ record_at (records_in
+///         (λ entry. string_bytes entry.0) (λ entry. entry.1.stored) records.now.entries) username.now }
+/// {
+///     records.get(username)
+/// }
+///
+/// returns c = btree_map_looked_up string_bytes (λ (record : VersionedRecord). record.stored)
+///     c.args.records.now.entries c.args.username.now c.get.result c.get.ensures.value
+/// ```
 pub trait ScramCredentialProvider: Clone {
     /// What the provider means: a version, and a record for each of its users.
     ghost meaning: { Self → Provider };

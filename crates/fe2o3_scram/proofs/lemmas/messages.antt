@@ -4,6 +4,7 @@ pub mod ClientFirstLemmas
 pub mod ExchangeLemmas
 pub mod OneValueLemmas
 pub mod RecordLawLemmas
+pub mod RecordLinesLawLemmas
 pub mod RecordLinesLemmas
 pub mod RecordTextLemmas
 pub mod ServerFinalLemmas

@@ -1,5 +1,5 @@
 -- The lines of users, as they are read and written.
-use Rattle.std.proofs.Common.{◌≡◌, ◌≢◌, ◌<◌, ◌+◌, ℕ, zero, suc, List, [], ◌∷◌, ◌++◌, Bor, length, get_or, take, drop, Result, Ok, Err, refl, sym, ◌∙◌, ap, subst, arith, lit<, append_assoc, append-nil}
+use Rattle.std.proofs.Common.{◌≡◌, ◌≢◌, ◌<◌, ◌+◌, ℕ, zero, suc, List, [], ◌∷◌, ◌++◌, Bor, length, get_or, take, drop, Result, Ok, Err, refl, sym, ◌∙◌, ap, subst, arith, append_assoc, append-nil}
 use Rattle.std.proofs.lemmas.List.{take-append-drop}
 use Rattle.std.proofs.lemmas.Str.Pattern.{NoCharPasses-char, drop_at_char}
 use Rattle.std.specs.List.{AllByRecursion}
@@ -13,12 +13,11 @@ use Rattle.fe2o3_scram.specs.RecordText.{IsReadable, ReadsRecord, record_text}
 use Rattle.fe2o3_scram.specs.Texts.{Without}
 use Rattle.fe2o3_scram.proofs.lemmas.messages.RecordLawLemmas.{one_spelling}
 use Rattle.fe2o3_scram.proofs.lemmas.texts.CutLemmas.{without-index}
-use Rattle.fe2o3_scram.proofs.lemmas.texts.DecisionLemmas.{Decided, same_number_or}
 use Rattle.fe2o3_scram.proofs.lemmas.texts.EscapingLemmas.{by_cases, escaped-cons}
 
 -- ---- the last of some bytes
 
-not_without-in : (byte : ℕ) (front back text : List ℕ) → text ≡ front ++ byte ∷ back → ¬ Without byte text
+pub not_without-in : (byte : ℕ) (front back text : List ℕ) → text ≡ front ++ byte ∷ back → ¬ Without byte text
 not_without-in byte [] back text is plain = (subst (Without byte) is plain).0 refl
 not_without-in byte (b ∷ front) back text is plain =
     not_without-in byte front back (front ++ byte ∷ back) refl (subst (Without byte) is plain).1

@@ -64,26 +64,44 @@ found_entry {K} {X} record_of test (entry ∷ entries) = go (test entry.0) (foun
     go true behind = refl
     go false behind = behind
 
--- a map in the order of its hashes, from names to what has a record
+-- the records of a map's entries, by what its keys spell
+abbrev pub records_of_map : {K X : Type 0} → (K → List ℕ) → (X → Record) → List (K × X) → Records
+records_of_map {K} {X} name_of record_of entries =
+    records_in (λ (entry : K × X). name_of entry.0) (λ (entry : K × X). record_of entry.1) entries
+
+by_test : {K X : Type 0} (name_of : K → List ℕ) (record_of : X → Record) (test : K → Bool) (entries : List (K × X))
+    (name : List ℕ) (found : Option (Bor X)) → ((key : K) → test key ≡ pointwise nat_eq (name_of key) name)
+    → option_map (λ (value : Bor X). value.now) found ≡ lookup test entries
+    → option_map (λ (value : Bor X). record_of value.now) found
+    ≡ record_at (records_of_map name_of record_of entries) name
+by_test {K} {X} name_of record_of test entries name found tests is =
+    both found ∙ ap (option_map record_of) is ∙ found_entry record_of test entries
+    ∙ sym (looked_up (λ (entry : K × X). name_of entry.0) (λ (entry : K × X). record_of entry.1)
+    (λ (entry : K × X). test entry.0) entries name (λ entry. tests entry.0))
+  where
+    both : (found : Option (Bor X)) → option_map (λ (value : Bor X). record_of value.now) found
+        ≡ option_map record_of (option_map (λ (value : Bor X). value.now) found)
+    both None = refl
+    both (Some value) = refl
+
+-- what `get` of a `HashMap` from names answers
 pub hash_map_looked_up : {K X : Type 0} (name_of : K → List ℕ) (record_of : X → Record) (entries : List (K × X))
-    (name : List ℕ)
-    → record_at (records_in (λ (entry : K × X). name_of entry.0) (λ (entry : K × X). record_of entry.1) entries) name
-    ≡ option_map record_of (lookup (λ (key : K). bytes_eq name (name_of key)) entries)
-hash_map_looked_up {K} {X} name_of record_of entries name =
-    looked_up (λ (entry : K × X). name_of entry.0) (λ (entry : K × X). record_of entry.1)
-    (λ (entry : K × X). bytes_eq name (name_of entry.0)) entries name
-    (λ entry. nat_list_eq_equiv.symm name (name_of entry.0))
-    ∙ sym (found_entry record_of (λ (key : K). bytes_eq name (name_of key)) entries)
+    (name : List ℕ) (found : Option (Bor X))
+    → option_map (λ (value : Bor X). value.now) found
+    ≡ lookup (λ (key : K). bytes_eq name (name_of key)) entries
+    → option_map (λ (value : Bor X). record_of value.now) found
+    ≡ record_at (records_of_map name_of record_of entries) name
+hash_map_looked_up {K} name_of record_of entries name found is =
+    by_test name_of record_of (λ (key : K). bytes_eq name (name_of key)) entries name found
+    (λ key. nat_list_eq_equiv.symm name (name_of key)) is
 
--- a map in the order of its keys
+-- what `get` of a `BTreeMap` from names answers
 pub btree_map_looked_up : {K X : Type 0} (name_of : K → List ℕ) (record_of : X → Record) (entries : List (K × X))
-    (name : List ℕ)
-    → record_at (records_in (λ (entry : K × X). name_of entry.0) (λ (entry : K × X). record_of entry.1) entries) name
-    ≡ option_map record_of (lookup (λ (key : K). is_eq (slice_cmp nat_cmp name (name_of key))) entries)
-btree_map_looked_up {K} {X} name_of record_of entries name =
-    looked_up (λ (entry : K × X). name_of entry.0) (λ (entry : K × X). record_of entry.1)
-    (λ (entry : K × X). is_eq (slice_cmp nat_cmp name (name_of entry.0))) entries name
-    (λ entry. is_eq-slice_cmp name (name_of entry.0) ∙ nat_list_eq_equiv.symm name (name_of entry.0))
-    ∙ sym (found_entry record_of (λ (key : K). is_eq (slice_cmp nat_cmp name (name_of key))) entries)
-
-pub ruleset look_ups = (looked_up, hash_map_looked_up, btree_map_looked_up)
+    (name : List ℕ) (found : Option (Bor X))
+    → option_map (λ (value : Bor X). value.now) found
+    ≡ lookup (λ (key : K). is_eq (slice_cmp nat_cmp name (name_of key))) entries
+    → option_map (λ (value : Bor X). record_of value.now) found
+    ≡ record_at (records_of_map name_of record_of entries) name
+btree_map_looked_up {K} name_of record_of entries name found is =
+    by_test name_of record_of (λ (key : K). is_eq (slice_cmp nat_cmp name (name_of key))) entries name found
+    (λ key. is_eq-slice_cmp name (name_of key) ∙ nat_list_eq_equiv.symm name (name_of key)) is
