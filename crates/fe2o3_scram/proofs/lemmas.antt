@@ -1,3 +1,4 @@
 pub mod hashes
 pub mod messages
+pub mod providers
 pub mod texts

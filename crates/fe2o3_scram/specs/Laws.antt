@@ -13,13 +13,16 @@ use Rattle.fe2o3_scram.specs.SaslprepAscii.{IsPrintable}
 use Rattle.fe2o3_scram.specs.ScramClient.{AnswersIn, BelievesIn, started}
 use Rattle.fe2o3_scram.specs.declared.client_keys.KeyedClientError.{KeyedClientError}
 use Rattle.fe2o3_scram.specs.declared.client_keys.KeyedClientError.TheVariants.{Scram, OtherKeys}
-use Rattle.fe2o3_scram.specs.Credentials.{VersionedRecord, record_of}
+use Rattle.fe2o3_scram.specs.Credentials.{Record, Records, VersionedRecord, record_of}
 use Rattle.fe2o3_scram.specs.Escape.{escaped}
 use Rattle.fe2o3_scram.specs.Exchanges.{Exchange, IsSound, Succeeds}
 use Rattle.fe2o3_scram.specs.Hmac.{mechanism_name, digest, digest_len, hmac_of}
 use Rattle.fe2o3_scram.specs.ClientFinal.{Answer, AnswersServerFirst, Server, ClientFinal, ReadsFinalText, ReadsClientFinal}
 use Rattle.fe2o3_scram.specs.RecordText.{IsReadable, ReadsRecord, record_text}
 use Rattle.fe2o3_scram.specs.declared.credentials.record_text.RecordTextError.{RecordTextError}
+use Rattle.fe2o3_scram.specs.declared.credentials.record_lines.ReadLinesError.{ReadLinesError}
+use Rattle.fe2o3_scram.specs.RecordLines.{IsWritable, ReadsUsers, users_text}
+use Rattle.std.specs.List.{AllByRecursion}
 use Rattle.fe2o3_scram.specs.ServerFinal.{ReadsSignature, ReadsServerFinal}
 use Rattle.fe2o3_scram.specs.ServerFirst.{Client, ServerFirst, ReadsServerFirst, client_of}
 
@@ -182,3 +185,17 @@ abbrev pub KeyedClientBelieves : Type 0
 KeyedClientBelieves = (side next : KeyedSide) (password text : List ℕ) (answer : Result (Unit {0}) ScramErrorKind)
     → KeyedBelievesIn side.state side text answer next
     → BelievesIn side.state (with_password side password) text answer (with_password next password)
+
+-- what the code holds of a user: the count has 32 bits, and salt and keys are bytes
+abbrev pub HoldsBytes : List ℕ × Record → Type 0
+HoldsBytes user = (user.1.count < 2 ^ 32) × IsBytes user.1.salt × IsBytes user.1.stored_key × IsBytes user.1.server_key
+
+-- users who can be written are read again from their text
+abbrev pub UsersAreReadAgain : Type 0
+UsersAreReadAgain = (version : ScramVersion) (users : Records) → AllByRecursion (IsWritable version) users
+    → AllByRecursion HoldsBytes users → ReadsUsers version (users_text version users) (Ok users)
+
+-- a text of lines has at most one answer, so that no other line and no other fault is told
+abbrev pub OneUsersAnswer : Type 0
+OneUsersAnswer = (version : ScramVersion) (text : List ℕ) (answer other : Result Records ReadLinesError)
+    → ReadsUsers version text answer → ReadsUsers version text other → answer ≡ other

@@ -5,8 +5,10 @@ pub mod Hmac
 pub mod Pbkdf2Hi
 pub mod Keys
 pub mod Credentials
+pub mod Stores
 pub mod Readings
 pub mod RecordText
+pub mod RecordLines
 pub mod Error
 pub mod ClientFirst
 pub mod ServerFirst

@@ -6,16 +6,18 @@ ghost use Rattle.std.proofs.Common.{ap};
 ghost use Rattle.fe2o3_scram.specs.Credentials.{Provider, record_at, record_of, kept};
 ghost use Rattle.fe2o3_scram.specs.SaslprepAscii.{IsPrintable};
 
+pub mod record_lines;
 pub mod record_text;
 pub mod scram_credentials;
 pub mod scram_record;
 pub mod stored_credential;
 
+pub use crate::credentials::record_lines::{ReadLinesError, ReadLinesErrorKind, WriteLinesError};
 pub use crate::credentials::record_text::RecordTextError;
 pub use crate::credentials::scram_credentials::{AddRecordError, ScramCredentials};
 pub use crate::credentials::scram_record::{RecordError, ScramRecord};
 pub use crate::credentials::stored_credential::StoredScramCredential;
-use crate::hmac::{Meter, ScramVersion};
+use crate::hmac::ScramVersion;
 use crate::scram_messages::error::ServerScramErrorKind;
 use std::alloc::{AllocError, Global};
 use std::fmt;
@@ -54,6 +56,24 @@ impl fmt::Debug for StoredPassword<'_> {
 
 /// A store of credentials: a version, and a finite map from user names to what is kept of their
 /// passwords. User names are plain, and not escaped.
+///
+/// A store of a caller's own means its entries in their order, as `records_in` of `specs/Stores.antt`
+/// says it, and shows its look-up by a lemma of `proofs/lemmas/providers/LookUpLemmas.antt`:
+/// `slice_looked_up` for the first of a name in a slice, `hash_map_looked_up` and
+/// `btree_map_looked_up` for `get` of a map, `looked_up` for any test of names. With a map from names
+/// to records the look-up is a function of one line, and its proof one line besides the imports:
+///
+/// ```text
+/// fn record_of<'a>(records: &'a BTreeMap<String, ScramRecord>, username: &str) -> Option<&'a ScramRecord>
+///     ensures { option_map (λ record. record.now.stored) result ≡ record_at (records_in
+///         (λ entry. string_bytes entry.0) (λ entry. entry.1.stored) records.now.entries) username.now }
+/// {
+///     records.get(username)
+/// }
+///
+/// returns c = btree_map_looked_up string_bytes (λ (record : VersionedRecord). record.stored)
+///     c.args.records.now.entries c.args.username.now c.get.result c.get.ensures.value
+/// ```
 pub trait ScramCredentialProvider: Clone {
     /// What the provider means: a version, and a record for each of its users.
     ghost meaning: { Self → Provider };
@@ -87,37 +107,18 @@ impl<T: ScramCredentialProvider> ScramCredentialProvider for Rc<T> {
     }
 }
 
-/// The credential of one user.
+/// The credential of one user, made of the user's password.
 #[derive(Drop)]
 pub struct SingleScramCredential {
-    scram_version: ScramVersion,
-    username: String,
-    salt: [u8; 32],
-    iterations: u32,
-    stored_key: Vec<u8>,
-    server_key: Vec<u8>,
+    stored: StoredScramCredential,
 }
 
 impl Model for SingleScramCredential {
-    ghost use Rattle.std.specs.Prelude.{[], ◌∷◌};
-    ghost use Rattle.std.specs.String.{string_bytes};
     ghost use Rattle.fe2o3_scram.specs.Credentials.{Provider};
 
     ghost Value = { Provider };
 
-    ghost view = { λ credential. record {
-      version = credential.scram_version;
-      records = (
-        string_bytes credential.username,
-        record {
-          salt = credential.salt;
-          count = credential.iterations;
-          stored_key =
-              credential.stored_key.items;
-          server_key = credential.server_key.items;
-        },
-      ) ∷ [];
-    } };
+    ghost view = { λ credential. credential.stored };
 }
 
 impl SingleScramCredential {
@@ -144,24 +145,21 @@ impl SingleScramCredential {
         ensures err { IfErr result (λ kind. (kind ≡ ServerScramErrorKind.NormalizeError)
             ⊎ (kind ≡ ServerScramErrorKind.OutOfMemory)) }
     {
-        let salted_password = scram_version.compute_salted_password(
+        let kept = ScramRecord::from_password(
             alloc,
+            scram_version,
             password,
             &salt,
             DEFAULT_SCRAM_ITERATIONS,
-        )?;
-        let mut meter = Meter::new();
-        let client_key = scram_version.client_key(&salted_password, &mut meter);
-        let stored_key = scram_version.stored_key(client_key.as_slice());
-        let server_key = scram_version.server_key(&salted_password, &mut meter);
-        Ok(Self {
-            scram_version,
-            username,
-            salt,
-            iterations: DEFAULT_SCRAM_ITERATIONS,
-            stored_key: stored_key.as_slice().to_vec(alloc)?,
-            server_key: server_key.as_slice().to_vec(alloc)?,
-        })
+        );
+        match kept {
+            Ok(kept) => Ok(Self {
+                stored: StoredScramCredential::new(username, kept),
+            }),
+            Err(RecordError::NormalizeError) => Err(ServerScramErrorKind::NormalizeError),
+            Err(RecordError::ZeroIterations) => unreachable!(),
+            Err(RecordError::OutOfMemory) => Err(ServerScramErrorKind::OutOfMemory),
+        }
     }
 }
 
@@ -171,7 +169,9 @@ impl fmt::Debug for SingleScramCredential {
         write!(
             f,
             "SingleScramCredential {{ scram_version: {:?}, username: {:?}, iterations: {}, .. }}",
-            self.scram_version, self.username, self.iterations
+            self.stored.scram_version(),
+            self.stored.username(),
+            self.stored.iterations()
         )
     }
 }
@@ -181,12 +181,7 @@ impl Clone for SingleScramCredential {
 
     fn clone(&self) -> Result<Self, AllocError> {
         Ok(Self {
-            scram_version: self.scram_version,
-            username: self.username.clone()?,
-            salt: self.salt,
-            iterations: self.iterations,
-            stored_key: self.stored_key.clone()?,
-            server_key: self.server_key.clone()?,
+            stored: self.stored.clone()?,
         })
     }
 }
@@ -197,18 +192,10 @@ impl ScramCredentialProvider for SingleScramCredential {
     ghost clone_keeps = { λ provider copy same. same };
 
     fn scram_version(&self) -> &ScramVersion {
-        &self.scram_version
+        self.stored.scram_version()
     }
 
     fn get_stored_password<'a>(&'a self, username: &str) -> Option<StoredPassword<'a>> {
-        if self.username.as_str() != username {
-            return None;
-        }
-        Some(StoredPassword {
-            salt: &self.salt,
-            iterations: self.iterations,
-            stored_key: &self.stored_key,
-            server_key: &self.server_key,
-        })
+        self.stored.get_stored_password(username)
     }
 }

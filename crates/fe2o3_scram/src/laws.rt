@@ -2,7 +2,7 @@
 //! statement about every list of bytes, which the check has proved.
 
 ghost use Rattle.std.specs.Prelude.{◌≡◌};
-ghost use Rattle.fe2o3_scram.specs.Laws.{OneVersion, OneFinalText, OneSignature, DigestsAreSized, MacsAreSized, OneBytesOfBase64, Base64IsReadAgain, NoCommaInBase64, PartsExist, OneListOfParts, OneEscapedName, NoCommaInEscapedNames, OneClientFirst, OneServerFirst, OneClientFinal, OneServerFinal, SomeClientFirst, SomeServerFirst, SomeClientFinal, SomeServerFinal, UnalteredExchangesSucceed, MadeRecordsAreReadable, OneRecord, OneSpelling, RecordsAreReadAgain, SomeRecord, KeysStandForPassword, KeysAnswerAsPassword, KeyedClientStarts, KeyedClientAnswers, KeyedClientBelieves};
+ghost use Rattle.fe2o3_scram.specs.Laws.{OneVersion, OneFinalText, OneSignature, DigestsAreSized, MacsAreSized, OneBytesOfBase64, Base64IsReadAgain, NoCommaInBase64, PartsExist, OneListOfParts, OneEscapedName, NoCommaInEscapedNames, OneClientFirst, OneServerFirst, OneClientFinal, OneServerFinal, SomeClientFirst, SomeServerFirst, SomeClientFinal, SomeServerFinal, UnalteredExchangesSucceed, MadeRecordsAreReadable, OneRecord, OneSpelling, RecordsAreReadAgain, SomeRecord, OneUsersAnswer, UsersAreReadAgain, KeysStandForPassword, KeysAnswerAsPassword, KeyedClientStarts, KeyedClientAnswers, KeyedClientBelieves};
 
 use crate::hmac::ScramVersion;
 
@@ -89,4 +89,11 @@ pub fn keyed_clients()
     ensures starts { KeyedClientStarts }
     ensures answers { KeyedClientAnswers }
     ensures believes { KeyedClientBelieves }
+{}
+
+/// Users who can be written are read again from their lines. Each text of lines has at most one
+/// answer: the users that it spells, or its first line that is not read and the fault of that.
+pub fn users_texts()
+    ensures again { UsersAreReadAgain }
+    ensures one { OneUsersAnswer }
 {}

@@ -29,9 +29,9 @@ mod texts;
 
 pub use crate::client_keys::{KeyedClientError, ScramClientKeys};
 pub use crate::credentials::{
-    AddRecordError, DEFAULT_SCRAM_ITERATIONS, RecordError, RecordTextError,
-    ScramCredentialProvider, ScramCredentials, ScramRecord, SingleScramCredential, StoredPassword,
-    StoredScramCredential,
+    AddRecordError, DEFAULT_SCRAM_ITERATIONS, ReadLinesError, ReadLinesErrorKind, RecordError,
+    RecordTextError, ScramCredentialProvider, ScramCredentials, ScramRecord, SingleScramCredential,
+    StoredPassword, StoredScramCredential, WriteLinesError,
 };
 pub use crate::hmac::{DigestBytes, Meter, ScramVersion, UnknownMechanism};
 pub use crate::keyed_scram_client::KeyedScramClient;

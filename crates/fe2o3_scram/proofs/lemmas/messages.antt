@@ -6,6 +6,8 @@ pub mod ExchangeLemmas
 pub mod KeptKeyLemmas
 pub mod OneValueLemmas
 pub mod RecordLawLemmas
+pub mod RecordLinesLawLemmas
+pub mod RecordLinesLemmas
 pub mod RecordTextLemmas
 pub mod ServerFinalLemmas
 pub mod ServerFirstLemmas

@@ -1,14 +1,15 @@
 //! The text of a record (RFC 5803, section 2).
 
 ghost use Rattle.std.specs.Prelude.{◌≡◌, ◌≢◌, ◌⊎◌, ◌↔◌, IsTrue, ℕ, List, length, IfOk, IfErr, MatchOption, string_bytes};
-ghost use Rattle.fe2o3_scram.specs.Credentials.{VersionedRecord};
+ghost use Rattle.fe2o3_scram.specs.Credentials.{VersionedRecord, kept};
 ghost use Rattle.fe2o3_scram.specs.Hmac.{digest_len, mechanism_name};
 ghost use Rattle.fe2o3_scram.specs.Readings.{Gives, IsFirst, NoneHolds};
-ghost use Rattle.fe2o3_scram.specs.RecordText.{ArePlain, Fields, HasFields, NamesRecord, Plain, ReachesValues, ReadsRecord, fields_values, head_tests, record_text, value_tests};
+ghost use Rattle.fe2o3_scram.specs.RecordText.{ArePlain, Fields, HasFields, NamesRecord, Plain, ReachesValues, ReadsRecord, fields_values, head_tests, record_text as text_of_record, value_tests};
 ghost use Rattle.fe2o3_scram.specs.Texts.{IsBase64, IsPlainCount};
 ghost use Rattle.fe2o3_scram.specs.declared.credentials.record_text.RecordTextError.TheVariants.{OutOfMemory as OutOfMemoryError};
 
 use crate::OutOfMemory;
+use crate::credentials::StoredPassword;
 use crate::credentials::scram_record::ScramRecord;
 use crate::hmac::ScramVersion;
 use crate::texts::{base64_len, bytes_of, cut, plain_count_of, push_base64};
@@ -98,28 +99,39 @@ impl ScramRecord {
     ///
     /// `OutOfMemory` is the only refusal.
     pub fn to_text(&self, alloc: Global) -> Result<String, OutOfMemory>
-        ensures { IfOk result (λ text. string_bytes text ≡ record_text self.now) }
+        ensures { IfOk result (λ text. string_bytes text ≡ text_of_record self.now) }
     {
-        let stored_password = self.as_stored_password();
-        let mechanism = self.scram_version().mechanism();
-        let room = mechanism
-            .len()
-            .saturating_add(FIXED_LEN)
-            .saturating_add(base64_len(stored_password.salt.len()))
-            .saturating_add(base64_len(stored_password.stored_key.len()))
-            .saturating_add(base64_len(stored_password.server_key.len()));
-        let mut text = String::with_capacity(alloc, room)?;
-        text.push_str(mechanism)?;
-        text.push_str("$")?;
-        text.write(stored_password.iterations)?;
-        text.push_str(":")?;
-        push_base64(&mut text, stored_password.salt)?;
-        text.push_str("$")?;
-        push_base64(&mut text, stored_password.stored_key)?;
-        text.push_str(":")?;
-        push_base64(&mut text, stored_password.server_key)?;
-        Ok(text)
+        record_text(alloc, *self.scram_version(), &self.as_stored_password())
     }
+}
+
+/// The text of a record of this version.
+pub(crate) fn record_text(
+    alloc: Global,
+    scram_version: ScramVersion,
+    stored_password: &StoredPassword<'_>,
+) -> Result<String, OutOfMemory>
+    ensures { IfOk result (λ text. string_bytes text
+        ≡ text_of_record (record { version = scram_version; stored = kept stored_password.now })) }
+{
+    let mechanism = scram_version.mechanism();
+    let room = mechanism
+        .len()
+        .saturating_add(FIXED_LEN)
+        .saturating_add(base64_len(stored_password.salt.len()))
+        .saturating_add(base64_len(stored_password.stored_key.len()))
+        .saturating_add(base64_len(stored_password.server_key.len()));
+    let mut text = String::with_capacity(alloc, room)?;
+    text.push_str(mechanism)?;
+    text.push_str("$")?;
+    text.write(stored_password.iterations)?;
+    text.push_str(":")?;
+    push_base64(&mut text, stored_password.salt)?;
+    text.push_str("$")?;
+    push_base64(&mut text, stored_password.stored_key)?;
+    text.push_str(":")?;
+    push_base64(&mut text, stored_password.server_key)?;
+    Ok(text)
 }
 
 /// The five fields of the text, with a separator between any two.

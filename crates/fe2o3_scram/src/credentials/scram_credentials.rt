@@ -36,9 +36,9 @@ impl<T: Drop> From<AllocFailed<T>> for AddRecordError {
 
 /// A user and the record of the user's password.
 #[derive(Drop)]
-struct User {
-    username: String,
-    kept: ScramRecord,
+pub(crate) struct User {
+    pub(crate) username: String,
+    pub(crate) kept: ScramRecord,
 }
 
 impl Model for User {
@@ -60,7 +60,7 @@ impl User {
     }
 
     /// What is kept of the user's password.
-    fn stored_password(&self) -> StoredPassword<'_>
+    pub(crate) fn stored_password(&self) -> StoredPassword<'_>
         ensures { kept result ≡ self.now.1 }
     {
         self.kept.as_stored_password()
@@ -81,8 +81,8 @@ impl Clone for User {
 /// The records of several users, all for one version. Of two with one name the first counts.
 #[derive(Drop)]
 pub struct ScramCredentials {
-    scram_version: ScramVersion,
-    users: Vec<User>,
+    pub(crate) scram_version: ScramVersion,
+    pub(crate) users: Vec<User>,
 }
 
 impl Model for ScramCredentials {
@@ -157,22 +157,16 @@ impl ScramCredentialProvider for ScramCredentials {
     }
 
     fn get_stored_password<'a>(&'a self, username: &str) -> Option<StoredPassword<'a>> {
-        look_up(&self.users, username)
+        match first_named(&self.users, username) {
+            Some(user) => Some(user.stored_password()),
+            None => None,
+        }
     }
 }
 
-/// What is kept of the first user with this name.
-fn look_up<'a>(users: &'a [User], username: &str) -> Option<StoredPassword<'a>>
-    ensures { option_map kept result ≡ record_at users.now username.now }
+/// The first user with this name.
+fn first_named<'a>(users: &'a [User], username: &str) -> Option<&'a User>
+    ensures { option_map (λ user. user.now.1) result ≡ record_at users.now username.now }
 {
-    match users {
-        [] => None,
-        [first, rest @ ..] => {
-            if first.is_named(username) {
-                Some(first.stored_password())
-            } else {
-                look_up(rest, username)
-            }
-        }
-    }
+    users.iter().find(|user| user.is_named(username))
 }

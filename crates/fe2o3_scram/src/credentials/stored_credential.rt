@@ -1,7 +1,8 @@
 //! The record of one user as a provider.
 
-ghost use Rattle.std.specs.Prelude.{◌≡◌, [], ◌∷◌};
+ghost use Rattle.std.specs.Prelude.{◌≡◌, ℕ, List, [], ◌∷◌, map};
 ghost use Rattle.std.specs.String.{string_bytes};
+ghost use Rattle.fe2o3_scram.specs.Credentials.{Record};
 
 use crate::credentials::scram_record::ScramRecord;
 use crate::credentials::{ScramCredentialProvider, StoredPassword};
@@ -45,6 +46,20 @@ impl StoredScramCredential {
         } }
     {
         Self { username, kept }
+    }
+
+    /// The user name, plain, and not escaped.
+    pub(crate) fn username(&self) -> &str
+        ensures { map (λ (entry : List ℕ × Record). entry.0) self.now.records ≡ result.now ∷ [] }
+    {
+        &self.username
+    }
+
+    /// The iteration count of the record.
+    pub(crate) fn iterations(&self) -> u32
+        ensures { map (λ (entry : List ℕ × Record). entry.1.count) self.now.records ≡ result ∷ [] }
+    {
+        self.kept.as_stored_password().iterations
     }
 }
 

@@ -29,13 +29,13 @@ use Rattle.fe2o3_scram.proofs.lemmas.texts.DecisionLemmas.{Decided, Found, held,
 
 -- ---- no field of a record holds a separator
 
-without-append : (byte : ℕ) (front back : List ℕ) → Without byte front → Without byte back
+pub without-append : (byte : ℕ) (front back : List ℕ) → Without byte front → Without byte back
     → Without byte (front ++ back)
 without-append byte [] back plain too = too
 without-append byte (x ∷ front) back plain too = (plain.0, without-append byte front back plain.1 too)
 
 -- a literal is without the byte where the test says so
-without-test : (byte : ℕ) (text : List ℕ) → list_all (λ other. not (eqb other byte)) text ≡ true → Without byte text
+pub without-test : (byte : ℕ) (text : List ℕ) → list_all (λ other. not (eqb other byte)) text ≡ true → Without byte text
 without-test byte [] passes = tt
 without-test byte (x ∷ text) passes =
     let both = and_parts (not (eqb x byte)) (list_all (λ other. not (eqb other byte)) text) passes in
@@ -74,7 +74,7 @@ without-encode_symbols byte symbols (a ∷ b ∷ c ∷ bytes) other plain = (
   ),
 )
 
-without-base64_text : (byte : ℕ) (bytes : List ℕ) → 0 ≢ byte → 61 ≢ byte → Without byte alphabet
+pub without-base64_text : (byte : ℕ) (bytes : List ℕ) → 0 ≢ byte → 61 ≢ byte → Without byte alphabet
     → Without byte (base64_text bytes)
 unfolding base64_text
 without-base64_text byte bytes other equals plain =
@@ -90,7 +90,7 @@ plain-base64_text bytes = (
       (without-test 58 alphabet refl),
 )
 
-without-digits : (byte : ℕ) (digits : List ℕ) → (byte < 48) ⊎ (57 < byte) → AllDigits 10 digits
+pub without-digits : (byte : ℕ) (digits : List ℕ) → (byte < 48) ⊎ (57 < byte) → AllDigits 10 digits
     → Without byte digits
 without-digits byte [] apart are = tt
 without-digits byte (x ∷ digits) apart are =

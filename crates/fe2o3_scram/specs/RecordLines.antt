@@ -1,0 +1,84 @@
+-- The text of several users: a line for each, with the name as SCRAM sends it (RFC 5802, section 5.1), a space, and
+-- the text of the record (RFC 5803, section 2).
+use Rattle.std.specs.Prelude.{ℕ, List, [], ◌∷◌, ◌++◌, ◌≡◌, ◌≢◌, ◌≤◌, ◌+◌, length, Result, Ok, Err}
+use Rattle.std.specs.List.{AllByRecursion}
+use Rattle.fe2o3_scram.specs.declared.hmac.ScramVersion.{ScramVersion}
+use Rattle.fe2o3_scram.specs.declared.credentials.record_lines.ReadLinesError.{ReadLinesError}
+use Rattle.fe2o3_scram.specs.declared.credentials.record_lines.ReadLinesErrorKind.{ReadLinesErrorKind}
+use Rattle.fe2o3_scram.specs.declared.credentials.record_lines.ReadLinesErrorKind.TheVariants.{LineFeedMissing, SpaceMissing, InvalidName, InvalidRecord, VersionMismatch}
+use Rattle.fe2o3_scram.specs.Credentials.{Record, Records, VersionedRecord}
+use Rattle.fe2o3_scram.specs.Escape.{escaped}
+use Rattle.fe2o3_scram.specs.Hmac.{digest_len}
+use Rattle.fe2o3_scram.specs.RecordText.{IsReadable, ReadsRecord, record_text}
+use Rattle.fe2o3_scram.specs.Texts.{Cut, Without}
+
+-- the text is cut at the last of these bytes
+abbrev pub LastCut : ℕ → List ℕ → List ℕ → List ℕ → Type 0
+LastCut byte text before rest = Without byte rest × (text ≡ before ++ byte ∷ rest)
+
+-- a user's record, with the version
+abbrev pub record_of_user : ScramVersion → List ℕ × Record → VersionedRecord
+record_of_user version user = record { version = version; stored = user.1 }
+
+-- a user's line, without the line feed behind it
+abbrev pub user_line : ScramVersion → List ℕ × Record → List ℕ
+user_line version user = escaped user.0 ++ 32 ∷ record_text (record_of_user version user)
+
+-- the users' text: each line with a line feed behind it
+abbrev pub users_text : ScramVersion → Records → List ℕ
+users_text version [] = []
+users_text version (user ∷ users) = user_line version user ++ 10 ∷ users_text version users
+
+-- a user that a line can name: no line feed stands in the name, and the record's text is read as the record
+abbrev pub IsLineReadable : ScramVersion → List ℕ × Record → Type 0
+IsLineReadable version user = Without 10 user.0 × IsReadable (record_of_user version user)
+
+-- the text is that of these users
+abbrev pub SpellsUsers : ScramVersion → List ℕ → Records → Type 0
+SpellsUsers version text users = AllByRecursion (IsLineReadable version) users × (text ≡ users_text version users)
+
+-- why a line with a space is not read: its name, then its record, then the version of that
+abbrev pub UserFault : ScramVersion → List ℕ → List ℕ → ReadLinesErrorKind → Type 0
+UserFault version name kept InvalidName = (plain : List ℕ) → escaped plain ≢ name
+UserFault version name kept (InvalidRecord fault) =
+    ((plain : List ℕ) × (escaped plain ≡ name)) × ReadsRecord kept (Err fault)
+UserFault version name kept VersionMismatch = ((plain : List ℕ) × (escaped plain ≡ name))
+    × ((read : VersionedRecord) × ReadsRecord kept (Ok read) × (read.version ≢ version))
+UserFault version name kept kind = ⊥
+
+-- why a line is not read; its last space stands behind the name, since a record's text has none
+abbrev pub LineFault : ScramVersion → List ℕ → ReadLinesErrorKind → Type 0
+LineFault version line SpaceMissing = Without 32 line
+LineFault version line kind =
+    (name : List ℕ) × (kept : List ℕ) × LastCut 32 line name kept × UserFault version name kept kind
+
+-- why no line is read at the head of a text: the text is not empty and has no line feed, or its first line's fault
+abbrev pub HeadFault : ScramVersion → List ℕ → ReadLinesErrorKind → Type 0
+HeadFault version text LineFeedMissing = (text ≢ []) × Without 10 text
+HeadFault version text kind =
+    (line : List ℕ) × (rest : List ℕ) × Cut 10 text line rest × LineFault version line kind
+
+-- the text is that of users up to this line, counted from 1, and the rest of it begins so
+abbrev pub UpToLine : ScramVersion → List ℕ → ℕ → (List ℕ → Type 0) → Type 0
+UpToLine version text line Begins = (users : Records) × (rest : List ℕ)
+    × AllByRecursion (IsLineReadable version) users × (text ≡ users_text version users ++ rest)
+    × (line ≡ length users + 1) × Begins rest
+
+-- what a text says, for records of this version: the users that it spells, or its first line that is not read, and why
+abbrev pub ReadsUsers : ScramVersion → List ℕ → Result Records ReadLinesError → Type 0
+ReadsUsers version text (Ok users) = SpellsUsers version text users
+ReadsUsers version text (Err error) =
+    UpToLine version text error.line (λ (rest : List ℕ). HeadFault version rest error.kind)
+
+-- the text begins with a line that has a space, so that the reader asks for memory
+abbrev pub HasSpacedLine : List ℕ → Type 0
+HasSpacedLine text = (line : List ℕ) × (rest : List ℕ) × Cut 10 text line rest
+    × ((name : List ℕ) × (kept : List ℕ) × LastCut 32 line name kept)
+
+-- a user whose line is written: no line feed stands in the name, the record has a count, and its keys are as long as
+-- a digest
+pub record IsWritable (version : ScramVersion) (user : List ℕ × Record) : Type 0 where
+  pub name : Without 10 user.0
+  pub count : 1 ≤ user.1.count
+  pub stored_key : length user.1.stored_key ≡ digest_len version
+  pub server_key : length user.1.server_key ≡ digest_len version

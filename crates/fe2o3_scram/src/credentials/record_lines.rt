@@ -1,0 +1,298 @@
+//! The records of several users as the lines of a text.
+
+ghost use Rattle.std.specs.Prelude.{◌≡◌, ◌≢◌, ◌↔◌, ◌⊎◌, ◌<◌, ◌+◌, ◌++◌, [], ◌∷◌, ℕ, List, IsTrue, IfOk, IfErr, OnOk, MatchOption, length, string_bytes};
+ghost use Rattle.std.specs.List.{AllByRecursion};
+ghost use Rattle.fe2o3_scram.specs.Credentials.{Record, VersionedRecord};
+ghost use Rattle.fe2o3_scram.specs.Escape.{escaped};
+ghost use Rattle.fe2o3_scram.specs.RecordLines.{HasSpacedLine, HeadFault, IsLineReadable, IsWritable, LastCut, LineFault, ReadsUsers, SpellsUsers, UpToLine, UserFault, user_line, users_text};
+ghost use Rattle.fe2o3_scram.specs.RecordText.{ReadsRecord};
+ghost use Rattle.fe2o3_scram.specs.Texts.{Without};
+ghost use Rattle.fe2o3_scram.specs.declared.credentials.record_lines.ReadLinesErrorKind.TheVariants.{OutOfMemory as OutOfMemoryKind};
+ghost use Rattle.fe2o3_scram.specs.declared.credentials.record_lines.WriteLinesError.TheVariants.{OutOfMemory as OutOfMemoryError};
+
+use crate::OutOfMemory;
+use crate::credentials::record_text::{RecordTextError, record_text};
+use crate::credentials::scram_credentials::{ScramCredentials, User};
+use crate::credentials::scram_record::ScramRecord;
+use crate::hmac::ScramVersion;
+use crate::scram_messages::escape::{UnescapeError, push_escaped, unescape_username};
+use crate::texts::cut;
+use std::alloc::{AllocError, AllocFailed, Global};
+use thiserror::Error;
+
+/// Why a line is not read as a user's.
+#[derive(Debug, Clone, Copy, PartialEq, Eq, Error)]
+pub enum ReadLinesErrorKind {
+    /// No line feed ends the line, which is the last.
+    #[error("Line feed missing")]
+    LineFeedMissing,
+
+    /// No space stands in the line.
+    #[error("Space missing")]
+    SpaceMissing,
+
+    /// What stands before the last space is no escaped name.
+    #[error("Cannot parse username")]
+    InvalidName,
+
+    /// What stands behind the last space is no record.
+    #[error("{0}")]
+    InvalidRecord(RecordTextError),
+
+    /// The record is for another version than the one that was asked for.
+    #[error("Version mismatch")]
+    VersionMismatch,
+
+    /// A request for memory was refused.
+    #[error("Out of memory")]
+    OutOfMemory,
+}
+
+/// The first line that is not read, and why.
+#[derive(Debug, Clone, Copy, PartialEq, Eq, Error)]
+#[error("Line {line}: {kind}")]
+pub struct ReadLinesError {
+    /// The line, counted from 1.
+    pub line: usize,
+
+    /// What is wrong with it.
+    pub kind: ReadLinesErrorKind,
+}
+
+/// Why users are not written as lines.
+#[derive(Debug, Clone, Copy, PartialEq, Eq, Error)]
+pub enum WriteLinesError {
+    /// A user whose line would not be read again: a line feed stands in the name, the count is 0, or
+    /// a key is not as long as a digest.
+    #[error("User not writable")]
+    UserNotWritable,
+
+    /// A request for memory was refused.
+    #[error("Out of memory")]
+    OutOfMemory,
+}
+
+impl From<AllocError> for ReadLinesErrorKind {
+    ghost from_gives = { λ _ error. error ≡ OutOfMemoryKind };
+
+    fn from(_error: AllocError) -> Self {
+        ReadLinesErrorKind::OutOfMemory
+    }
+}
+
+impl<T: Drop> From<AllocFailed<T>> for ReadLinesErrorKind {
+    ghost from_gives = { λ _ error. error ≡ OutOfMemoryKind };
+
+    fn from(_error: AllocFailed<T>) -> Self {
+        ReadLinesErrorKind::OutOfMemory
+    }
+}
+
+impl From<AllocError> for WriteLinesError {
+    ghost from_gives = { λ _ error. error ≡ OutOfMemoryError };
+
+    fn from(_error: AllocError) -> Self {
+        WriteLinesError::OutOfMemory
+    }
+}
+
+impl ScramCredentials {
+    /// Reads a text with a line for each user: the name, with each comma as `=2C` and each equals
+    /// sign as `=3D` (RFC 5802, section 5.1), a space, the text of the record (RFC 5803, section 2),
+    /// and a line feed. The users stand in the order of their lines. A name may be empty and may
+    /// hold spaces: the last space of a line is the one behind the name. The empty text has no user.
+    ///
+    /// Refused is the first line that is not such a line, by its number from 1 and the first of:
+    /// `LineFeedMissing`, `SpaceMissing`, `InvalidName`, `InvalidRecord` with what `ScramRecord::parse`
+    /// refuses, `VersionMismatch` where the record is for another version than this. `OutOfMemory`
+    /// is answered only for a line with a line feed and a space, behind lines that are read.
+    pub fn parse_lines(
+        alloc: Global,
+        scram_version: ScramVersion,
+        text: &str,
+    ) -> Result<Self, ReadLinesError>
+        ensures ok { IfOk result (λ store. (store.version ≡ scram_version)
+            × SpellsUsers scram_version text.now store.records) }
+        ensures err { IfErr result (λ error. error.kind ≢ ReadLinesErrorKind.OutOfMemory
+            → ReadsUsers scram_version text.now (Err error)) }
+        ensures memory { IfErr result (λ error. error.kind ≡ ReadLinesErrorKind.OutOfMemory
+            → UpToLine scram_version text.now error.line HasSpacedLine) }
+    {
+        let mut store = Self::new(alloc, scram_version);
+        let mut rest = text;
+        while !rest.is_empty() {
+            match store.read_line(alloc, rest) {
+                Ok(more) => rest = more,
+                Err(kind) => {
+                    let line = store.users.len() + 1;
+                    return Err(ReadLinesError { line, kind });
+                }
+            }
+        }
+        Ok(store)
+    }
+
+    /// Reads the first line of a text that is not empty, adds its user behind the others, and hands
+    /// out what follows the line.
+    fn read_line<'a>(&mut self, alloc: Global, text: &'a str) -> Result<&'a str, ReadLinesErrorKind>
+        requires { text.now ≢ [] }
+        ensures ok { IfOk result (λ rest. (user : List ℕ × Record) × IsLineReadable self.old.version user
+            × (text.now ≡ user_line self.old.version user ++ 10 ∷ rest.now)
+            × (self.new ≡ record { version = self.old.version; records = self.old.records ++ (user ∷ []) })) }
+        ensures err { IfErr result (λ kind. kind ≢ ReadLinesErrorKind.OutOfMemory
+            → HeadFault self.old.version text.now kind) }
+        ensures memory { IfErr result (λ kind. kind ≡ ReadLinesErrorKind.OutOfMemory → HasSpacedLine text.now) }
+        ensures unchanged { IfErr result (λ _. self.new ≡ self.old) }
+    {
+        let Some((line, rest)) = cut(text, '\n') else {
+            return Err(ReadLinesErrorKind::LineFeedMissing);
+        };
+        let user = read_user(alloc, self.scram_version, line)?;
+        self.users.push(user)?;
+        Ok(rest)
+    }
+
+    /// The users' text in UTF-8, a line for each, in one spelling. It is read again by `parse_lines`.
+    ///
+    /// Refused are `UserNotWritable`, exactly where a line feed stands in a user's name or a record
+    /// has the count 0 or a key that is not as long as a digest, and `OutOfMemory`.
+    pub fn to_lines(&self, alloc: Global) -> Result<Vec<u8>, WriteLinesError>
+        ensures ok { IfOk result (λ text. text.items ≡ users_text self.now.version self.now.records) }
+        ensures refused { (result ≡ Err WriteLinesError.UserNotWritable)
+            ↔ ¬ AllByRecursion (IsWritable self.now.version) self.now.records }
+    {
+        if !are_writable(&self.users, self.scram_version) {
+            return Err(WriteLinesError::UserNotWritable);
+        }
+        let mut text = Vec::new(alloc);
+        push_users(alloc, &mut text, &self.users, self.scram_version)?;
+        Ok(text)
+    }
+}
+
+/// What stands before the last separator, which is ASCII, and what follows it.
+fn last_cut(text: &str, separator: char) -> Option<(&str, &str)>
+    requires { separator < 128 }
+    ensures { MatchOption result ((before rest : List ℕ) → ¬ LastCut separator text.now before rest)
+        (λ both. LastCut separator text.now both.0.now both.1.now) }
+{
+    text.rsplit_once(separator)
+}
+
+/// The user of a line, which stands here without its line feed.
+fn read_user(
+    alloc: Global,
+    scram_version: ScramVersion,
+    line: &str,
+) -> Result<User, ReadLinesErrorKind>
+    requires { Without 10 line.now }
+    ensures ok { IfOk result (λ user. IsLineReadable scram_version user × (line.now ≡ user_line scram_version user)) }
+    ensures err { IfErr result (λ kind. kind ≢ ReadLinesErrorKind.OutOfMemory → LineFault scram_version line.now kind) }
+    ensures memory { IfErr result (λ kind. kind ≡ ReadLinesErrorKind.OutOfMemory
+        → (name : List ℕ) × (kept : List ℕ) × LastCut 32 line.now name kept) }
+    ensures spaced { IfOk result (λ _. (name : List ℕ) × (kept : List ℕ) × LastCut 32 line.now name kept) }
+{
+    let Some((name, kept)) = last_cut(line, ' ') else {
+        return Err(ReadLinesErrorKind::SpaceMissing);
+    };
+    let username = read_name(alloc, name)?;
+    let kept = read_record(alloc, kept)?;
+    if *kept.scram_version() != scram_version {
+        return Err(ReadLinesErrorKind::VersionMismatch);
+    }
+    Ok(User { username, kept })
+}
+
+/// The name that is escaped so.
+fn read_name(alloc: Global, name: &str) -> Result<String, ReadLinesErrorKind>
+    ensures ok { IfOk result (λ plain. escaped (string_bytes plain) ≡ name.now) }
+    ensures err { IfErr result (λ kind. (kind ≡ ReadLinesErrorKind.OutOfMemory)
+        ⊎ ((kind ≡ ReadLinesErrorKind.InvalidName) × ((plain : List ℕ) → escaped plain ≢ name.now))) }
+{
+    match unescape_username(alloc, name) {
+        Ok(plain) => Ok(plain.into_owned(alloc)?),
+        Err(UnescapeError::Invalid) => Err(ReadLinesErrorKind::InvalidName),
+        Err(UnescapeError::OutOfMemory) => Err(ReadLinesErrorKind::OutOfMemory),
+    }
+}
+
+/// The record that is written so.
+fn read_record(alloc: Global, text: &str) -> Result<ScramRecord, ReadLinesErrorKind>
+    ensures ok { IfOk result (λ read. ReadsRecord text.now (Ok read)) }
+    ensures err { IfErr result (λ kind. (kind ≡ ReadLinesErrorKind.OutOfMemory)
+        ⊎ ((fault : RecordTextError) × (kind ≡ ReadLinesErrorKind.InvalidRecord fault) × ReadsRecord text.now (Err fault))) }
+{
+    match ScramRecord::parse(alloc, text) {
+        Ok(read) => Ok(read),
+        Err(RecordTextError::OutOfMemory) => Err(ReadLinesErrorKind::OutOfMemory),
+        Err(fault) => Err(ReadLinesErrorKind::InvalidRecord(fault)),
+    }
+}
+
+impl User {
+    /// Whether the user's line is read again, by a reader of this version.
+    fn is_writable(&self, scram_version: ScramVersion) -> bool
+        ensures { IsTrue result ↔ IsWritable scram_version self.now }
+    {
+        let kept = self.stored_password();
+        let digest_len = scram_version.digest_len();
+        has_no_line_feed(&self.username)
+            && kept.iterations != 0
+            && kept.stored_key.len() == digest_len
+            && kept.server_key.len() == digest_len
+    }
+
+    /// Writes the user's line at the end of the text, and its line feed.
+    fn push_line(
+        &self,
+        alloc: Global,
+        text: &mut Vec<u8>,
+        scram_version: ScramVersion,
+    ) -> Result<(), OutOfMemory>
+        ensures { OnOk result (text.new.items ≡ text.old.items ++ (user_line scram_version self.now ++ (10 ∷ []))) }
+    {
+        let kept = record_text(alloc, scram_version, &self.stored_password())?;
+        push_escaped(text, self.username.as_bytes())?;
+        text.push(b' ')?;
+        text.extend_from_slice(kept.as_bytes())?;
+        text.push(b'\n')?;
+        Ok(())
+    }
+}
+
+/// Whether no line feed stands in the name.
+#[tactic(auto, using(crate::proofs::lemmas::texts::CutLemmas::cuts))]
+fn has_no_line_feed(name: &str) -> bool
+    ensures { IsTrue result ↔ Without 10 name.now }
+{
+    cut(name, '\n').is_none()
+}
+
+/// Whether each user's line is read again.
+#[tactic(auto, using(crate::proofs::lemmas::messages::RecordLinesLemmas::each_user))]
+fn are_writable(users: &[User], scram_version: ScramVersion) -> bool
+    ensures { IsTrue result ↔ AllByRecursion (IsWritable scram_version) users.now }
+{
+    for user in users {
+        if !user.is_writable(scram_version) {
+            return false;
+        }
+    }
+    true
+}
+
+/// Writes the users' lines at the end of the text.
+#[tactic(auto, using(crate::proofs::lemmas::messages::RecordLinesLemmas::writing))]
+fn push_users(
+    alloc: Global,
+    text: &mut Vec<u8>,
+    users: &[User],
+    scram_version: ScramVersion,
+) -> Result<(), OutOfMemory>
+    ensures { OnOk result (text.new.items ≡ text.old.items ++ users_text scram_version users.now) }
+{
+    for user in users {
+        user.push_line(alloc, text, scram_version)?;
+    }
+    Ok(())
+}
