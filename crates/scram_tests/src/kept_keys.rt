@@ -147,7 +147,7 @@ fn an_answer_hands_out_its_keys(rt: HostRuntime) -> Result<(), Fail> {
     for kept in &KEPT {
         let exchange = &kept.exchange;
         let mut meter = Meter::new();
-        let ((client_final, _), keys) = exchange.version.compute_client_final_message_and_keys(
+        let (answer, keys) = exchange.version.compute_client_final_message_and_keys(
             alloc,
             exchange.client_nonce,
             "pencil",
@@ -156,6 +156,7 @@ fn an_answer_hands_out_its_keys(rt: HostRuntime) -> Result<(), Fail> {
             4096,
             &mut meter,
         )?;
+        let (client_final, _) = answer;
         assert_eq!(rt; str::from_utf8(&client_final)?, exchange.client_final);
         assert_eq!(rt; (kept.are(alloc, &keys)?, meter.count()), (true, 4100));
     }
