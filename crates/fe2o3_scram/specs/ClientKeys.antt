@@ -56,8 +56,8 @@ AreSized keys =
 abbrev pub Fits : ClientKeys → ServerFirst → Type 0
 Fits keys first = (first.salt ≡ keys.salt) × (first.count ≡ keys.count)
 
--- the answer by a ClientKey and a ServerKey to a server-first message (RFC 5802, section 3), from what stands before the
--- proof of it; the messages stand in the proof as they were sent
+-- the answer by a ClientKey and a ServerKey to a server-first message (RFC 5802, section 3), from what stands before
+-- the proof of it; the messages stand in the proof as they were sent
 abbrev pub answer_by : ScramVersion → List ℕ → List ℕ → List ℕ → List ℕ → List ℕ → Answer
 answer_by version client server bare text without =
     let auth = auth_message bare text without in

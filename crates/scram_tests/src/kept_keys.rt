@@ -70,9 +70,9 @@ impl Kept {
         Ok(
             keys.scram_version() == self.exchange.version
                 && keys.iterations() == 4096
-                && salt == self.salt
-                && client_key == self.client_key
-                && server_key == self.server_key,
+                && salt.as_str() == self.salt
+                && client_key.as_str() == self.client_key
+                && server_key.as_str() == self.server_key,
         )
     }
 
@@ -147,7 +147,7 @@ fn an_answer_hands_out_its_keys(rt: HostRuntime) -> Result<(), Fail> {
     for kept in &KEPT {
         let exchange = &kept.exchange;
         let mut meter = Meter::new();
-        let ((client_final, _), keys) = exchange.version.compute_client_final_message_and_keys(
+        let (answer, keys) = exchange.version.compute_client_final_message_and_keys(
             alloc,
             exchange.client_nonce,
             "pencil",
@@ -156,11 +156,16 @@ fn an_answer_hands_out_its_keys(rt: HostRuntime) -> Result<(), Fail> {
             4096,
             &mut meter,
         )?;
+        let (client_final, _) = answer;
         assert_eq!(rt; str::from_utf8(&client_final)?, exchange.client_final);
         assert_eq!(rt; (kept.are(alloc, &keys)?, meter.count()), (true, 4100));
     }
     Ok(())
 }
+
+/// The server-first message of RFC 7677, section 3.
+const FIRST_OF_RFC_7677: &str = "r=rOprNGfwEbeRWgbNEkqO%hvYDpWUa2RaTCAfuxFIlj)hNlF$k0,\
+    s=W22ZaJ0SNY7soEsUEjb6gQ==,i=4096";
 
 /// The salt and the count that the keys of RFC 7677 are said to be of, the server-first message, the
 /// limit, and the refusal.
@@ -168,28 +173,28 @@ static REFUSALS: [(&str, u32, &str, u32, KeyedClientError); 7] = [
     (
         "W22ZaJ0SNY7soEsUEjb6gA==",
         4096,
-        SHA_256.server_first,
+        FIRST_OF_RFC_7677,
         4096,
         KeyedClientError::OtherKeys,
     ),
     (
         "W22ZaJ0SNY7soEsUEjb6",
         4096,
-        SHA_256.server_first,
+        FIRST_OF_RFC_7677,
         4096,
         KeyedClientError::OtherKeys,
     ),
     (
         "W22ZaJ0SNY7soEsUEjb6gQ==",
         4095,
-        SHA_256.server_first,
+        FIRST_OF_RFC_7677,
         4096,
         KeyedClientError::OtherKeys,
     ),
     (
         "W22ZaJ0SNY7soEsUEjb6gQ==",
         4097,
-        SHA_256.server_first,
+        FIRST_OF_RFC_7677,
         4096,
         KeyedClientError::OtherKeys,
     ),
@@ -197,7 +202,7 @@ static REFUSALS: [(&str, u32, &str, u32, KeyedClientError); 7] = [
     (
         "AAAA",
         1,
-        SHA_256.server_first,
+        FIRST_OF_RFC_7677,
         4095,
         KeyedClientError::Scram(ScramErrorKind::IterationCountTooLarge),
     ),
@@ -262,14 +267,14 @@ fn the_keys_are_not_shown(rt: HostRuntime) -> Result<(), Fail> {
     let keys = KEPT[1].keys(alloc, "W22ZaJ0SNY7soEsUEjb6gQ==", 4096)?;
     let shown = format!(in alloc; "{keys:?}")?;
     assert_eq!(rt;
-        shown,
+        shown.as_str(),
         "ScramClientKeys { scram_version: Sha256, iterations: 4096, .. }"
     );
     let client = KeyedScramClient::new("user".to_string(alloc)?, keys);
     let shown = format!(in alloc; "{client:?}")?;
     let wanted =
         "KeyedScramClient { username: \"user\", scram: Sha256, iteration_limit: 4294967295, .. }";
-    assert_eq!(rt; shown, wanted);
+    assert_eq!(rt; shown.as_str(), wanted);
     Ok(())
 }
 

@@ -106,7 +106,8 @@ moved : (side next : KeyedSide) (state : ClientState) (password : List ℕ) → 
     → with_password next password ≡ with_password (keyed_in side state) password
 moved side next state password is = ap (λ (after : KeyedSide). with_password after password) is
 
-kept : (side next : KeyedSide) (password : List ℕ) → next ≡ side → with_password next password ≡ with_password side password
+kept : (side next : KeyedSide) (password : List ℕ) → next ≡ side
+    → with_password next password ≡ with_password side password
 kept side next password is = ap (λ (after : KeyedSide). with_password after password) is
 
 same_fault : (fault other : ScramErrorKind) → ◌≡◌ {A = KeyedClientError} (Scram fault) (Scram other) → fault ≡ other
