@@ -22,6 +22,9 @@ pub use Rattle.fe2o3_scram.specs.Hmac
 pub use Rattle.fe2o3_scram.specs.Pbkdf2Hi
 pub use Rattle.fe2o3_scram.specs.Keys
 pub use Rattle.fe2o3_scram.specs.Credentials
+pub use Rattle.fe2o3_scram.specs.Stores
+pub use Rattle.fe2o3_scram.specs.RecordText
+pub use Rattle.fe2o3_scram.specs.RecordLines
 pub use Rattle.fe2o3_scram.specs.Readings
 pub use Rattle.fe2o3_scram.specs.Error
 pub use Rattle.fe2o3_scram.specs.ClientFirst

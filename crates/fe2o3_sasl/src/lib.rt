@@ -30,7 +30,9 @@ pub use crate::sasl_profile::{
     UrlError,
 };
 pub use fe2o3_scram::credentials::{
-    DEFAULT_SCRAM_ITERATIONS, ScramCredentialProvider, SingleScramCredential, StoredPassword,
+    AddRecordError, DEFAULT_SCRAM_ITERATIONS, ReadLinesError, ReadLinesErrorKind, RecordError,
+    RecordTextError, ScramCredentialProvider, ScramCredentials, ScramRecord, SingleScramCredential,
+    StoredPassword, StoredScramCredential, WriteLinesError,
 };
 pub use fe2o3_scram::hmac::{DigestBytes, Meter, ScramVersion, UnknownMechanism};
 pub use fe2o3_scram::keys::auth_message;

@@ -65,13 +65,13 @@ impl fmt::Debug for StoredPassword<'_> {
 ///
 /// ```text
 /// fn record_of<'a>(records: &'a BTreeMap<String, ScramRecord>, username: &str) -> Option<&'a ScramRecord>
-///     ensures { option_map (λ record. record.now.stored) result ≡ record_at (records_in
+///     ensures { option_map (λ found. found.now.stored) result ≡ record_at (records_in
 ///         (λ entry. string_bytes entry.0) (λ entry. entry.1.stored) records.now.entries) username.now }
 /// {
 ///     records.get(username)
 /// }
 ///
-/// returns c = btree_map_looked_up string_bytes (λ (record : VersionedRecord). record.stored)
+/// returns c = btree_map_looked_up string_bytes (λ (kept : VersionedRecord). kept.stored)
 ///     c.args.records.now.entries c.args.username.now c.get.result c.get.ensures.value
 /// ```
 pub trait ScramCredentialProvider: Clone {
