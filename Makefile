@@ -11,5 +11,6 @@ demo:
 # The merge gate: the programs that the borrow checker has to refuse; then every proof from nothing,
 # the must-fail edits, the tests and the programs.
 test:
+	sh tools/quoted.sh
 	sh tools/refused.sh
 	rt ci
