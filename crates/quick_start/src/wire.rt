@@ -39,12 +39,12 @@ pub fn send(output: &mut BytesMut, body: &[u8]) -> Result<()>
 /// Takes the body of the next frame from what has come, or `None` while the frame is not whole. A
 /// size above 512 or below 8 is refused before anything is read.
 pub fn receive(alloc: Global, input: &mut BytesMut) -> Result<Option<Vec<u8>>> {
-    let Some((size, rest)) = input.as_slice().split_first_chunk::<4>() else {
+    let Some((size, _)) = input.as_slice().split_first_chunk::<4>() else {
         return Ok(None);
     };
     let size = u32::from_be_bytes(*size) as usize;
     ensure!((8..=512).contains(&size), "a frame of {size} bytes");
-    let Some(body) = rest.get(..size - 4) else {
+    let Some(body) = input.as_slice().get(4..size) else {
         return Ok(None);
     };
     let body = body.to_vec(alloc)?;
