@@ -25,6 +25,7 @@ check:
 # the must-fail edits, the tests and the programs.
 test:
 	@tools/progress $$PPID &
+	sh tools/quoted.sh
 	sh tools/refused.sh
 	rt ci
 

@@ -1,0 +1,82 @@
+//! The broker's side of a login, and a client's.
+
+use crate::accounts::{Account, Accounts};
+use anyhow::{Context, Result};
+use fe2o3_scram::{ScramAuthenticator, ScramClient, ScramRecord, ScramVersion};
+use std::alloc::Global;
+use std::rc::Rc;
+
+/// The accounts as they are kept: a name, a record's text, and how many sessions the user may open.
+static KEPT: [(&str, &str, u32); 2] = [
+    (
+        "user",
+        "SCRAM-SHA-256$4096:+JH2W68K7GjfMP0LX43J0w==$BWDYt7JIe5bgxedNkST7Cp4q/eiYnxJvFUdthbN4rsA=:\
+            N1M1QURGjAh4ce7CvsAbYSXgOHtbNACLHcXTskAJ1zM=",
+        2,
+    ),
+    (
+        "smith, john",
+        "SCRAM-SHA-256$4096:LqFonbE81Ze9fqCYIGg8zg==$/4NZ0wizFbtnc1JPSkOd0l2twYoWztQiLhdoI3Cf3zQ=:\
+            RGYFY+e+u7uHIF3UEjaaiwKnWlCXpZUvQkZVf0FIu+A=",
+        5,
+    ),
+];
+
+/// The accounts as they are kept. No proof looks into them.
+fn kept() -> &'static [(&'static str, &'static str, u32)] {
+    &KEPT
+}
+
+/// The accounts, which all connections share.
+pub fn accounts(alloc: Global) -> Result<Rc<Accounts>> {
+    let mut accounts = Accounts::new(alloc, ScramVersion::Sha256);
+    for (name, text, sessions) in kept() {
+        accounts.add(Account {
+            name: name.to_string(alloc)?,
+            kept: ScramRecord::parse(alloc, text)?,
+            sessions: *sessions,
+        })?;
+    }
+    Ok(Rc::new(alloc, accounts)?)
+}
+
+/// The server of one connection.
+type Server = ScramAuthenticator<Rc<Accounts>>;
+
+/// A client's login on a connection of its own, and how many sessions it may then open.
+pub fn log_in(alloc: Global, accounts: &Rc<Accounts>, name: &str, password: &str) -> Result<u32> {
+    let mut server = ScramAuthenticator::new(accounts.clone()?);
+    let mut client = client(alloc, name, password)?;
+    exchange(alloc, &mut client, &mut server)?;
+    let account = accounts.account(name).context("no account")?;
+    Ok(account.sessions)
+}
+
+/// A client, which computes no more than 100,000 iterations for any server.
+fn client(alloc: Global, name: &str, password: &str) -> Result<ScramClient> {
+    let name = name.to_string(alloc)?;
+    let password = password.to_string(alloc)?;
+    Ok(ScramClient::new(name, password, ScramVersion::Sha256).with_iteration_limit(100_000))
+}
+
+/// The four messages. Nonces are made of random bytes, here of fixed ones.
+fn exchange(alloc: Global, client: &mut ScramClient, server: &mut Server) -> Result<()> {
+    let client_first = client.compute_client_first_message(alloc, &[1; 32])?;
+    let server_first = challenge(alloc, server, &client_first)?;
+    let client_final = client.compute_client_final_message(alloc, str::from_utf8(&server_first)?)?;
+    let server_final = conclude(alloc, server, &client_final)?;
+    client.validate_server_final(alloc, &server_final)?;
+    Ok(())
+}
+
+/// The server's first message, to a user whom the broker knows.
+fn challenge(alloc: Global, server: &mut Server, client_first: &[u8]) -> Result<Vec<u8>> {
+    let challenge = server.compute_server_first_message(alloc, client_first, &[2; 32])?;
+    challenge.context("unknown user")
+}
+
+/// The server's last message, to a client whose proof meets the stored key.
+fn conclude(alloc: Global, server: &mut Server, client_final: &[u8]) -> Result<Vec<u8>> {
+    let signature = server.compute_server_final_message(alloc, client_final)?;
+    signature.context("no answer")
+}

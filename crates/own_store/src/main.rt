@@ -1,0 +1,51 @@
+//! A broker that logs its users in from a store of its own: each record as PostgreSQL 15 writes it,
+//! and what the user may do beside it.
+#![tactic(auto)]
+
+mod accounts;
+mod broker;
+
+use crate::accounts::Accounts;
+use crate::broker::log_in;
+use anyhow::Result;
+use std::alloc::Global;
+use std::io;
+use std::io::Write;
+use std::rc::Rc;
+
+/// Names and passwords that are tried.
+static TRIES: [(&str, &str); 4] = [
+    ("user", "pencil"),
+    ("smith, john", "x"),
+    ("user", "crayon"),
+    ("nobody", "pencil"),
+];
+
+/// What is tried. No proof looks into it.
+fn tries() -> &'static [(&'static str, &'static str)] {
+    &TRIES
+}
+
+/// Tries to log in, and prints what comes of it.
+fn report<W: Write>(
+    alloc: Global,
+    accounts: &Rc<Accounts>,
+    name: &str,
+    password: &str,
+    output: &mut W,
+) -> Result<()> {
+    match log_in(alloc, accounts, name, password) {
+        Ok(sessions) => writeln!(output, "{name}: logged in, with {sessions} sessions")?,
+        Err(error) => writeln!(output, "{name}: refused, {error}")?,
+    }
+    Ok(())
+}
+
+fn main(rt: HostRuntime) -> Result<()> {
+    let mut output = io::writer(&rt);
+    let accounts = broker::accounts(rt.alloc())?;
+    for (name, password) in tries() {
+        report(rt.alloc(), &accounts, name, password, &mut output)?;
+    }
+    Ok(())
+}

@@ -1,0 +1,84 @@
+//! A login over frame bodies in memory, which keeps what each side was given.
+
+use crate::{client, server};
+use anyhow::{Result, bail};
+use bytes::BytesMut;
+use fe2o3_sasl::{Event, SaslAcceptorExt, SaslProfile};
+use fe2o3_sasl_wire::{Frame, FrameCodec};
+use std::alloc::Global;
+
+/// The bodies that each side of a connection was given, in order.
+#[derive(Drop)]
+pub struct Transcript {
+    /// Those of the client.
+    pub client: Vec<Event>,
+
+    /// Those of the server.
+    pub server: Vec<Event>,
+}
+
+/// The body that the server sends first: the names of its mechanisms.
+pub fn offer(alloc: Global, server: &server::Server) -> Result<Vec<u8>> {
+    let mechanisms = server.sasl_mechanisms(alloc)?;
+    let mut body = BytesMut::new(alloc);
+    (FrameCodec {}).encode(Frame::Mechanisms(mechanisms), &mut body)?;
+    Ok(body.into_vec()?)
+}
+
+/// A login, from the first body to the client's end.
+pub fn log_in(alloc: Global) -> Result<Transcript> {
+    let mut client = client::new_client(alloc)?;
+    let mut server = server::new_server(alloc, [3; 32])?;
+    let mut given = Transcript {
+        client: Vec::new(alloc),
+        server: Vec::new(alloc),
+    };
+    carry(alloc, &mut client, &mut server, &mut given)?;
+    Ok(given)
+}
+
+/// Carries bodies from side to side until the client is logged in.
+fn carry(
+    alloc: Global,
+    client: &mut SaslProfile,
+    server: &mut server::Server,
+    given: &mut Transcript,
+) -> Result<()> {
+    let mut body = offer(alloc, server)?;
+    for _ in 0..3 {
+        let Some(answer) = to_client(alloc, client, given, body)? else {
+            return Ok(());
+        };
+        body = to_server(alloc, server, given, answer)?;
+    }
+    bail!("no outcome")
+}
+
+/// Gives the client a body. A nonce is 32 random bytes, fresh for each event, here a fixed one, so
+/// that the login is the same at each run.
+fn to_client(
+    alloc: Global,
+    client: &mut SaslProfile,
+    given: &mut Transcript,
+    body: Vec<u8>,
+) -> Result<Option<Vec<u8>>> {
+    let nonce = [1; 32];
+    let event = Event { body, nonce };
+    let answer = client::answer(alloc, client, &event)?;
+    given.client.push(event)?;
+    Ok(answer)
+}
+
+/// Gives the server a body, with a nonce of its own.
+fn to_server(
+    alloc: Global,
+    server: &mut server::Server,
+    given: &mut Transcript,
+    body: Vec<u8>,
+) -> Result<Vec<u8>> {
+    let nonce = [2; 32];
+    let event = Event { body, nonce };
+    let (answer, _) = server::answer(alloc, server, &event)?;
+    given.server.push(event)?;
+    Ok(answer)
+}
