@@ -1,0 +1,23 @@
+"""Compares counts with the stored ones: fails where one of the library grew by more than 2 %."""
+import sys
+
+
+def read(path):
+    with open(path, encoding="utf-8") as lines:
+        return {tuple(line.split()[:2]): int(line.split()[2]) for line in lines if line.strip()}
+
+
+stored, now = read(sys.argv[1]), read(sys.argv[2])
+grown = 0
+for key, count in now.items():
+    old = stored.get(key)
+    note = "" if old is None or old == count else f"   was {old}"
+    if key[1] == "library" and old is not None and count * 100 > old * 102:
+        note += "   GREW"
+        grown += 1
+    print(f"{key[0]:30} {key[1]:18} {count:10}{note}")
+missing = [key for key in stored if key not in now and key[1] == "library"]
+for key in missing:
+    print(f"{key[0]:30} {key[1]:18}   missing")
+print(f"{len(now)} counts, {grown} grew by more than 2 %, {len(missing)} missing")
+sys.exit(1 if grown or missing else 0)
