@@ -7,6 +7,6 @@ def dumps(path):
         for line in lines:
             if line.startswith("desc: Trigger: Client Request: "):
                 name = line.split(": ", 3)[3].strip()
-            elif line.startswith("summary: ") and name is not None:
+            elif line.startswith("totals: ") and name is not None:
                 yield name, int(line.split()[1])
                 name = None

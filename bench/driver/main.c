@@ -20,18 +20,22 @@
 
 static int begins(const char *name, const char *prefix) { return !strncmp(name, prefix, strlen(prefix)); }
 
-/* Time. */
-static double timed_run(const struct job *job, enum who who, int *good) {
+/* Time: of the job, and of its preparation alone, which is taken off. */
+struct round {
+    double whole, none;
+};
+static struct round timed_run(const struct job *job, enum who who, int *good) {
+    struct round round = {0, 0};
     own_time = -1;
     double start = thread_time();
     size_t all = job->run(job, who, job->times);
-    double spent = thread_time() - start;
+    round.whole = own_time >= 0 ? own_time : thread_time() - start;
     *good = *good && all < REFUSED;
-    if (own_time >= 0) return own_time / job->times / job->units;
-    own_time = -1;
+    if (own_time >= 0) return round;
     start = thread_time();
     job->run(job, who, 0);
-    return (spent - (thread_time() - start)) / job->times / job->units;
+    round.none = thread_time() - start;
+    return round;
 }
 static int compare(const void *a, const void *b) {
     double x = *(const double *)a, y = *(const double *)b;
@@ -41,23 +45,32 @@ static int same_answer(const struct job *job, enum who who, const struct text *w
     if (who == BLOCKS || who == BLOCKS_SOFT || who >= POSTGRES) return 1;
     return !begins(job->name, "h") || !memcmp(wanted->bytes, answered.bytes, digest_len(job->which));
 }
+/* The least, or the median, of a unit: each of the whole and of the preparation by itself. */
+static double of_rounds(const struct job *job, const struct round *all, int rounds, int place) {
+    double *whole = own_memory(rounds * sizeof *whole), *none = own_memory(rounds * sizeof *none);
+    for (int r = 0; r < rounds; r++) whole[r] = all[r].whole, none[r] = all[r].none;
+    qsort(whole, rounds, sizeof *whole, compare);
+    qsort(none, rounds, sizeof *none, compare);
+    return (whole[place] - none[place]) / job->times / job->units;
+}
 static int time_job(const struct job *job, int rounds) {
-    double *times = own_memory(WHOS * rounds * sizeof *times);
+    struct round *all = own_memory(WHOS * rounds * sizeof *all);
     struct text wanted = {0};
     int good = 1;
     for (int round = 0; round < rounds; round++)
         for (int who = 0; who < WHOS && good; who++) {
             if (!has(job, who)) continue;
-            times[who * rounds + round] = timed_run(job, who, &good);
+            all[who * rounds + round] = timed_run(job, who, &good);
             if (who == LIBRARY) wanted = answered;
             good = good && same_answer(job, who, &wanted);
             if (!good) fprintf(stderr, "%s by %s: refused, or another answer\n", job->name, who_names[who]);
         }
     for (int who = 0; who < WHOS && good; who++) {
         if (!has(job, who)) continue;
-        qsort(times + who * rounds, rounds, sizeof *times, compare);
-        printf("%-22s %-18s %-10s %12.1f %12.1f %8.2f\n", job->name, who_names[who], job->unit, times[who * rounds],
-               times[who * rounds + rounds / 2], times[0] / times[who * rounds]);
+        double least = of_rounds(job, all + who * rounds, rounds, 0);
+        double median = of_rounds(job, all + who * rounds, rounds, rounds / 2);
+        printf("%-22s %-18s %-10s %12.1f %12.1f %8.2f\n", job->name, who_names[who], job->unit, least, median,
+               of_rounds(job, all, rounds, 0) / least);
     }
     fflush(stdout);
     return good;
@@ -80,14 +93,19 @@ static size_t counted(const char *mark, const struct job *job, enum who who, uin
     CALLGRIND_DUMP_STATS_AT(name);
     return answer;
 }
+/* Valgrind shows no SHA instructions, so that these would be counted twice. */
+static int is_counted_as_another(enum who who) {
+    return who == OPENSSL_SOFT || who == RUST_SOFT || who == HAND_SOFT || who == BLOCKS_SOFT;
+}
 static int count_all(const char *prefix) {
     for (int j = 0; j < jobs_len; j++)
         for (int who = 0; who < WHOS; who++) {
             const struct job *job = &jobs[j];
-            if (!begins(job->name, prefix) || !has(job, who) || who == POSTGRES || (who == GSASL && !begins(job->name, "hi")))
-                continue;
+            int is_hi = begins(job->name, "hi-");
+            if (!begins(job->name, prefix) || !has(job, who) || is_counted_as_another(who)) continue;
+            if (who == POSTGRES || (who == GSASL && !is_hi)) continue;
             if (begins(job->name, "login-4096") || begins(job->name, "credential-single")) continue;
-            job->run(job, who, 1);
+            job->run(job, who, is_hi ? 0 : 1);
             if (counted(job->name, job, who, 0) >= REFUSED || counted(job->name, job, who, 1) >= REFUSED) return 1;
         }
     return 0;
@@ -147,8 +165,8 @@ static int allocs(void) {
             long none, one;
             size_t none_bytes, one_bytes;
             const struct job *job = &jobs[j];
-            if (!has(job, who) || who == POSTGRES || who == GSASL || who == BLOCKS || who == BLOCKS_SOFT) continue;
-            if (who == OPENSSL_SOFT || who == RUST_SOFT || who == HAND_SOFT) continue;
+            if (!has(job, who) || who == POSTGRES || who == GSASL || who == BLOCKS) continue;
+            if (is_counted_as_another(who)) continue;
             job->run(job, who, 1);
             requests_of(job, who, 0, &none, &none_bytes);
             requests_of(job, who, 1, &one, &one_bytes);
