@@ -98,6 +98,7 @@ static int is_counted_as_another(enum who who) {
     return who == OPENSSL_SOFT || who == RUST_SOFT || who == HAND_SOFT || who == BLOCKS_SOFT;
 }
 static int count_all(const char *prefix) {
+    int status = 0;
     for (int j = 0; j < jobs_len; j++)
         for (int who = 0; who < WHOS; who++) {
             const struct job *job = &jobs[j];
@@ -106,9 +107,12 @@ static int count_all(const char *prefix) {
             if (who == POSTGRES || (who == GSASL && !is_hi)) continue;
             if (begins(job->name, "login-4096") || begins(job->name, "credential-single")) continue;
             job->run(job, who, is_hi ? 0 : 1);
-            if (counted(job->name, job, who, 0) >= REFUSED || counted(job->name, job, who, 1) >= REFUSED) return 1;
+            if (counted(job->name, job, who, 0) >= REFUSED || counted(job->name, job, who, 1) >= REFUSED) {
+                fprintf(stderr, "%s by %s: refused\n", job->name, who_names[who]);
+                status = 1;
+            }
         }
-    return 0;
+    return status;
 }
 static int grow_all(const char *prefix) {
     for (int g = 0; g < growths_len; g++) {
