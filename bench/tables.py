@@ -7,7 +7,7 @@ NAMES = {
     "openssl-nosha": "OpenSSL, SHA hidden",
     "rustcrypto": "RustCrypto",
     "rustcrypto-soft": "RustCrypto, force-soft",
-    "by-hand": "by hand over RustCrypto",
+    "by-hand": "by hand in Rust",
     "by-hand-soft": "the same, force-soft",
     "postgres-protocol": "postgres-protocol",
     "gsasl": "GNU SASL",
@@ -31,6 +31,7 @@ def times(path):
 def table(head, jobs, values, who_is_row):
     """A row for each peer and a column for each job, or the other way round; empty rows are left out."""
     whos = [who for who in NAMES if any((job, who) in values for job in jobs)]
+    jobs = [job for job in jobs if any((job, who) in values for who in whos)]
     cell = lambda job, who: values.get((job, who), "")
     if who_is_row:
         print("| " + " | ".join([head] + jobs) + " |")
@@ -57,9 +58,7 @@ CALLS = (
     + ["validate"]
 )
 REST = [
-    "login-1-sha1", "login-1-sha256", "login-1-sha512", "login-4096-sha256", "salted-password", "auth-message", "escape",
-    "unescape", "record-and-clone", "record-text", "store-look-up", "headers", "event-of-hex", "login-plain-frames",
-    "run-client", "run-server", "audit",
+    "salted-password", "auth-message", "escape", "unescape", "headers",
 ]
 instructions, requests = counts(sys.argv[1]), counts(sys.argv[2])
 spent = times(sys.argv[3])
@@ -71,14 +70,7 @@ for title, values in (("Instructions", instructions), ("Least time, ns, and ours
     table("a body", CODEC, values, False)
     table("the library's other calls", REST, values, False)
 print("Requests for memory\n")
-table("a call", HASHES + HI + CALLS + CODEC + REST + ["credential-single"], requests, False)
-steps = ["machines", "client-first", "server-first", "client-final", "server-final", "validate", "five-calls"]
-for count in (1, 4096):
-    print(f"| count {count} | " + " | ".join(steps) + " |\n" + "|---" * (len(steps) + 1) + "|")
-    for version in VERSIONS:
-        row = [requests.get((f"login-{version}-i{count}-{step}", "library"), "") for step in steps]
-        print("| " + " | ".join([version] + row) + " |")
-    print()
+table("a call", HASHES + HI + CALLS + CODEC + REST, requests, False)
 print("Growth\n")
 print("| call | size | instructions | each | requests | bytes asked for | exponent |\n|---|---|---|---|---|---|---|")
 with open(sys.argv[4], encoding="utf-8") as lines:

@@ -26,13 +26,6 @@ size_t bench_auth_message(IN(first), IN(second), IN(third));
 size_t bench_escape(IN(username));
 size_t bench_unescape(IN(username));
 
-size_t bench_single(uint32_t version);
-size_t bench_record(uint32_t version, IN(password), IN(salt));
-size_t bench_record_text(IN(line));
-size_t bench_store(uint32_t users, uint32_t times);
-
-size_t bench_logins(uint32_t version, uint32_t iterations, uint32_t steps, uint32_t times);
-
 size_t bench_view(IN(body));
 size_t bench_last_symbol(IN(body));
 size_t bench_walk_symbols(IN(body));
@@ -41,7 +34,4 @@ size_t bench_decode(IN(bodies), uint32_t times);
 size_t bench_encode(IN(bodies), uint32_t times);
 size_t bench_header(void);
 
-size_t bench_runs(uint32_t version, uint32_t logins, uint32_t idles, uint32_t what);
-size_t bench_plain(void);
-size_t bench_event(IN(nonce), IN(body));
 #endif

@@ -59,11 +59,8 @@ static void challenge(size_t size) {
     add_number(size);
     add_many("A", size);
 }
-static void server_first_with(const char *more, size_t size) {
-    begin(size), add_text(&logins[1].server_first), add_many(more, size);
-}
-static void extension(size_t size) { server_first_with("x", size); }
-static void extension_of_commas(size_t size) { server_first_with(",", size); }
+static void extension(size_t size) { begin(size), add_text(&logins[1].server_first), add(",x="), add_many("x", size); }
+static void extension_of_commas(size_t size) { begin(size), add_text(&logins[1].server_first), add_many(",", size); }
 static void nonce_of_client(size_t size) {
     begin(size);
     memset(second, 'n', second_len = size);
@@ -89,13 +86,6 @@ static void parts_of_final(size_t size) {
     add(",p=AAAAAAAAAAAAAAAAAAAAAAAAAAAAAAAAAAAAAAAAAAA=");
 }
 static void server_final_of_commas(size_t size) { begin(size), add_text(&logins[1].server_final), add_many(",", size); }
-static void hex_event(size_t size) { begin(size), add_many("ab", size); }
-static void record_salt(size_t size) {
-    char key[100];
-    begin(size);
-    base64_into(key, GIVE(logins[1].stored_key));
-    add("SCRAM-SHA-256$1:"), add_many("AAAA", (size + 3) / 4), add("$"), add(key), add(":"), add(key);
-}
 static void none(size_t size) { (void)size; }
 
 #define FIRST first, first_len
@@ -128,18 +118,10 @@ RUN(client_final_password, bench_client_final(256, GIVE(client_nonce), FIRST, GI
 RUN(server_final, bench_server_final(256, FIRST, GIVE(nonce), GIVE(bare), GIVE(logins[1].server_first),
                                      GIVE(logins[1].stored_key), GIVE(logins[1].server_key), ROOM(out)))
 RUN(validate, bench_validate(256, FIRST, GIVE(logins[1].signature)))
-RUN(record_text, bench_record_text(FIRST))
-RUN(event, bench_event(GIVE(hex_nonce), FIRST))
 static size_t server_first_user(size_t size, int call) {
     (void)size;
     return bench_server_first(256, second, second_len, FIRST, GIVE(server_nonce), call, ROOM(out));
 }
-static size_t look_up(size_t size, int call) { return bench_store(size, call); }
-static size_t run_of_client(size_t size, int call) { return bench_runs(256, 0, size, call ? 1 : 0); }
-static size_t run_of_server(size_t size, int call) { return bench_runs(256, 0, size, call ? 2 : 0); }
-static size_t run_of_logins(size_t size, int call) { return bench_runs(256, size, 0, call ? 1 : 0); }
-static size_t audit_of_events(size_t size, int call) { return bench_runs(256, 0, size / 2, call ? 3 : 0); }
-static size_t audit_of_logins(size_t size, int call) { return bench_runs(256, size, 0, call ? 3 : 0); }
 
 #define USUAL {1000, 10000, 100000}
 const struct growth growths[] = {
@@ -175,13 +157,5 @@ const struct growth growths[] = {
     {"client-final-zeros", "zeros before a count", USUAL, zeros, client_final},
     {"server-final-commas", "commas of client-final (its proof is refused)", USUAL, parts_of_final, server_final},
     {"validate-commas", "commas behind server-final", USUAL, server_final_of_commas, validate},
-    {"record-text", "base64 symbols of a salt", USUAL, record_salt, record_text},
-    {"event-of-hex", "bytes of a body", USUAL, hex_event, event},
-    {"store-look-up", "users of a store, the last looked up", USUAL, none, look_up},
-    {"run-client", "events that report no Ok", USUAL, none, run_of_client},
-    {"run-server", "events that are not implemented", USUAL, none, run_of_server},
-    {"run-logins", "logins of a client's run", {10, 100, 1000}, none, run_of_logins},
-    {"audit-events", "events of both sides without a login", USUAL, none, audit_of_events},
-    {"audit-logins", "logins of an audit", {10, 100, 1000, 10000}, none, audit_of_logins},
 };
 const int growths_len = sizeof growths / sizeof *growths;

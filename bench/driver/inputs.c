@@ -7,7 +7,7 @@
 
 const uint32_t versions[VERSIONS] = {1, 256, 512};
 struct text password, username, salt, client_nonce, server_nonce, nonce, bare, client_first;
-struct text without_proof, record_line, hex_nonce, hex_body;
+struct text without_proof;
 struct login logins[VERSIONS];
 struct text bodies[FRAMES];
 uint8_t *rows_of_bodies[FRAMES];
@@ -65,14 +65,6 @@ static void make_bodies(void) {
         for (int i = 0; i < MANY; i++) memcpy(rows_of_bodies[k] + i * bodies[k].len, GIVE(bodies[k]));
     }
 }
-static void make_record_line(void) {
-    char stored_key[100], server_key[100], salt_text[100], line[600];
-    base64_into(salt_text, GIVE(salt));
-    base64_into(stored_key, GIVE(logins[1].stored_key));
-    base64_into(server_key, GIVE(logins[1].server_key));
-    snprintf(line, sizeof line, "SCRAM-SHA-256$1:%s$%s:%s", salt_text, stored_key, server_key);
-    set_text(&record_line, line);
-}
 void make_inputs(void) {
     uint8_t ones[32], twos[32];
     char one[100], two[100], line[400];
@@ -93,9 +85,6 @@ void make_inputs(void) {
     set_text(&client_first, line);
     snprintf(line, sizeof line, "c=biws,r=%.*s", (int)nonce.len, nonce.bytes);
     set_text(&without_proof, line);
-    set_text(&hex_nonce, "0101010101010101010101010101010101010101010101010101010101010101");
-    set_text(&hex_body, "02010000005344c003015001");
     for (int k = 0; k < VERSIONS; k++) make_login(versions[k], &logins[k]);
     make_bodies();
-    make_record_line();
 }

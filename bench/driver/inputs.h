@@ -19,7 +19,7 @@ extern struct text password, username, salt, client_nonce, server_nonce, nonce, 
 extern struct login logins[VERSIONS];
 extern struct text bodies[FRAMES];         /* mechanisms, init, challenge, response, outcome */
 extern uint8_t *rows_of_bodies[FRAMES];    /* MANY of each */
-extern struct text without_proof, record_line, hex_nonce, hex_body;
+extern struct text without_proof;
 int index_of(uint32_t version);
 size_t digest_len(uint32_t version);
 void set_text(struct text *text, const char *from);

@@ -145,40 +145,6 @@ static size_t unescape(const struct job *job, enum who who, uint32_t times) {
     return good;
 }
 
-/* Records and stores. */
-static size_t single(const struct job *job, enum who who, uint32_t times) {
-    size_t good = 0;
-    (void)who;
-    LOOP bench_single(job->which);
-    return good;
-}
-static size_t make_record(const struct job *job, enum who who, uint32_t times) {
-    size_t good = 0;
-    (void)who;
-    LOOP bench_record(job->which, GIVE(password), GIVE(salt));
-    return good;
-}
-static size_t record_text(const struct job *job, enum who who, uint32_t times) {
-    size_t good = 0;
-    (void)who, (void)job;
-    LOOP bench_record_text(GIVE(record_line));
-    return good;
-}
-static size_t look_up(const struct job *job, enum who who, uint32_t times) {
-    (void)who, (void)job;
-    return bench_store(3, times);
-}
-
-/* Machines. The job's name ends in the number of its calls. */
-static size_t whole_login(const struct job *job, enum who who, uint32_t times) {
-    (void)who;
-    return bench_logins(job->which, 1, 5, times);
-}
-static size_t login_4096(const struct job *job, enum who who, uint32_t times) {
-    (void)who;
-    return bench_logins(job->which, 4096, 5, times);
-}
-
 /* Frames. */
 static size_t view(const struct job *job, enum who who, uint32_t times) {
     size_t good = 0;
@@ -208,32 +174,6 @@ static size_t header(const struct job *job, enum who who, uint32_t times) {
     size_t good = 0;
     (void)who, (void)job;
     LOOP bench_header();
-    return good;
-}
-
-/* Runs: no time is their preparation, the two transcripts. */
-static size_t client_run(const struct job *job, enum who who, uint32_t times) {
-    (void)who;
-    return bench_runs(job->which, 1, 0, times ? 1 : 0);
-}
-static size_t server_run(const struct job *job, enum who who, uint32_t times) {
-    (void)who;
-    return bench_runs(job->which, 1, 0, times ? 2 : 0);
-}
-static size_t audit(const struct job *job, enum who who, uint32_t times) {
-    (void)who;
-    return bench_runs(job->which, 1, 0, times ? 3 : 0);
-}
-static size_t plain(const struct job *job, enum who who, uint32_t times) {
-    size_t good = 0;
-    (void)who, (void)job;
-    LOOP bench_plain();
-    return good;
-}
-static size_t event(const struct job *job, enum who who, uint32_t times) {
-    size_t good = 0;
-    (void)who, (void)job;
-    LOOP bench_event(GIVE(hex_nonce), GIVE(hex_body));
     return good;
 }
 
@@ -267,14 +207,6 @@ const struct job jobs[] = {
     {"auth-message", "call", 1, 400, 256, ALONE, join},
     {"escape", "call", 1, 400, 0, ALONE, escape},
     {"unescape", "call", 1, 400, 0, ALONE, unescape},
-    {"credential-single", "call", 1, 1, 256, ALONE, single},
-    {"record-and-clone", "call", 1, 50, 256, ALONE, make_record},
-    {"record-text", "call", 1, 200, 0, ALONE, record_text},
-    {"store-look-up", "call", 1, 400, 0, ALONE, look_up},
-    {"login-1-sha1", "login", 1, 20, 1, ALONE, whole_login},
-    {"login-1-sha256", "login", 1, 20, 256, ALONE, whole_login},
-    {"login-1-sha512", "login", 1, 20, 512, ALONE, whole_login},
-    {"login-4096-sha256", "login", 1, 1, 256, ALONE, login_4096},
     {"view-mechanisms", "body", 1, 2000, 0, ALONE | BIT(HAND), view},
     {"view-init", "body", 1, 2000, 1, ALONE | BIT(HAND), view},
     {"view-challenge", "body", 1, 2000, 2, ALONE | BIT(HAND), view},
@@ -291,11 +223,6 @@ const struct job jobs[] = {
     {"recode-response", "body", 1, MANY, 3, CODEC, encode},
     {"recode-outcome", "body", 1, MANY, 4, CODEC, encode},
     {"headers", "pair", 1, 400, 0, ALONE, header},
-    {"run-client", "login", 1, 1, 256, ALONE, client_run},
-    {"run-server", "login", 1, 1, 256, ALONE, server_run},
-    {"audit", "login", 1, 1, 256, ALONE, audit},
-    {"login-plain-frames", "login", 1, 100, 0, ALONE, plain},
-    {"event-of-hex", "call", 1, 200, 0, ALONE, event},
 };
 const int jobs_len = sizeof jobs / sizeof *jobs;
 

@@ -1,6 +1,6 @@
 /* driver time [ROUNDS [PREFIX]]  least and median of interleaved rounds, and the library's share of each peer
    driver count [PREFIX]          under callgrind: a dump of the instructions of each job of each peer
-   driver allocs                  requests for memory of each call, and of each call of a login
+   driver allocs                  requests for memory of each call
    driver refuse                  refuses each request for memory of each call in turn
    driver grow [PREFIX]           under callgrind: a dump for each input and size */
 #include "grow.h"
@@ -105,7 +105,6 @@ static int count_all(const char *prefix) {
             int is_hi = begins(job->name, "hi-");
             if (!begins(job->name, prefix) || !has(job, who) || is_counted_as_another(who)) continue;
             if (who == POSTGRES || (who == GSASL && !is_hi)) continue;
-            if (begins(job->name, "login-4096") || begins(job->name, "credential-single")) continue;
             job->run(job, who, is_hi ? 0 : 1);
             if (counted(job->name, job, who, 0) >= REFUSED || counted(job->name, job, who, 1) >= REFUSED) {
                 fprintf(stderr, "%s by %s: refused\n", job->name, who_names[who]);
@@ -139,29 +138,14 @@ static int grow_all(const char *prefix) {
 }
 
 /* Memory. */
+/* The preparation of `hi` is a shorter one, which is taken off where time and instructions are counted. */
+static int prepares(const struct job *job) { return !begins(job->name, "hi-"); }
 static void requests_of(const struct job *job, enum who who, uint32_t times, long *count, size_t *bytes) {
     long before = requests;
     size_t asked = bytes_asked;
     job->run(job, who, times);
     *count = requests - before;
     *bytes = bytes_asked - asked;
-}
-static void allocs_of_login(uint32_t version, uint32_t count) {
-    static const char *const calls[] = {"machines", "client-first", "server-first", "client-final", "server-final",
-                                        "validate"};
-    long last = 0, all = 0;
-    for (uint32_t steps = 0; steps <= 5; steps++) {
-        long start = requests;
-        bench_logins(version, count, steps, 0);
-        long none = requests - start;
-        start = requests;
-        bench_logins(version, count, steps, 1);
-        long now = requests - start - none;
-        printf("login-sha%u-i%u-%s library %ld\n", version, count, calls[steps], now - last);
-        if (steps) all += now - last;
-        last = now;
-    }
-    printf("login-sha%u-i%u-five-calls library %ld\n", version, count, all);
 }
 static int allocs(void) {
     for (int j = 0; j < jobs_len; j++)
@@ -174,12 +158,8 @@ static int allocs(void) {
             job->run(job, who, 1);
             requests_of(job, who, 0, &none, &none_bytes);
             requests_of(job, who, 1, &one, &one_bytes);
-            printf("%s %s %ld\n", job->name, who_names[who], one - none);
+            printf("%s %s %ld\n", job->name, who_names[who], prepares(job) ? one - none : one);
         }
-    for (int k = 0; k < VERSIONS; k++) {
-        allocs_of_login(versions[k], 1);
-        allocs_of_login(versions[k], 4096);
-    }
     static const char *const calls[] = {"client-first", "server-first", "client-final", "server-final", "validate"};
     gsasl_login(256);
     if (gsasl_login(256))
@@ -214,6 +194,7 @@ static int refuse_job(const struct job *job) {
     long none;
     size_t bytes;
     requests_of(job, LIBRARY, 0, &none, &bytes);
+    if (!prepares(job)) none = 0;
     printf("%-22s %4ld requests refused in turn, %ld of them in its preparation: %s\n", job->name, number - 1, none,
            wrong ? "WRONG" : "want of memory each time, nothing lost");
     return wrong;
@@ -221,7 +202,7 @@ static int refuse_job(const struct job *job) {
 static int refuse(void) {
     int wrong = 0, calls = 0;
     for (int j = 0; j < jobs_len; j++) {
-        if (begins(jobs[j].name, "view") || begins(jobs[j].name, "login-4096")) continue;
+        if (begins(jobs[j].name, "view")) continue;
         wrong += refuse_job(&jobs[j]);
         calls++;
     }
