@@ -20,6 +20,9 @@ for library in "$@"; do
 done
 echo "sasl_bench_c staticlib: $* bytes" >> "$work/crates.new"
 mv "$work/crates.new" "$work/crates.txt"
+for file in "$work"/crates/sasl_bench_c/src/*.rt; do
+    if [ ! -e "$repository/bench/exports/$(basename "$file").in" ]; then rm -f "$file"; fi
+done
 for file in "$repository"/bench/exports/*.rt.in; do
     name=$(basename "$file" .in)
     cmp -s "$file" "$work/crates/sasl_bench_c/src/$name" || cp "$file" "$work/crates/sasl_bench_c/src/$name"
