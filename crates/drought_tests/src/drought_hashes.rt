@@ -1,9 +1,9 @@
 //! Hashes, keys and names where memory is wanting.
 
-use crate::drought_calls::{Answer, Call, stand, told};
 use crate::drought_values::*;
-use fe2o3_sasl::hmac::{Meter, ScramVersion};
-use fe2o3_sasl::{
+use drought::{Answer, Call, stand, told};
+use fe2o3_scram::hmac::{Meter, ScramVersion};
+use fe2o3_scram::{
     KeyError, OutOfMemory, UnescapeError, auth_message, escape_username, unescape_username,
 };
 use std::alloc::Global;
@@ -76,14 +76,14 @@ impl Call for Value {
 
     fn answer(&self, alloc: Global, _subject: &mut ()) -> Answer {
         match self {
-            Value::H => told(h(alloc)),
-            Value::Hmac => told(hmac(alloc)),
-            Value::Hi => told(h_i(alloc)),
-            Value::HiMetered => told(h_i_metered(alloc)),
-            Value::SaltedPassword => told(salted_password(alloc)),
-            Value::AuthMessage => told(whole_auth_message(alloc)),
-            Value::EscapedName => told(escaped_name(alloc)),
-            Value::UnescapedName => told(unescaped_name(alloc)),
+            Value::H => told(h(alloc), OutOfMemory),
+            Value::Hmac => told(hmac(alloc), OutOfMemory),
+            Value::Hi => told(h_i(alloc), OutOfMemory),
+            Value::HiMetered => told(h_i_metered(alloc), OutOfMemory),
+            Value::SaltedPassword => told(salted_password(alloc), KeyError::OutOfMemory),
+            Value::AuthMessage => told(whole_auth_message(alloc), OutOfMemory),
+            Value::EscapedName => told(escaped_name(alloc), OutOfMemory),
+            Value::UnescapedName => told(unescaped_name(alloc), UnescapeError::OutOfMemory),
         }
     }
 
@@ -105,5 +105,5 @@ static VALUES: [Value; 8] = [
 
 #[test]
 fn values_want_memory(rt: HostRuntime) -> Result<(), Fail> {
-    stand(&rt, &VALUES)
+    stand(rt.alloc(), &VALUES)
 }

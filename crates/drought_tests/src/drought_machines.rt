@@ -1,13 +1,13 @@
 //! The two machines where memory is wanting: no refusal moves them.
 
-use crate::drought_calls::{Answer, Call, right, stand, told};
 use crate::drought_values::*;
-use fe2o3_sasl::OutOfMemory;
-use fe2o3_sasl::credentials::{ScramRecord, StoredScramCredential};
-use fe2o3_sasl::hmac::{Meter, ScramVersion};
-use fe2o3_sasl::scram_client::ScramClient;
-use fe2o3_sasl::scram_messages::{ScramErrorKind, ServerScramErrorKind};
-use fe2o3_sasl::scram_server::ScramAuthenticator;
+use drought::{Answer, Call, right, stand, told};
+use fe2o3_scram::OutOfMemory;
+use fe2o3_scram::credentials::{ScramRecord, StoredScramCredential};
+use fe2o3_scram::hmac::{Meter, ScramVersion};
+use fe2o3_scram::scram_client::ScramClient;
+use fe2o3_scram::scram_messages::{ScramErrorKind, ServerScramErrorKind};
+use fe2o3_scram::scram_server::ScramAuthenticator;
 use std::alloc::Global;
 use std::test::Fail;
 
@@ -118,13 +118,16 @@ impl Call for OfClient {
 
     fn answer(&self, alloc: Global, client: &mut ScramClient) -> Answer {
         match self {
-            OfClient::Start => told(start(alloc, client)),
-            OfClient::StartAfresh => told(start_afresh(alloc, client)),
-            OfClient::Respond => told(respond(alloc, client)),
-            OfClient::RespondMetered => told(respond_metered(alloc, client)),
-            OfClient::Believe => told(believe(alloc, client)),
-            OfClient::Clone => told(copy_responds(alloc, client)),
-            OfClient::CloneLater => told(copy_believes(alloc, client)),
+            OfClient::Start => told(start(alloc, client), OutOfMemory),
+            OfClient::StartAfresh => told(start_afresh(alloc, client), OutOfMemory),
+            OfClient::Respond => told(respond(alloc, client), ScramErrorKind::OutOfMemory),
+            OfClient::RespondMetered => told(
+                respond_metered(alloc, client),
+                ScramErrorKind::OutOfMemory,
+            ),
+            OfClient::Believe => told(believe(alloc, client), ScramErrorKind::OutOfMemory),
+            OfClient::Clone => told(copy_responds(alloc, client), ScramErrorKind::OutOfMemory),
+            OfClient::CloneLater => told(copy_believes(alloc, client), ScramErrorKind::OutOfMemory),
         }
     }
 
@@ -132,7 +135,7 @@ impl Call for OfClient {
     fn stays(&self, alloc: Global, client: &mut ScramClient) -> Answer {
         match self {
             OfClient::Start => right(is_early(alloc, client)),
-            OfClient::StartAfresh => told(respond(alloc, client)),
+            OfClient::StartAfresh => told(respond(alloc, client), ScramErrorKind::OutOfMemory),
             _ => Answer::Right,
         }
     }
@@ -150,7 +153,7 @@ static OF_CLIENT: [OfClient; 7] = [
 
 #[test]
 fn a_client_wants_memory(rt: HostRuntime) -> Result<(), Fail> {
-    stand(&rt, &OF_CLIENT)
+    stand(rt.alloc(), &OF_CLIENT)
 }
 
 /// A call of an authenticator.
@@ -245,11 +248,23 @@ impl Call for OfServer {
 
     fn answer(&self, alloc: Global, server: &mut Server) -> Answer {
         match self {
-            OfServer::Challenge => told(challenge(alloc, server)),
-            OfServer::ChallengeAfresh => told(challenge_afresh(alloc, server)),
-            OfServer::Conclude => told(conclude(alloc, server)),
-            OfServer::ConcludeMetered => told(conclude_metered(alloc, server)),
-            OfServer::Clone => told(copy_concludes(alloc, server)),
+            OfServer::Challenge => told(
+                challenge(alloc, server),
+                ServerScramErrorKind::OutOfMemory,
+            ),
+            OfServer::ChallengeAfresh => told(
+                challenge_afresh(alloc, server),
+                ServerScramErrorKind::OutOfMemory,
+            ),
+            OfServer::Conclude => told(conclude(alloc, server), ServerScramErrorKind::OutOfMemory),
+            OfServer::ConcludeMetered => told(
+                conclude_metered(alloc, server),
+                ServerScramErrorKind::OutOfMemory,
+            ),
+            OfServer::Clone => told(
+                copy_concludes(alloc, server),
+                ServerScramErrorKind::OutOfMemory,
+            ),
         }
     }
 
@@ -257,7 +272,10 @@ impl Call for OfServer {
     fn stays(&self, alloc: Global, server: &mut Server) -> Answer {
         match self {
             OfServer::Challenge => right(is_not_challenged(alloc, server)),
-            OfServer::ChallengeAfresh => told(conclude(alloc, server)),
+            OfServer::ChallengeAfresh => told(
+                conclude(alloc, server),
+                ServerScramErrorKind::OutOfMemory,
+            ),
             _ => Answer::Right,
         }
     }
@@ -273,5 +291,5 @@ static OF_SERVER: [OfServer; 5] = [
 
 #[test]
 fn a_server_wants_memory(rt: HostRuntime) -> Result<(), Fail> {
-    stand(&rt, &OF_SERVER)
+    stand(rt.alloc(), &OF_SERVER)
 }

@@ -1,11 +1,11 @@
 //! Messages where memory is wanting.
 
-use crate::drought_calls::{Answer, Call, stand, told};
 use crate::drought_values::*;
-use fe2o3_sasl::OutOfMemory;
-use fe2o3_sasl::credentials::{ScramRecord, StoredPassword, StoredScramCredential};
-use fe2o3_sasl::hmac::{Meter, ScramVersion};
-use fe2o3_sasl::scram_messages::{
+use drought::{Answer, Call, stand, told};
+use fe2o3_scram::OutOfMemory;
+use fe2o3_scram::credentials::{ScramRecord, StoredPassword, StoredScramCredential};
+use fe2o3_scram::hmac::{Meter, ScramVersion};
+use fe2o3_scram::scram_messages::{
     ClientFinal, ClientFirst, ScramErrorKind, ServerFinal, ServerFirst, ServerScramErrorKind,
 };
 use std::alloc::Global;
@@ -154,17 +154,35 @@ impl Call for Message {
 
     fn answer(&self, alloc: Global, _subject: &mut ()) -> Answer {
         match self {
-            Message::ClientFirst => told(client_first(alloc)),
-            Message::ClientFinal => told(client_final(alloc)),
-            Message::ClientFinalMetered => told(client_final_metered(alloc)),
-            Message::ClientFinalLimited => told(client_final_limited(alloc)),
-            Message::ServerFinal => told(server_final(alloc)),
-            Message::ServerFinalMetered => told(server_final_metered(alloc)),
-            Message::BelievedServerFinal => told(believed_server_final(alloc)),
-            Message::ReadClientFirst => told(read_client_first(alloc)),
-            Message::ReadServerFirst => told(read_server_first(alloc)),
-            Message::ReadClientFinal => told(read_client_final(alloc)),
-            Message::ReadServerFinal => told(read_server_final(alloc)),
+            Message::ClientFirst => told(client_first(alloc), OutOfMemory),
+            Message::ClientFinal => told(client_final(alloc), ScramErrorKind::OutOfMemory),
+            Message::ClientFinalMetered => told(
+                client_final_metered(alloc),
+                ScramErrorKind::OutOfMemory,
+            ),
+            Message::ClientFinalLimited => told(
+                client_final_limited(alloc),
+                ScramErrorKind::OutOfMemory,
+            ),
+            Message::ServerFinal => told(server_final(alloc), ServerScramErrorKind::OutOfMemory),
+            Message::ServerFinalMetered => told(
+                server_final_metered(alloc),
+                ServerScramErrorKind::OutOfMemory,
+            ),
+            Message::BelievedServerFinal => told(
+                believed_server_final(alloc),
+                ScramErrorKind::OutOfMemory,
+            ),
+            Message::ReadClientFirst => told(
+                read_client_first(alloc),
+                ServerScramErrorKind::OutOfMemory,
+            ),
+            Message::ReadServerFirst => told(read_server_first(alloc), ScramErrorKind::OutOfMemory),
+            Message::ReadClientFinal => told(
+                read_client_final(alloc),
+                ServerScramErrorKind::OutOfMemory,
+            ),
+            Message::ReadServerFinal => told(read_server_final(alloc), ScramErrorKind::OutOfMemory),
         }
     }
 
@@ -189,7 +207,7 @@ static MESSAGES: [Message; 11] = [
 
 #[test]
 fn messages_want_memory(rt: HostRuntime) -> Result<(), Fail> {
-    stand(&rt, &MESSAGES)
+    stand(rt.alloc(), &MESSAGES)
 }
 
 /// The server's answer to a client-first message, from a store.
@@ -221,7 +239,10 @@ impl Call for Challenge {
     }
 
     fn answer(&self, alloc: Global, store: &mut StoredScramCredential) -> Answer {
-        told(challenge_is_made(alloc, store))
+        told(
+            challenge_is_made(alloc, store),
+            ServerScramErrorKind::OutOfMemory,
+        )
     }
 
     fn stays(&self, _alloc: Global, _store: &mut StoredScramCredential) -> Answer {
@@ -231,5 +252,5 @@ impl Call for Challenge {
 
 #[test]
 fn a_challenge_wants_memory(rt: HostRuntime) -> Result<(), Fail> {
-    stand(&rt, &[Challenge])
+    stand(rt.alloc(), &[Challenge])
 }

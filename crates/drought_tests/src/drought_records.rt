@@ -1,14 +1,14 @@
 //! Records, credentials and stores where memory is wanting.
 
-use crate::drought_calls::{Answer, Call, right, stand, told};
 use crate::drought_values::*;
-use fe2o3_sasl::OutOfMemory;
-use fe2o3_sasl::credentials::{
+use drought::{Answer, Call, right, stand, told};
+use fe2o3_scram::OutOfMemory;
+use fe2o3_scram::credentials::{
     AddRecordError, RecordError, RecordTextError, ScramCredentialProvider, ScramCredentials,
     ScramRecord, SingleScramCredential, StoredPassword, StoredScramCredential,
 };
-use fe2o3_sasl::hmac::{Meter, ScramVersion};
-use fe2o3_sasl::scram_messages::ServerScramErrorKind;
+use fe2o3_scram::hmac::{Meter, ScramVersion};
+use fe2o3_scram::scram_messages::ServerScramErrorKind;
 use std::alloc::Global;
 use std::test::Fail;
 
@@ -80,11 +80,14 @@ impl Call for OfRecord {
 
     fn answer(&self, alloc: Global, record: &mut ScramRecord) -> Answer {
         match self {
-            OfRecord::FromPassword => told(from_password(alloc)),
-            OfRecord::FromPasswordMetered => told(from_password_metered(alloc)),
-            OfRecord::Parse => told(parse(alloc)),
-            OfRecord::ToText => told(to_text(alloc, record)),
-            OfRecord::Clone => told(clone(record)),
+            OfRecord::FromPassword => told(from_password(alloc), RecordError::OutOfMemory),
+            OfRecord::FromPasswordMetered => told(
+                from_password_metered(alloc),
+                RecordError::OutOfMemory,
+            ),
+            OfRecord::Parse => told(parse(alloc), RecordTextError::OutOfMemory),
+            OfRecord::ToText => told(to_text(alloc, record), OutOfMemory),
+            OfRecord::Clone => told(clone(record), OutOfMemory),
         }
     }
 
@@ -103,7 +106,7 @@ static OF_RECORDS: [OfRecord; 5] = [
 
 #[test]
 fn records_want_memory(rt: HostRuntime) -> Result<(), Fail> {
-    stand(&rt, &OF_RECORDS)
+    stand(rt.alloc(), &OF_RECORDS)
 }
 
 /// The credential of one user's password. It is handed the name, so there is one for each call.
@@ -135,7 +138,10 @@ impl Call for Single {
 
     fn answer(&self, alloc: Global, names: &mut Vec<String>) -> Answer {
         match names.pop() {
-            Some(name) => told(credential_is_made(alloc, name)),
+            Some(name) => told(
+                credential_is_made(alloc, name),
+                ServerScramErrorKind::OutOfMemory,
+            ),
             None => Answer::Wrong,
         }
     }
@@ -147,7 +153,7 @@ impl Call for Single {
 
 #[test]
 fn the_credential_of_a_password_wants_memory(rt: HostRuntime) -> Result<(), Fail> {
-    stand(&rt, &[Single])
+    stand(rt.alloc(), &[Single])
 }
 
 /// A user is added to a store of so many others. At these numbers the list of users has to grow.
@@ -199,7 +205,7 @@ impl Call for Add {
     }
 
     fn answer(&self, _alloc: Global, store: &mut Users) -> Answer {
-        told(user_is_added(store))
+        told(user_is_added(store), AddRecordError::OutOfMemory)
     }
 
     fn stays(&self, _alloc: Global, store: &mut Users) -> Answer {
@@ -210,7 +216,7 @@ impl Call for Add {
 
 #[test]
 fn a_store_that_grows_wants_memory(rt: HostRuntime) -> Result<(), Fail> {
-    stand(&rt, &[Add { others: 0 }, Add { others: 4 }])
+    stand(rt.alloc(), &[Add { others: 0 }, Add { others: 4 }])
 }
 
 /// A copy of a provider of this type.
@@ -266,9 +272,9 @@ impl Call for Copied {
 
     fn answer(&self, _alloc: Global, providers: &mut Providers) -> Answer {
         match self {
-            Copied::Single => told(single_copied(&providers.single)),
-            Copied::Stored => told(stored_copied(&providers.stored)),
-            Copied::Many => told(many_copied(&providers.many)),
+            Copied::Single => told(single_copied(&providers.single), OutOfMemory),
+            Copied::Stored => told(stored_copied(&providers.stored), OutOfMemory),
+            Copied::Many => told(many_copied(&providers.many), OutOfMemory),
         }
     }
 
@@ -283,5 +289,5 @@ impl Call for Copied {
 
 #[test]
 fn copies_of_providers_want_memory(rt: HostRuntime) -> Result<(), Fail> {
-    stand(&rt, &[Copied::Single, Copied::Stored, Copied::Many])
+    stand(rt.alloc(), &[Copied::Single, Copied::Stored, Copied::Many])
 }

@@ -1,9 +1,8 @@
 //! Wrong bodies of the tests' own, each of which the tests of the other modules would report.
 
-use crate::drought::Drought;
-use crate::drought_calls::{Answer, Call, Finding, found};
-use fe2o3_sasl::OutOfMemory;
-use fe2o3_sasl::hmac::ScramVersion;
+use drought::{Answer, Call, Drought, Finding, found};
+use fe2o3_scram::OutOfMemory;
+use fe2o3_scram::hmac::ScramVersion;
 use std::alloc::Global;
 use std::test::Fail;
 

@@ -1,11 +1,9 @@
-//! Tests of every call that can want memory, of the three libraries, while there is too little of it.
-//! Expected values come from the standards and from Python's `hmac` and `hashlib`.
+//! Tests of every call of `fe2o3_scram` while there is too little memory: those that can want it, and
+//! those that take none. Expected values come from the standards and from Python's `hmac` and `hashlib`.
 #![tactic(auto)]
 
 #[cfg(test)]
-mod drought;
-#[cfg(test)]
-mod drought_calls;
+mod drought_free;
 #[cfg(test)]
 mod drought_hashes;
 #[cfg(test)]

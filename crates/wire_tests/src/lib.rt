@@ -7,8 +7,6 @@ mod amqp_types;
 #[cfg(test)]
 mod bodies;
 #[cfg(test)]
-mod drought;
-#[cfg(test)]
 mod frames;
 #[cfg(test)]
 mod malicious_bytes;

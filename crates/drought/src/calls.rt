@@ -1,67 +1,9 @@
 //! Calls that can want memory, each tried with ever more room.
 
-use crate::drought::Drought;
-use fe2o3_sasl::KeyError;
-use fe2o3_sasl::credentials::{AddRecordError, RecordError, RecordTextError};
-use fe2o3_sasl::scram_messages::{ScramErrorKind, ServerScramErrorKind, UnescapeError};
-use std::alloc::{AllocError, Global};
+use crate::blocks::Drought;
+use std::alloc::Global;
 use std::fmt::Debug;
-use std::process::Abort;
 use std::test::Fail;
-
-/// The fault of a call that can want memory.
-pub trait Fault: Drop {
-    /// Whether it is the call's own `OutOfMemory`.
-    fn is_want_of_memory(&self) -> bool;
-}
-
-impl Fault for AllocError {
-    fn is_want_of_memory(&self) -> bool {
-        true
-    }
-}
-
-impl Fault for KeyError {
-    fn is_want_of_memory(&self) -> bool {
-        matches!(self, KeyError::OutOfMemory)
-    }
-}
-
-impl Fault for UnescapeError {
-    fn is_want_of_memory(&self) -> bool {
-        matches!(self, UnescapeError::OutOfMemory)
-    }
-}
-
-impl Fault for ScramErrorKind {
-    fn is_want_of_memory(&self) -> bool {
-        matches!(self, ScramErrorKind::OutOfMemory)
-    }
-}
-
-impl Fault for ServerScramErrorKind {
-    fn is_want_of_memory(&self) -> bool {
-        matches!(self, ServerScramErrorKind::OutOfMemory)
-    }
-}
-
-impl Fault for RecordError {
-    fn is_want_of_memory(&self) -> bool {
-        matches!(self, RecordError::OutOfMemory)
-    }
-}
-
-impl Fault for RecordTextError {
-    fn is_want_of_memory(&self) -> bool {
-        matches!(self, RecordTextError::OutOfMemory)
-    }
-}
-
-impl Fault for AddRecordError {
-    fn is_want_of_memory(&self) -> bool {
-        matches!(self, AddRecordError::OutOfMemory)
-    }
-}
 
 /// What a call answered.
 #[derive(Debug, Clone, Copy, PartialEq, Eq)]
@@ -76,13 +18,13 @@ pub enum Answer {
     Wrong,
 }
 
-/// The answer of a call that told whether what it made is right, or its fault.
-pub fn told<E: Fault>(outcome: Result<bool, E>) -> Answer {
+/// The answer of a call that told whether what it made is right, or its fault, which may be this one
+/// alone, its own `OutOfMemory`.
+pub fn told<E: PartialEq + Drop>(outcome: Result<bool, E>, out_of_memory: E) -> Answer {
     match outcome {
-        Ok(true) => Answer::Right,
-        Ok(false) => Answer::Wrong,
+        Ok(holds) => right(holds),
         Err(fault) => {
-            if fault.is_want_of_memory() {
+            if fault == out_of_memory {
                 Answer::WantOfMemory
             } else {
                 Answer::Wrong
@@ -181,16 +123,24 @@ pub fn found<C: Call>(alloc: Global, drought: &mut Drought, call: &C) -> Result<
     Ok(Finding::NeverGiven)
 }
 
-/// Each of the calls wants memory until there is enough, and no refusal changes anything.
-pub fn stand<C: Call, R: Abort + AllocGlobal>(rt: &R, calls: &[C]) -> Result<(), Fail> {
-    let alloc = rt.alloc();
+/// This is what is found of each of the calls.
+fn are_found<C: Call>(alloc: Global, calls: &[C], wanted: Finding) -> Result<(), Fail> {
     let mut drought = Drought::begin(alloc)?;
     for call in calls {
-        assert_eq!(rt;
-            found(alloc, &mut drought, call)?,
-            Finding::Stands,
-            "{call:?}"
-        );
+        let finding = found(alloc, &mut drought, call)?;
+        if finding != wanted {
+            return Err(Fail::new(format_args!("{call:?}: {finding:?}")));
+        }
     }
     Ok(())
+}
+
+/// Each of the calls wants memory until there is enough, and no refusal changes anything.
+pub fn stand<C: Call>(alloc: Global, calls: &[C]) -> Result<(), Fail> {
+    are_found(alloc, calls, Finding::Stands)
+}
+
+/// Each of the calls takes no memory: it is right with each request refused.
+pub fn take_none<C: Call>(alloc: Global, calls: &[C]) -> Result<(), Fail> {
+    are_found(alloc, calls, Finding::NeverRefused)
 }
