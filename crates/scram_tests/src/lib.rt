@@ -15,6 +15,8 @@ mod fixed_nonces;
 #[cfg(test)]
 mod iteration_limit;
 #[cfg(test)]
+mod kept_keys;
+#[cfg(test)]
 mod machines;
 #[cfg(test)]
 mod messages;
