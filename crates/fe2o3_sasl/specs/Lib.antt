@@ -31,6 +31,8 @@ pub use Rattle.fe2o3_scram.specs.ClientFirst
 pub use Rattle.fe2o3_scram.specs.ServerFirst
 pub use Rattle.fe2o3_scram.specs.ClientFinal
 pub use Rattle.fe2o3_scram.specs.ServerFinal
+pub use Rattle.fe2o3_scram.specs.ClientKeys
 pub use Rattle.fe2o3_scram.specs.ScramClient
+pub use Rattle.fe2o3_scram.specs.KeyedScramClient
 pub use Rattle.fe2o3_scram.specs.ScramServer
 pub use Rattle.fe2o3_scram.specs.Exchanges

@@ -12,8 +12,9 @@ ghost use Rattle.fe2o3_sasl.specs.Laws.{OneServerHistory, OneClientHistory, Some
 ghost use Rattle.fe2o3_sasl.specs.examples.UnalteredExample.{PremisesCanBeMet};
 
 pub use fe2o3_scram::laws::{
-    base64_texts, clone_of_version, digests, each_text_is_read, escaped_names, one_answer_each,
-    parts, unaltered_exchanges,
+    base64_texts, clone_of_version, digests, each_text_is_read, escaped_names, kept_keys,
+    keyed_clients, mechanism_names, one_answer_each, parts, record_texts, unaltered_exchanges,
+    users_texts,
 };
 
 /// The headline theorem. Over every list of frame bodies, a SCRAM server answers Ok exactly when a

@@ -29,12 +29,14 @@ pub use crate::sasl_profile::{
     Negotiation, ProfileError, SaslProfile, SaslScramSha1, SaslScramSha256, SaslScramSha512,
     UrlError,
 };
+pub use fe2o3_scram::client_keys::{KeyedClientError, ScramClientKeys};
 pub use fe2o3_scram::credentials::{
     AddRecordError, DEFAULT_SCRAM_ITERATIONS, ReadLinesError, ReadLinesErrorKind, RecordError,
     RecordTextError, ScramCredentialProvider, ScramCredentials, ScramRecord, SingleScramCredential,
     StoredPassword, StoredScramCredential, WriteLinesError,
 };
 pub use fe2o3_scram::hmac::{DigestBytes, Meter, ScramVersion, UnknownMechanism};
+pub use fe2o3_scram::keyed_scram_client::KeyedScramClient;
 pub use fe2o3_scram::keys::auth_message;
 pub use fe2o3_scram::pbkdf2_hi::KeyError;
 pub use fe2o3_scram::saslprep_ascii::{NormalizeError, saslprep};
@@ -45,6 +47,7 @@ pub use fe2o3_scram::scram_messages::{
 };
 pub use fe2o3_scram::scram_server::ScramAuthenticator;
 pub use fe2o3_scram::{
-    credentials, hmac, keys, pbkdf2_hi, saslprep_ascii, scram_client, scram_messages, scram_server,
+    client_keys, credentials, hmac, keyed_scram_client, keys, pbkdf2_hi, saslprep_ascii,
+    scram_client, scram_messages, scram_server,
 };
 pub use std::alloc::AllocError as OutOfMemory;

@@ -220,7 +220,8 @@ fn read_name(alloc: Global, name: &str) -> Result<String, ReadLinesErrorKind>
 fn read_record(alloc: Global, text: &str) -> Result<ScramRecord, ReadLinesErrorKind>
     ensures ok { IfOk result (λ read. ReadsRecord text.now (Ok read)) }
     ensures err { IfErr result (λ kind. (kind ≡ ReadLinesErrorKind.OutOfMemory)
-        ⊎ ((fault : RecordTextError) × (kind ≡ ReadLinesErrorKind.InvalidRecord fault) × ReadsRecord text.now (Err fault))) }
+        ⊎ ((fault : RecordTextError) × (kind ≡ ReadLinesErrorKind.InvalidRecord fault)
+          × ReadsRecord text.now (Err fault))) }
 {
     match ScramRecord::parse(alloc, text) {
         Ok(read) => Ok(read),

@@ -52,7 +52,8 @@ response_answered provider other state next nonce text answer reply same from is
 
 -- what is replied to one that is refused, where memory is not wanting
 pub response_refused : {X V E Allocates : Type 0} (sent : X → SaslFrame) (view : V → Option (List ℕ))
-    (provider other : Provider) (state next : ServerState) (text : List ℕ) (kind : ServerScramErrorKind) (result : Result X E)
+    (provider other : Provider) (state next : ServerState) (text : List ℕ) (kind : ServerScramErrorKind)
+    (result : Result X E)
     → other ≡ provider
     → Gives OutOfMemory Allocates view (Err kind) (λ answer. ConcludesFrom state provider text answer next)
     → IfOk result (λ frame. (kind ≢ OutOfMemory) × (sent frame ≡ ends_with outcomes.Auth))

@@ -22,7 +22,8 @@ one_cut byte text before rest other more is too = go before other is.0 too.0 (sy
         let front = both.0 in
         (cc, both.1)
 
-pub without-index : (byte : ℕ) (text : List ℕ) → ((i : ℕ) → i < length text → get_or text i 0 ≢ byte) → Without byte text
+pub without-index : (byte : ℕ) (text : List ℕ) → ((i : ℕ) → i < length text → get_or text i 0 ≢ byte)
+    → Without byte text
 without-index byte [] none = tt
 without-index byte (x ∷ text) none =
     (none 0 (omega arith), without-index byte text (λ i below. none (suc i) (omega (arith, below))))
