@@ -4,8 +4,9 @@ use crate::drought_values::*;
 use drought::{Answer, Call, right, stand, told};
 use fe2o3_scram::OutOfMemory;
 use fe2o3_scram::credentials::{
-    AddRecordError, RecordError, RecordTextError, ScramCredentialProvider, ScramCredentials,
-    ScramRecord, SingleScramCredential, StoredPassword, StoredScramCredential,
+    AddRecordError, ReadLinesErrorKind, RecordError, RecordTextError, ScramCredentialProvider,
+    ScramCredentials, ScramRecord, SingleScramCredential, StoredPassword, StoredScramCredential,
+    WriteLinesError,
 };
 use fe2o3_scram::hmac::{Meter, ScramVersion};
 use fe2o3_scram::scram_messages::ServerScramErrorKind;
@@ -217,6 +218,53 @@ impl Call for Add {
 #[test]
 fn a_store_that_grows_wants_memory(rt: HostRuntime) -> Result<(), Fail> {
     stand(rt.alloc(), &[Add { others: 0 }, Add { others: 4 }])
+}
+
+/// A store is read from its lines, or written as them.
+#[derive(Debug, Clone, Copy)]
+enum OfLines {
+    Parse,
+    Write,
+}
+
+fn lines_are_read(alloc: Global) -> Result<bool, ReadLinesErrorKind> {
+    match ScramCredentials::parse_lines(alloc, VERSION, LINES) {
+        Ok(users) => Ok(has_record(&users, OTHER_USER) && has_record(&users, USER)),
+        Err(error) => Err(error.kind),
+    }
+}
+
+fn lines_are_written(alloc: Global, users: &ScramCredentials) -> Result<bool, WriteLinesError> {
+    Ok(users.to_lines(alloc)?.as_slice() == LINES.as_bytes())
+}
+
+impl Call for OfLines {
+    type Subject = ScramCredentials;
+
+    fn subject(&self, alloc: Global) -> Result<ScramCredentials, Fail> {
+        let mut users = store(alloc, 1)?;
+        users.add(USER.to_string(alloc)?, record(alloc)?)?;
+        Ok(users)
+    }
+
+    fn answer(&self, alloc: Global, users: &mut ScramCredentials) -> Answer {
+        match self {
+            OfLines::Parse => told(lines_are_read(alloc), ReadLinesErrorKind::OutOfMemory),
+            OfLines::Write => told(
+                lines_are_written(alloc, users),
+                WriteLinesError::OutOfMemory,
+            ),
+        }
+    }
+
+    fn stays(&self, _alloc: Global, users: &mut ScramCredentials) -> Answer {
+        right(has_record(users, OTHER_USER) && has_record(users, USER))
+    }
+}
+
+#[test]
+fn lines_want_memory(rt: HostRuntime) -> Result<(), Fail> {
+    stand(rt.alloc(), &[OfLines::Parse, OfLines::Write])
 }
 
 /// A copy of a provider of this type.

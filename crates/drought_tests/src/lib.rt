@@ -7,6 +7,8 @@ mod drought_free;
 #[cfg(test)]
 mod drought_hashes;
 #[cfg(test)]
+mod drought_kept_keys;
+#[cfg(test)]
 mod drought_machines;
 #[cfg(test)]
 mod drought_messages;

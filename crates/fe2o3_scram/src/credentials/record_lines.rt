@@ -221,7 +221,7 @@ fn read_record(alloc: Global, text: &str) -> Result<ScramRecord, ReadLinesErrorK
     ensures ok { IfOk result (λ read. ReadsRecord text.now (Ok read)) }
     ensures err { IfErr result (λ kind. (kind ≡ ReadLinesErrorKind.OutOfMemory)
         ⊎ ((fault : RecordTextError) × (kind ≡ ReadLinesErrorKind.InvalidRecord fault)
-          × ReadsRecord text.now (Err fault))) }
+        × ReadsRecord text.now (Err fault))) }
 {
     match ScramRecord::parse(alloc, text) {
         Ok(read) => Ok(read),

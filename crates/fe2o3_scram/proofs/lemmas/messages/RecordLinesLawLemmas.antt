@@ -264,7 +264,7 @@ no_fault version text rest user kind is same fault = head (of_line version text 
     head (inl plain) = not_without-in 10 (user_line version user) rest text same plain.1
     head (inr (line, more, cut, fault)) =
         user_of line
-            (one_cut 10 text line more (user_line version user) rest cut (no_feed-line version user is, same)).0
+        (one_cut 10 text line more (user_line version user) rest cut (no_feed-line version user is, same)).0
         (of_user version line kind fault)
 
 no_empty_fault : (version : ScramVersion) (kind : ReadLinesErrorKind) → ¬ HeadFault version [] kind
