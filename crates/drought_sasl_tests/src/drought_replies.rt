@@ -1,0 +1,82 @@
+//! Bodies, frames and events to hand in, and replies compared without memory.
+
+use fe2o3_sasl::runs::{ClientReply, Event, ServerReply};
+use fe2o3_sasl::sasl_acceptor::SaslServerFrame;
+use fe2o3_sasl::sasl_profile::Negotiation;
+use fe2o3_sasl_wire::{Frame, view_frame};
+use std::alloc::Global;
+use std::test::Fail;
+
+/// The bytes of hexadecimal digits.
+pub fn bytes_of(alloc: Global, digits: &str) -> Result<Vec<u8>, Fail> {
+    Ok(hex::decode(alloc, digits).ok().ok_or("hexadecimal digits")?)
+}
+
+/// The event of a body, with a nonce of 32 times this byte.
+pub fn event(alloc: Global, nonce: u8, digits: &str) -> Result<Event, Fail> {
+    Ok(Event {
+        body: bytes_of(alloc, digits)?,
+        nonce: [nonce; 32],
+    })
+}
+
+/// The events of the bodies.
+pub fn events(alloc: Global, nonce: u8, bodies: &[&str]) -> Result<Vec<Event>, Fail> {
+    let mut events = Vec::with_capacity(alloc, bodies.len())?;
+    for digits in bodies {
+        events.push(event(alloc, nonce, digits)?)?;
+    }
+    Ok(events)
+}
+
+/// The frame of a body.
+pub fn frame(alloc: Global, digits: &str) -> Result<Frame, Fail> {
+    let body = bytes_of(alloc, digits)?;
+    let (view, _) = view_frame(&body)?;
+    Ok(view.to_frame(alloc)?)
+}
+
+/// The frame of a body, twice.
+pub fn two_frames(alloc: Global, digits: &str) -> Result<Vec<Frame>, Fail> {
+    let mut frames = Vec::with_capacity(alloc, 2)?;
+    frames.push(frame(alloc, digits)?)?;
+    frames.push(frame(alloc, digits)?)?;
+    Ok(frames)
+}
+
+/// Whether the server's reply has this body.
+pub fn is_server_reply(reply: &ServerReply, wanted: &[u8]) -> bool {
+    match reply {
+        ServerReply::Challenge { body } => body.as_slice() == wanted,
+        ServerReply::Outcome { body, .. } => body.as_slice() == wanted,
+    }
+}
+
+/// Whether the client's reply has this body; of an outcome, whether it is this frame.
+pub fn is_client_reply(reply: &ClientReply, wanted: &[u8], frame: &Frame) -> bool {
+    match reply {
+        ClientReply::Init { body } => body.as_slice() == wanted,
+        ClientReply::Response { body } => body.as_slice() == wanted,
+        ClientReply::Outcome(outcome) => match frame {
+            Frame::Outcome(told) => outcome == told,
+            _ => false,
+        },
+    }
+}
+
+/// Whether the acceptor's reply is this frame.
+pub fn is_sent(reply: SaslServerFrame, wanted: &Frame) -> bool {
+    match reply {
+        SaslServerFrame::Challenge(challenge) => Frame::Challenge(challenge) == *wanted,
+        SaslServerFrame::Outcome(outcome) => Frame::Outcome(outcome) == *wanted,
+    }
+}
+
+/// Whether the profile's answer is this frame.
+pub fn is_negotiated(answer: Negotiation, wanted: &Frame) -> bool {
+    match answer {
+        Negotiation::Init(init) => Frame::Init(init) == *wanted,
+        Negotiation::Response(response) => Frame::Response(response) == *wanted,
+        Negotiation::Outcome(outcome) => Frame::Outcome(outcome) == *wanted,
+    }
+}
