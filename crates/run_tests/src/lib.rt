@@ -11,13 +11,9 @@ mod client_runs;
 #[cfg(test)]
 mod closed;
 #[cfg(test)]
-mod drought;
-#[cfg(test)]
 mod events;
 #[cfg(test)]
 mod logins;
-#[cfg(test)]
-mod memory;
 #[cfg(test)]
 mod profile_runs;
 #[cfg(test)]

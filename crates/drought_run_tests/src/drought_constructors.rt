@@ -1,0 +1,132 @@
+//! Constructors and conversions, while each request for memory is refused.
+
+use crate::drought_bodies::PASSWORD;
+use drought::{Answer, Call, right, take_none};
+use fe2o3_sasl::OutOfMemory;
+use fe2o3_sasl::sasl_acceptor::{SaslAnonymousMechanism, SaslPlainMechanism};
+use fe2o3_sasl::sasl_profile::{
+    ProfileError, SaslProfile, SaslScramSha1, SaslScramSha256, SaslScramSha512, UrlError,
+};
+use fe2o3_sasl::scram_messages::ScramErrorKind;
+use fe2o3_sasl_wire::Error;
+use std::alloc::Global;
+use std::test::Fail;
+use url::Url;
+
+/// A call that makes something of what it is handed.
+#[derive(Debug, Clone, Copy)]
+enum Free {
+    Plain,
+    PlainMechanism,
+    Anonymous,
+    Scrams,
+    NoCredentials,
+    Faults,
+}
+
+/// What is handed in.
+#[derive(Drop)]
+struct Words {
+    words: Vec<String>,
+    url: Url,
+}
+
+/// A profile of PLAIN has the words.
+fn plain_is_made(words: &mut Words) -> bool {
+    match (words.words.pop(), words.words.pop()) {
+        (Some(user), Some(password)) => {
+            matches!(
+                SaslProfile::plain(user, password),
+                SaslProfile::Plain { .. }
+            )
+        }
+        _ => false,
+    }
+}
+
+/// An acceptor of PLAIN is made of the words.
+fn plain_mechanism_is_made(words: &mut Words) -> bool {
+    match (words.words.pop(), words.words.pop()) {
+        (Some(user), Some(password)) => {
+            drop(SaslPlainMechanism::new(user, password));
+            true
+        }
+        _ => false,
+    }
+}
+
+/// An acceptor of ANONYMOUS is made and copied.
+fn anonymous_is_made() -> bool {
+    let _copy = SaslAnonymousMechanism::new().clone().unwrap();
+    let _default = SaslAnonymousMechanism::default();
+    true
+}
+
+/// A profile of each version is made of two of the words.
+fn scrams_are_made(words: &mut Words) -> bool {
+    let mut made = 0u8;
+    if let (Some(user), Some(password)) = (words.words.pop(), words.words.pop()) {
+        drop(SaslProfile::from(SaslScramSha1::new(user, password).with_iteration_limit(1)));
+        made += 1;
+    }
+    if let (Some(user), Some(password)) = (words.words.pop(), words.words.pop()) {
+        drop(SaslProfile::from(SaslScramSha256::new(user, password).with_iteration_limit(1)));
+        made += 1;
+    }
+    if let (Some(user), Some(password)) = (words.words.pop(), words.words.pop()) {
+        drop(SaslProfile::from(SaslScramSha512::new(user, password).with_iteration_limit(1)));
+        made += 1;
+    }
+    made == 3
+}
+
+/// Want of memory is `OutOfMemory` of each fault itself.
+fn are_out_of_memory() -> bool {
+    ProfileError::from(OutOfMemory) == ProfileError::OutOfMemory
+        && ProfileError::from(Error::OutOfMemory) == ProfileError::OutOfMemory
+        && ProfileError::from(ScramErrorKind::OutOfMemory) == ProfileError::OutOfMemory
+        && UrlError::from(OutOfMemory) == UrlError::OutOfMemory
+}
+
+impl Call for Free {
+    type Subject = Words;
+
+    fn subject(&self, alloc: Global) -> Result<Words, Fail> {
+        let mut words = Vec::with_capacity(alloc, 6)?;
+        for _ in 0..6 {
+            words.push(PASSWORD.to_string(alloc)?)?;
+        }
+        let url = Url::parse(alloc, "amqp://user@localhost")?;
+        Ok(Words { words, url })
+    }
+
+    fn answer(&self, alloc: Global, words: &mut Words) -> Answer {
+        right(match self {
+            Free::Plain => plain_is_made(words),
+            Free::PlainMechanism => plain_mechanism_is_made(words),
+            Free::Anonymous => anonymous_is_made(),
+            Free::Scrams => scrams_are_made(words),
+            Free::NoCredentials => {
+                SaslProfile::from_url(alloc, &words.url).err() == Some(UrlError::NoCredentials)
+            }
+            Free::Faults => are_out_of_memory(),
+        })
+    }
+
+    fn stays(&self, _alloc: Global, _words: &mut Words) -> Answer {
+        Answer::Right
+    }
+}
+
+#[test]
+fn constructors_take_no_memory(rt: HostRuntime) -> Result<(), Fail> {
+    let calls = [
+        Free::Plain,
+        Free::PlainMechanism,
+        Free::Anonymous,
+        Free::Scrams,
+        Free::NoCredentials,
+        Free::Faults,
+    ];
+    take_none(rt.alloc(), &calls)
+}
