@@ -1,10 +1,11 @@
 #!/bin/sh
-# Lays out a workspace of the libraries and the exports: workspace.sh REPOSITORY WORK LIBRARY..
+# Lays out a workspace of the libraries and the two crates of exports: workspace.sh REPOSITORY WORK LIBRARY..
 set -eu
 repository=$1
 work=$2
 shift 2
-mkdir -p "$work/crates/sasl_bench_c/src"
+exports=$repository/bench/exports
+mkdir -p "$work"
 cp "$repository/HANDLES" "$work/HANDLES"
 : > "$work/crates.new"
 for library in "$@"; do
@@ -18,12 +19,23 @@ for library in "$@"; do
         cp -a "$from/$part" "$to/$part"
     done
 done
-echo "sasl_bench_c staticlib: $* bytes" >> "$work/crates.new"
+libraries=$*
+
+# lay CRATE FILE..: a crate of these files, of which it has no other.
+lay() {
+    src=$work/crates/$1/src
+    echo "$1 staticlib: $libraries bytes" >> "$work/crates.new"
+    shift
+    mkdir -p "$src"
+    for file in "$src"/*.rt; do
+        case " $* " in *"/$(basename "$file").in "*) ;; *) rm -f "$file" ;; esac
+    done
+    for file in "$@"; do
+        name=$(basename "$file" .in)
+        cmp -s "$file" "$src/$name" || cp "$file" "$src/$name"
+    done
+}
+# Two, since LLVM inlines a function less where one library calls it from more places.
+lay sasl_bench_calls_c "$exports/answers.rt.in" "$exports"/calls/*.rt.in
+lay sasl_bench_c "$exports"/*.rt.in
 mv "$work/crates.new" "$work/crates.txt"
-for file in "$work"/crates/sasl_bench_c/src/*.rt; do
-    if [ ! -e "$repository/bench/exports/$(basename "$file").in" ]; then rm -f "$file"; fi
-done
-for file in "$repository"/bench/exports/*.rt.in; do
-    name=$(basename "$file" .in)
-    cmp -s "$file" "$work/crates/sasl_bench_c/src/$name" || cp "$file" "$work/crates/sasl_bench_c/src/$name"
-done

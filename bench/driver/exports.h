@@ -26,6 +26,25 @@ size_t bench_auth_message(IN(first), IN(second), IN(third));
 size_t bench_escape(IN(username));
 size_t bench_unescape(IN(username));
 
+size_t bench_machine(uint32_t version, uint32_t by_keys, uint32_t call, uint32_t copies, uint32_t times, OUT(out));
+size_t bench_log_in(uint32_t version, uint32_t by_keys, uint32_t iterations, uint32_t times);
+size_t bench_new_client(uint32_t version, uint32_t times);
+size_t bench_new_keyed_client(uint32_t version, uint32_t times);
+size_t bench_new_server(uint32_t version, uint32_t times);
+
+size_t bench_record(uint32_t version, IN(password), uint32_t iterations);
+size_t bench_write_record(uint32_t version, uint32_t iterations, uint32_t times, OUT(out));
+size_t bench_read_record(IN(record));
+size_t bench_read_lines(uint32_t version, IN(lines));
+size_t bench_write_lines(uint32_t version, IN(lines), uint32_t times);
+size_t bench_look_up(uint32_t version, IN(lines), IN(username), uint32_t times);
+
+size_t bench_make_events(IN(mechanisms), uint32_t iterations, uint32_t logins, uint32_t of_server, OUT(out));
+size_t bench_run_client(IN(events), uint32_t times);
+size_t bench_run_server(uint32_t iterations, IN(events), uint32_t times);
+size_t bench_serve_users(IN(lines), uint32_t shared, IN(events), uint32_t times);
+size_t bench_audit(uint32_t iterations, IN(client_events), IN(server_events), uint32_t times);
+
 size_t bench_view(IN(body));
 size_t bench_last_symbol(IN(body));
 size_t bench_walk_symbols(IN(body));

@@ -88,6 +88,41 @@ static void parts_of_final(size_t size) {
 static void server_final_of_commas(size_t size) { begin(size), add_text(&logins[1].server_final), add_many(",", size); }
 static void none(size_t size) { (void)size; }
 
+/* Runs and lines. */
+static struct list of_client, of_server, of_users;
+static void logins_of_client(size_t size) { of_client = events_of(size, 0); }
+static void logins_of_server(size_t size) { of_server = events_of(size, 1); }
+static void logins_of_both(size_t size) { logins_of_client(size), logins_of_server(size); }
+/* So many events of which the first login alone ends well: the others are this one's last event. */
+static struct list then_refused(struct list login, size_t size) {
+    struct list all = {own_memory(size * EVENT), size * EVENT};
+    for (size_t at = 0; at < all.len; at += EVENT) {
+        size_t from = at < login.len ? at : login.len - EVENT;
+        memcpy(all.bytes + at, login.bytes + from, EVENT);
+    }
+    return all;
+}
+static void refused_by_client(size_t size) { of_client = then_refused(events_of(1, 0), size); }
+static void refused_by_server(size_t size) { of_server = then_refused(events_of(1, 1), size); }
+static void refused_by_both(size_t size) { refused_by_client(size), refused_by_server(size); }
+static void users(size_t size) { of_users = lines_of(size); }
+static void last_user(size_t size) {
+    begin(64);
+    users(size);
+    first_len = name_into((char *)first, size - 1);
+}
+/* So many users, and behind them the one of the events. */
+static void users_and_login(size_t size) {
+    struct list others = lines_of(size);
+    of_users = (struct list){own_memory(others.len + 1000), others.len};
+    memcpy(of_users.bytes, others.bytes, others.len);
+    memcpy(of_users.bytes + of_users.len, "user ", 5);
+    memcpy(of_users.bytes + of_users.len + 5, GIVE(record_at_one));
+    of_users.len += 5 + record_at_one.len;
+    of_users.bytes[of_users.len++] = '\n';
+    of_server = server_events;
+}
+
 #define FIRST first, first_len
 #define RUN(name, expression)                  \
     static size_t name(size_t size, int call) { \
@@ -122,8 +157,33 @@ static size_t server_first_user(size_t size, int call) {
     (void)size;
     return bench_server_first(256, second, second_len, FIRST, GIVE(server_nonce), call, ROOM(out));
 }
+#define CLIENTS of_client.bytes, of_client.len
+#define SERVERS of_server.bytes, of_server.len
+#define LINES of_users.bytes, of_users.len
+/* A call that is prepared by the library, and what it has to answer. */
+#define PREPARED(name, wanted, expression)                                \
+    static size_t name(size_t size, int call) {                            \
+        size_t answer = (expression);                                      \
+        if (answer != (call ? (size_t)(wanted) : 0)) {                     \
+            fprintf(stderr, #name " of %zu answers %zu\n", size, answer); \
+            exit(1);                                                       \
+        }                                                                  \
+        return answer;                                                     \
+    }
+RUN(read_lines, bench_read_lines(256, LINES))
+PREPARED(write_lines, of_users.len, bench_write_lines(256, LINES, call))
+PREPARED(look_up, 32, bench_look_up(256, LINES, FIRST, call))
+PREPARED(run_client, 3 * size, bench_run_client(CLIENTS, call))
+PREPARED(run_server, 2 * size, bench_run_server(1, SERVERS, call))
+PREPARED(run_audit, 2 * size, bench_audit(1, CLIENTS, SERVERS, call))
+PREPARED(refuse_client, 3, bench_run_client(CLIENTS, call))
+PREPARED(refuse_server, size, bench_run_server(1, SERVERS, call)) /* with outcomes that are not Ok */
+PREPARED(refuse_audit, 2, bench_audit(1, CLIENTS, SERVERS, call))
+PREPARED(serve_users, 2 * LOGINS, bench_serve_users(LINES, 0, SERVERS, call))
+PREPARED(serve_shared_users, 2 * LOGINS, bench_serve_users(LINES, 1, SERVERS, call))
 
 #define USUAL {1000, 10000, 100000}
+#define TENS {10, 100, 1000, 10000}
 const struct growth growths[] = {
     {"view-mechanisms", "names of a mechanisms frame", USUAL, mechanisms, view},
     {"decode-mechanisms", "the same", USUAL, mechanisms, decode},
@@ -157,5 +217,16 @@ const struct growth growths[] = {
     {"client-final-zeros", "zeros before a count", USUAL, zeros, client_final},
     {"server-final-commas", "commas of client-final (its proof is refused)", USUAL, parts_of_final, server_final},
     {"validate-commas", "commas behind server-final", USUAL, server_final_of_commas, validate},
+    {"lines-read", "lines of users", TENS, users, read_lines},
+    {"lines-write", "the same, written", TENS, users, write_lines},
+    {"lines-look-up", "the same, the last user looked up", TENS, last_user, look_up},
+    {"run-client", "logins of a client's run, 3 events each", {10, 100, 1000, 10000, 33334}, logins_of_client, run_client},
+    {"run-server", "logins of a server's run, 2 events each", {10, 100, 1000, 10000, 50000}, logins_of_server, run_server},
+    {"run-audit", "logins of an audit, 5 events each", {10, 100, 1000, 10000, 20000}, logins_of_both, run_audit},
+    {"run-client-refused", "events of a client's run, all but three refused", USUAL, refused_by_client, refuse_client},
+    {"run-server-refused", "events of a server's run, all but two refused", USUAL, refused_by_server, refuse_server},
+    {"run-audit-refused", "events of each run of an audit, refused so", USUAL, refused_by_both, refuse_audit},
+    {"run-server-users", "users of the store of a run of 10 logins", TENS, users_and_login, serve_users},
+    {"run-server-shared-users", "the same, shared by an Rc", TENS, users_and_login, serve_shared_users},
 };
 const int growths_len = sizeof growths / sizeof *growths;

@@ -3,9 +3,10 @@
 #define GROW_H
 #include <stddef.h>
 
+enum { SIZES = 5 };
 struct growth {
     const char *name, *input;
-    size_t sizes[4];
+    size_t sizes[SIZES];
     void (*fill)(size_t size);
     size_t (*run)(size_t size, int call); /* without `call`, the preparation alone */
 };

@@ -65,6 +65,35 @@ static void make_bodies(void) {
         for (int i = 0; i < MANY; i++) memcpy(rows_of_bodies[k] + i * bodies[k].len, GIVE(bodies[k]));
     }
 }
+struct text record, record_at_one;
+struct list client_events, server_events, lines;
+
+/* What a side is given in so many logins, each with nonces of its own. */
+struct list events_of(uint32_t logins, int of_server) {
+    struct list list = {0};
+    size_t room = (size_t)logins * (of_server ? 2 : 3) * EVENT;
+    list.bytes = own_memory(room + 1);
+    list.len = bench_make_events(GIVE(bodies[0]), 1, logins, of_server, list.bytes, room);
+    need(list.len == room, "events");
+    return list;
+}
+size_t name_into(char *to, size_t user) { return sprintf(to, "user%06zu", user); }
+/* A line for each user; all have one record. */
+struct list lines_of(size_t users) {
+    struct list list = {0};
+    size_t line = 10 + 1 + record.len + 1;
+    list.bytes = own_memory(users * line + 1);
+    for (size_t i = 0; i < users; i++) {
+        char name[32];
+        uint8_t *at = list.bytes + i * line;
+        memcpy(at, name, name_into(name, i));
+        at[10] = ' ';
+        memcpy(at + 11, GIVE(record));
+        at[line - 1] = '\n';
+    }
+    list.len = users * line;
+    return list;
+}
 void make_inputs(void) {
     uint8_t ones[32], twos[32];
     char one[100], two[100], line[400];
@@ -87,4 +116,10 @@ void make_inputs(void) {
     set_text(&without_proof, line);
     for (int k = 0; k < VERSIONS; k++) make_login(versions[k], &logins[k]);
     make_bodies();
+    record.len = bench_write_record(256, 4096, 1, ROOM(record));
+    record_at_one.len = bench_write_record(256, 1, 1, ROOM(record_at_one));
+    need(record.len < sizeof record.bytes && record_at_one.len < sizeof record_at_one.bytes, "record");
+    client_events = events_of(LOGINS, 0);
+    server_events = events_of(LOGINS, 1);
+    lines = lines_of(USERS);
 }

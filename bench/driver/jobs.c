@@ -7,6 +7,7 @@ const char *const who_names[WHOS] = {
     "library", "openssl", "openssl-nosha", "rustcrypto", "rustcrypto-soft", "by-hand", "by-hand-soft",
     "postgres-protocol", "gsasl", "proton", "two-blocks", "two-blocks-nosha"};
 double own_time;
+uint32_t copies = 1;
 struct text answered;
 
 #define LOOP for (uint32_t i = 0; i < times && good < REFUSED; i++) good =
@@ -145,6 +146,71 @@ static size_t unescape(const struct job *job, enum who who, uint32_t times) {
     return good;
 }
 
+/* Machines. */
+#define MACHINE(name, by_keys, call)                                                       \
+    static size_t name(const struct job *job, enum who who, uint32_t times) {               \
+        (void)who;                                                                          \
+        return bench_machine(job->which, by_keys, call, copies, times, ROOM(answered));     \
+    }
+MACHINE(machine_first, 0, 1)
+MACHINE(machine_open, 0, 2)
+MACHINE(machine_respond, 0, 3)
+MACHINE(machine_close, 0, 4)
+MACHINE(machine_believe, 0, 5)
+MACHINE(keyed_first, 1, 1)
+MACHINE(keyed_respond, 1, 3)
+MACHINE(keyed_believe, 1, 5)
+#define ALONE_RUN(name, expression)                                           \
+    static size_t name(const struct job *job, enum who who, uint32_t times) { \
+        (void)who, (void)job;                                                 \
+        return (expression);                                                  \
+    }
+ALONE_RUN(new_client, bench_new_client(job->which, times))
+ALONE_RUN(new_keyed, bench_new_keyed_client(job->which, times))
+ALONE_RUN(new_server, bench_new_server(job->which, times))
+ALONE_RUN(log_in, bench_log_in(job->which, 0, 1, times))
+ALONE_RUN(log_in_by_keys, bench_log_in(job->which, 1, 1, times))
+ALONE_RUN(log_in_4096, bench_log_in(job->which, 0, 4096, times))
+ALONE_RUN(log_in_by_keys_4096, bench_log_in(job->which, 1, 4096, times))
+
+/* Records and lines. */
+static size_t make_record(const struct job *job, enum who who, uint32_t times) {
+    size_t good = 0;
+    (void)who;
+    LOOP bench_record(job->which, GIVE(password), 1);
+    return good;
+}
+static size_t read_record(const struct job *job, enum who who, uint32_t times) {
+    size_t good = 0;
+    (void)who, (void)job;
+    LOOP bench_read_record(GIVE(record));
+    return good;
+}
+static size_t read_lines(const struct job *job, enum who who, uint32_t times) {
+    size_t good = 0;
+    (void)who;
+    LOOP bench_read_lines(job->which, lines.bytes, lines.len);
+    return good;
+}
+static size_t look_up(const struct job *job, enum who who, uint32_t times) {
+    char name[32];
+    size_t len = name_into(name, USERS - 1);
+    (void)who;
+    return bench_look_up(job->which, lines.bytes, lines.len, (const uint8_t *)name, len, times);
+}
+ALONE_RUN(write_record, bench_write_record(job->which, 1, times, ROOM(answered)))
+ALONE_RUN(write_lines, bench_write_lines(job->which, lines.bytes, lines.len, times))
+
+/* Runs and audits. */
+#define CLIENT_EVENTS client_events.bytes, client_events.len
+#define SERVER_EVENTS server_events.bytes, server_events.len
+static size_t expected(size_t number, size_t wanted, uint32_t times) {
+    return number >= REFUSED || !times || number == wanted ? number : REFUSED;
+}
+ALONE_RUN(run_client, expected(bench_run_client(CLIENT_EVENTS, times), 3 * LOGINS, times))
+ALONE_RUN(run_server, expected(bench_run_server(1, SERVER_EVENTS, times), 2 * LOGINS, times))
+ALONE_RUN(audit, expected(bench_audit(1, CLIENT_EVENTS, SERVER_EVENTS, times), 2 * LOGINS, times))
+
 /* Frames. */
 static size_t view(const struct job *job, enum who who, uint32_t times) {
     size_t good = 0;
@@ -223,6 +289,40 @@ const struct job jobs[] = {
     {"recode-response", "body", 1, MANY, 3, CODEC, encode},
     {"recode-outcome", "body", 1, MANY, 4, CODEC, encode},
     {"headers", "pair", 1, 400, 0, ALONE, header},
+    {"machine-client-first", "call", 1, 100, 256, ALONE, machine_first},
+    {"machine-server-first", "call", 1, 100, 256, ALONE, machine_open},
+    {"machine-client-final-sha1", "call", 1, 50, 1, ALONE, machine_respond},
+    {"machine-client-final-sha256", "call", 1, 50, 256, ALONE, machine_respond},
+    {"machine-client-final-sha512", "call", 1, 50, 512, ALONE, machine_respond},
+    {"machine-server-final-sha1", "call", 1, 50, 1, ALONE, machine_close},
+    {"machine-server-final-sha256", "call", 1, 50, 256, ALONE, machine_close},
+    {"machine-server-final-sha512", "call", 1, 50, 512, ALONE, machine_close},
+    {"machine-validate", "call", 1, 100, 256, ALONE, machine_believe},
+    {"keyed-client-first", "call", 1, 100, 256, ALONE, keyed_first},
+    {"keyed-client-final-sha1", "call", 1, 50, 1, ALONE, keyed_respond},
+    {"keyed-client-final-sha256", "call", 1, 50, 256, ALONE, keyed_respond},
+    {"keyed-client-final-sha512", "call", 1, 50, 512, ALONE, keyed_respond},
+    {"keyed-validate", "call", 1, 100, 256, ALONE, keyed_believe},
+    {"new-client", "machine", 1, 400, 256, ALONE, new_client},
+    {"new-keyed-client", "machine", 1, 400, 256, ALONE, new_keyed},
+    {"new-server", "machine", 1, 400, 256, ALONE, new_server},
+    {"login-sha1", "login", 1, 30, 1, ALONE, log_in},
+    {"login-sha256", "login", 1, 30, 256, ALONE, log_in},
+    {"login-sha512", "login", 1, 30, 512, ALONE, log_in},
+    {"login-4096-sha256", "login", 1, 1, 256, ALONE, log_in_4096},
+    {"login-keys-sha1", "login", 1, 30, 1, ALONE, log_in_by_keys},
+    {"login-keys-sha256", "login", 1, 30, 256, ALONE, log_in_by_keys},
+    {"login-keys-sha512", "login", 1, 30, 512, ALONE, log_in_by_keys},
+    {"login-keys-4096-sha256", "login", 1, 30, 256, ALONE, log_in_by_keys_4096},
+    {"record-make", "record", 1, 50, 256, ALONE, make_record},
+    {"record-write", "record", 1, 400, 256, ALONE, write_record},
+    {"record-read", "record", 1, 400, 256, ALONE, read_record},
+    {"lines-read", "line", USERS, 50, 256, ALONE, read_lines},
+    {"lines-write", "line", USERS, 50, 256, ALONE, write_lines},
+    {"look-up", "call", 1, 1000, 256, ALONE, look_up},
+    {"run-client", "login", LOGINS, 2, 256, ALONE, run_client},
+    {"run-server", "login", LOGINS, 2, 256, ALONE, run_server},
+    {"run-audit", "login", LOGINS, 2, 256, ALONE, audit},
 };
 const int jobs_len = sizeof jobs / sizeof *jobs;
 

@@ -21,6 +21,7 @@ struct job {
 };
 extern const struct job jobs[];
 extern const int jobs_len;
+extern uint32_t copies;      /* of a machine, which can do most calls but once: no less than `times` */
 extern double own_time;      /* of a job that takes its time itself; else negative */
 extern struct text answered; /* by the last job */
 int has(const struct job *job, enum who who);

@@ -27,6 +27,7 @@ struct round {
 static struct round timed_run(const struct job *job, enum who who, int *good) {
     struct round round = {0, 0};
     own_time = -1;
+    copies = job->times;
     double start = thread_time();
     size_t all = job->run(job, who, job->times);
     round.whole = own_time >= 0 ? own_time : thread_time() - start;
@@ -69,7 +70,7 @@ static int time_job(const struct job *job, int rounds) {
         if (!has(job, who)) continue;
         double least = of_rounds(job, all + who * rounds, rounds, 0);
         double median = of_rounds(job, all + who * rounds, rounds, rounds / 2);
-        printf("%-22s %-18s %-10s %12.1f %12.1f %8.2f\n", job->name, who_names[who], job->unit, least, median,
+        printf("%-28s %-18s %-10s %12.1f %12.1f %8.2f\n", job->name, who_names[who], job->unit, least, median,
                of_rounds(job, all, rounds, 0) / least);
     }
     fflush(stdout);
@@ -77,7 +78,7 @@ static int time_job(const struct job *job, int rounds) {
 }
 static int time_all(int rounds, const char *prefix) {
     int good = 1;
-    printf("%-22s %-18s %-10s %12s %12s %8s\n", "job", "who", "a", "least ns", "median ns", "ours/it");
+    printf("%-28s %-18s %-10s %12s %12s %8s\n", "job", "who", "a", "least ns", "median ns", "ours/it");
     for (int j = 0; j < jobs_len; j++)
         if (begins(jobs[j].name, prefix)) good = time_job(&jobs[j], rounds) && good;
     return good ? 0 : 1;
@@ -87,6 +88,7 @@ static int time_all(int rounds, const char *prefix) {
 static size_t counted(const char *mark, const struct job *job, enum who who, uint32_t times) {
     char name[200];
     snprintf(name, sizeof name, "%s %s %d %.0f", mark, who_names[who], (int)times, job->units);
+    job->run(job, who, 0); /* so that the heap before each count is alike */
     CALLGRIND_START_INSTRUMENTATION;
     size_t answer = job->run(job, who, times);
     CALLGRIND_STOP_INSTRUMENTATION;
@@ -117,9 +119,10 @@ static int grow_all(const char *prefix) {
     for (int g = 0; g < growths_len; g++) {
         const struct growth *growth = &growths[g];
         if (!begins(growth->name, prefix)) continue;
-        for (int s = 0; s < 4 && growth->sizes[s]; s++) {
+        for (int s = 0; s < SIZES && growth->sizes[s]; s++) {
             size_t size = growth->sizes[s];
             growth->fill(size);
+            growth->run(size, 0); /* so that the heap of the two runs below is alike */
             for (int call = 0; call < 2; call++) {
                 char name[200];
                 snprintf(name, sizeof name, "%s %zu %d %s", growth->name, size, call, growth->input);
@@ -195,7 +198,7 @@ static int refuse_job(const struct job *job) {
     size_t bytes;
     requests_of(job, LIBRARY, 0, &none, &bytes);
     if (!prepares(job)) none = 0;
-    printf("%-22s %4ld requests refused in turn, %ld of them in its preparation: %s\n", job->name, number - 1, none,
+    printf("%-28s %4ld requests refused in turn, %ld of them in its preparation: %s\n", job->name, number - 1, none,
            wrong ? "WRONG" : "want of memory each time, nothing lost");
     return wrong;
 }
