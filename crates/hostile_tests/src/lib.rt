@@ -16,6 +16,4 @@ mod replies;
 #[cfg(test)]
 mod sides;
 #[cfg(test)]
-mod store;
-#[cfg(test)]
 mod transcripts;

@@ -4,7 +4,8 @@ use crate::bodies::*;
 use crate::odd_bodies::*;
 use crate::replies::Row;
 use crate::sides::{ANSWERS, BEGINS, OPENS, REFUSES, TAKES, plays, serves};
-use crate::store::{Entry, Store};
+use accounts::{Account, Accounts};
+use fe2o3_sasl::ScramVersion;
 use std::alloc::Global;
 use std::rc::Rc;
 use std::test::Fail;
@@ -127,19 +128,18 @@ static RECORDS: [Odd; 6] = [
 ];
 
 /// The store of a record, behind that of somebody else and before a second one of the same name.
-fn store(alloc: Global, odd: &Odd) -> Result<Store, Fail> {
+fn store(alloc: Global, odd: &Odd) -> Result<Accounts, Fail> {
     let (name, salt, iterations) = (odd.name, odd.salt, odd.iterations);
-    let mut store = Store::new(alloc);
-    store.add(Entry::new(alloc, "nobody", b"", 1, "", "")?)?;
-    store.add(Entry::new(
-        alloc,
-        name,
-        salt,
-        iterations,
-        odd.stored_key,
-        odd.server_key,
-    )?)?;
-    store.add(Entry::new(alloc, name, b"", 1, "", "")?)?;
+    let stored_key = hex::decode(alloc, odd.stored_key)
+        .ok()
+        .ok_or("a stored key")?;
+    let server_key = hex::decode(alloc, odd.server_key)
+        .ok()
+        .ok_or("a server key")?;
+    let mut store = Accounts::new(alloc, ScramVersion::Sha256);
+    store.add(Account::new(alloc, "nobody", b"", 1, b"", b"")?)?;
+    store.add(Account::new(alloc, name, salt, iterations, &stored_key, &server_key)?)?;
+    store.add(Account::new(alloc, name, b"", 1, b"", b"")?)?;
     Ok(store)
 }
 

@@ -1,6 +1,6 @@
 //! Client-first messages that a server answers or refuses.
 
-use crate::accounts::{Account, Accounts};
+use accounts::{Account, Accounts};
 use fe2o3_scram::hmac::ScramVersion;
 use fe2o3_scram::scram_messages::{ServerFirstMessage, ServerScramErrorKind};
 use std::alloc::Global;

@@ -9,6 +9,7 @@ use fe2o3_scram::keyed_scram_client::KeyedScramClient;
 use fe2o3_scram::scram_client::ScramClient;
 use fe2o3_scram::scram_messages::{ScramErrorKind, XorLengthMismatch};
 use std::alloc::Global;
+use std::process::Abort;
 use std::test::Fail;
 
 /// A published exchange, with what is kept of its password: the salt, the salted password, the
@@ -297,35 +298,69 @@ fn handed_out(alloc: Global) -> Result<ScramClientKeys, Fail> {
     Ok(keys)
 }
 
+/// A client that has sent its first message, and keeps the keys of its first login.
+fn started(alloc: Global) -> Result<KeyedScramClient, Fail> {
+    let mut client = KeyedScramClient::new("user".to_string(alloc)?, handed_out(alloc)?);
+    client.compute_client_first_message(alloc, &[1; 32])?;
+    Ok(client)
+}
+
+/// Why the client does not answer a server-first message, and the HMAC values that it costs.
+fn refusal(
+    alloc: Global,
+    client: &mut KeyedScramClient,
+    server_first: &str,
+) -> (Option<KeyedClientError>, u64) {
+    let mut meter = Meter::new();
+    let answer = client.compute_client_final_message(alloc, server_first, &mut meter);
+    (answer.err(), meter.count())
+}
+
+/// The client answers the server-first message of its first login as it did then.
+fn answers(rt: &impl Abort, alloc: Global, client: &mut KeyedScramClient) -> Result<(), Fail> {
+    let mut meter = Meter::new();
+    let answer = client.compute_client_final_message(alloc, SERVER_FIRST, &mut meter)?;
+    assert_eq!(rt; str::from_utf8(&answer)?, CLIENT_FINAL);
+    assert_eq!(rt; meter.count(), 2);
+    Ok(())
+}
+
 #[test]
 fn a_client_logs_in_again_by_the_keys_of_its_first_login(rt: HostRuntime) -> Result<(), Fail> {
+    let mut client = started(rt.alloc())?;
+    answers(&rt, rt.alloc(), &mut client)?;
+    let wrong = client.validate_server_final(rt.alloc(), b"v=AAAA");
+    assert_eq!(rt; wrong, Err(ScramErrorKind::ServerSignatureMismatch));
+    client.validate_server_final(rt.alloc(), SERVER_FINAL.as_bytes())?;
+    Ok(())
+}
+
+#[test]
+fn a_client_with_other_keys_stays_where_it_was(rt: HostRuntime) -> Result<(), Fail> {
+    let mut client = started(rt.alloc())?;
+    let others = server_first!("s=AwMDAwMDAwMDAwMDAwMDAwMDAwMDAwMDAwMDAwMDAwM=,i=4097");
+    let refused = refusal(rt.alloc(), &mut client, others);
+    assert_eq!(rt; refused, (Some(KeyedClientError::OtherKeys), 0));
+    answers(&rt, rt.alloc(), &mut client)
+}
+
+#[test]
+fn a_client_with_keys_that_has_not_started_refuses(rt: HostRuntime) -> Result<(), Fail> {
     let alloc = rt.alloc();
     let mut client = KeyedScramClient::new("user".to_string(alloc)?, handed_out(alloc)?);
-    let mut meter = Meter::new();
-    let early = client.compute_client_final_message(alloc, SERVER_FIRST, &mut meter);
+    let refused = refusal(alloc, &mut client, SERVER_FIRST);
     let illegal = KeyedClientError::Scram(ScramErrorKind::IllegalClientState);
-    assert_eq!(rt; early.err(), Some(illegal));
-    client.compute_client_first_message(alloc, &[1; 32])?;
-    let others = server_first!("s=AwMDAwMDAwMDAwMDAwMDAwMDAwMDAwMDAwMDAwMDAwM=,i=4097");
-    let refused = client.compute_client_final_message(alloc, others, &mut meter);
-    assert_eq!(rt;
-        (refused.err(), meter.count()),
-        (Some(KeyedClientError::OtherKeys), 0)
-    );
-    let answer = client.compute_client_final_message(alloc, SERVER_FIRST, &mut meter)?;
-    assert_eq!(rt;
-        (str::from_utf8(&answer)?, meter.count()),
-        (CLIENT_FINAL, 2)
-    );
-    let copy = client.clone()?;
-    let wrong = client.validate_server_final(alloc, b"v=AAAA");
-    assert_eq!(rt; wrong, Err(ScramErrorKind::ServerSignatureMismatch));
-    client.validate_server_final(alloc, SERVER_FINAL.as_bytes())?;
-    let mut copy = copy.with_iteration_limit(1);
-    copy.validate_server_final(alloc, SERVER_FINAL.as_bytes())?;
-    assert_eq!(rt;
-        (client.version(), client.keys().iterations()),
-        (ScramVersion::Sha256, 4096)
-    );
+    assert_eq!(rt; refused, (Some(illegal), 0));
+    Ok(())
+}
+
+#[test]
+fn a_copy_of_a_client_with_keys_goes_on(rt: HostRuntime) -> Result<(), Fail> {
+    let mut client = started(rt.alloc())?;
+    answers(&rt, rt.alloc(), &mut client)?;
+    let mut copy = client.clone()?.with_iteration_limit(1);
+    assert_eq!(rt; copy.version(), ScramVersion::Sha256);
+    assert_eq!(rt; copy.keys().iterations(), 4096);
+    copy.validate_server_final(rt.alloc(), SERVER_FINAL.as_bytes())?;
     Ok(())
 }

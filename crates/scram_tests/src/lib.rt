@@ -3,8 +3,6 @@
 #![tactic(auto)]
 
 #[cfg(test)]
-mod accounts;
-#[cfg(test)]
 mod client_answer;
 #[cfg(test)]
 mod client_final_refusals;

@@ -1,7 +1,7 @@
 //! Logins through both machines, message after message.
 
-use crate::accounts::{Account, Accounts};
 use crate::fixed_nonces::{client_final, client_first, server_first};
+use accounts::{Account, Accounts};
 use fe2o3_scram::credentials::{ScramCredentialProvider, SingleScramCredential};
 use fe2o3_scram::hmac::ScramVersion;
 use fe2o3_scram::scram_client::ScramClient;

@@ -1,7 +1,7 @@
 //! Records that no password gives, and users with odd names, as a server meets them.
 
-use crate::accounts::{Account, Accounts};
 use crate::fixed_nonces::{client_final, client_first, server_first};
+use accounts::{Account, Accounts};
 use base64::engine::general_purpose::STANDARD;
 use fe2o3_scram::credentials::ScramCredentialProvider;
 use fe2o3_scram::hmac::ScramVersion;

@@ -1,7 +1,7 @@
 //! The server's side of the published exchanges.
 
-use crate::accounts::{Account, Accounts};
 use crate::messages::{EXCHANGES, Exchange};
+use accounts::{Account, Accounts};
 use base64::engine::general_purpose::STANDARD;
 use fe2o3_scram::credentials::ScramCredentialProvider;
 use fe2o3_scram::hmac::Meter;

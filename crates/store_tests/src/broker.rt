@@ -1,8 +1,8 @@
 //! The loop of a server whose users stand in a store of its own.
 
+use crate::logins::{Login, client, conclude};
 use fe2o3_scram::credentials::{ScramRecord, StoredScramCredential};
 use fe2o3_scram::hmac::ScramVersion;
-use fe2o3_scram::scram_client::ScramClient;
 use fe2o3_scram::scram_messages::{ClientFirst, ServerScramErrorKind};
 use fe2o3_scram::scram_server::ScramAuthenticator;
 use std::alloc::Global;
@@ -74,44 +74,36 @@ fn server_for(alloc: Global, client_first: &[u8]) -> Result<Server, Fail> {
     Ok(ScramAuthenticator::new(credential))
 }
 
-/// A client with this name and this password.
-fn client(alloc: Global, name: &str, password: &str) -> Result<ScramClient, Fail> {
-    Ok(ScramClient::new(name.to_string(alloc)?, password.to_string(alloc)?, VERSION))
-}
-
 /// The server-first message to a client.
 fn challenge(alloc: Global, server: &mut Server, client_first: &[u8]) -> Result<Vec<u8>, Fail> {
     let answer = server.compute_server_first_message(alloc, client_first, &[2; 32])?;
     Ok(answer.ok_or("no challenge")?)
 }
 
-/// What comes of a login: `None` where both sides accept, or the server's refusal.
-fn log_in(alloc: Global, name: &str, password: &str) -> Result<Option<ServerScramErrorKind>, Fail> {
+/// What comes of a login.
+fn log_in(alloc: Global, name: &str, password: &str) -> Result<Login, Fail> {
     let mut client = client(alloc, name, password)?;
     let client_first = client.compute_client_first_message(alloc, &[1; 32])?;
     let mut server = server_for(alloc, &client_first)?;
     let server_first = challenge(alloc, &mut server, &client_first)?;
-    let server_first = str::from_utf8(&server_first)?;
-    let client_final = client.compute_client_final_message(alloc, server_first)?;
-    match server.compute_server_final_message(alloc, &client_final) {
-        Ok(answer) => {
-            client.validate_server_final(alloc, &answer.ok_or("no answer")?)?;
-            Ok(None)
-        }
-        Err(kind) => Ok(Some(kind)),
-    }
+    conclude(
+        alloc,
+        &mut server,
+        &mut client,
+        str::from_utf8(&server_first)?,
+    )
 }
 
 #[test]
 fn lets_known_users_in(rt: HostRuntime) -> Result<(), Fail> {
-    assert_eq!(rt; log_in(rt.alloc(), "user", "pencil")?, None);
-    assert_eq!(rt; log_in(rt.alloc(), "a,b=c", "x")?, None);
+    assert_eq!(rt; log_in(rt.alloc(), "user", "pencil")?, Login::Accepted);
+    assert_eq!(rt; log_in(rt.alloc(), "a,b=c", "x")?, Login::Accepted);
     Ok(())
 }
 
 #[test]
 fn refuses_others_after_a_challenge(rt: HostRuntime) -> Result<(), Fail> {
-    let refused = Some(ServerScramErrorKind::AuthenticationFailed);
+    let refused = Login::ProofRefused(ServerScramErrorKind::AuthenticationFailed);
     for (name, password) in [
         ("user", "Pencil"),
         ("a,b=c", "pencil"),

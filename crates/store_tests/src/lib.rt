@@ -8,6 +8,16 @@ mod debug_texts;
 #[cfg(test)]
 mod faults;
 #[cfg(test)]
+mod lines;
+#[cfg(test)]
+mod lines_broker;
+#[cfg(test)]
+mod logins;
+#[cfg(test)]
+mod map_store;
+#[cfg(test)]
+mod odd_records;
+#[cfg(test)]
 mod providers;
 #[cfg(test)]
 mod records;

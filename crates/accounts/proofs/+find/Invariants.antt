@@ -1,5 +1,5 @@
 use Rattle.std.proofs.Common.{length}
-use Rattle.scram_tests.proofs.accounts.+find.Given as goal
+use Rattle.accounts.proofs.+find.Given as goal
 
 -- the accounts that are left
 abbrev pub decreases-find : goal.decreases-find

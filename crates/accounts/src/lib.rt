@@ -1,4 +1,6 @@
-//! A store of credentials with many users, whose salts and keys are whatever was put in.
+//! A help for tests: a store of credentials with many users, whose salts and keys are whatever was put
+//! in.
+#![tactic(auto)]
 
 ghost use Rattle.std.specs.Prelude.{◌≡◌, ◌≤◌, option_map, nat_eq};
 ghost use Rattle.std.specs.Cmp.Lexicographic.{pointwise};
