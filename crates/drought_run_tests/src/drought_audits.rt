@@ -1,7 +1,5 @@
 //! Audits where memory is wanting: a refusal anywhere is the audit's `OutOfMemory`.
 
-use crate::drought_bodies::*;
-use crate::drought_replies::events;
 use crate::drought_store::Refusing;
 use drought::{Answer, Call, stand, told};
 use fe2o3_sasl::audit::{
@@ -10,6 +8,8 @@ use fe2o3_sasl::audit::{
 use fe2o3_sasl::credentials::{ScramRecord, StoredScramCredential};
 use fe2o3_sasl::hmac::ScramVersion;
 use fe2o3_sasl::runs::Event;
+use sample_bodies::bodies::*;
+use sample_bodies::replies::events;
 use std::alloc::Global;
 use std::test::Fail;
 

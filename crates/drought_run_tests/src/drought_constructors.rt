@@ -1,6 +1,5 @@
 //! Constructors and conversions, while each request for memory is refused.
 
-use crate::drought_bodies::PASSWORD;
 use drought::{Answer, Call, right, take_none};
 use fe2o3_sasl::OutOfMemory;
 use fe2o3_sasl::sasl_acceptor::{SaslAnonymousMechanism, SaslPlainMechanism};
@@ -9,6 +8,7 @@ use fe2o3_sasl::sasl_profile::{
 };
 use fe2o3_sasl::scram_messages::ScramErrorKind;
 use fe2o3_sasl_wire::Error;
+use sample_bodies::bodies::PASSWORD;
 use std::alloc::Global;
 use std::test::Fail;
 use url::Url;

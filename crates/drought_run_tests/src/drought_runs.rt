@@ -1,8 +1,6 @@
 //! Runs where memory is wanting: a refused list of replies is the run's `OutOfMemory`, and nothing was
 //! done; a refusal inside a step stands at its position, and the others go on.
 
-use crate::drought_bodies::*;
-use crate::drought_replies::*;
 use crate::drought_store::Refusing;
 use drought::{Answer, Call, Drought, stand};
 use fe2o3_sasl::OutOfMemory;
@@ -16,6 +14,8 @@ use fe2o3_sasl::sasl_profile::{ProfileError, SaslProfile, SaslScramSha256};
 use fe2o3_sasl::scram_messages::ScramErrorKind;
 use fe2o3_sasl::scram_server::ScramAuthenticator;
 use fe2o3_sasl_wire::{Error, Frame};
+use sample_bodies::bodies::*;
+use sample_bodies::replies::*;
 use std::alloc::Global;
 use std::test::Fail;
 

@@ -3,11 +3,11 @@
 
 ghost use Rattle.std.specs.Prelude.{◌≡◌};
 
-use crate::drought_bodies::*;
 use fe2o3_sasl::credentials::{
     ScramCredentialProvider, ScramRecord, StoredPassword, StoredScramCredential,
 };
 use fe2o3_sasl::hmac::ScramVersion;
+use sample_bodies::bodies::*;
 use std::alloc::{AllocError, Global};
 use std::cell::Cell;
 use std::marker::Model;

@@ -5,11 +5,7 @@
 #[cfg(test)]
 mod drought_audits;
 #[cfg(test)]
-mod drought_bodies;
-#[cfg(test)]
 mod drought_constructors;
-#[cfg(test)]
-mod drought_replies;
 #[cfg(test)]
 mod drought_runs;
 #[cfg(test)]

@@ -1,8 +1,6 @@
 //! Acceptors, their steps and one step's runs where memory is wanting: no refusal moves an acceptor, and
 //! none is told as an outcome.
 
-use crate::drought_bodies::*;
-use crate::drought_replies::*;
 use drought::{Answer, Call, right, stand, take_none, told};
 use fe2o3_sasl::OutOfMemory;
 use fe2o3_sasl::credentials::{ScramRecord, StoredScramCredential};
@@ -12,6 +10,8 @@ use fe2o3_sasl::sasl_acceptor::{
 };
 use fe2o3_sasl::scram_server::ScramAuthenticator;
 use fe2o3_sasl_wire::{Error, Frame};
+use sample_bodies::bodies::*;
+use sample_bodies::replies::*;
 use std::alloc::Global;
 use std::test::Fail;
 

@@ -1,9 +1,9 @@
 //! Events from hexadecimal texts, where memory is wanting.
 
-use crate::drought_bodies::INIT;
-use crate::drought_replies::bytes_of;
 use drought::{Answer, Call, right, stand, take_none, told};
 use fe2o3_sasl::runs::{Event, EventError};
+use sample_bodies::bodies::INIT;
+use sample_bodies::replies::bytes_of;
 use std::alloc::Global;
 use std::test::Fail;
 

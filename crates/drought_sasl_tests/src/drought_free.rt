@@ -1,13 +1,13 @@
 //! Bodies that profiles refuse, and outcomes that they report, while each request for memory is refused.
 
-use crate::drought_bodies::*;
 use crate::drought_profiles::{Is, profile};
-use crate::drought_replies::{event, frame, is_client_reply};
 use drought::{Answer, Call, right, take_none};
 use fe2o3_sasl::runs::{Event, profile_step};
 use fe2o3_sasl::sasl_profile::{ProfileError, SaslProfile};
 use fe2o3_sasl::scram_messages::ScramErrorKind;
 use fe2o3_sasl_wire::{Error, Frame};
+use sample_bodies::bodies::*;
+use sample_bodies::replies::{event, frame, is_client_reply};
 use std::alloc::Global;
 use std::test::Fail;
 

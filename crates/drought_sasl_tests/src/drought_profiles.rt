@@ -1,14 +1,14 @@
 //! Profiles, their steps and one step's runs where memory is wanting: no refusal moves a profile, and
 //! each is `OutOfMemory` itself, never inside another fault.
 
-use crate::drought_bodies::*;
-use crate::drought_replies::*;
 use drought::{Answer, Call, right, stand, told};
 use fe2o3_sasl::OutOfMemory;
 use fe2o3_sasl::runs::{Event, profile_step, run_profile};
 use fe2o3_sasl::sasl_profile::{ProfileError, SaslProfile, SaslScramSha256, UrlError};
 use fe2o3_sasl::scram_messages::ScramErrorKind;
 use fe2o3_sasl_wire::{Frame, view_frame};
+use sample_bodies::bodies::*;
+use sample_bodies::replies::*;
 use std::alloc::Global;
 use std::test::Fail;
 use url::Url;

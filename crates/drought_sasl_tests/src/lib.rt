@@ -5,12 +5,8 @@
 #[cfg(test)]
 mod drought_acceptors;
 #[cfg(test)]
-mod drought_bodies;
-#[cfg(test)]
 mod drought_events;
 #[cfg(test)]
 mod drought_free;
 #[cfg(test)]
 mod drought_profiles;
-#[cfg(test)]
-mod drought_replies;

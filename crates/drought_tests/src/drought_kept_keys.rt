@@ -97,6 +97,12 @@ enum OfKeyedClient {
 
     /// The server-final message is believed.
     Believe,
+
+    /// A copy of a client that waits for the server-first message, which answers it.
+    Clone,
+
+    /// A copy of a client that waits for the server-final message, which believes it.
+    CloneLater,
 }
 
 /// A client that has sent nothing.
@@ -135,6 +141,16 @@ fn believe(alloc: Global, client: &mut KeyedScramClient) -> Result<bool, ScramEr
     Ok(true)
 }
 
+fn copy_responds(alloc: Global, client: &KeyedScramClient) -> Result<bool, KeyedClientError> {
+    let mut copy = client.clone()?;
+    respond(alloc, &mut copy)
+}
+
+fn copy_believes(alloc: Global, client: &KeyedScramClient) -> Result<bool, ScramErrorKind> {
+    let mut copy = client.clone()?;
+    believe(alloc, &mut copy)
+}
+
 impl Call for OfKeyedClient {
     type Subject = KeyedScramClient;
 
@@ -143,6 +159,8 @@ impl Call for OfKeyedClient {
             OfKeyedClient::Start => client(alloc),
             OfKeyedClient::Respond => started(alloc),
             OfKeyedClient::Believe => responded(alloc),
+            OfKeyedClient::Clone => started(alloc),
+            OfKeyedClient::CloneLater => responded(alloc),
         }
     }
 
@@ -151,6 +169,11 @@ impl Call for OfKeyedClient {
             OfKeyedClient::Start => told(start(alloc, client), OutOfMemory),
             OfKeyedClient::Respond => told(respond(alloc, client), WANT),
             OfKeyedClient::Believe => told(believe(alloc, client), ScramErrorKind::OutOfMemory),
+            OfKeyedClient::Clone => told(copy_responds(alloc, client), WANT),
+            OfKeyedClient::CloneLater => told(
+                copy_believes(alloc, client),
+                ScramErrorKind::OutOfMemory,
+            ),
         }
     }
 
@@ -167,6 +190,8 @@ fn a_client_with_keys_wants_memory(rt: HostRuntime) -> Result<(), Fail> {
             OfKeyedClient::Start,
             OfKeyedClient::Respond,
             OfKeyedClient::Believe,
+            OfKeyedClient::Clone,
+            OfKeyedClient::CloneLater,
         ],
     )
 }
