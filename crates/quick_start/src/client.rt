@@ -1,31 +1,24 @@
-//! A client that logs in.
+//! A client over frame bodies.
 
-use anyhow::Result;
-use fe2o3_sasl::{ScramClient, ScramVersion};
+use anyhow::{Result, bail};
+use fe2o3_sasl::{ClientReply, Event, SaslProfile, SaslScramSha256, profile_step};
+use fe2o3_sasl_wire::SaslCode;
 use std::alloc::Global;
 
-/// The way to the server, which tells a client's first message from its second, as the frames of
-/// SASL do.
-pub trait Connection {
-    /// Sends the first message, and brings the challenge.
-    fn start(&mut self, client_first: &[u8]) -> Result<Vec<u8>>;
-
-    /// Sends the response to the challenge, and brings the outcome.
-    fn respond(&mut self, client_final: &[u8]) -> Result<Vec<u8>>;
-}
-
-/// Logs in as `user`, and believes the server only on the signature of this very exchange. A nonce is
-/// made of random bytes, here of a fixed one. The server names the iteration count: the limit bounds
-/// the time that it can take.
-pub fn log_in<C: Connection>(alloc: Global, connection: &mut C) -> Result<()> {
+/// A client that logs in as `user`. The server names the iteration count: the limit bounds it.
+pub fn new_client(alloc: Global) -> Result<SaslProfile> {
     let username = "user".to_string(alloc)?;
     let password = "pencil".to_string(alloc)?;
-    let client = ScramClient::new(username, password, ScramVersion::Sha256);
-    let mut client = client.with_iteration_limit(100_000);
-    let client_first = client.compute_client_first_message(alloc, &[1; 32])?;
-    let server_first = connection.start(&client_first)?;
-    let client_final = client.compute_client_final_message(alloc, str::from_utf8(&server_first)?)?;
-    let server_final = connection.respond(&client_final)?;
-    client.validate_server_final(alloc, &server_final)?;
-    Ok(())
+    let scram = SaslScramSha256::new(username, password).with_iteration_limit(100_000);
+    Ok(SaslProfile::from(scram))
+}
+
+/// The body to send back, or `None` once the client is logged in: it believes the server only on
+/// the signature of this very exchange.
+pub fn answer(alloc: Global, client: &mut SaslProfile, event: &Event) -> Result<Option<Vec<u8>>> {
+    match profile_step(alloc, client, event, None)? {
+        ClientReply::Init { body } | ClientReply::Response { body } => Ok(Some(body)),
+        ClientReply::Outcome(outcome) if outcome.code == SaslCode::Ok => Ok(None),
+        ClientReply::Outcome(_) => bail!("the server refused"),
+    }
 }

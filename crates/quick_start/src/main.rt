@@ -1,15 +1,20 @@
-//! Two logins with SCRAM-SHA-256, each of a client and a server in one program: over texts, whose
-//! messages it prints, and over frame bodies.
+//! Logins with SCRAM-SHA-256, each of a client and a server in one program: over frame bodies, with
+//! what stands around them, what whole lists of them say, and over SCRAM's texts alone.
 #![tactic(auto)]
 
+mod audit;
 mod client;
-mod frames;
+mod login;
+mod runs;
+mod scram_client;
+mod scram_server;
 mod server;
+mod wire;
 
-use crate::client::{Connection, log_in};
-use crate::frames::{ClientEnd, ServerEnd, log_in_over_frames};
-use crate::server::Server;
-use anyhow::Result;
+use crate::login::Transcript;
+use crate::scram_client::Connection;
+use anyhow::{Context, Result, ensure};
+use bytes::BytesMut;
 use std::alloc::Global;
 use std::io;
 use std::io::Write;
@@ -18,7 +23,7 @@ use std::io::Write;
 #[derive(Drop)]
 struct Printed<'a, W: Write> {
     alloc: Global,
-    server: Server,
+    server: scram_server::Server,
     output: &'a mut W,
 }
 
@@ -51,24 +56,72 @@ impl<W: Write> Connection for Printed<'_, W> {
 fn over_texts<W: Write>(alloc: Global, output: &mut W) -> Result<()> {
     let mut connection = Printed {
         alloc,
-        server: Server::new(alloc)?,
+        server: scram_server::Server::new(alloc)?,
         output,
     };
-    log_in(alloc, &mut connection)?;
+    scram_client::log_in(alloc, &mut connection)?;
     connection.print(b"logged in")
 }
 
 /// A login over frame bodies.
-fn over_frames<W: Write>(alloc: Global, output: &mut W) -> Result<()> {
-    let mut client = ClientEnd::new(alloc)?;
-    let mut server = ServerEnd::new(alloc)?;
-    log_in_over_frames(alloc, &mut client, &mut server)?;
+fn over_frames<W: Write>(alloc: Global, output: &mut W) -> Result<Transcript> {
+    let given = login::log_in(alloc)?;
     writeln!(output, "logged in over frames")?;
+    Ok(given)
+}
+
+/// What a server sends first: its header, and the names of its mechanisms in a frame.
+fn first_bytes(alloc: Global) -> Result<BytesMut> {
+    let server = server::new_server(alloc, [3; 32])?;
+    let offer = login::offer(alloc, &server)?;
+    let mut bytes = BytesMut::new(alloc);
+    wire::open(&mut bytes)?;
+    wire::send(&mut bytes, &offer)?;
+    Ok(bytes)
+}
+
+/// What a client reads of a server's first bytes.
+fn over_bytes<W: Write>(alloc: Global, output: &mut W) -> Result<()> {
+    let mut bytes = first_bytes(alloc)?;
+    writeln!(output, "{} bytes", bytes.len())?;
+    ensure!(wire::is_open(&mut bytes)?, "a part of a header");
+    let body = wire::receive(alloc, &mut bytes)?.context("a part of a frame")?;
+    print_names(&body, output)
+}
+
+/// Prints the names that a server's first body offers.
+fn print_names<W: Write>(body: &[u8], output: &mut W) -> Result<()> {
+    let names = wire::offered(body)?;
+    for name in names.iter() {
+        writeln!(output, "offered: {name}")?;
+    }
+    Ok(())
+}
+
+/// What the lists of bodies of a login say of each side.
+fn over_lists<W: Write>(alloc: Global, given: &Transcript, output: &mut W) -> Result<()> {
+    let server = server::new_server(alloc, [3; 32])?;
+    let let_in = runs::lets_in(alloc, server.credentials(), &given.server)?;
+    writeln!(output, "the server lets the client in at {let_in:?}")?;
+    let logged_in = runs::logs_in(alloc, &given.client)?;
+    writeln!(output, "the client is logged in at {logged_in:?}")?;
+    Ok(())
+}
+
+/// What they have in common.
+fn over_both<W: Write>(alloc: Global, given: &Transcript, output: &mut W) -> Result<()> {
+    let server = server::new_server(alloc, [3; 32])?;
+    for finding in &audit::findings(alloc, given, server.credentials())? {
+        audit::print(finding, output)?;
+    }
     Ok(())
 }
 
 fn main(rt: HostRuntime) -> Result<()> {
     let mut output = io::writer(&rt);
     over_texts(rt.alloc(), &mut output)?;
-    over_frames(rt.alloc(), &mut output)
+    over_bytes(rt.alloc(), &mut output)?;
+    let given = over_frames(rt.alloc(), &mut output)?;
+    over_lists(rt.alloc(), &given, &mut output)?;
+    over_both(rt.alloc(), &given, &mut output)
 }

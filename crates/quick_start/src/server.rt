@@ -1,42 +1,32 @@
-//! A server of one user.
+//! A server over frame bodies.
 
-use anyhow::{Context, Result};
-use fe2o3_sasl::{ScramAuthenticator, ScramVersion, SingleScramCredential};
+use anyhow::Result;
+use fe2o3_sasl::{
+    Event, ScramAuthenticator, ScramVersion, ServerReply, SingleScramCredential, acceptor_step,
+};
+use fe2o3_sasl_wire::SaslCode;
 use std::alloc::Global;
 
-/// A server for one connection. What it waits for, the authenticator knows: an unknown user and a
-/// refused message leave it as it was.
-#[derive(Drop)]
-pub struct Server {
-    authenticator: ScramAuthenticator<SingleScramCredential>,
+/// The server of one connection.
+pub type Server = ScramAuthenticator<SingleScramCredential>;
+
+/// A server that knows `user`. A salt is random bytes, fresh for each record.
+pub fn new_server(alloc: Global, salt: [u8; 32]) -> Result<Server> {
+    let username = "user".to_string(alloc)?;
+    let version = ScramVersion::Sha256;
+    let credential = SingleScramCredential::new(alloc, username, "pencil", version, salt)?;
+    Ok(ScramAuthenticator::new(credential))
 }
 
-impl Server {
-    /// A server that knows `user`. A salt is made of random bytes, here of a fixed one.
-    pub fn new(alloc: Global) -> Result<Server> {
-        let username = "user".to_string(alloc)?;
-        let version = ScramVersion::Sha256;
-        let credential = SingleScramCredential::new(alloc, username, "pencil", version, [3; 32])?;
-        Ok(Server {
-            authenticator: ScramAuthenticator::new(credential),
-        })
-    }
-
-    /// Answers the client's first message with a challenge. A nonce is made of random bytes, here of
-    /// a fixed one.
-    pub fn challenge(&mut self, alloc: Global, client_first: &[u8]) -> Result<Vec<u8>> {
-        let nonce = [2; 32];
-        let challenge = self
-            .authenticator
-            .compute_server_first_message(alloc, client_first, &nonce)?;
-        challenge.context("unknown user")
-    }
-
-    /// Answers the client's response with the signature, where its proof is right.
-    pub fn conclude(&mut self, alloc: Global, client_final: &[u8]) -> Result<Vec<u8>> {
-        let signature = self
-            .authenticator
-            .compute_server_final_message(alloc, client_final)?;
-        signature.context("no answer")
+/// The body to send back, and how the login ended, if it did. After an outcome that is not Ok,
+/// send the body and close.
+pub fn answer(
+    alloc: Global,
+    server: &mut Server,
+    event: &Event,
+) -> Result<(Vec<u8>, Option<SaslCode>)> {
+    match acceptor_step(alloc, server, event)? {
+        ServerReply::Challenge { body } => Ok((body, None)),
+        ServerReply::Outcome { code, body } => Ok((body, Some(code))),
     }
 }

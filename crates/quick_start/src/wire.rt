@@ -2,7 +2,6 @@
 
 ghost use Rattle.std.specs.Prelude.{◌≡◌, ◌+◌, ◌++◌, length, OnOk};
 ghost use Rattle.std.specs.Int.{w32, to_be_bytes};
-ghost use Rattle.fe2o3_sasl_wire.specs.ProtocolHeader.{header_bytes};
 
 use anyhow::{Result, bail, ensure};
 use bytes::{BufMut, BytesMut};
