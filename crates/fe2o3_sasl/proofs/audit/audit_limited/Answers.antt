@@ -23,9 +23,9 @@ returns g c =
     c.in_ok-server_replies.server_replies.items shown taken oks c.match_verifiers.new.findings.items
     c.match_proofs.new.findings.items c.in_ok-client_replies.ensures.history c.in_ok-server_replies.ensures.history
     (subst (λ z. ClientComplete (map client_answer z)) c.deref.ensures.value
-    (c.client_is_complete.ensures c.if-not-client_is_complete.false))
+    (c.client_is_complete.ensures.0 c.if-not-client_is_complete.false))
     (subst (λ z. ServerComplete (map server_answer z)) c.deref-2.ensures.value
-    (c.server_is_complete.ensures c.if-not-server_is_complete.false))
+    (c.server_is_complete.ensures.0 c.if-not-server_is_complete.false))
     (subst (λ z. Covers (IsShownReceipt login inputs (map client_answer z)) (λ receipt. receipt.place)
     (RespondsAt (map client_answer z)) (length c.args.client_events.now) (map client_receipt shown))
     c.deref-3.ensures.value c.in_ok-client.ensures.shown)
