@@ -5,8 +5,9 @@ use std::alloc::{AllocError, Global};
 /// How much the one block that can be given back in part holds, in bytes.
 const ROOM: usize = 16384;
 
-/// How much memory there is while none is refused, in bytes.
-const PLENTY: usize = 1 << 20;
+/// How much memory there is while none is refused, in bytes. It is so much that the few hundred freed
+/// blocks which the allocator keeps aside cannot cut it into pieces that are all smaller than `ROOM`.
+const PLENTY: usize = 1 << 24;
 
 /// All the memory that the process can get, in two parts: the first stays taken until this is dropped,
 /// the second, of about `PLENTY`, can be taken and given back many times.
