@@ -87,3 +87,7 @@ with_password side password = record {
   limit = side.limit;
   state = side.state;
 }
+
+-- the client that has these keys in place of its password
+abbrev pub with_keys : ClientSide → ClientKeys → KeyedSide
+with_keys side keys = record { user = side.user; keys = keys; limit = side.limit; state = side.state }

@@ -15,9 +15,8 @@ ghost use Rattle.fe2o3_scram.specs.declared.scram_messages.error.ScramErrorKind.
 use crate::OutOfMemory;
 use crate::client_keys::{KeyedClientError, ScramClientKeys};
 use crate::hmac::{Meter, ScramVersion};
-use crate::scram_client::ScramClientState;
+use crate::scram_client::ScramClient;
 use crate::scram_messages::error::ScramErrorKind;
-use crate::texts::base64_of;
 use bytes::Bytes;
 use std::alloc::{AllocError, Global};
 use std::fmt;
@@ -28,25 +27,17 @@ use std::marker::Model;
 /// another salt or another iteration count than the keys are of.
 #[derive(Drop)]
 pub struct KeyedScramClient {
-    username: String,
+    /// Its password is empty, and is never read.
+    client: ScramClient,
     keys: ScramClientKeys,
-    iteration_limit: u32,
-    state: ScramClientState,
 }
 
 impl Model for KeyedScramClient {
-    ghost use Rattle.std.specs.String.{string_bytes};
-    ghost use Rattle.fe2o3_scram.specs.KeyedScramClient.{KeyedSide};
-    ghost use Rattle.fe2o3_scram.specs.ScramClient.{state_of};
+    ghost use Rattle.fe2o3_scram.specs.KeyedScramClient.{KeyedSide, with_keys};
 
     ghost Value = { KeyedSide };
 
-    ghost view = { λ client. record {
-      user = string_bytes client.username;
-      keys = client.keys;
-      limit = client.iteration_limit;
-      state = state_of client.state;
-    } };
+    ghost view = { λ keyed. with_keys keyed.client keyed.keys };
 }
 
 impl KeyedScramClient {
@@ -60,12 +51,9 @@ impl KeyedScramClient {
           state = Initial;
         } }
     {
-        Self {
-            username,
-            keys,
-            iteration_limit: u32::MAX,
-            state: ScramClientState::Initial,
-        }
+        let password = String::new(*username.allocator());
+        let client = ScramClient::new(username, password, keys.scram_version());
+        Self { client, keys }
     }
 
     /// The same client in the same state, which refuses an iteration count above the limit.
@@ -73,10 +61,8 @@ impl KeyedScramClient {
         ensures { result ≡ record { user = self.user; keys = self.keys; limit = limit; state = self.state } }
     {
         Self {
-            username: self.username,
+            client: self.client.with_iteration_limit(limit),
             keys: self.keys,
-            iteration_limit: limit,
-            state: self.state,
         }
     }
 
@@ -106,16 +92,7 @@ impl KeyedScramClient {
         ensures started { OnOk result (self.new ≡ keyed_started self.old nonce.now) }
         ensures err { OnErr result (self.new ≡ self.old) }
     {
-        let client_nonce = base64_of(alloc, nonce)?;
-        let (client_first_message, client_first_message_bare) = self
-            .keys
-            .scram_version()
-            .client_first_message(alloc, self.username.as_bytes(), client_nonce.as_bytes())?;
-        self.state = ScramClientState::ClientFirstSent {
-            client_nonce,
-            client_first_message_bare,
-        };
-        Ok(client_first_message)
+        self.client.compute_client_first_message(alloc, nonce)
     }
 
     /// Answers the server-first message by the keys with the client-final message (RFC 5802, sections
@@ -139,26 +116,12 @@ impl KeyedScramClient {
         ensures err { OnErr result (self.new ≡ self.old) }
         ensures cost { KeyedAnswerCostsIn self.old.state self.old server_first.now result meter.old meter.new }
     {
-        match &self.state {
-            ScramClientState::ClientFirstSent {
-                client_nonce,
-                client_first_message_bare,
-            } => {
-                let (client_final, server_signature) = self
-                    .keys
-                    .compute_client_final_message_limited(
-                        alloc,
-                        client_nonce,
-                        server_first,
-                        client_first_message_bare,
-                        self.iteration_limit,
-                        meter,
-                    )?;
-                self.state = ScramClientState::ClientFinalSent { server_signature };
-                Ok(client_final)
-            }
-            _ => Err(KeyedClientError::Scram(ScramErrorKind::IllegalClientState)),
-        }
+        self.client.compute_client_final_message_by_keys(
+            alloc,
+            &self.keys,
+            server_first,
+            meter,
+        )
     }
 
     /// Believes the server-final message, or refuses it, as `ScramClient::validate_server_final` does.
@@ -172,16 +135,7 @@ impl KeyedScramClient {
             (λ answer. KeyedBelievesIn self.old.state self.old server_final.now answer self.new) }
         ensures err { OnErr result (self.new ≡ self.old) }
     {
-        match &self.state {
-            ScramClientState::ClientFinalSent { server_signature } => {
-                self.keys
-                    .scram_version()
-                    .validate_server_final(alloc, server_final, server_signature)?;
-                self.state = ScramClientState::Complete;
-                Ok(())
-            }
-            _ => Err(ScramErrorKind::IllegalClientState),
-        }
+        self.client.validate_server_final(alloc, server_final)
     }
 }
 
@@ -191,9 +145,9 @@ impl fmt::Debug for KeyedScramClient {
         write!(
             f,
             "KeyedScramClient {{ username: {:?}, scram: {:?}, iteration_limit: {}, .. }}",
-            self.username,
+            self.client.username,
             self.version(),
-            self.iteration_limit
+            self.client.iteration_limit
         )
     }
 }
@@ -203,10 +157,8 @@ impl Clone for KeyedScramClient {
 
     fn clone(&self) -> Result<Self, AllocError> {
         Ok(Self {
-            username: self.username.clone()?,
+            client: self.client.clone()?,
             keys: self.keys.clone()?,
-            iteration_limit: self.iteration_limit,
-            state: self.state.copy()?,
         })
     }
 }

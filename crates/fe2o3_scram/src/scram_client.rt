@@ -4,13 +4,15 @@ ghost use Rattle.std.specs.Prelude.{◌≡◌, ◌≤◌, ◌^◌, IfOk, OnOk, O
 ghost use Rattle.std.specs.String.{string_bytes};
 ghost use Rattle.fe2o3_scram.specs.Texts.{base64_text};
 ghost use Rattle.fe2o3_scram.specs.ClientFirst.{client_first};
-ghost use Rattle.fe2o3_scram.specs.KeyedScramClient.{AnswersAndKeepsIn, sent_values};
-ghost use Rattle.fe2o3_scram.specs.ScramClient.{Initial, AnswersIn, AnswerCostsIn, BelievesIn, ReachesSaltIn, ReachesVerifierIn, started, state_of};
+ghost use Rattle.fe2o3_scram.specs.KeyedScramClient.{AnswersAndKeepsIn, KeyedAnswersIn, KeyedAnswerCostsIn, sent_values, with_keys};
+ghost use Rattle.fe2o3_scram.specs.ScramClient.{Initial, AnswersIn, AnswerCostsIn, BelievesIn, ReachesSaltIn, ReachesVerifierIn, started, state_of, with_state};
 ghost use Rattle.fe2o3_scram.specs.Readings.{Gives};
 ghost use Rattle.fe2o3_scram.specs.ServerFirst.{no_limit};
+ghost use Rattle.fe2o3_scram.specs.declared.client_keys.KeyedClientError.TheVariants.{Scram};
+ghost use Rattle.fe2o3_scram.specs.declared.scram_messages.error.ScramErrorKind.TheVariants.{OutOfMemory as NoMemory};
 
 use crate::OutOfMemory;
-use crate::client_keys::ScramClientKeys;
+use crate::client_keys::{KeyedClientError, ScramClientKeys};
 use crate::hmac::{Meter, ScramVersion};
 use crate::scram_messages::error::ScramErrorKind;
 use crate::texts::base64_of;
@@ -21,7 +23,7 @@ use std::marker::Model;
 
 /// What a client has sent last, and what it waits for.
 #[derive(Drop)]
-pub(crate) enum ScramClientState {
+enum ScramClientState {
     Initial,
     ClientFirstSent {
         client_nonce: String,
@@ -62,10 +64,10 @@ impl ScramClientState {
 /// time. A call that is refused leaves the client as it was.
 #[derive(Drop)]
 pub struct ScramClient {
-    username: String,
+    pub(crate) username: String,
     password: String,
     scram: ScramVersion,
-    iteration_limit: u32,
+    pub(crate) iteration_limit: u32,
     state: ScramClientState,
 }
 
@@ -237,6 +239,52 @@ impl ScramClient {
                 Ok((client_final, keys))
             }
             _ => Err(ScramErrorKind::IllegalClientState),
+        }
+    }
+
+    /// Answers the server-first message by kept keys in place of the password (RFC 5802, sections 3, 5
+    /// and 7). The keys are of the client's user and of its version. The meter, of at most 2^63, counts
+    /// the HMAC values: two for an answer, and none for a refusal.
+    ///
+    /// Refused are, in this order: `IllegalClientState` where the client-first message is not what
+    /// the client sent last; then what `ScramClientKeys::compute_client_final_message_limited` refuses,
+    /// in its order, with the nonce and the limit of the client. `OutOfMemory` is answered only where
+    /// none of those before `Base64DecodeError` holds. After `OtherKeys` the same message can be answered
+    /// by the password.
+    pub fn compute_client_final_message_by_keys(
+        &mut self,
+        alloc: Global,
+        keys: &ScramClientKeys,
+        server_first: &str,
+        meter: &mut Meter,
+    ) -> Result<Vec<u8>, KeyedClientError>
+        requires { meter.old ≤ 2 ^ 63 }
+        ensures answer { Gives (Scram NoMemory) (ReachesSaltIn self.old.state server_first.now)
+            (λ message. message.items) result
+            (λ answer. KeyedAnswersIn self.old.state (with_keys self.old keys.now) server_first.now answer
+            (with_keys self.new keys.now)) }
+        ensures stays { self.new ≡ with_state self.old self.new.state }
+        ensures err { OnErr result (self.new ≡ self.old) }
+        ensures cost { KeyedAnswerCostsIn self.old.state (with_keys self.old keys.now) server_first.now result
+            meter.old meter.new }
+    {
+        match &self.state {
+            ScramClientState::ClientFirstSent {
+                client_nonce,
+                client_first_message_bare,
+            } => {
+                let (client_final, server_signature) = keys.compute_client_final_message_limited(
+                    alloc,
+                    client_nonce,
+                    server_first,
+                    client_first_message_bare,
+                    self.iteration_limit,
+                    meter,
+                )?;
+                self.state = ScramClientState::ClientFinalSent { server_signature };
+                Ok(client_final)
+            }
+            _ => Err(KeyedClientError::Scram(ScramErrorKind::IllegalClientState)),
         }
     }
 

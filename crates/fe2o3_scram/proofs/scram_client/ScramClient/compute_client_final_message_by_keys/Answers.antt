@@ -1,6 +1,6 @@
 use Rattle.std.proofs.Common.{refl}
 use Rattle.std.proofs.lemmas.Result.{err_from_is_err_and}
-use Rattle.fe2o3_scram.proofs.keyed_scram_client.KeyedScramClient.compute_client_final_message.Goals as goal
+use Rattle.fe2o3_scram.proofs.scram_client.ScramClient.compute_client_final_message_by_keys.Goals as goal
 
 pub returns-in_ok-client_final-in-ClientFirstSent-clause-answer :
     goal.returns-in_ok-client_final-in-ClientFirstSent-clause-answer
