@@ -27,11 +27,12 @@ pub data ServerSays : Type 0 where
   Concluded : (code : SaslCode) → (body : List ℕ) → ServerSays
   Failed : (fault : Error) → ServerSays
 
--- a fault of a client: a frame that it does not expect, a refusal of SCRAM, a body that is not read or not
--- written, no memory
+-- a fault of a client: a frame that it does not expect, a refusal of SCRAM, kept keys that are of another salt or
+-- another count, a body that is not read or not written, no memory
 pub data ClientFault : Type 0 where
   NotImplemented : ClientFault
   Scram : (kind : ScramErrorKind) → ClientFault
+  OtherKeys : ClientFault
   Frame : (fault : Error) → ClientFault
   OutOfMemory : ClientFault
 

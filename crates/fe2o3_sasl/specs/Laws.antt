@@ -6,11 +6,13 @@ use Rattle.fe2o3_sasl_wire.specs.declared.sasl_frames.error.Error.TheVariants as
 use Rattle.fe2o3_sasl_wire.specs.SaslFrames.{IsBytes}
 use Rattle.fe2o3_sasl_wire.specs.SaslFrames as frames
 use Rattle.fe2o3_sasl.specs.ClientHistory.{Answering, AnswersAt, OpenAnswer, ClientHistory, is_start, is_answer, ends_answer}
+use Rattle.fe2o3_scram.specs.ClientKeys.{keys_of}
+use Rattle.fe2o3_scram.specs.SaslprepAscii.{IsPrintable}
 use Rattle.fe2o3_scram.specs.Credentials.{Provider, Record, record_at}
-use Rattle.fe2o3_sasl.specs.Events.{Given, AreGiven, Login, IsLogin, IsRecord, ServerSays, Concluded, Failed, ClientSays}
+use Rattle.fe2o3_sasl.specs.Events.{Given, AreGiven, Login, IsLogin, IsRecord, ServerSays, Concluded, Failed, ClientSays, Refused, OtherKeys}
 use Rattle.fe2o3_sasl.specs.Runs.{Runs, AcceptorSteps, ProfileSteps}
 use Rattle.fe2o3_sasl.specs.SaslAcceptor.{acceptor_machine, Acceptor, ScramAcceptor}
-use Rattle.fe2o3_sasl.specs.SaslProfile.{scram_profile, Profile}
+use Rattle.fe2o3_sasl.specs.Profiles.{keyed_profile, scram_profile, Profile}
 use Rattle.fe2o3_sasl.specs.Positions.{test_at, IsLastOpen}
 use Rattle.fe2o3_sasl.specs.ServerHistory.{Challenging, Accepted, AcceptsAt, Open, ServerHistory, SpellsBody, is_challenge, is_ok, full_nonce, says_auth}
 use Rattle.fe2o3_scram.specs.ScramServer as server_states
@@ -42,6 +44,27 @@ AcceptorRunsAreHistories = (provider : Provider) (events : List Given) (replies 
 abbrev pub ProfileRunsAreHistories : Type 0
 ProfileRunsAreHistories = (login : Login) (events : List Given) (replies : List ClientSays) (last : Profile)
     → Runs (ProfileSteps None) (scram_profile login) events replies last → ClientHistory login events replies
+
+-- no reply says that kept keys are of another salt or another count
+abbrev pub KeysFit : List ClientSays → Type 0
+KeysFit replies = (k : ℕ) → slice_get replies k ≢ Some (Refused OtherKeys)
+
+-- where they are never, a run of a SCRAM profile with the keys that a login's password has with some salt and count is
+-- a run of the login's profile (RFC 5802, section 3)
+abbrev pub KeyedRunsAreRuns : Type 0
+KeyedRunsAreRuns = (login : Login) (salt : List ℕ) (count : ℕ) (hostname : Option (List ℕ)) (events : List Given)
+    (replies : List ClientSays) (last : Profile) → IsPrintable login.password
+    → let keys = keys_of login.version login.password salt count in
+    Runs (ProfileSteps hostname) (keyed_profile login.user keys login.limit) events replies last → KeysFit replies
+    → (after : Profile) × Runs (ProfileSteps hostname) (scram_profile login) events replies after
+
+-- and so a client history, of which all that is said of these holds
+abbrev pub KeyedRunsAreHistories : Type 0
+KeyedRunsAreHistories = (login : Login) (salt : List ℕ) (count : ℕ) (events : List Given) (replies : List ClientSays)
+    (last : Profile) → IsPrintable login.password
+    → let keys = keys_of login.version login.password salt count in
+    Runs (ProfileSteps None) (keyed_profile login.user keys login.limit) events replies last → KeysFit replies
+    → ClientHistory login events replies
 
 -- up to each position the outcomes Ok are no more than the challenges
 abbrev pub OksWithinChallenges : Type 0

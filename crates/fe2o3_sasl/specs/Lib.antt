@@ -4,6 +4,8 @@ pub mod ServerHistory
 pub mod ClientHistory
 pub mod Complete
 pub mod SaslAcceptor
+pub mod ProfileFaults
+pub mod Profiles
 pub mod SaslProfile
 pub mod Runs
 pub mod Hex

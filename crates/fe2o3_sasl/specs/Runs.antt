@@ -8,7 +8,8 @@ use Rattle.fe2o3_sasl_wire.specs.SaslFrames as frames
 use Rattle.fe2o3_scram.specs.declared.hmac.ScramVersion.{ScramVersion}
 use Rattle.fe2o3_sasl.specs.Events.{Given, Login, ServerSays, Challenged, Concluded, Failed, ClientSays, Started, Answered, Reported, Refused, ClientFault, Frame, OutOfMemory}
 use Rattle.fe2o3_sasl.specs.ServerHistory.{SpellsBody, carried}
-use Rattle.fe2o3_sasl.specs.SaslProfile.{Profile, profile_machine, ProfileAllocates, client_fault}
+use Rattle.fe2o3_sasl.specs.Profiles.{Profile, profile_machine, ProfileAllocates}
+use Rattle.fe2o3_sasl.specs.ProfileFaults.{client_fault}
 use Rattle.fe2o3_sasl.specs.Hex.{SpellsHex}
 use Rattle.fe2o3_sasl.specs.declared.runs.events.ClientReply.{ClientReply}
 use Rattle.fe2o3_sasl.specs.declared.runs.events.ClientReply.TheVariants as client_replies

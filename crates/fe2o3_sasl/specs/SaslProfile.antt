@@ -1,24 +1,7 @@
--- What a client's profile answers to one frame (AMQP 1.0, part 5, section 5.3.2).
-use Rattle.std.specs.Prelude.{◌≡◌, ◌≢◌, ◌⊎◌, ℕ, Option, Some, None, List, [], ◌∷◌, ◌++◌, codes, string_bytes, Result, Ok, Err}
-use Rattle.std.specs.List.{Contains}
-use Rattle.std.specs.Str.{IsUtf8}
-use Rattle.fe2o3_sasl_wire.specs.declared.amqp_types.SaslCode.TheVariants as outcomes
-use Rattle.fe2o3_sasl_wire.specs.declared.sasl_frames.error.Error.{Error}
-use Rattle.fe2o3_sasl_wire.specs.declared.sasl_frames.error.Error.TheVariants as wire_faults
+-- The profiles and frames that the code's values are, and the addresses that give a profile.
+use Rattle.std.specs.Prelude.{◌≢◌, [], string_bytes}
 use Rattle.fe2o3_sasl_wire.specs.AmqpTypes.{init_frame, response_frame, outcome_frame}
-use Rattle.fe2o3_sasl_wire.specs.SaslFrames as frames
 use Rattle.fe2o3_sasl_wire.specs.SaslFrames.{SaslFrame}
-use Rattle.fe2o3_scram.specs.declared.scram_messages.error.ScramErrorKind.{ScramErrorKind}
-use Rattle.fe2o3_scram.specs.declared.scram_messages.error.ScramErrorKind.TheVariants as kinds
-use Rattle.fe2o3_scram.specs.declared.scram_messages.error.ScramErrorKind.TheVariants.{Utf8Error, ServerSignatureMismatch}
-use Rattle.fe2o3_scram.specs.Texts.{base64_text}
-use Rattle.fe2o3_scram.specs.ClientFirst.{client_first}
-use Rattle.fe2o3_scram.specs.ScramClient as client_states
-use Rattle.fe2o3_scram.specs.ScramClient.{ClientSide, started, AnswersIn, BelievesIn}
-use Rattle.fe2o3_scram.specs.Hmac.{mechanism_name}
-use Rattle.fe2o3_sasl.specs.Events.{Login, ClientFault, NotImplemented, Scram, Frame, OutOfMemory}
-use Rattle.fe2o3_sasl.specs.declared.sasl_profile.error.ProfileError.{ProfileError}
-use Rattle.fe2o3_sasl.specs.declared.sasl_profile.error.ProfileError.TheVariants as faults
 use Rattle.fe2o3_sasl.specs.declared.sasl_profile.error.UrlError.{UrlError}
 use Rattle.fe2o3_sasl.specs.declared.sasl_profile.error.UrlError.TheVariants as url_faults
 use Rattle.fe2o3_sasl.specs.declared.sasl_profile.Negotiation.{Negotiation}
@@ -26,84 +9,7 @@ use Rattle.fe2o3_sasl.specs.declared.sasl_profile.Negotiation.TheVariants as neg
 use Rattle.fe2o3_sasl.specs.declared.sasl_profile.SaslProfile.{SaslProfile}
 use Rattle.fe2o3_sasl.specs.declared.sasl_profile.SaslProfile.TheVariants as profiles
 use Rattle.url.specs.Parts.{Parts}
-
--- the profiles: SCRAM of the three versions, PLAIN, ANONYMOUS and EXTERNAL
-pub data Profile : Type 0 where
-  ScramProfile : (client : ClientSide) → Profile
-  PlainProfile : (user password : List ℕ) → Profile
-  AnonymousProfile : Profile
-  ExternalProfile : Profile
-
--- the name of its mechanism
-abbrev pub profile_name : Profile → List ℕ
-profile_name (ScramProfile client) = mechanism_name client.version
-profile_name (PlainProfile user password) = codes "PLAIN"
-profile_name AnonymousProfile = codes "ANONYMOUS"
-profile_name ExternalProfile = codes "EXTERNAL"
-
--- its initial response, with this nonce
-abbrev pub initial_response : Profile → List ℕ → Option (List ℕ)
-initial_response (ScramProfile client) nonce = Some (client_first client.user (base64_text nonce))
-initial_response (PlainProfile user password) nonce = Some (0 ∷ user ++ 0 ∷ password)
-initial_response profile nonce = None
-
--- the profile after its init
-abbrev pub after_init : Profile → List ℕ → Profile
-after_init (ScramProfile client) nonce = ScramProfile (started client nonce)
-after_init profile nonce = profile
-
--- the frame of what a SCRAM client answers, or its refusal
-abbrev pub client_frame : {A : Type 0} → (A → SaslFrame) → Result A ScramErrorKind → Result SaslFrame ClientFault
-client_frame frame (Ok answer) = Ok (frame answer)
-client_frame frame (Err kind) = Err (Scram kind)
-
--- the machine of a profile: from the profile, a hostname, a nonce and a frame to a reply and the profile after it
-abbrev pub profile_machine : Profile → Option (List ℕ) → List ℕ → SaslFrame → Result SaslFrame ClientFault → Profile
-    → Type 0
-profile_machine profile hostname nonce (frames.Mechanisms names) reply next =
-    (Contains names (profile_name profile)
-    × (reply ≡ Ok (frames.Init (profile_name profile) (initial_response profile nonce) hostname))
-    × (next ≡ after_init profile nonce))
-    ⊎ (¬ Contains names (profile_name profile) × (reply ≡ Err NotImplemented) × (next ≡ profile))
-profile_machine (ScramProfile client) hostname nonce (frames.Challenge text) reply next =
-    (¬ IsUtf8 text × (reply ≡ Err (Scram Utf8Error)) × (next ≡ ScramProfile client))
-    ⊎ (IsUtf8 text × ((answer : Result (List ℕ) ScramErrorKind) × (after : ClientSide)
-    × AnswersIn client.state client text answer after
-    × (reply ≡ client_frame (λ message. frames.Response message) answer) × (next ≡ ScramProfile after)))
-profile_machine (ScramProfile client) hostname nonce (frames.Outcome outcomes.Ok None) reply next =
-    (reply ≡ Err (Scram ServerSignatureMismatch)) × (next ≡ ScramProfile client)
-profile_machine (ScramProfile client) hostname nonce (frames.Outcome outcomes.Ok (Some text)) reply next =
-    (answer : Result (Unit {0}) ScramErrorKind) × (after : ClientSide)
-    × BelievesIn client.state client text answer after
-    × (reply ≡ client_frame (λ believed. frames.Outcome outcomes.Ok (Some text)) answer) × (next ≡ ScramProfile after)
-profile_machine profile hostname nonce (frames.Outcome code more) reply next =
-    (reply ≡ Ok (frames.Outcome code more)) × (next ≡ profile)
-profile_machine profile hostname nonce frame reply next = (reply ≡ Err NotImplemented) × (next ≡ profile)
-
--- the replies that memory may be wanting for: those to a mechanisms list with the name, to a challenge for
--- SCRAM, and to an outcome with data
-abbrev pub ProfileAllocates : Profile → SaslFrame → Type 0
-ProfileAllocates profile (frames.Mechanisms names) = Contains names (profile_name profile)
-ProfileAllocates (ScramProfile client) (frames.Challenge text) = Unit {0}
-ProfileAllocates profile (frames.Outcome code (Some text)) = Unit {0}
-ProfileAllocates profile frame = ⊥
-
--- a SCRAM profile before its first message
-abbrev pub scram_profile : Login → Profile
-scram_profile login = ScramProfile (record {
-  user = login.user;
-  password = login.password;
-  version =
-      login.version;
-  limit = login.limit;
-  state = client_states.Initial;
-})
-
--- what a profile answers to a frame: what its machine replies, or want of memory, where the profile stays
-abbrev pub ProfileAnswers : Profile → Option (List ℕ) → List ℕ → SaslFrame → Result SaslFrame ClientFault → Profile
-    → Type 0
-ProfileAnswers profile hostname nonce frame (Err OutOfMemory) next = ProfileAllocates profile frame × (next ≡ profile)
-ProfileAnswers profile hostname nonce frame answer next = profile_machine profile hostname nonce frame answer next
+use Rattle.fe2o3_sasl.specs.Profiles.{Profile, ScramProfile, PlainProfile, AnonymousProfile, ExternalProfile}
 
 -- the profile that a value is
 abbrev pub profile_of : SaslProfile → Profile
@@ -119,28 +25,6 @@ abbrev pub negotiated_frame : Negotiation → SaslFrame
 negotiated_frame (negotiations.Init init) = init_frame init
 negotiated_frame (negotiations.Response response) = response_frame response
 negotiated_frame (negotiations.Outcome outcome) = outcome_frame outcome
-
--- the fault that a value is
-abbrev pub client_fault : ProfileError → ClientFault
-client_fault faults.NotImplemented = NotImplemented
-client_fault (faults.Scram kind) = Scram kind
-client_fault (faults.Frame fault) = Frame fault
-client_fault faults.OutOfMemory = OutOfMemory
-
--- what a call answered, as a frame or a fault
-abbrev pub answered : {A : Type 0} → (A → SaslFrame) → Result A ProfileError → Result SaslFrame ClientFault
-answered frame (Ok value) = Ok (frame value)
-answered frame (Err fault) = Err (client_fault fault)
-
--- the fault for a refusal of SCRAM: want of memory is not inside another fault
-abbrev pub fault_of_kind : ScramErrorKind → ProfileError
-fault_of_kind kinds.OutOfMemory = faults.OutOfMemory
-fault_of_kind kind = faults.Scram kind
-
--- likewise for a frame that is not read or not written
-abbrev pub fault_of_frame : Error → ProfileError
-fault_of_frame wire_faults.OutOfMemory = faults.OutOfMemory
-fault_of_frame fault = faults.Frame fault
 
 -- an address names a user and a password
 abbrev pub HasCredentials : Parts → Type 0

@@ -8,7 +8,7 @@ ghost use Rattle.fe2o3_sasl.specs.examples.PlainExamples.{GuestsEnter, SwappedWo
 ghost use Rattle.fe2o3_sasl.specs.examples.HexExamples.{DigitsOfBothCases, OtherTextsSpellNothing};
 ghost use Rattle.fe2o3_sasl.specs.examples.ReplyExamples.{OtherMechanismsFail, OtherTextsAreRefused, ClientsWantMemory, LongTextsHaveNoBody, ServersWantMemory, FailuresAreReported, NamesAreFound, FindingsInOrder, UnsentChallenges, UnsentStarts};
 ghost use Rattle.fe2o3_sasl.specs.Headline.{EveryServer, EveryClient, AnswersOkExactly, ReportsOkExactly, TakenVerifiersAgree};
-ghost use Rattle.fe2o3_sasl.specs.Laws.{OneServerHistory, OneClientHistory, SomeServerHistory, SomeClientHistory, AcceptorRunsAreHistories, ProfileRunsAreHistories, OksWithinChallenges, RepeatedResponsesAreRefused, OneResponseOneNonce, RefusalsLeaveOpen, PositionsAreUsedOnce, EqualMessagesAgree, NoShortExtensions, TakenVerifiersAreJudged, ShownProofsAreJudged, OneVerdictEach, OneAuditEach, RepeatedClientPositions, RepeatedServerPositions, RepeatedClientFindings, RepeatedServerFindings, ClientsLogIn, ServersLogIn};
+ghost use Rattle.fe2o3_sasl.specs.Laws.{OneServerHistory, OneClientHistory, SomeServerHistory, SomeClientHistory, AcceptorRunsAreHistories, ProfileRunsAreHistories, KeyedRunsAreRuns, KeyedRunsAreHistories, OksWithinChallenges, RepeatedResponsesAreRefused, OneResponseOneNonce, RefusalsLeaveOpen, PositionsAreUsedOnce, EqualMessagesAgree, NoShortExtensions, TakenVerifiersAreJudged, ShownProofsAreJudged, OneVerdictEach, OneAuditEach, RepeatedClientPositions, RepeatedServerPositions, RepeatedClientFindings, RepeatedServerFindings, ClientsLogIn, ServersLogIn};
 ghost use Rattle.fe2o3_sasl.specs.examples.UnalteredExample.{PremisesCanBeMet};
 
 pub use fe2o3_scram::laws::{
@@ -40,6 +40,14 @@ pub fn one_history_each()
 pub fn runs_are_histories()
     ensures acceptor { AcceptorRunsAreHistories }
     ensures profile { ProfileRunsAreHistories }
+{}
+
+/// A client that keeps the keys of its password runs as the client with the password, as long as servers
+/// name the salt and the count that the keys are of; so its run is a client history, and the headline
+/// holds of it.
+pub fn keyed_runs()
+    ensures runs { KeyedRunsAreRuns }
+    ensures histories { KeyedRunsAreHistories }
 {}
 
 /// What users of a server rely on, whatever it is given: it never accepts more often than it

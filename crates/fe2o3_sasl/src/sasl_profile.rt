@@ -7,11 +7,14 @@ ghost use Rattle.fe2o3_sasl_wire.specs.AmqpTypes.{binary_bytes, init_frame, resp
 ghost use Rattle.fe2o3_sasl_wire.specs.FrameView.{shown, viewed_frame};
 ghost use Rattle.fe2o3_sasl_wire.specs.Owned.{owned_frame};
 ghost use Rattle.fe2o3_sasl_wire.specs.SaslFrames.{Init, Challenge, Outcome};
-ghost use Rattle.fe2o3_sasl.specs.SaslProfile.{ScramProfile, PlainProfile, scram_profile, profile_name, initial_response, after_init, ProfileAnswers, RefusesUrl, HasCredentials, answered, negotiated_frame, profile_of};
+ghost use Rattle.fe2o3_sasl.specs.Profiles.{ScramProfile, PlainProfile, scram_profile, profile_name, initial_response, after_init, ProfileAnswers};
+ghost use Rattle.fe2o3_sasl.specs.ProfileFaults.{answered};
+ghost use Rattle.fe2o3_sasl.specs.SaslProfile.{RefusesUrl, HasCredentials, negotiated_frame, profile_of};
 ghost use Rattle.fe2o3_sasl.specs.private.Writing.{is_scram};
 
 mod error;
 mod scram;
+mod scram_side;
 
 use crate::OutOfMemory;
 use crate::mechanism_names::{ANONYMOUS, EXTERNAL, PLAIN, symbol_of};
@@ -20,9 +23,8 @@ use fe2o3_sasl_wire::{
     Binary, Frame, FrameView, SaslCode, SaslInit, SaslMechanisms, SaslOutcome, SaslResponse, Symbol,
 };
 use fe2o3_scram::hmac::ScramVersion;
-use fe2o3_scram::scram_client::ScramClient;
 pub use scram::{SaslScramSha1, SaslScramSha256, SaslScramSha512};
-use scram::{answer, believe, first_message};
+use scram_side::ScramSide;
 use std::alloc::{AllocError, Global};
 use std::fmt;
 use url::Url;
@@ -111,11 +113,11 @@ impl SaslProfile {
           limit = limit;
         }) }
     {
-        let client = ScramClient::new(username, password, version).with_iteration_limit(limit);
+        let side = ScramSide::by_password(username, password, version).with_iteration_limit(limit);
         match version {
-            ScramVersion::Sha1 => SaslProfile::ScramSha1(SaslScramSha1 { client }),
-            ScramVersion::Sha256 => SaslProfile::ScramSha256(SaslScramSha256 { client }),
-            ScramVersion::Sha512 => SaslProfile::ScramSha512(SaslScramSha512 { client }),
+            ScramVersion::Sha1 => SaslProfile::ScramSha1(SaslScramSha1 { side }),
+            ScramVersion::Sha256 => SaslProfile::ScramSha256(SaslScramSha256 { side }),
+            ScramVersion::Sha512 => SaslProfile::ScramSha512(SaslScramSha512 { side }),
         }
     }
 
@@ -128,9 +130,9 @@ impl SaslProfile {
             SaslProfile::Anonymous => ANONYMOUS,
             SaslProfile::Plain { .. } => PLAIN,
             SaslProfile::External => EXTERNAL,
-            SaslProfile::ScramSha1(scram) => scram.client.version().mechanism(),
-            SaslProfile::ScramSha256(scram) => scram.client.version().mechanism(),
-            SaslProfile::ScramSha512(scram) => scram.client.version().mechanism(),
+            SaslProfile::ScramSha1(scram) => scram.side.version().mechanism(),
+            SaslProfile::ScramSha256(scram) => scram.side.version().mechanism(),
+            SaslProfile::ScramSha512(scram) => scram.side.version().mechanism(),
         }
     }
 
@@ -159,15 +161,9 @@ impl SaslProfile {
             SaslProfile::Plain { username, password } => {
                 Ok(Some(plain_message(alloc, username, password)?))
             }
-            SaslProfile::ScramSha1(scram) => {
-                Ok(Some(first_message(&mut scram.client, alloc, nonce)?))
-            }
-            SaslProfile::ScramSha256(scram) => {
-                Ok(Some(first_message(&mut scram.client, alloc, nonce)?))
-            }
-            SaslProfile::ScramSha512(scram) => {
-                Ok(Some(first_message(&mut scram.client, alloc, nonce)?))
-            }
+            SaslProfile::ScramSha1(scram) => Ok(Some(scram.side.first_message(alloc, nonce)?)),
+            SaslProfile::ScramSha256(scram) => Ok(Some(scram.side.first_message(alloc, nonce)?)),
+            SaslProfile::ScramSha512(scram) => Ok(Some(scram.side.first_message(alloc, nonce)?)),
         }
     }
 
@@ -288,9 +284,9 @@ impl SaslProfile {
             SaslProfile::Anonymous | SaslProfile::Plain { .. } | SaslProfile::External => {
                 Err(ProfileError::NotImplemented)
             }
-            SaslProfile::ScramSha1(scram) => answer(&mut scram.client, alloc, challenge),
-            SaslProfile::ScramSha256(scram) => answer(&mut scram.client, alloc, challenge),
-            SaslProfile::ScramSha512(scram) => answer(&mut scram.client, alloc, challenge),
+            SaslProfile::ScramSha1(scram) => scram.side.answer(alloc, challenge),
+            SaslProfile::ScramSha256(scram) => scram.side.answer(alloc, challenge),
+            SaslProfile::ScramSha512(scram) => scram.side.answer(alloc, challenge),
         }
     }
 
@@ -307,9 +303,9 @@ impl SaslProfile {
     {
         match self {
             SaslProfile::Anonymous | SaslProfile::Plain { .. } | SaslProfile::External => Ok(()),
-            SaslProfile::ScramSha1(scram) => believe(&mut scram.client, alloc, outcome),
-            SaslProfile::ScramSha256(scram) => believe(&mut scram.client, alloc, outcome),
-            SaslProfile::ScramSha512(scram) => believe(&mut scram.client, alloc, outcome),
+            SaslProfile::ScramSha1(scram) => scram.side.believe(alloc, outcome),
+            SaslProfile::ScramSha256(scram) => scram.side.believe(alloc, outcome),
+            SaslProfile::ScramSha512(scram) => scram.side.believe(alloc, outcome),
         }
     }
 }

@@ -116,12 +116,8 @@ impl KeyedScramClient {
         ensures err { OnErr result (self.new ≡ self.old) }
         ensures cost { KeyedAnswerCostsIn self.old.state self.old server_first.now result meter.old meter.new }
     {
-        self.client.compute_client_final_message_by_keys(
-            alloc,
-            &self.keys,
-            server_first,
-            meter,
-        )
+        self.client
+            .compute_client_final_message_by_keys(alloc, &self.keys, server_first, meter)
     }
 
     /// Believes the server-final message, or refuses it, as `ScramClient::validate_server_final` does.

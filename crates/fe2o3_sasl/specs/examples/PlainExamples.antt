@@ -9,7 +9,7 @@ use Rattle.fe2o3_sasl.specs.Events.{Login, ClientFault, NotImplemented, Refused,
 use Rattle.fe2o3_sasl.specs.MechanismLaws.{six_profiles}
 use Rattle.fe2o3_sasl.specs.Runs.{ProfileReplies}
 use Rattle.fe2o3_sasl.specs.SaslAcceptor.{Acceptor, PlainAcceptor, AnonymousAcceptor, acceptor_machine, acceptor_names, offered, ends_with}
-use Rattle.fe2o3_sasl.specs.SaslProfile.{Profile, PlainProfile, ExternalProfile, profile_machine, profile_name}
+use Rattle.fe2o3_sasl.specs.Profiles.{Profile, PlainProfile, ExternalProfile, profile_machine, profile_name}
 
 -- the acceptor of the guest
 abbrev pub guests : Acceptor

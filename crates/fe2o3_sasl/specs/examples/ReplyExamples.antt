@@ -15,7 +15,7 @@ use Rattle.fe2o3_sasl.specs.ClientHistory.{ClientHistory}
 use Rattle.fe2o3_sasl.specs.Events.{Given, Login, ServerSays, Concluded, Failed, ClientSays, Started, Reported, Refused, NotImplemented, Scram, Frame, OutOfMemory}
 use Rattle.fe2o3_sasl.specs.Runs.{AcceptorAnswers, ProfileReplies}
 use Rattle.fe2o3_sasl.specs.SaslAcceptor.{ScramAcceptor, acceptor_machine}
-use Rattle.fe2o3_sasl.specs.SaslProfile.{scram_profile}
+use Rattle.fe2o3_sasl.specs.Profiles.{scram_profile}
 use Rattle.fe2o3_sasl.specs.ServerHistory.{Challenging, FitsAsInit, first_message, ServerHistory}
 use Rattle.fe2o3_sasl.specs.examples.Examples.{client_bytes, server_bytes, login, provider, names, sends_init, auth_body, body_of, arrive, HaveBodies}
 

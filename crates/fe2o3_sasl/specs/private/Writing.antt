@@ -6,7 +6,7 @@ use Rattle.fe2o3_sasl_wire.specs.declared.sasl_frames.error.Error.{Error}
 use Rattle.fe2o3_sasl_wire.specs.declared.sasl_frames.error.Error.TheVariants as faults
 use Rattle.fe2o3_sasl.specs.declared.sasl_profile.error.ProfileError.{ProfileError}
 use Rattle.fe2o3_sasl.specs.declared.sasl_profile.error.ProfileError.TheVariants as profile_faults
-use Rattle.fe2o3_sasl.specs.SaslProfile.{Profile, ScramProfile}
+use Rattle.fe2o3_sasl.specs.Profiles.{Profile, ScramProfile}
 
 -- whether a profile answers challenges
 abbrev pub is_scram : Profile → Bool

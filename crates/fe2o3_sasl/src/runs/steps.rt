@@ -7,7 +7,8 @@ ghost use Rattle.fe2o3_sasl_wire.specs.FrameView.{shown, viewed_frame};
 ghost use Rattle.fe2o3_sasl_wire.specs.Owned.{owned_frame};
 ghost use Rattle.fe2o3_sasl_wire.specs.SaslFrames.{canonical, RefusesFrame, Challenge as ChallengeFrame, Mechanisms as MechanismsFrame, Outcome as OutcomeFrame};
 ghost use Rattle.fe2o3_sasl.specs.SaslAcceptor.{sent_frame};
-ghost use Rattle.fe2o3_sasl.specs.SaslProfile.{profile_name, profile_of};
+ghost use Rattle.fe2o3_sasl.specs.Profiles.{profile_name};
+ghost use Rattle.fe2o3_sasl.specs.SaslProfile.{profile_of};
 ghost use Rattle.fe2o3_sasl.specs.Runs.{AcceptorAnswers, AcceptorSteps, ProfileReplies, ProfileSteps, server_says, given, server_answer, server_reply, client_answer};
 ghost use Rattle.fe2o3_sasl.specs.private.Writing.{is_scram, IsRequest, Writes, WritesBody};
 

@@ -2,9 +2,10 @@
 
 ghost use Rattle.std.specs.Prelude.{◌≡◌};
 ghost use Rattle.fe2o3_sasl.specs.declared.sasl_profile.error.ProfileError.TheVariants.{OutOfMemory};
-ghost use Rattle.fe2o3_sasl.specs.SaslProfile.{fault_of_kind, fault_of_frame};
+ghost use Rattle.fe2o3_sasl.specs.ProfileFaults.{fault_of_kind, fault_of_keyed, fault_of_frame};
 
 use fe2o3_sasl_wire::Error;
+use fe2o3_scram::client_keys::KeyedClientError;
 use fe2o3_scram::scram_messages::ScramErrorKind;
 use std::alloc::AllocError;
 
@@ -19,6 +20,11 @@ pub enum ProfileError {
     /// SCRAM refuses the message.
     #[error("Scram")]
     Scram(ScramErrorKind),
+
+    /// The server names another salt or another iteration count than the kept keys are of. The password
+    /// is needed.
+    #[error("The keys are of another salt or iteration count")]
+    OtherKeys,
 
     /// The body is not read, or the answer is not written.
     #[error("Frame")]
@@ -36,6 +42,17 @@ impl From<ScramErrorKind> for ProfileError {
         match kind {
             ScramErrorKind::OutOfMemory => ProfileError::OutOfMemory,
             kind => ProfileError::Scram(kind),
+        }
+    }
+}
+
+impl From<KeyedClientError> for ProfileError {
+    ghost from_gives = { λ fault error. error ≡ fault_of_keyed fault };
+
+    fn from(fault: KeyedClientError) -> Self {
+        match fault {
+            KeyedClientError::Scram(kind) => ProfileError::from(kind),
+            KeyedClientError::OtherKeys => ProfileError::OtherKeys,
         }
     }
 }

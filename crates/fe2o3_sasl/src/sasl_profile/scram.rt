@@ -1,33 +1,28 @@
-//! The SCRAM profiles: a client for each version, and what all three answer (RFC 5802, section 5).
+//! The SCRAM profiles: a client for each version (RFC 5802, section 5).
 
-ghost use Rattle.std.specs.Prelude.{◌≡◌, Some, Option, ℕ, List, IfOk, OnOk, OnErr, IsUtf8, string_bytes};
-ghost use Rattle.fe2o3_sasl_wire.specs.AmqpTypes.{binary_bytes, response_frame, outcome_frame};
-ghost use Rattle.fe2o3_sasl_wire.specs.SaslFrames.{Challenge};
+ghost use Rattle.std.specs.Prelude.{◌≡◌, ◌≢◌, MatchOption, string_bytes};
 ghost use Rattle.fe2o3_scram.specs.declared.hmac.ScramVersion.TheVariants.{Sha1, Sha256, Sha512};
 ghost use Rattle.fe2o3_scram.specs.ServerFirst.{no_limit};
-ghost use Rattle.fe2o3_sasl.specs.SaslProfile.{ScramProfile, scram_profile, initial_response, after_init, ProfileAnswers, answered};
+ghost use Rattle.fe2o3_sasl.specs.Profiles.{ScramProfile, scram_profile, keyed_profile, with_limit};
 
-use crate::OutOfMemory;
-use crate::sasl_profile::error::ProfileError;
-use fe2o3_sasl_wire::{Binary, SaslCode, SaslOutcome, SaslResponse};
+use crate::sasl_profile::scram_side::ScramSide;
+use fe2o3_scram::client_keys::ScramClientKeys;
 use fe2o3_scram::hmac::ScramVersion;
-use fe2o3_scram::scram_client::ScramClient;
-use fe2o3_scram::scram_messages::ScramErrorKind;
-use std::alloc::{AllocError, Global};
+use std::alloc::AllocError;
 use std::marker::Model;
 
 /// SCRAM-SHA-1 (RFC 5802). New applications should take SHA-256.
 #[derive(Debug, Drop)]
 pub struct SaslScramSha1 {
-    pub(super) client: ScramClient,
+    pub(super) side: ScramSide,
 }
 
 impl Model for SaslScramSha1 {
-    ghost use Rattle.fe2o3_scram.specs.ScramClient.{ClientSide};
+    ghost use Rattle.fe2o3_sasl.specs.Profiles.{EitherSide};
 
-    ghost Value = { ClientSide };
+    ghost Value = { EitherSide };
 
-    ghost view = { λ scram. scram.client };
+    ghost view = { λ scram. scram.side };
 }
 
 impl SaslScramSha1 {
@@ -42,16 +37,34 @@ impl SaslScramSha1 {
         }) }
     {
         Self {
-            client: ScramClient::new(username, password, ScramVersion::Sha1),
+            side: ScramSide::by_password(username, password, ScramVersion::Sha1),
         }
+    }
+
+    /// A client of this user that keeps these keys in place of the password (RFC 5802, section 3), and
+    /// accepts every iteration count from 1 on. `None` where the keys are of another version.
+    ///
+    /// It answers a challenge as the client with the password does whose keys they are, by two HMAC
+    /// values in place of those of the iteration count. `OtherKeys` refuses a challenge that names another
+    /// salt or another count than theirs, and then the password is needed.
+    pub fn with_keys(username: String, keys: ScramClientKeys) -> Option<Self>
+        ensures { MatchOption result (keys.version ≢ Sha1)
+            (λ scram. (keys.version ≡ Sha1) × (ScramProfile scram ≡ keyed_profile (string_bytes username) keys no_limit)) }
+    {
+        if keys.scram_version() != ScramVersion::Sha1 {
+            return None;
+        }
+        Some(Self {
+            side: ScramSide::by_keys(username, keys),
+        })
     }
 
     /// The same client, which refuses an iteration count above the limit.
     pub fn with_iteration_limit(self, limit: u32) -> Self
-        ensures { result ≡ record self { limit = limit } }
+        ensures { result ≡ with_limit self limit }
     {
         Self {
-            client: self.client.with_iteration_limit(limit),
+            side: self.side.with_iteration_limit(limit),
         }
     }
 }
@@ -61,7 +74,7 @@ impl Clone for SaslScramSha1 {
 
     fn clone(&self) -> Result<Self, AllocError> {
         Ok(Self {
-            client: self.client.clone()?,
+            side: self.side.clone()?,
         })
     }
 }
@@ -69,15 +82,15 @@ impl Clone for SaslScramSha1 {
 /// SCRAM-SHA-256 (RFC 7677).
 #[derive(Debug, Drop)]
 pub struct SaslScramSha256 {
-    pub(super) client: ScramClient,
+    pub(super) side: ScramSide,
 }
 
 impl Model for SaslScramSha256 {
-    ghost use Rattle.fe2o3_scram.specs.ScramClient.{ClientSide};
+    ghost use Rattle.fe2o3_sasl.specs.Profiles.{EitherSide};
 
-    ghost Value = { ClientSide };
+    ghost Value = { EitherSide };
 
-    ghost view = { λ scram. scram.client };
+    ghost view = { λ scram. scram.side };
 }
 
 impl SaslScramSha256 {
@@ -92,16 +105,34 @@ impl SaslScramSha256 {
         }) }
     {
         Self {
-            client: ScramClient::new(username, password, ScramVersion::Sha256),
+            side: ScramSide::by_password(username, password, ScramVersion::Sha256),
         }
+    }
+
+    /// A client of this user that keeps these keys in place of the password (RFC 5802, section 3), and
+    /// accepts every iteration count from 1 on. `None` where the keys are of another version.
+    ///
+    /// It answers a challenge as the client with the password does whose keys they are, by two HMAC
+    /// values in place of those of the iteration count. `OtherKeys` refuses a challenge that names another
+    /// salt or another count than theirs, and then the password is needed.
+    pub fn with_keys(username: String, keys: ScramClientKeys) -> Option<Self>
+        ensures { MatchOption result (keys.version ≢ Sha256)
+            (λ scram. (keys.version ≡ Sha256) × (ScramProfile scram ≡ keyed_profile (string_bytes username) keys no_limit)) }
+    {
+        if keys.scram_version() != ScramVersion::Sha256 {
+            return None;
+        }
+        Some(Self {
+            side: ScramSide::by_keys(username, keys),
+        })
     }
 
     /// The same client, which refuses an iteration count above the limit.
     pub fn with_iteration_limit(self, limit: u32) -> Self
-        ensures { result ≡ record self { limit = limit } }
+        ensures { result ≡ with_limit self limit }
     {
         Self {
-            client: self.client.with_iteration_limit(limit),
+            side: self.side.with_iteration_limit(limit),
         }
     }
 }
@@ -111,7 +142,7 @@ impl Clone for SaslScramSha256 {
 
     fn clone(&self) -> Result<Self, AllocError> {
         Ok(Self {
-            client: self.client.clone()?,
+            side: self.side.clone()?,
         })
     }
 }
@@ -119,15 +150,15 @@ impl Clone for SaslScramSha256 {
 /// SCRAM-SHA-512.
 #[derive(Debug, Drop)]
 pub struct SaslScramSha512 {
-    pub(super) client: ScramClient,
+    pub(super) side: ScramSide,
 }
 
 impl Model for SaslScramSha512 {
-    ghost use Rattle.fe2o3_scram.specs.ScramClient.{ClientSide};
+    ghost use Rattle.fe2o3_sasl.specs.Profiles.{EitherSide};
 
-    ghost Value = { ClientSide };
+    ghost Value = { EitherSide };
 
-    ghost view = { λ scram. scram.client };
+    ghost view = { λ scram. scram.side };
 }
 
 impl SaslScramSha512 {
@@ -142,16 +173,34 @@ impl SaslScramSha512 {
         }) }
     {
         Self {
-            client: ScramClient::new(username, password, ScramVersion::Sha512),
+            side: ScramSide::by_password(username, password, ScramVersion::Sha512),
         }
+    }
+
+    /// A client of this user that keeps these keys in place of the password (RFC 5802, section 3), and
+    /// accepts every iteration count from 1 on. `None` where the keys are of another version.
+    ///
+    /// It answers a challenge as the client with the password does whose keys they are, by two HMAC
+    /// values in place of those of the iteration count. `OtherKeys` refuses a challenge that names another
+    /// salt or another count than theirs, and then the password is needed.
+    pub fn with_keys(username: String, keys: ScramClientKeys) -> Option<Self>
+        ensures { MatchOption result (keys.version ≢ Sha512)
+            (λ scram. (keys.version ≡ Sha512) × (ScramProfile scram ≡ keyed_profile (string_bytes username) keys no_limit)) }
+    {
+        if keys.scram_version() != ScramVersion::Sha512 {
+            return None;
+        }
+        Some(Self {
+            side: ScramSide::by_keys(username, keys),
+        })
     }
 
     /// The same client, which refuses an iteration count above the limit.
     pub fn with_iteration_limit(self, limit: u32) -> Self
-        ensures { result ≡ record self { limit = limit } }
+        ensures { result ≡ with_limit self limit }
     {
         Self {
-            client: self.client.with_iteration_limit(limit),
+            side: self.side.with_iteration_limit(limit),
         }
     }
 }
@@ -161,80 +210,7 @@ impl Clone for SaslScramSha512 {
 
     fn clone(&self) -> Result<Self, AllocError> {
         Ok(Self {
-            client: self.client.clone()?,
+            side: self.side.clone()?,
         })
     }
-}
-
-/// A fresh start: the client-first message. The client has not started before it is copied.
-pub(super) fn first_message(
-    client: &mut ScramClient,
-    alloc: Global,
-    nonce: &[u8; 32],
-) -> Result<Binary, OutOfMemory>
-    ensures ok { IfOk result (λ message.
-        Some (binary_bytes message) ≡ initial_response (ScramProfile client.old) nonce.now) }
-    ensures started { OnOk result (ScramProfile client.new ≡ after_init (ScramProfile client.old) nonce.now) }
-    ensures err { OnErr result (client.new ≡ client.old) }
-{
-    let mut next = client.clone()?;
-    let text = next.compute_client_first_message(alloc, nonce)?;
-    let message = text.to_vec(alloc)?;
-    *client = next;
-    Ok(Binary(message))
-}
-
-/// The answer to a challenge, which is tested for UTF-8 before the client's state and its own tests.
-pub(super) fn answer(
-    client: &mut ScramClient,
-    alloc: Global,
-    challenge: &[u8],
-) -> Result<SaslResponse, ProfileError>
-    ensures answer { (hostname : Option (List ℕ)) (nonce : List ℕ) → ProfileAnswers (ScramProfile client.old) hostname
-        nonce (Challenge challenge.now) (answered response_frame result) (ScramProfile client.new) }
-    ensures err { OnErr result (client.new ≡ client.old) }
-{
-    match str::from_utf8(challenge) {
-        Ok(server_first) => answer_text(client, alloc, server_first),
-        Err(_) => Err(ProfileError::Scram(ScramErrorKind::Utf8Error)),
-    }
-}
-
-/// The answer to a challenge that is a text.
-fn answer_text(
-    client: &mut ScramClient,
-    alloc: Global,
-    server_first: &str,
-) -> Result<SaslResponse, ProfileError>
-    ensures answer { (hostname : Option (List ℕ)) (nonce : List ℕ) → IsUtf8 server_first.now
-        → ProfileAnswers (ScramProfile client.old) hostname nonce (Challenge server_first.now)
-        (answered response_frame result) (ScramProfile client.new) }
-    ensures err { OnErr result (client.new ≡ client.old) }
-{
-    match client.compute_client_final_message(alloc, server_first) {
-        Ok(client_final) => Ok(SaslResponse {
-            response: Binary(client_final),
-        }),
-        Err(kind) => Err(ProfileError::from(kind)),
-    }
-}
-
-/// Whether an outcome is believed. One of code Ok is tested for data before the client's state and
-/// its own tests; others are not tested.
-pub(super) fn believe(
-    client: &mut ScramClient,
-    alloc: Global,
-    outcome: &SaslOutcome,
-) -> Result<(), ProfileError>
-    ensures answer { (hostname : Option (List ℕ)) (nonce : List ℕ) → ProfileAnswers (ScramProfile client.old) hostname
-        nonce (outcome_frame outcome.now) (answered (λ _. outcome_frame outcome.now) result) (ScramProfile client.new) }
-    ensures err { OnErr result (client.new ≡ client.old) }
-{
-    if outcome.code != SaslCode::Ok {
-        return Ok(());
-    }
-    let Some(server_final) = &outcome.additional_data else {
-        return Err(ProfileError::Scram(ScramErrorKind::ServerSignatureMismatch));
-    };
-    Ok(client.validate_server_final(alloc, &server_final.0)?)
 }

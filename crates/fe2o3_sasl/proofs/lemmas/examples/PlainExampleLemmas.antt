@@ -9,7 +9,7 @@ use Rattle.fe2o3_sasl_wire.specs.SaslFrames.{SaslFrame}
 use Rattle.fe2o3_sasl.specs.Events.{ClientFault, NotImplemented, Reported, Refused, OutOfMemory}
 use Rattle.fe2o3_sasl.specs.Runs.{ProfileReplies, Replies}
 use Rattle.fe2o3_sasl.specs.SaslAcceptor.{NoZero}
-use Rattle.fe2o3_sasl.specs.SaslProfile.{Profile}
+use Rattle.fe2o3_sasl.specs.Profiles.{Profile}
 use Rattle.fe2o3_sasl.specs.examples.PlainExamples.{guest, GuestsEnter, SwappedWordsFail, WrongPasswordsFail, NamesAloneFail, EmptyInitsFail, ResponsesToPlainFail, GuestsStart, OthersAreNotImplemented, PlainReportsOutcomes, GuestsWantMemory, ExternalStarts, AnonymousAlwaysEnters, MechanismsAreNamed, NamesAreOffered}
 use Rattle.fe2o3_sasl.proofs.lemmas.machines.MechanismLemmas.{differ, contains_one}
 use Rattle.fe2o3_sasl.proofs.lemmas.machines.ZeroPartLemmas.{among, names_no_other, no_zero-test}

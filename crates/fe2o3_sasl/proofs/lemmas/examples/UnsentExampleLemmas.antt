@@ -15,7 +15,7 @@ use Rattle.fe2o3_scram.specs.Texts.{base64_text}
 use Rattle.fe2o3_sasl.specs.Events.{Failed, Refused, Frame, Started}
 use Rattle.fe2o3_sasl.specs.Runs.{server_says}
 use Rattle.fe2o3_sasl.specs.SaslAcceptor.{ScramAcceptor}
-use Rattle.fe2o3_sasl.specs.SaslProfile.{after_init, scram_profile}
+use Rattle.fe2o3_sasl.specs.Profiles.{after_init, scram_profile}
 use Rattle.fe2o3_sasl.specs.ServerHistory.{carried, first_message}
 use Rattle.fe2o3_sasl.specs.examples.ReplyExamples.{LongTextsHaveNoBody, UnsentChallenges, UnsentStarts}
 use Rattle.fe2o3_sasl.proofs.lemmas.machines.MechanismLemmas.{contains_one}

@@ -19,7 +19,7 @@ use Rattle.fe2o3_scram.specs.ScramClient.{ClientState, Initial, ClientFirstSent,
 use Rattle.fe2o3_sasl.specs.Events.{Given, Login, ClientSays, Started, Answered, Reported, Refused, ClientFault, NotImplemented, Scram, Frame, OutOfMemory}
 use Rattle.fe2o3_sasl.specs.Laws.{ProfileRunsAreHistories}
 use Rattle.fe2o3_scram.specs.Hmac.{mechanism_name}
-use Rattle.fe2o3_sasl.specs.SaslProfile.{Profile, ScramProfile, client_frame, profile_machine, ProfileAllocates}
+use Rattle.fe2o3_sasl.specs.Profiles.{Profile, ScramProfile, ByPassword, client_frame, profile_machine, ProfileAllocates}
 use Rattle.fe2o3_sasl.specs.Runs.{Replies, ProfileGives, ProfileSteps, Runs}
 use Rattle.fe2o3_scram.specs.ServerFinal.{ReadsServerFinal}
 use Rattle.fe2o3_sasl.specs.ServerHistory.{carried, SpellsBody}
@@ -43,7 +43,7 @@ side_in login state = record {
 }
 
 abbrev pub profile_in : Login → ClientState → Profile
-profile_in login state = ScramProfile (side_in login state)
+profile_in login state = ScramProfile (ByPassword (side_in login state))
 
 -- the states after a start and after an answer
 abbrev pub started_state : Login → List ℕ → ClientState
@@ -186,23 +186,23 @@ challenge_step : (login : Login) (state : ClientState) (due : Option (List ℕ))
     (event : Given) (text : List ℕ) (answer : Result (List ℕ) ScramErrorKind) (after : ClientSide) (says : ClientSays)
     (next : Profile) → StandsFor login state due waits → IsUtf8 text →
     AnswersIn state (side_in login state) text answer after
-    → Replies (profile_in login state) (ScramProfile after)
+    → Replies (profile_in login state) (ScramProfile (ByPassword after))
     (client_frame (λ message. frames.Response message) answer) says next
     → StepsTo login state due waits event (Ok (frames.Challenge text)) says next
 challenge_step login state due waits event text (Ok message) after says next stands utf8 a h =
     let d = answers_due login state due waits text message after stands utf8 a in
     let answer = d.0 in
     let s = sent (Refused (Frame faults.TooLarge)) (λ body. Answered body) (canonical (frames.Response message))
-    (profile_in login state) (ScramProfile after) says next h in
+    (profile_in login state) (ScramProfile (ByPassword after)) says next h in
     let says_it : says ≡ says_answer login answer = s.0 ∙ ap
     (λ (m : List ℕ). carried (Refused (Frame faults.TooLarge)) (λ body. Answered body)
     (canonical (frames.Response m))) d.2 in
     let row : SaysRow login due waits event (Ok (frames.Challenge text)) says = inr (inl (answer, d.1, says_it)) in
     ⊎_elim (λ (x : (says ≡ Refused (Frame faults.TooLarge)) × (next ≡ profile_in login state)). refused login state due
     waits event (Ok (frames.Challenge text)) says next (Frame faults.TooLarge) x.0 x.1 row)
-    (λ (x : (body : List ℕ) × (says ≡ Answered body) × (next ≡ ScramProfile after)). (
+    (λ (x : (body : List ℕ) × (says ≡ Answered body) × (next ≡ ScramProfile (ByPassword after))). (
       answered_state login answer,
-      x.2 ∙ ap (λ (c : ClientSide). ScramProfile c) d.3,
+      x.2 ∙ ap (λ (c : ClientSide). ScramProfile (ByPassword c)) d.3,
       row,
       inr (inr (inl (x.0, answer, text, x.1, refl, d.1, refl))),
     ))
@@ -210,27 +210,27 @@ challenge_step login state due waits event text (Ok message) after says next sta
 challenge_step login state due waits event text (Err kind) after says next stands utf8 a h =
     let d = refuses_due login state due waits text kind after stands utf8 a in
     refused login state due waits event (Ok (frames.Challenge text)) says next (Scram kind) h.0
-    (h.1 ∙ ap (λ (c : ClientSide). ScramProfile c) d.1) (inr (inr (kind, d.0, h.0)))
+    (h.1 ∙ ap (λ (c : ClientSide). ScramProfile (ByPassword c)) d.1) (inr (inr (kind, d.0, h.0)))
 
 -- the step over an outcome Ok with data
 outcome_step : (login : Login) (state : ClientState) (due : Option (List ℕ)) (waits : Option Answering) (event : Given)
     (text : List ℕ) (answer : Result (Unit {0}) ScramErrorKind) (after : ClientSide) (says : ClientSays)
     (next : Profile) → StandsFor login state due waits →
     BelievesIn state (side_in login state) text answer after
-    → Replies (profile_in login state) (ScramProfile after)
+    → Replies (profile_in login state) (ScramProfile (ByPassword after))
     (client_frame (λ believed. frames.Outcome outcomes.Ok (Some text)) answer) says next
     → StepsTo login state due waits event (Ok (frames.Outcome outcomes.Ok (Some text))) says next
 outcome_step login state due waits event text (Ok believed) after says next stands b h =
     let d = believes_open login state due waits text believed after stands b in (
       Complete,
-      h.1 ∙ ap (λ (c : ClientSide). ScramProfile c) d.2,
+      h.1 ∙ ap (λ (c : ClientSide). ScramProfile (ByPassword c)) d.2,
       inr (inl (d.0, h.0)),
       inr (inr (inr (Some text, h.0, d.1, refl))),
     )
 outcome_step login state due waits event text (Err kind) after says next stands b h =
     let d = refuses_open login state due waits text kind after stands b in
     refused login state due waits event (Ok (frames.Outcome outcomes.Ok (Some text))) says next (Scram kind) h.0
-    (h.1 ∙ ap (λ (c : ClientSide). ScramProfile c) d.1) (inr (inr (kind, d.0, h.0)))
+    (h.1 ∙ ap (λ (c : ClientSide). ScramProfile (ByPassword c)) d.1) (inr (inr (kind, d.0, h.0)))
 
 -- the reply of the machine in its place
 replied : (profile moved then : Profile) (reply other : Result SaslFrame ClientFault) (says : ClientSays)
@@ -264,7 +264,7 @@ machine_step login state due waits event (frames.Challenge text) reply moved say
     (inr (inr (Utf8Error, inl (m.0, refl), r.0)))
 machine_step login state due waits event (frames.Challenge text) reply moved says next stands (inr m) h =
     challenge_step login state due waits event text m.1.0 m.1.1 says next stands m.0 m.1.2
-    (replied (profile_in login state) moved (ScramProfile m.1.1) reply
+    (replied (profile_in login state) moved (ScramProfile (ByPassword m.1.1)) reply
     (client_frame (λ message. frames.Response message) m.1.0) says next m.1.3 m.1.4 h)
 machine_step login state due waits event (frames.Outcome outcomes.Ok None) reply moved says next stands m h =
     let r = replied (profile_in login state) moved (profile_in login state) reply
@@ -273,7 +273,7 @@ machine_step login state due waits event (frames.Outcome outcomes.Ok None) reply
     (Scram ServerSignatureMismatch) r.0 r.1 (inr (inr (ServerSignatureMismatch, refl, r.0)))
 machine_step login state due waits event (frames.Outcome outcomes.Ok (Some text)) reply moved says next stands m h =
     outcome_step login state due waits event text m.0 m.1 says next stands m.2
-    (replied (profile_in login state) moved (ScramProfile m.1) reply
+    (replied (profile_in login state) moved (ScramProfile (ByPassword m.1)) reply
     (client_frame (λ believed. frames.Outcome outcomes.Ok (Some text)) m.0) says next m.3 m.4 h)
 machine_step login state due waits event (frames.Outcome outcomes.Auth more) reply moved says next stands m h =
     let r = replied (profile_in login state) moved (profile_in login state) reply

@@ -30,7 +30,7 @@ use Rattle.fe2o3_sasl.specs.Events.{Given, ServerSays, Failed, ClientSays, Start
 use Rattle.fe2o3_sasl.specs.Laws.{BodiesAreBytes, SomeServerHistory, SomeClientHistory}
 use Rattle.fe2o3_sasl.specs.Runs.{Runs, AcceptorGives, AcceptorSteps, ProfileGives, ProfileSteps, Replies, Sends, server_says}
 use Rattle.fe2o3_sasl.specs.SaslAcceptor.{ScramAcceptor, acceptor_machine, ends_with, server_frame}
-use Rattle.fe2o3_sasl.specs.SaslProfile.{ScramProfile, profile_machine, client_frame, initial_response}
+use Rattle.fe2o3_sasl.specs.Profiles.{ScramProfile, ByPassword, profile_machine, client_frame, initial_response}
 use Rattle.fe2o3_sasl.specs.Complete.{ServerComplete, ClientComplete}
 use Rattle.fe2o3_sasl.specs.ServerHistory.{SpellsBody}
 use Rattle.fe2o3_sasl.proofs.lemmas.machines.ClientMachineLemmas.{profile_runs_are_histories}
@@ -270,14 +270,14 @@ told_frame frame (Err kind) = λ is. cc
 -- what the machine of a SCRAM profile does
 abbrev Moves : ClientSide → List ℕ → SaslFrame → Type 0
 Moves side nonce frame = (reply : Result SaslFrame ClientFault) × (moved : ClientSide)
-    × profile_machine (ScramProfile side) None nonce frame reply (ScramProfile moved) × Told reply
+    × profile_machine (ScramProfile (ByPassword side)) None nonce frame reply (ScramProfile (ByPassword moved)) × Told reply
 
 some_move : (side : ClientSide) (nonce : List ℕ) (frame : SaslFrame) → Moves side nonce frame
 some_move side nonce (frames.Mechanisms names) = go (contains_or names (mechanism_name side.version))
   where
     go : Decided (Contains names (mechanism_name side.version)) → Moves side nonce (frames.Mechanisms names)
     go (inl has) = (
-      Ok (frames.Init (mechanism_name side.version) (initial_response (ScramProfile side) nonce) None),
+      Ok (frames.Init (mechanism_name side.version) (initial_response (ScramProfile (ByPassword side)) nonce) None),
       started side nonce,
       inl (has, refl, refl),
       tt,
@@ -315,13 +315,13 @@ some_move side nonce (frames.Response text) = (Err NotImplemented, side, (refl, 
 -- what a client says with a reply
 abbrev SaysWith : ClientSide → ClientSide → Result SaslFrame ClientFault → Type 0
 SaysWith side moved reply = (says : ClientSays) × (after : ClientSide)
-    × Replies (ScramProfile side) (ScramProfile moved) reply says (ScramProfile after) × (says ≢ Refused OutOfMemory)
+    × Replies (ScramProfile (ByPassword side)) (ScramProfile (ByPassword moved)) reply says (ScramProfile (ByPassword after)) × (says ≢ Refused OutOfMemory)
 
 -- the reply that carries a frame
 abbrev CarriesIn : ClientSide → ClientSide → (List ℕ → ClientSays) → Option (List ℕ) → Type 0
 CarriesIn side moved carry body = (says : ClientSays) × (after : ClientSide)
-    × Sends (Refused (Frame faults.TooLarge)) carry body (ScramProfile side) (ScramProfile moved) says
-    (ScramProfile after) × (says ≢ Refused OutOfMemory)
+    × Sends (Refused (Frame faults.TooLarge)) carry body (ScramProfile (ByPassword side)) (ScramProfile (ByPassword moved)) says
+    (ScramProfile (ByPassword after)) × (says ≢ Refused OutOfMemory)
 
 some_carried : (side moved : ClientSide) (carry : List ℕ → ClientSays) (body : Option (List ℕ))
     → ((bytes : List ℕ) → carry bytes ≢ Refused OutOfMemory) → CarriesIn side moved carry body
@@ -346,16 +346,16 @@ some_says side moved (Ok (frames.Response text)) told =
 -- what the profile gives
 some_told : (side : ClientSide) (event : Given) (spelled : Result SaslFrame Error)
     → (says : ClientSays) × (after : ClientSide)
-    × ProfileGives None (ScramProfile side) event spelled says (ScramProfile after) × (says ≢ Refused OutOfMemory)
+    × ProfileGives None (ScramProfile (ByPassword side)) event spelled says (ScramProfile (ByPassword after)) × (says ≢ Refused OutOfMemory)
 some_told side event (Err fault) = (Refused (Frame fault), side, (refl, refl), λ is. cc)
 some_told side event (Ok frame) =
     let move = some_move side event.nonce frame in
     let reply = some_says side move.1 move.0 move.3 in
-    (reply.0, reply.1, inr (move.0, ScramProfile move.1, move.2, reply.2), reply.3)
+    (reply.0, reply.1, inr (move.0, ScramProfile (ByPassword move.1), move.2, reply.2), reply.3)
 
 some_profile_run : (side : ClientSide) (events : List Given) → BodiesAreBytes events
     → (replies : List ClientSays) × (last : ClientSide)
-    × Runs (ProfileSteps None) (ScramProfile side) events replies (ScramProfile last) × ClientComplete replies
+    × Runs (ProfileSteps None) (ScramProfile (ByPassword side)) events replies (ScramProfile (ByPassword last)) × ClientComplete replies
 some_profile_run side [] are = ([], side, (refl, refl), λ k is. none-some (Refused OutOfMemory) is)
 some_profile_run side (event ∷ events) are =
     let spelled = some_spelling event.body (are 0 event refl) in
@@ -363,7 +363,7 @@ some_profile_run side (event ∷ events) are =
     let rest = some_profile_run step.1 events (λ k. are (suc k)) in (
       step.0 ∷ rest.0,
       rest.1,
-      (step.0, ScramProfile step.1, rest.0, (spelled.0, spelled.1, step.2), refl, rest.2),
+      (step.0, ScramProfile (ByPassword step.1), rest.0, (spelled.0, spelled.1, step.2), refl, rest.2),
       complete_on (Refused OutOfMemory) step.0 rest.0 step.3 rest.3,
     )
 
@@ -377,4 +377,4 @@ some_client_history login events are =
       state = client_states.Initial;
     } in
     let run = some_profile_run side events are in
-    (run.0, profile_runs_are_histories login events run.0 (ScramProfile run.1) run.2, run.3)
+    (run.0, profile_runs_are_histories login events run.0 (ScramProfile (ByPassword run.1)) run.2, run.3)

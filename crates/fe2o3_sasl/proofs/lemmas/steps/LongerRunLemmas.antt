@@ -7,7 +7,7 @@ use Rattle.fe2o3_sasl.specs.ClientHistory.{ClientHistory}
 use Rattle.fe2o3_sasl.specs.ServerHistory.{ServerHistory}
 use Rattle.fe2o3_sasl.specs.Runs.{AcceptorSteps, ProfileSteps, Runs}
 use Rattle.fe2o3_sasl.specs.SaslAcceptor.{Acceptor, ScramAcceptor, acceptor_machine}
-use Rattle.fe2o3_sasl.specs.SaslProfile.{Profile, scram_profile}
+use Rattle.fe2o3_sasl.specs.Profiles.{Profile, scram_profile}
 use Rattle.fe2o3_scram.specs.Credentials.{Provider}
 use Rattle.fe2o3_scram.specs.ScramServer as server_states
 use Rattle.fe2o3_sasl.proofs.lemmas.machines.ClientMachineLemmas.{profile_runs_are_histories}

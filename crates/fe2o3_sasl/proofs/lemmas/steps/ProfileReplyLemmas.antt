@@ -8,10 +8,14 @@ use Rattle.fe2o3_sasl_wire.specs.SaslFrames as frames
 use Rattle.fe2o3_scram.specs.declared.scram_messages.error.ScramErrorKind.{ScramErrorKind}
 use Rattle.fe2o3_scram.specs.declared.scram_messages.error.ScramErrorKind.TheVariants as kinds
 use Rattle.fe2o3_scram.specs.Readings.{Gives}
+use Rattle.fe2o3_scram.specs.declared.client_keys.KeyedClientError.{KeyedClientError}
+use Rattle.fe2o3_scram.specs.declared.client_keys.KeyedClientError.TheVariants as keyed_faults
+use Rattle.fe2o3_scram.specs.KeyedScramClient.{KeyedSide, KeyedAnswersIn}
 use Rattle.fe2o3_scram.specs.ScramClient.{ClientSide, AnswersIn}
 use Rattle.fe2o3_sasl.specs.declared.sasl_profile.error.ProfileError.{ProfileError}
 use Rattle.fe2o3_sasl.specs.declared.sasl_profile.error.ProfileError.TheVariants as faults
-use Rattle.fe2o3_sasl.specs.SaslProfile.{ScramProfile, ProfileAnswers, client_fault, fault_of_kind}
+use Rattle.fe2o3_sasl.specs.Profiles.{ScramProfile, ByPassword, ByKeys, ProfileAnswers}
+use Rattle.fe2o3_sasl.specs.ProfileFaults.{client_fault, fault_of_kind, fault_of_keyed}
 
 -- a refusal of SCRAM is want of memory, or stands inside its fault
 abbrev KindCases : ScramErrorKind → Type 0
@@ -40,22 +44,50 @@ kind_cases kinds.ServerSignatureMismatch = inr (λ e. absurd (cc), refl)
 pub challenge_refused : {V Allocates : Type 0} (view : V → List ℕ) (client next : ClientSide)
     (hostname : Option (List ℕ)) (nonce text : List ℕ) (kind : ScramErrorKind) → IsUtf8 text → next ≡ client
     → Gives kinds.OutOfMemory Allocates view (Err kind) (λ answer. AnswersIn client.state client text answer next)
-    → ProfileAnswers (ScramProfile client) hostname nonce (frames.Challenge text)
-    (Err (client_fault (fault_of_kind kind))) (ScramProfile next)
+    → ProfileAnswers (ScramProfile (ByPassword client)) hostname nonce (frames.Challenge text)
+    (Err (client_fault (fault_of_kind kind))) (ScramProfile (ByPassword next))
 challenge_refused view client next hostname nonce text kind utf8 same from = go (kind_cases kind)
   where
     refused : (fault : ProfileError) → fault_of_kind kind ≡ fault
-        → ProfileAnswers (ScramProfile client) hostname nonce (frames.Challenge text) (Err (client_fault fault))
-        (ScramProfile next)
-        → ProfileAnswers (ScramProfile client) hostname nonce (frames.Challenge text)
-        (Err (client_fault (fault_of_kind kind))) (ScramProfile next)
-    refused fault is h = subst (λ (f : ProfileError). ProfileAnswers (ScramProfile client) hostname nonce
-        (frames.Challenge text) (Err (client_fault f)) (ScramProfile next)) (sym is) h
+        → ProfileAnswers (ScramProfile (ByPassword client)) hostname nonce (frames.Challenge text) (Err (client_fault fault))
+        (ScramProfile (ByPassword next))
+        → ProfileAnswers (ScramProfile (ByPassword client)) hostname nonce (frames.Challenge text)
+        (Err (client_fault (fault_of_kind kind))) (ScramProfile (ByPassword next))
+    refused fault is h = subst (λ (f : ProfileError). ProfileAnswers (ScramProfile (ByPassword client)) hostname nonce
+        (frames.Challenge text) (Err (client_fault f)) (ScramProfile (ByPassword next))) (sym is) h
 
-    go : KindCases kind → ProfileAnswers (ScramProfile client) hostname nonce (frames.Challenge text)
-        (Err (client_fault (fault_of_kind kind))) (ScramProfile next)
-    go (inl h) = refused faults.OutOfMemory h.1 (tt, ap (λ (side : ClientSide). ScramProfile side) same)
+    go : KindCases kind → ProfileAnswers (ScramProfile (ByPassword client)) hostname nonce (frames.Challenge text)
+        (Err (client_fault (fault_of_kind kind))) (ScramProfile (ByPassword next))
+    go (inl h) = refused faults.OutOfMemory h.1 (tt, ap (λ (side : ClientSide). ScramProfile (ByPassword side)) same)
     go (inr h) = refused (faults.Scram kind) h.1 (inr (utf8, (Err kind, next, from.1 h.0, refl, refl)))
+
+-- a challenge that a client with kept keys refuses
+pub keyed_refused : {V Allocates : Type 0} (view : V → List ℕ) (client next : KeyedSide)
+    (hostname : Option (List ℕ)) (nonce text : List ℕ) (fault : KeyedClientError) → IsUtf8 text → next ≡ client
+    → Gives (keyed_faults.Scram kinds.OutOfMemory) Allocates view (Err fault)
+    (λ answer. KeyedAnswersIn client.state client text answer next)
+    → ProfileAnswers (ScramProfile (ByKeys client)) hostname nonce (frames.Challenge text)
+    (Err (client_fault (fault_of_keyed fault))) (ScramProfile (ByKeys next))
+keyed_refused view client next hostname nonce text keyed_faults.OtherKeys utf8 same from =
+    inr (utf8, (Err keyed_faults.OtherKeys, next, from.1 (λ e. absurd (cc)), refl, refl))
+keyed_refused view client next hostname nonce text (keyed_faults.Scram kind) utf8 same from = go (kind_cases kind)
+  where
+    inside : keyed_faults.Scram kind ≡ keyed_faults.Scram kinds.OutOfMemory → kind ≡ kinds.OutOfMemory
+    inside e = cc
+
+    refused : (fault : ProfileError) → fault_of_kind kind ≡ fault
+        → ProfileAnswers (ScramProfile (ByKeys client)) hostname nonce (frames.Challenge text) (Err (client_fault fault))
+        (ScramProfile (ByKeys next))
+        → ProfileAnswers (ScramProfile (ByKeys client)) hostname nonce (frames.Challenge text)
+        (Err (client_fault (fault_of_kind kind))) (ScramProfile (ByKeys next))
+    refused fault is h = subst (λ (f : ProfileError). ProfileAnswers (ScramProfile (ByKeys client)) hostname nonce
+        (frames.Challenge text) (Err (client_fault f)) (ScramProfile (ByKeys next))) (sym is) h
+
+    go : KindCases kind → ProfileAnswers (ScramProfile (ByKeys client)) hostname nonce (frames.Challenge text)
+        (Err (client_fault (fault_of_kind kind))) (ScramProfile (ByKeys next))
+    go (inl h) = refused faults.OutOfMemory h.1 (tt, ap (λ (side : KeyedSide). ScramProfile (ByKeys side)) same)
+    go (inr h) = refused (faults.Scram kind) h.1
+        (inr (utf8, (Err (keyed_faults.Scram kind), next, from.1 (λ e. h.0 (inside e)), refl, refl)))
 
 -- ---- the search for a name
 

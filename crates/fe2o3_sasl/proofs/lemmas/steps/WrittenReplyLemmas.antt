@@ -6,9 +6,10 @@ use Rattle.fe2o3_sasl_wire.specs.declared.sasl_frames.error.Error.{Error}
 use Rattle.fe2o3_sasl_wire.specs.declared.sasl_frames.error.Error.TheVariants as faults
 use Rattle.fe2o3_sasl_wire.specs.SaslFrames as frames
 use Rattle.fe2o3_sasl_wire.specs.SaslFrames.{SaslFrame, canonical}
-use Rattle.fe2o3_sasl.specs.Events.{ClientFault, NotImplemented, Scram, Frame, OutOfMemory, Started, Answered, Reported, Refused}
+use Rattle.fe2o3_sasl.specs.Events.{ClientFault, NotImplemented, Scram, OtherKeys, Frame, OutOfMemory, Started, Answered, Reported, Refused}
 use Rattle.fe2o3_sasl.specs.Runs.{ProfileReplies, Sends}
-use Rattle.fe2o3_sasl.specs.SaslProfile.{Profile, ScramProfile, PlainProfile, AnonymousProfile, ExternalProfile, profile_name, initial_response, after_init, profile_machine, ProfileAllocates, ProfileAnswers, client_fault}
+use Rattle.fe2o3_sasl.specs.Profiles.{Profile, ScramProfile, PlainProfile, AnonymousProfile, ExternalProfile, profile_name, initial_response, after_init, profile_machine, ProfileAllocates, ProfileAnswers}
+use Rattle.fe2o3_sasl.specs.ProfileFaults.{client_fault}
 use Rattle.fe2o3_sasl.specs.declared.sasl_profile.error.ProfileError.{ProfileError}
 use Rattle.fe2o3_sasl.specs.declared.sasl_profile.error.ProfileError.TheVariants as profile_faults
 use Rattle.fe2o3_sasl.specs.private.Writing.{is_scram, WritesBody}
@@ -20,6 +21,7 @@ pub refusal_replies : (hostname : Option (List ℕ)) (profile : Profile) (nonce 
 refusal_replies hostname profile nonce frame OutOfMemory next h = inl (h.0, refl, h.1)
 refusal_replies hostname profile nonce frame NotImplemented next h = inr (Err NotImplemented, next, h, (refl, refl))
 refusal_replies hostname profile nonce frame (Scram kind) next h = inr (Err (Scram kind), next, h, (refl, refl))
+refusal_replies hostname profile nonce frame OtherKeys next h = inr (Err OtherKeys, next, h, (refl, refl))
 refusal_replies hostname profile nonce frame (Frame fault) next h = inr (Err (Frame fault), next, h, (refl, refl))
 
 -- one on a copy leaves the profile
@@ -89,6 +91,7 @@ started_err view hostname profile begun nonce names init (profile_faults.Frame f
     )
 started_err view hostname profile begun nonce names init profile_faults.NotImplemented same has is w = absurd w
 started_err view hostname profile begun nonce names init (profile_faults.Scram kind) same has is w = absurd w
+started_err view hostname profile begun nonce names init profile_faults.OtherKeys same has is w = absurd w
 
 -- ---- answers
 
@@ -139,5 +142,6 @@ responded_err view hostname profile begun moved nonce text response (profile_fau
     )
 responded_err view hostname profile begun moved nonce text response profile_faults.NotImplemented same is made w =
     absurd w
+responded_err view hostname profile begun moved nonce text response profile_faults.OtherKeys same is made w = absurd w
 responded_err view hostname profile begun moved nonce text response (profile_faults.Scram kind) same is made w =
     absurd w

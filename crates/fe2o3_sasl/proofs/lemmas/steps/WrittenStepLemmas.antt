@@ -9,7 +9,7 @@ use Rattle.fe2o3_sasl_wire.specs.SaslFrames.{SaslFrame, ReadsBody}
 use Rattle.fe2o3_sasl_wire.proofs.lemmas.frames.LawLemmas.{spelled_mechanisms_are_ascii}
 use Rattle.fe2o3_sasl.specs.Events.{Given, ServerSays, Failed, NotImplemented, Frame, ClientSays, Refused}
 use Rattle.fe2o3_sasl.specs.Runs.{AcceptorAnswers, AcceptorGives, AcceptorSteps, ProfileReplies, ProfileSteps}
-use Rattle.fe2o3_sasl.specs.SaslProfile.{Profile, ScramProfile, PlainProfile, AnonymousProfile, ExternalProfile, profile_name}
+use Rattle.fe2o3_sasl.specs.Profiles.{Profile, ScramProfile, PlainProfile, AnonymousProfile, ExternalProfile, profile_name}
 use Rattle.fe2o3_sasl.specs.private.Writing.{is_scram, IsRequest}
 
 -- ---- acceptors

@@ -4,7 +4,8 @@ use Rattle.fe2o3_sasl_wire.specs.AmqpTypes.{binary_bytes, outcome_frame}
 use Rattle.fe2o3_sasl_wire.specs.SaslFrames.{SaslFrame}
 use Rattle.fe2o3_sasl.specs.Events.{Reported, Refused}
 use Rattle.fe2o3_sasl.specs.Runs.{ProfileReplies}
-use Rattle.fe2o3_sasl.specs.SaslProfile.{profile_of, client_fault}
+use Rattle.fe2o3_sasl.specs.ProfileFaults.{client_fault}
+use Rattle.fe2o3_sasl.specs.SaslProfile.{profile_of}
 use Rattle.fe2o3_sasl.proofs.lemmas.steps.WrittenReplyLemmas.{reported, refusal_replies}
 use Rattle.fe2o3_sasl.proofs.runs.steps.report.Goals as goal
 

@@ -1,7 +1,8 @@
 use Rattle.std.specs.Prelude.{Vec, ℕ}
 use Rattle.std.specs.declared.alloc.Global.{Global}
 use Rattle.fe2o3_sasl_wire.specs.SaslFrames as frames
-use Rattle.fe2o3_sasl.specs.SaslProfile.{profile_of, client_fault}
+use Rattle.fe2o3_sasl.specs.ProfileFaults.{client_fault}
+use Rattle.fe2o3_sasl.specs.SaslProfile.{profile_of}
 use Rattle.fe2o3_sasl.proofs.lemmas.steps.WrittenReplyLemmas.{responded_ok, responded_err, refused_on_copy}
 use Rattle.fe2o3_sasl.proofs.runs.steps.respond.Goals as goal
 

@@ -1,7 +1,7 @@
 use Rattle.std.proofs.Common.{refl, inr, Ok, Vec, ℕ}
 use Rattle.std.specs.declared.alloc.Global.{Global}
 use Rattle.fe2o3_sasl.proofs.lemmas.steps.ProfileReplyLemmas.{challenge_refused}
-use Rattle.fe2o3_sasl.proofs.sasl_profile.scram.answer_text.Goals as goal
+use Rattle.fe2o3_sasl.proofs.sasl_profile.scram_side.answer_by_password.Goals as goal
 
 pub returns-in-Ok-clause-answer : goal.returns-in-Ok-clause-answer
 returns-in-Ok-clause-answer c = λ hostname nonce utf8.
