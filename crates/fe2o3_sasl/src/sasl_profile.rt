@@ -113,11 +113,13 @@ impl SaslProfile {
           limit = limit;
         }) }
     {
-        let side = ScramSide::by_password(username, password, version).with_iteration_limit(limit);
+        let client = ScramSide::by_password(username, password, version).with_iteration_limit(
+            limit,
+        );
         match version {
-            ScramVersion::Sha1 => SaslProfile::ScramSha1(SaslScramSha1 { side }),
-            ScramVersion::Sha256 => SaslProfile::ScramSha256(SaslScramSha256 { side }),
-            ScramVersion::Sha512 => SaslProfile::ScramSha512(SaslScramSha512 { side }),
+            ScramVersion::Sha1 => SaslProfile::ScramSha1(SaslScramSha1 { client }),
+            ScramVersion::Sha256 => SaslProfile::ScramSha256(SaslScramSha256 { client }),
+            ScramVersion::Sha512 => SaslProfile::ScramSha512(SaslScramSha512 { client }),
         }
     }
 
@@ -130,9 +132,9 @@ impl SaslProfile {
             SaslProfile::Anonymous => ANONYMOUS,
             SaslProfile::Plain { .. } => PLAIN,
             SaslProfile::External => EXTERNAL,
-            SaslProfile::ScramSha1(scram) => scram.side.version().mechanism(),
-            SaslProfile::ScramSha256(scram) => scram.side.version().mechanism(),
-            SaslProfile::ScramSha512(scram) => scram.side.version().mechanism(),
+            SaslProfile::ScramSha1(scram) => scram.client.version().mechanism(),
+            SaslProfile::ScramSha256(scram) => scram.client.version().mechanism(),
+            SaslProfile::ScramSha512(scram) => scram.client.version().mechanism(),
         }
     }
 
@@ -161,9 +163,9 @@ impl SaslProfile {
             SaslProfile::Plain { username, password } => {
                 Ok(Some(plain_message(alloc, username, password)?))
             }
-            SaslProfile::ScramSha1(scram) => Ok(Some(scram.side.first_message(alloc, nonce)?)),
-            SaslProfile::ScramSha256(scram) => Ok(Some(scram.side.first_message(alloc, nonce)?)),
-            SaslProfile::ScramSha512(scram) => Ok(Some(scram.side.first_message(alloc, nonce)?)),
+            SaslProfile::ScramSha1(scram) => Ok(Some(scram.client.first_message(alloc, nonce)?)),
+            SaslProfile::ScramSha256(scram) => Ok(Some(scram.client.first_message(alloc, nonce)?)),
+            SaslProfile::ScramSha512(scram) => Ok(Some(scram.client.first_message(alloc, nonce)?)),
         }
     }
 
@@ -284,9 +286,9 @@ impl SaslProfile {
             SaslProfile::Anonymous | SaslProfile::Plain { .. } | SaslProfile::External => {
                 Err(ProfileError::NotImplemented)
             }
-            SaslProfile::ScramSha1(scram) => scram.side.answer(alloc, challenge),
-            SaslProfile::ScramSha256(scram) => scram.side.answer(alloc, challenge),
-            SaslProfile::ScramSha512(scram) => scram.side.answer(alloc, challenge),
+            SaslProfile::ScramSha1(scram) => scram.client.answer(alloc, challenge),
+            SaslProfile::ScramSha256(scram) => scram.client.answer(alloc, challenge),
+            SaslProfile::ScramSha512(scram) => scram.client.answer(alloc, challenge),
         }
     }
 
@@ -303,9 +305,9 @@ impl SaslProfile {
     {
         match self {
             SaslProfile::Anonymous | SaslProfile::Plain { .. } | SaslProfile::External => Ok(()),
-            SaslProfile::ScramSha1(scram) => scram.side.believe(alloc, outcome),
-            SaslProfile::ScramSha256(scram) => scram.side.believe(alloc, outcome),
-            SaslProfile::ScramSha512(scram) => scram.side.believe(alloc, outcome),
+            SaslProfile::ScramSha1(scram) => scram.client.believe(alloc, outcome),
+            SaslProfile::ScramSha256(scram) => scram.client.believe(alloc, outcome),
+            SaslProfile::ScramSha512(scram) => scram.client.believe(alloc, outcome),
         }
     }
 }

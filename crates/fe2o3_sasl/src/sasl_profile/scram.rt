@@ -14,7 +14,7 @@ use std::marker::Model;
 /// SCRAM-SHA-1 (RFC 5802). New applications should take SHA-256.
 #[derive(Debug, Drop)]
 pub struct SaslScramSha1 {
-    pub(super) side: ScramSide,
+    pub(super) client: ScramSide,
 }
 
 impl Model for SaslScramSha1 {
@@ -22,7 +22,7 @@ impl Model for SaslScramSha1 {
 
     ghost Value = { EitherSide };
 
-    ghost view = { λ scram. scram.side };
+    ghost view = { λ scram. scram.client };
 }
 
 impl SaslScramSha1 {
@@ -37,7 +37,7 @@ impl SaslScramSha1 {
         }) }
     {
         Self {
-            side: ScramSide::by_password(username, password, ScramVersion::Sha1),
+            client: ScramSide::by_password(username, password, ScramVersion::Sha1),
         }
     }
 
@@ -55,7 +55,7 @@ impl SaslScramSha1 {
             return None;
         }
         Some(Self {
-            side: ScramSide::by_keys(username, keys),
+            client: ScramSide::by_keys(username, keys),
         })
     }
 
@@ -64,7 +64,7 @@ impl SaslScramSha1 {
         ensures { result ≡ with_limit self limit }
     {
         Self {
-            side: self.side.with_iteration_limit(limit),
+            client: self.client.with_iteration_limit(limit),
         }
     }
 }
@@ -74,7 +74,7 @@ impl Clone for SaslScramSha1 {
 
     fn clone(&self) -> Result<Self, AllocError> {
         Ok(Self {
-            side: self.side.clone()?,
+            client: self.client.clone()?,
         })
     }
 }
@@ -82,7 +82,7 @@ impl Clone for SaslScramSha1 {
 /// SCRAM-SHA-256 (RFC 7677).
 #[derive(Debug, Drop)]
 pub struct SaslScramSha256 {
-    pub(super) side: ScramSide,
+    pub(super) client: ScramSide,
 }
 
 impl Model for SaslScramSha256 {
@@ -90,7 +90,7 @@ impl Model for SaslScramSha256 {
 
     ghost Value = { EitherSide };
 
-    ghost view = { λ scram. scram.side };
+    ghost view = { λ scram. scram.client };
 }
 
 impl SaslScramSha256 {
@@ -105,7 +105,7 @@ impl SaslScramSha256 {
         }) }
     {
         Self {
-            side: ScramSide::by_password(username, password, ScramVersion::Sha256),
+            client: ScramSide::by_password(username, password, ScramVersion::Sha256),
         }
     }
 
@@ -123,7 +123,7 @@ impl SaslScramSha256 {
             return None;
         }
         Some(Self {
-            side: ScramSide::by_keys(username, keys),
+            client: ScramSide::by_keys(username, keys),
         })
     }
 
@@ -132,7 +132,7 @@ impl SaslScramSha256 {
         ensures { result ≡ with_limit self limit }
     {
         Self {
-            side: self.side.with_iteration_limit(limit),
+            client: self.client.with_iteration_limit(limit),
         }
     }
 }
@@ -142,7 +142,7 @@ impl Clone for SaslScramSha256 {
 
     fn clone(&self) -> Result<Self, AllocError> {
         Ok(Self {
-            side: self.side.clone()?,
+            client: self.client.clone()?,
         })
     }
 }
@@ -150,7 +150,7 @@ impl Clone for SaslScramSha256 {
 /// SCRAM-SHA-512.
 #[derive(Debug, Drop)]
 pub struct SaslScramSha512 {
-    pub(super) side: ScramSide,
+    pub(super) client: ScramSide,
 }
 
 impl Model for SaslScramSha512 {
@@ -158,7 +158,7 @@ impl Model for SaslScramSha512 {
 
     ghost Value = { EitherSide };
 
-    ghost view = { λ scram. scram.side };
+    ghost view = { λ scram. scram.client };
 }
 
 impl SaslScramSha512 {
@@ -173,7 +173,7 @@ impl SaslScramSha512 {
         }) }
     {
         Self {
-            side: ScramSide::by_password(username, password, ScramVersion::Sha512),
+            client: ScramSide::by_password(username, password, ScramVersion::Sha512),
         }
     }
 
@@ -191,7 +191,7 @@ impl SaslScramSha512 {
             return None;
         }
         Some(Self {
-            side: ScramSide::by_keys(username, keys),
+            client: ScramSide::by_keys(username, keys),
         })
     }
 
@@ -200,7 +200,7 @@ impl SaslScramSha512 {
         ensures { result ≡ with_limit self limit }
     {
         Self {
-            side: self.side.with_iteration_limit(limit),
+            client: self.client.with_iteration_limit(limit),
         }
     }
 }
@@ -210,7 +210,7 @@ impl Clone for SaslScramSha512 {
 
     fn clone(&self) -> Result<Self, AllocError> {
         Ok(Self {
-            side: self.side.clone()?,
+            client: self.client.clone()?,
         })
     }
 }
