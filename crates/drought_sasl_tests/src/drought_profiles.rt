@@ -3,6 +3,8 @@
 
 use drought::{Answer, Call, right, stand, told};
 use fe2o3_sasl::OutOfMemory;
+use fe2o3_sasl::client_keys::ScramClientKeys;
+use fe2o3_sasl::hmac::{Meter, ScramVersion};
 use fe2o3_sasl::runs::{Event, profile_step, run_profile};
 use fe2o3_sasl::sasl_profile::{ProfileError, SaslProfile, SaslScramSha256, UrlError};
 use fe2o3_sasl::scram_messages::ScramErrorKind;
@@ -43,6 +45,9 @@ enum Does {
 pub enum Is {
     /// A client of SCRAM that was given these bodies before.
     Scram(&'static [&'static str]),
+
+    /// The same, with the keys of its password in place of that.
+    Keyed(&'static [&'static str]),
 
     /// PLAIN.
     Plain,
@@ -94,10 +99,30 @@ fn client(alloc: Global, before: &[&str]) -> Result<SaslProfile, Fail> {
     Ok(profile)
 }
 
+/// A client of SCRAM with the keys of its password, which was given these bodies.
+fn keyed_client(alloc: Global, before: &[&str]) -> Result<SaslProfile, Fail> {
+    let mut meter = Meter::new();
+    let keys = ScramClientKeys::from_password(
+        alloc,
+        ScramVersion::Sha256,
+        PASSWORD,
+        &[3; 32],
+        1,
+        &mut meter,
+    )?;
+    let scram = SaslScramSha256::with_keys(USER.to_string(alloc)?, keys);
+    let mut profile = SaslProfile::from(scram.ok_or("keys of its own version")?);
+    for digits in before {
+        profile_step(alloc, &mut profile, &event(alloc, 1, digits)?, None)?;
+    }
+    Ok(profile)
+}
+
 /// The profile.
 pub fn profile(alloc: Global, is: &Is) -> Result<SaslProfile, Fail> {
     match is {
         Is::Scram(before) => client(alloc, before),
+        Is::Keyed(before) => keyed_client(alloc, before),
         Is::Plain => Ok(SaslProfile::plain(USER.to_string(alloc)?, PASSWORD.to_string(alloc)?)),
         Is::Anonymous => Ok(SaslProfile::Anonymous),
         Is::External => Ok(SaslProfile::External),
@@ -283,6 +308,31 @@ static SCRAM_GOES_ON: [Row; 2] = [
     },
 ];
 
+/// The mechanisms, the challenge and the outcome, to a client with kept keys.
+static KEYED: [Row; 3] = [
+    Row {
+        is: Is::Keyed(&[MECHANISMS]),
+        hostname: None,
+        given: MECHANISMS,
+        reply: INIT,
+        shows: (CHALLENGE, Some(RESPONSE)),
+    },
+    Row {
+        is: Is::Keyed(&[MECHANISMS]),
+        hostname: None,
+        given: CHALLENGE,
+        reply: RESPONSE,
+        shows: (CHALLENGE, Some(RESPONSE)),
+    },
+    Row {
+        is: Is::Keyed(&[MECHANISMS, CHALLENGE]),
+        hostname: None,
+        given: OUTCOME,
+        reply: OUTCOME,
+        shows: (OUTCOME, Some(OUTCOME)),
+    },
+];
+
 /// The init of PLAIN.
 static PLAIN: [Row; 1] = [Row {
     is: Is::Plain,
@@ -329,6 +379,12 @@ fn each_stands(alloc: Global, does: Does) -> Result<(), Fail> {
 fn steps_of_profiles_want_memory(rt: HostRuntime) -> Result<(), Fail> {
     each_stands(rt.alloc(), Does::Step)?;
     stands(rt.alloc(), Does::Step, &SCRAM_GOES_ON)
+}
+
+#[test]
+fn steps_and_copies_with_kept_keys_want_memory(rt: HostRuntime) -> Result<(), Fail> {
+    stands(rt.alloc(), Does::Step, &KEYED)?;
+    stands(rt.alloc(), Does::Clone, &KEYED)
 }
 
 #[test]

@@ -234,3 +234,46 @@ impl Call for HandsOut {
 fn an_answer_with_its_keys_wants_memory(rt: HostRuntime) -> Result<(), Fail> {
     stand(rt.alloc(), &[HandsOut])
 }
+
+/// The answer by kept keys of a client that has the password.
+#[derive(Debug, Clone, Copy)]
+struct ByKeys;
+
+/// A client that has sent its first message, and the keys of its password.
+#[derive(Drop)]
+struct Both {
+    client: ScramClient,
+    keys: ScramClientKeys,
+}
+
+fn answered_by_keys(alloc: Global, both: &mut Both) -> Result<bool, KeyedClientError> {
+    let mut meter = Meter::new();
+    let message = both
+        .client
+        .compute_client_final_message_by_keys(alloc, &both.keys, SERVER_FIRST, &mut meter)?;
+    Ok(message.as_slice() == CLIENT_FINAL.as_bytes() && meter.count() == 2)
+}
+
+impl Call for ByKeys {
+    type Subject = Both;
+
+    fn subject(&self, alloc: Global) -> Result<Both, Fail> {
+        Ok(Both {
+            client: HandsOut.subject(alloc)?,
+            keys: keys(alloc)?,
+        })
+    }
+
+    fn answer(&self, alloc: Global, both: &mut Both) -> Answer {
+        told(answered_by_keys(alloc, both), WANT)
+    }
+
+    fn stays(&self, _alloc: Global, both: &mut Both) -> Answer {
+        right(are_kept(&both.keys))
+    }
+}
+
+#[test]
+fn an_answer_by_keys_in_place_of_the_password_wants_memory(rt: HostRuntime) -> Result<(), Fail> {
+    stand(rt.alloc(), &[ByKeys])
+}

@@ -11,6 +11,8 @@ mod debug_texts;
 #[cfg(test)]
 mod faults;
 #[cfg(test)]
+mod kept_keys;
+#[cfg(test)]
 mod messages;
 #[cfg(test)]
 mod negotiations;

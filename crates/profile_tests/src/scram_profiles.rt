@@ -33,7 +33,7 @@ fn profile(
 }
 
 /// Hands in the mechanisms.
-fn start<R: Abort + AllocGlobal>(rt: &R, profile: &mut SaslProfile) -> Result<(), Fail> {
+pub fn start<R: Abort + AllocGlobal>(rt: &R, profile: &mut SaslProfile) -> Result<(), Fail> {
     let words = answer(rt.alloc(), profile, ALL_MECHANISMS, None)?;
     let mechanism = profile.mechanism(rt.alloc())?;
     let wanted = format!(in rt.alloc(); "Init {} {CLIENT_FIRST} none", mechanism.as_str())?;
@@ -42,7 +42,7 @@ fn start<R: Abort + AllocGlobal>(rt: &R, profile: &mut SaslProfile) -> Result<()
 }
 
 /// Hands in a challenge.
-fn on_challenge<R: Abort + AllocGlobal>(
+pub fn on_challenge<R: Abort + AllocGlobal>(
     rt: &R,
     profile: &mut SaslProfile,
     challenge: &[u8],
@@ -71,7 +71,7 @@ fn on_outcome<R: Abort + AllocGlobal>(
 }
 
 /// Answers the challenge, once.
-fn respond<R: Abort + AllocGlobal>(
+pub fn respond<R: Abort + AllocGlobal>(
     rt: &R,
     profile: &mut SaslProfile,
     login: &Login,
@@ -87,7 +87,7 @@ fn respond<R: Abort + AllocGlobal>(
 }
 
 /// Believes the outcome, once.
-fn believe<R: Abort + AllocGlobal>(
+pub fn believe<R: Abort + AllocGlobal>(
     rt: &R,
     profile: &mut SaslProfile,
     login: &Login,

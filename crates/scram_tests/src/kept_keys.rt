@@ -364,3 +364,50 @@ fn a_copy_of_a_client_with_keys_goes_on(rt: HostRuntime) -> Result<(), Fail> {
     copy.validate_server_final(rt.alloc(), SERVER_FINAL.as_bytes())?;
     Ok(())
 }
+
+/// A client with the password that has sent its first message.
+fn with_password(alloc: Global) -> Result<ScramClient, Fail> {
+    let username = "user".to_string(alloc)?;
+    let password = "pencil".to_string(alloc)?;
+    let mut client = ScramClient::new(username, password, ScramVersion::Sha256);
+    client.compute_client_first_message(alloc, &[1; 32])?;
+    Ok(client)
+}
+
+#[test]
+fn a_client_with_a_password_answers_by_kept_keys(rt: HostRuntime) -> Result<(), Fail> {
+    let alloc = rt.alloc();
+    let mut client = with_password(alloc)?;
+    let mut meter = Meter::new();
+    let answer = client.compute_client_final_message_by_keys(
+        alloc,
+        &handed_out(alloc)?,
+        SERVER_FIRST,
+        &mut meter,
+    )?;
+    assert_eq!(rt; str::from_utf8(&answer)?, CLIENT_FINAL);
+    assert_eq!(rt; meter.count(), 2);
+    client.validate_server_final(alloc, SERVER_FINAL.as_bytes())?;
+    Ok(())
+}
+
+#[test]
+fn after_other_keys_the_same_message_is_answered_by_the_password(
+    rt: HostRuntime,
+) -> Result<(), Fail> {
+    let alloc = rt.alloc();
+    let mut client = with_password(alloc)?;
+    let others = KEPT[1].keys(alloc, KEPT[1].salt, 4096)?;
+    let mut meter = Meter::new();
+    let refused = client.compute_client_final_message_by_keys(
+        alloc,
+        &others,
+        SERVER_FIRST,
+        &mut meter,
+    );
+    assert_eq!(rt; refused.err(), Some(KeyedClientError::OtherKeys));
+    assert_eq!(rt; meter.count(), 0);
+    let answer = client.compute_client_final_message(alloc, SERVER_FIRST)?;
+    assert_eq!(rt; str::from_utf8(&answer)?, CLIENT_FINAL);
+    Ok(())
+}
