@@ -243,7 +243,8 @@ impl ScramClient {
     }
 
     /// Answers the server-first message by kept keys in place of the password (RFC 5802, sections 3, 5
-    /// and 7). The keys are of the client's user and of its version. The meter, of at most 2^63, counts
+    /// and 7). The keys are of the client's user and of its version; those of another version make an
+    /// answer of that one, which the client's server does not take. The meter, of at most 2^63, counts
     /// the HMAC values: two for an answer, and none for a refusal.
     ///
     /// Refused are, in this order: `IllegalClientState` where the client-first message is not what
