@@ -115,7 +115,7 @@ scram_profile login = ScramProfile (ByPassword (record {
   state = client_states.Initial;
 }))
 
--- likewise one with these keys, for this user
+-- likewise one with these keys, for this user, which refuses an iteration count above this limit
 abbrev pub keyed_profile : List ℕ → ClientKeys → ℕ → Profile
 keyed_profile user keys limit =
     ScramProfile (ByKeys (record { user = user; keys = keys; limit = limit; state = client_states.Initial }))

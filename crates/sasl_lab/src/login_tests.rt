@@ -281,12 +281,13 @@ fn names_each_refusal(rt: HostRuntime) -> Result<(), Fail> {
 }
 
 /// What a profile refuses, with the last line.
-static PROFILE_REFUSALS: [(ProfileError, &str); 4] = [
+static PROFILE_REFUSALS: [(ProfileError, &str); 5] = [
     (ProfileError::NotImplemented, "refused NotImplemented\n"),
     (
         ProfileError::Scram(ScramErrorKind::ServerSignatureMismatch),
         "refused ServerSignatureMismatch\n",
     ),
+    (ProfileError::OtherKeys, "refused OtherKeys\n"),
     (
         ProfileError::Frame(Error::DecodeError),
         "refused DecodeError\n",

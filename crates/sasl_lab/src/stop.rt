@@ -23,6 +23,9 @@ pub enum Stop {
     /// The client refused a SCRAM message.
     Scram(ScramErrorKind),
 
+    /// The keys of a client were of another salt or iteration count than the server named.
+    OtherKeys,
+
     /// The server refused a password.
     Server(ServerScramErrorKind),
 
@@ -63,6 +66,7 @@ impl Stop {
             Stop::WrongLine(number) => writeln!(output, "wrong line {number}"),
             Stop::Input => writeln!(output, "refused Input"),
             Stop::Scram(kind) => writeln!(output, "refused {kind:?}"),
+            Stop::OtherKeys => writeln!(output, "refused OtherKeys"),
             Stop::Server(kind) => writeln!(output, "refused {kind:?}"),
             Stop::Frame(fault) => writeln!(output, "refused {fault:?}"),
             Stop::Outcome(code) => writeln!(output, "refused {code:?}"),
@@ -76,6 +80,7 @@ impl Stop {
             Stop::WrongWords | Stop::WrongLine(_) => 2,
             Stop::Input
             | Stop::Scram(_)
+            | Stop::OtherKeys
             | Stop::Server(_)
             | Stop::Frame(_)
             | Stop::Outcome(_)
@@ -108,6 +113,7 @@ impl From<ProfileError> for Stop {
         match fault {
             ProfileError::NotImplemented => Stop::Frame(Error::NotImplemented),
             ProfileError::Scram(kind) => Stop::Scram(kind),
+            ProfileError::OtherKeys => Stop::OtherKeys,
             ProfileError::Frame(fault) => Stop::Frame(fault),
             ProfileError::OutOfMemory => Stop::OutOfMemory,
         }
