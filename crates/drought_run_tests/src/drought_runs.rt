@@ -304,19 +304,34 @@ fn a_run_without_memory_leaves_the_acceptor(rt: HostRuntime) -> Result<(), Fail>
     Ok(())
 }
 
+/// A profile that has answered the mechanisms.
+fn begun(alloc: Global) -> Result<SaslProfile, Fail> {
+    let scram = SaslScramSha256::new(USER.to_string(alloc)?, PASSWORD.to_string(alloc)?);
+    let mut profile = SaslProfile::from(scram);
+    drop(run_profile(alloc, &mut profile, &events(alloc, 1, &[MECHANISMS])?, None)?);
+    Ok(profile)
+}
+
+/// Why a run of the profile is refused where there is no memory.
+fn refusal(
+    alloc: Global,
+    profile: &mut SaslProfile,
+    login: &Login,
+) -> Result<Option<OutOfMemory>, Fail> {
+    let mut drought = Drought::begin(alloc)?;
+    drought.leave(0)?;
+    let refused = run_profile(alloc, profile, &login.events, None).err();
+    drought.rain();
+    Ok(refused)
+}
+
 #[test]
 fn a_run_without_memory_leaves_the_profile(rt: HostRuntime) -> Result<(), Fail> {
     let alloc = rt.alloc();
     let login = login_of(alloc, 1, &[CHALLENGE, OUTCOME], &[INIT, RESPONSE])?;
-    let scram = SaslScramSha256::new(USER.to_string(alloc)?, PASSWORD.to_string(alloc)?);
-    let mut profile = SaslProfile::from(scram);
-    drop(run_profile(alloc, &mut profile, &events(alloc, 1, &[MECHANISMS])?, None)?);
-    let mut drought = Drought::begin(alloc)?;
-    drought.leave(0)?;
-    let refused = run_profile(alloc, &mut profile, &login.events, None).err();
-    drought.rain();
+    let mut profile = begun(alloc)?;
+    assert_eq!(rt; refusal(alloc, &mut profile, &login)?, Some(OutOfMemory));
     let replies = run_profile(alloc, &mut profile, &login.events, None)?;
-    assert_eq!(rt; refused, Some(OutOfMemory));
     assert_eq!(rt; client_says(&login, replies.get(0)), Says::Reply(1));
     assert_eq!(rt; client_says(&login, replies.get(1)), Says::Reply(2));
     Ok(())
