@@ -45,7 +45,7 @@ abbrev pub ProfileRunsAreHistories : Type 0
 ProfileRunsAreHistories = (login : Login) (events : List Given) (replies : List ClientSays) (last : Profile)
     → Runs (ProfileSteps None) (scram_profile login) events replies last → ClientHistory login events replies
 
--- no reply says that kept keys are of another salt or another count
+-- no reply says that kept keys (RFC 5802, section 3) are of another salt or another count
 abbrev pub KeysFit : List ClientSays → Type 0
 KeysFit replies = (k : ℕ) → slice_get replies k ≢ Some (Refused OtherKeys)
 
@@ -58,7 +58,7 @@ KeyedRunsAreRuns = (login : Login) (salt : List ℕ) (count : ℕ) (hostname : O
     Runs (ProfileSteps hostname) (keyed_profile login.user keys login.limit) events replies last → KeysFit replies
     → (after : Profile) × Runs (ProfileSteps hostname) (scram_profile login) events replies after
 
--- and so a client history, of which all that is said of these holds
+-- and so (RFC 5802, section 3) a client history, of which all that is said of these holds
 abbrev pub KeyedRunsAreHistories : Type 0
 KeyedRunsAreHistories = (login : Login) (salt : List ℕ) (count : ℕ) (events : List Given) (replies : List ClientSays)
     (last : Profile) → IsPrintable login.password

@@ -56,7 +56,7 @@ abbrev pub client_frame : {A : Type 0} → (A → SaslFrame) → Result A ScramE
 client_frame frame (Ok answer) = Ok (frame answer)
 client_frame frame (Err kind) = Err (Scram kind)
 
--- likewise of a client with kept keys
+-- likewise of a client with kept keys (RFC 5802, section 3)
 abbrev pub keyed_frame : {A : Type 0} → (A → SaslFrame) → Result A KeyedClientError → Result SaslFrame ClientFault
 keyed_frame frame (Ok answer) = Ok (frame answer)
 keyed_frame frame (Err (keyed_faults.Scram kind)) = Err (Scram kind)
@@ -115,7 +115,7 @@ scram_profile login = ScramProfile (ByPassword (record {
   state = client_states.Initial;
 }))
 
--- likewise one with these keys, for this user, which refuses an iteration count above this limit
+-- likewise one with these keys (RFC 5802, section 3), for this user, which refuses an iteration count above this limit
 abbrev pub keyed_profile : List ℕ → ClientKeys → ℕ → Profile
 keyed_profile user keys limit =
     ScramProfile (ByKeys (record { user = user; keys = keys; limit = limit; state = client_states.Initial }))
@@ -131,7 +131,7 @@ abbrev pub ProfileAnswers : Profile → Option (List ℕ) → List ℕ → SaslF
 ProfileAnswers profile hostname nonce frame (Err OutOfMemory) next = ProfileAllocates profile frame × (next ≡ profile)
 ProfileAnswers profile hostname nonce frame answer next = profile_machine profile hostname nonce frame answer next
 
--- the client that answers by these keys, or by its password where there are none
+-- the client that answers by these keys (RFC 5802, section 3), or by its password where there are none
 abbrev pub either_side : ClientSide → Option ClientKeys → EitherSide
 either_side client None = ByPassword client
 either_side client (Some keys) = ByKeys (with_keys client keys)

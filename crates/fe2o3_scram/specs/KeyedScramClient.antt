@@ -88,6 +88,6 @@ with_password side password = record {
   state = side.state;
 }
 
--- the client that has these keys in place of its password
+-- the client that has these keys in place of its password (RFC 5802, section 3)
 abbrev pub with_keys : ClientSide → ClientKeys → KeyedSide
 with_keys side keys = record { user = side.user; keys = keys; limit = side.limit; state = side.state }

@@ -243,9 +243,9 @@ impl ScramClient {
     }
 
     /// Answers the server-first message by kept keys in place of the password (RFC 5802, sections 3, 5
-    /// and 7). The keys are of the client's user and of its version; those of another version make an
-    /// answer of that one, which the client's server does not take. The meter, of at most 2^63, counts
-    /// the HMAC values: two for an answer, and none for a refusal.
+    /// and 7). The keys are of the client's user and of its version: neither is compared here, and the
+    /// answer is one of the keys' version. The meter, of at most 2^63, counts the HMAC values: two for an
+    /// answer, and none for a refusal.
     ///
     /// Refused are, in this order: `IllegalClientState` where the client-first message is not what
     /// the client sent last; then what `ScramClientKeys::compute_client_final_message_limited` refuses,

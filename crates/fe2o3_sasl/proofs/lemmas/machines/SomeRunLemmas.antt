@@ -315,7 +315,8 @@ some_move side nonce (frames.Response text) = (Err NotImplemented, side, (refl, 
 -- what a client says with a reply
 abbrev SaysWith : ClientSide → ClientSide → Result SaslFrame ClientFault → Type 0
 SaysWith side moved reply = (says : ClientSays) × (after : ClientSide)
-    × Replies (ScramProfile (ByPassword side)) (ScramProfile (ByPassword moved)) reply says (ScramProfile (ByPassword after)) × (says ≢ Refused OutOfMemory)
+    × Replies (ScramProfile (ByPassword side)) (ScramProfile (ByPassword moved)) reply says
+    (ScramProfile (ByPassword after)) × (says ≢ Refused OutOfMemory)
 
 -- the reply that carries a frame
 abbrev CarriesIn : ClientSide → ClientSide → (List ℕ → ClientSays) → Option (List ℕ) → Type 0
@@ -346,7 +347,8 @@ some_says side moved (Ok (frames.Response text)) told =
 -- what the profile gives
 some_told : (side : ClientSide) (event : Given) (spelled : Result SaslFrame Error)
     → (says : ClientSays) × (after : ClientSide)
-    × ProfileGives None (ScramProfile (ByPassword side)) event spelled says (ScramProfile (ByPassword after)) × (says ≢ Refused OutOfMemory)
+    × ProfileGives None (ScramProfile (ByPassword side)) event spelled says (ScramProfile (ByPassword after))
+    × (says ≢ Refused OutOfMemory)
 some_told side event (Err fault) = (Refused (Frame fault), side, (refl, refl), λ is. cc)
 some_told side event (Ok frame) =
     let move = some_move side event.nonce frame in
@@ -355,7 +357,8 @@ some_told side event (Ok frame) =
 
 some_profile_run : (side : ClientSide) (events : List Given) → BodiesAreBytes events
     → (replies : List ClientSays) × (last : ClientSide)
-    × Runs (ProfileSteps None) (ScramProfile (ByPassword side)) events replies (ScramProfile (ByPassword last)) × ClientComplete replies
+    × Runs (ProfileSteps None) (ScramProfile (ByPassword side)) events replies (ScramProfile (ByPassword last))
+    × ClientComplete replies
 some_profile_run side [] are = ([], side, (refl, refl), λ k is. none-some (Refused OutOfMemory) is)
 some_profile_run side (event ∷ events) are =
     let spelled = some_spelling event.body (are 0 event refl) in
