@@ -390,35 +390,35 @@ one_profile_reply profile hostname nonce (frames.Mechanisms names) reply other n
     absurd (is.0 too.0)
 one_profile_reply profile hostname nonce (frames.Mechanisms names) reply other next last (inr is) (inr too) =
     (is.1 ∙ sym too.1, is.2 ∙ sym too.2)
-one_profile_reply (ScramProfile (ByPassword client)) hostname nonce (frames.Challenge text) reply other next last (inl is)
-    (inl too) = (is.1 ∙ sym too.1, is.2 ∙ sym too.2)
-one_profile_reply (ScramProfile (ByPassword client)) hostname nonce (frames.Challenge text) reply other next last (inl is)
-    (inr too) = absurd (is.0 too.0)
-one_profile_reply (ScramProfile (ByPassword client)) hostname nonce (frames.Challenge text) reply other next last (inr is)
-    (inl too) = absurd (too.0 is.0)
-one_profile_reply (ScramProfile (ByPassword client)) hostname nonce (frames.Challenge text) reply other next last (inr is)
-    (inr too) =
+one_profile_reply (ScramProfile (ByPassword client)) hostname nonce (frames.Challenge text) reply other next last
+    (inl is) (inl too) = (is.1 ∙ sym too.1, is.2 ∙ sym too.2)
+one_profile_reply (ScramProfile (ByPassword client)) hostname nonce (frames.Challenge text) reply other next last
+    (inl is) (inr too) = absurd (is.0 too.0)
+one_profile_reply (ScramProfile (ByPassword client)) hostname nonce (frames.Challenge text) reply other next last
+    (inr is) (inl too) = absurd (too.0 is.0)
+one_profile_reply (ScramProfile (ByPassword client)) hostname nonce (frames.Challenge text) reply other next last
+    (inr is) (inr too) =
     same_turn (λ message. frames.Response message) (is.1.0, is.1.1) (too.1.0, too.1.1) reply other next last
     (one_answer client.state client text is.1.0 too.1.0 is.1.1 too.1.1 is.1.2 too.1.2) is.1.3 is.1.4 too.1.3 too.1.4
 one_profile_reply (ScramProfile client) hostname nonce (frames.Outcome outcomes.Ok None) reply other next last is too =
     both_are _ _ reply other next last is too
-one_profile_reply (ScramProfile (ByPassword client)) hostname nonce (frames.Outcome outcomes.Ok (Some text)) reply other next last is
-    too =
+one_profile_reply (ScramProfile (ByPassword client)) hostname nonce (frames.Outcome outcomes.Ok (Some text)) reply other
+    next last is too =
     same_turn (λ believed. frames.Outcome outcomes.Ok (Some text)) (is.0, is.1) (too.0, too.1) reply other next last
     (one_belief client.state client text is.0 too.0 is.1 too.1 is.2 too.2) is.3 is.4 too.3 too.4
-one_profile_reply (ScramProfile (ByKeys client)) hostname nonce (frames.Challenge text) reply other next last (inl is)
-    (inl too) = (is.1 ∙ sym too.1, is.2 ∙ sym too.2)
-one_profile_reply (ScramProfile (ByKeys client)) hostname nonce (frames.Challenge text) reply other next last (inl is)
-    (inr too) = absurd (is.0 too.0)
-one_profile_reply (ScramProfile (ByKeys client)) hostname nonce (frames.Challenge text) reply other next last (inr is)
-    (inl too) = absurd (too.0 is.0)
-one_profile_reply (ScramProfile (ByKeys client)) hostname nonce (frames.Challenge text) reply other next last (inr is)
-    (inr too) =
+one_profile_reply (ScramProfile (ByKeys client)) hostname nonce (frames.Challenge text) reply other next last
+    (inl is) (inl too) = (is.1 ∙ sym too.1, is.2 ∙ sym too.2)
+one_profile_reply (ScramProfile (ByKeys client)) hostname nonce (frames.Challenge text) reply other next last
+    (inl is) (inr too) = absurd (is.0 too.0)
+one_profile_reply (ScramProfile (ByKeys client)) hostname nonce (frames.Challenge text) reply other next last
+    (inr is) (inl too) = absurd (too.0 is.0)
+one_profile_reply (ScramProfile (ByKeys client)) hostname nonce (frames.Challenge text) reply other next last
+    (inr is) (inr too) =
     same_keyed_turn (keyed_frame (λ message. frames.Response message)) (is.1.0, is.1.1) (too.1.0, too.1.1) reply other
     next last (one_keyed_answer client.state client text is.1.0 too.1.0 is.1.1 too.1.1 is.1.2 too.1.2) is.1.3 is.1.4
     too.1.3 too.1.4
-one_profile_reply (ScramProfile (ByKeys client)) hostname nonce (frames.Outcome outcomes.Ok (Some text)) reply other next last is
-    too =
+one_profile_reply (ScramProfile (ByKeys client)) hostname nonce (frames.Outcome outcomes.Ok (Some text)) reply other
+    next last is too =
     same_keyed_turn (client_frame (λ (believed : Unit {0}). frames.Outcome outcomes.Ok (Some text))) (is.0, is.1)
     (too.0, too.1) reply other next last
     (one_keyed_belief client.state client text is.0 too.0 is.1 too.1 is.2 too.2) is.3 is.4 too.3 too.4
