@@ -1,4 +1,4 @@
-# All of this needs the Rattle kit's `rt` on the PATH, and nothing else. CONTRIBUTING.md says how long
+# All of this needs the Rattle kit's `rt` on the PATH, and Python 3. CONTRIBUTING.md says how long
 # each takes. `tools/progress` tells the minutes, the stage and the crate on standard error.
 .PHONY: demo prove check test quiet
 
@@ -21,13 +21,17 @@ check:
 	cd crates/fe2o3_sasl && rt check
 	for crate in crates/*/; do (cd $$crate && rt fmt) || exit 1; done
 
-# The merge gate: the programs that the borrow checker has to refuse; then every proof from nothing,
-# the must-fail edits, the tests and the programs.
+# The merge gate: what the pages quote and list; that no modules use each other in a circle; the programs
+# that the borrow checker has to refuse; then every proof from nothing, the tests and the programs, and
+# beside these the wrong bodies.
 test:
-	@tools/progress $$PPID &
+	@tools/progress $$PPID 60 'a whole run took 30 minutes on 4 processors, and 5,650 s of processor' &
 	sh tools/quoted.sh
+	python3 tools/signatures.py --check
+	python3 tools/circles.py
+	python3 tools/wrong_bodies_test.py
 	sh tools/refused.sh
-	rt ci
+	python3 tools/gate.py
 
 # The same into a log, whose last line it prints, with its status.
 quiet:

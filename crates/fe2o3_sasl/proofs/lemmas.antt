@@ -2,6 +2,7 @@ pub mod audit
 pub mod examples
 pub mod frames
 pub mod histories
+pub mod lists
 pub mod machines
 pub mod positions
 pub mod steps

@@ -18,7 +18,7 @@ use Rattle.fe2o3_scram.specs.Hmac.{mechanism_name}
 use Rattle.fe2o3_sasl.specs.Positions.{OpenBy}
 use Rattle.fe2o3_scram.specs.ServerFinal.{ReadsServerFinal}
 use Rattle.fe2o3_scram.specs.ServerFirst.{Client, ServerFirst, ReadsServerFirst, client_of}
-use Rattle.fe2o3_sasl.specs.ServerHistory.{carried, SpellsBody}
+use Rattle.fe2o3_sasl.specs.Bodies.{carried, SpellsBody}
 
 -- an answer: the client's nonce, the server-first message, and what that names
 pub record Answering : Type 0 where
@@ -40,7 +40,7 @@ abbrev pub says_start : Login → Given → ClientSays
 says_start login event =
     carried (Refused (Frame faults.TooLarge)) (λ body. Started body)
     (canonical (frames.Init (mechanism_name login.version)
-    (Some (client_first login.user (base64_text event.nonce))) None))
+    (Some (client_first login.user (base64_text event.nonce))) login.hostname))
 
 -- the reply of an answer: a response with the client-final message
 abbrev pub says_answer : Login → Answering → ClientSays

@@ -14,12 +14,14 @@ pub record Given : Type 0 where
   pub body : List ℕ
   pub nonce : List ℕ
 
--- what a client logs in with: version, user name and password, and the highest iteration count that it accepts
+-- what a client logs in with: version, user name and password, the highest iteration count that it accepts, and the
+-- hostname that its init carries, if any (AMQP 1.0, part 5, section 5.3.3.2)
 pub record Login : Type 0 where
   pub version : ScramVersion
   pub user : List ℕ
   pub password : List ℕ
   pub limit : ℕ
+  pub hostname : Option (List ℕ)
 
 -- a reply of a server: the body of a challenge, the code and the body of an outcome, or a fault
 pub data ServerSays : Type 0 where
@@ -58,6 +60,7 @@ pub record IsLogin (login : Login) : Type 0 where
   pub user : IsUtf8 login.user
   pub password : IsUtf8 login.password
   pub limit : login.limit < 2 ^ 32
+  pub hostname : (text : List ℕ) → login.hostname ≡ Some text → IsUtf8 text
 
 -- what the code holds of a record: bytes, and a count of 32 bits
 pub record IsRecord (stored : Record) : Type 0 where

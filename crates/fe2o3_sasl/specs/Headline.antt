@@ -9,7 +9,8 @@ use Rattle.fe2o3_scram.specs.Credentials.{Provider}
 use Rattle.fe2o3_sasl.specs.Events.{Given, Login, IsRecord, ServerSays, Concluded, Failed, ClientSays, Reported, Refused, OutOfMemory}
 use Rattle.fe2o3_sasl.specs.Positions.{IsLastOpen}
 use Rattle.fe2o3_scram.specs.ServerFinal.{ReadsServerFinal}
-use Rattle.fe2o3_sasl.specs.ServerHistory.{Accepted, AcceptsAt, ServerHistory, SpellsBody, is_challenge, is_ok, says_ok}
+use Rattle.fe2o3_sasl.specs.Bodies.{SpellsBody}
+use Rattle.fe2o3_sasl.specs.ServerHistory.{Accepted, AcceptsAt, ServerHistory, is_challenge, is_ok, says_ok}
 use Rattle.fe2o3_sasl.specs.TwoSides.{Sides, sides_of, Takes, Agree, MessagesCollide, client_message, server_message, server_key_at}
 
 -- what a server answers Ok to, exactly

@@ -1,20 +1,22 @@
 -- What holds of every history, and of every two. Each is the contract of a function of `laws`.
 use Rattle.std.specs.Prelude.{◌≡◌, ◌≢◌, ◌⊎◌, ℕ, suc, ◌<◌, ◌≤◌, Bool, true, false, Option, Some, None, List, length, take, slice_get, Ok}
 use Rattle.std.specs.List.{Contains, filter}
+use Rattle.fe2o3_sasl_wire.specs.declared.amqp_types.SaslCode.{SaslCode}
 use Rattle.fe2o3_sasl_wire.specs.declared.amqp_types.SaslCode.TheVariants as outcomes
 use Rattle.fe2o3_sasl_wire.specs.declared.sasl_frames.error.Error.TheVariants as faults
-use Rattle.fe2o3_sasl_wire.specs.SaslFrames.{IsBytes}
+use Rattle.fe2o3_sasl_wire.specs.SaslFrames.{IsBytes, SaslFrame}
 use Rattle.fe2o3_sasl_wire.specs.SaslFrames as frames
 use Rattle.fe2o3_sasl.specs.ClientHistory.{Answering, AnswersAt, OpenAnswer, ClientHistory, is_start, is_answer, ends_answer}
 use Rattle.fe2o3_scram.specs.ClientKeys.{keys_of}
 use Rattle.fe2o3_scram.specs.SaslprepAscii.{IsPrintable}
 use Rattle.fe2o3_scram.specs.Credentials.{Provider, Record, record_at}
-use Rattle.fe2o3_sasl.specs.Events.{Given, AreGiven, Login, IsLogin, IsRecord, ServerSays, Concluded, Failed, ClientSays, Refused, OtherKeys}
-use Rattle.fe2o3_sasl.specs.Runs.{Runs, AcceptorSteps, ProfileSteps}
+use Rattle.fe2o3_sasl.specs.Events.{Given, AreGiven, Login, IsLogin, IsRecord, ServerSays, Concluded, Failed, ClientSays, Refused, OtherKeys, OutOfMemory}
+use Rattle.fe2o3_sasl.specs.Runs.{Runs, AcceptorSteps, ProfileReplies, ProfileSteps}
 use Rattle.fe2o3_sasl.specs.SaslAcceptor.{acceptor_machine, Acceptor, ScramAcceptor}
-use Rattle.fe2o3_sasl.specs.Profiles.{keyed_profile, scram_profile, Profile}
+use Rattle.fe2o3_sasl.specs.Profiles.{keyed_profile, scram_profile, profile_name, EitherSide, Profile, ScramProfile}
 use Rattle.fe2o3_sasl.specs.Positions.{test_at, IsLastOpen}
-use Rattle.fe2o3_sasl.specs.ServerHistory.{Challenging, Accepted, AcceptsAt, Open, ServerHistory, SpellsBody, is_challenge, is_ok, full_nonce, says_auth}
+use Rattle.fe2o3_sasl.specs.Bodies.{SpellsBody}
+use Rattle.fe2o3_sasl.specs.ServerHistory.{Challenging, Accepted, AcceptsAt, Open, ServerHistory, is_challenge, is_ok, full_nonce, says_auth}
 use Rattle.fe2o3_scram.specs.ScramServer as server_states
 use Rattle.fe2o3_sasl.specs.TwoSides.{Sides, Histories, Takes, Shows, Agree, HasParts, IsPlainInit, client_message, server_message}
 use Rattle.fe2o3_sasl.specs.Headline.{VerifierAgrees, EveryServer, EveryClient}
@@ -43,7 +45,7 @@ AcceptorRunsAreHistories = (provider : Provider) (events : List Given) (replies 
 -- each run of a SCRAM profile's machine from its first state is a client history
 abbrev pub ProfileRunsAreHistories : Type 0
 ProfileRunsAreHistories = (login : Login) (events : List Given) (replies : List ClientSays) (last : Profile)
-    → Runs (ProfileSteps None) (scram_profile login) events replies last → ClientHistory login events replies
+    → Runs (ProfileSteps login.hostname) (scram_profile login) events replies last → ClientHistory login events replies
 
 -- no reply says that kept keys (RFC 5802, section 3) are of another salt or another count
 abbrev pub KeysFit : List ClientSays → Type 0
@@ -52,18 +54,18 @@ KeysFit replies = (k : ℕ) → slice_get replies k ≢ Some (Refused OtherKeys)
 -- where they are never, a run of a SCRAM profile with the keys that a login's password has with some salt and count is
 -- a run of the login's profile (RFC 5802, section 3)
 abbrev pub KeyedRunsAreRuns : Type 0
-KeyedRunsAreRuns = (login : Login) (salt : List ℕ) (count : ℕ) (hostname : Option (List ℕ)) (events : List Given)
-    (replies : List ClientSays) (last : Profile) → IsPrintable login.password
+KeyedRunsAreRuns = (login : Login) (salt : List ℕ) (count : ℕ) (events : List Given) (replies : List ClientSays)
+    (last : Profile) → IsPrintable login.password
     → let keys = keys_of login.version login.password salt count in
-    Runs (ProfileSteps hostname) (keyed_profile login.user keys login.limit) events replies last → KeysFit replies
-    → (after : Profile) × Runs (ProfileSteps hostname) (scram_profile login) events replies after
+    Runs (ProfileSteps login.hostname) (keyed_profile login.user keys login.limit) events replies last → KeysFit replies
+    → (after : Profile) × Runs (ProfileSteps login.hostname) (scram_profile login) events replies after
 
 -- and so (RFC 5802, section 3) a client history, of which all that is said of these holds
 abbrev pub KeyedRunsAreHistories : Type 0
 KeyedRunsAreHistories = (login : Login) (salt : List ℕ) (count : ℕ) (events : List Given) (replies : List ClientSays)
     (last : Profile) → IsPrintable login.password
     → let keys = keys_of login.version login.password salt count in
-    Runs (ProfileSteps None) (keyed_profile login.user keys login.limit) events replies last → KeysFit replies
+    Runs (ProfileSteps login.hostname) (keyed_profile login.user keys login.limit) events replies last → KeysFit replies
     → ClientHistory login events replies
 
 -- up to each position the outcomes Ok are no more than the challenges
@@ -267,3 +269,37 @@ ClientsLogIn = EveryClient (λ login events replies. IsLogin login → ClientLog
 -- and what it gives every history of a server
 abbrev pub ServersLogIn : Type 0
 ServersLogIn = EveryServer ServerLogsIn
+
+-- a frame at which memory may be wanting for a server's reply: an init or a response
+abbrev pub WantsAtServer : SaslFrame → Type 0
+WantsAtServer frame =
+    ((mechanism : List ℕ) × (response : Option (List ℕ)) × (hostname : Option (List ℕ))
+    × (frame ≡ frames.Init mechanism response hostname))
+    ⊎ ((text : List ℕ) × (frame ≡ frames.Response text))
+
+-- want of memory stands at no other frame of a server's history, and at no body that spells none
+abbrev pub ServersWantMemory : Type 0
+ServersWantMemory = (provider : Provider) (events : List Given) (replies : List ServerSays) (k : ℕ)
+    → ServerHistory provider events replies → slice_get replies k ≡ Some (Failed faults.OutOfMemory)
+    → (event : Given) × (frame : SaslFrame) × (slice_get events k ≡ Some event) × SpellsBody event.body (Ok frame)
+    × WantsAtServer frame
+
+-- a frame at which memory may be wanting for a profile's reply: a list with its name, a challenge for SCRAM, or an
+-- outcome with data
+abbrev pub WantsAtProfile : Profile → SaslFrame → Type 0
+WantsAtProfile profile frame =
+    ((names : List (List ℕ)) × Contains names (profile_name profile) × (frame ≡ frames.Mechanisms names))
+    ⊎ (((client : EitherSide) × (text : List ℕ) × (profile ≡ ScramProfile client) × (frame ≡ frames.Challenge text))
+    ⊎ ((code : SaslCode) × (text : List ℕ) × (frame ≡ frames.Outcome code (Some text))))
+
+-- likewise of a client's history
+abbrev pub ClientsWantMemory : Type 0
+ClientsWantMemory = (login : Login) (events : List Given) (replies : List ClientSays) (k : ℕ)
+    → ClientHistory login events replies → slice_get replies k ≡ Some (Refused OutOfMemory)
+    → (event : Given) × (frame : SaslFrame) × (slice_get events k ≡ Some event) × SpellsBody event.body (Ok frame)
+    × WantsAtProfile (scram_profile login) frame
+
+-- and of what any profile replies
+abbrev pub ProfilesWantMemory : Type 0
+ProfilesWantMemory = (hostname : Option (List ℕ)) (profile next : Profile) (nonce : List ℕ) (frame : SaslFrame)
+    → ProfileReplies hostname profile nonce frame (Refused OutOfMemory) next → WantsAtProfile profile frame

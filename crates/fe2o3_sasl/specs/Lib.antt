@@ -1,4 +1,5 @@
 pub mod Events
+pub mod Bodies
 pub mod Positions
 pub mod ServerHistory
 pub mod ClientHistory
@@ -32,6 +33,7 @@ pub use Rattle.fe2o3_scram.specs.Error
 pub use Rattle.fe2o3_scram.specs.ClientFirst
 pub use Rattle.fe2o3_scram.specs.ServerFirst
 pub use Rattle.fe2o3_scram.specs.ClientFinal
+pub use Rattle.fe2o3_scram.specs.ServerFirstAnswers
 pub use Rattle.fe2o3_scram.specs.ServerFinal
 pub use Rattle.fe2o3_scram.specs.ClientKeys
 pub use Rattle.fe2o3_scram.specs.ScramClient

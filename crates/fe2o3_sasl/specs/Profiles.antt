@@ -11,8 +11,8 @@ use Rattle.fe2o3_scram.specs.Texts.{base64_text}
 use Rattle.fe2o3_scram.specs.ClientFirst.{client_first}
 use Rattle.fe2o3_scram.specs.ScramClient as client_states
 use Rattle.fe2o3_scram.specs.ScramClient.{ClientSide, started, AnswersIn, BelievesIn}
-use Rattle.fe2o3_scram.specs.declared.client_keys.KeyedClientError.{KeyedClientError}
-use Rattle.fe2o3_scram.specs.declared.client_keys.KeyedClientError.TheVariants as keyed_faults
+use Rattle.fe2o3_scram.specs.declared.scram_messages.error.KeyedClientError.{KeyedClientError}
+use Rattle.fe2o3_scram.specs.declared.scram_messages.error.KeyedClientError.TheVariants as keyed_faults
 use Rattle.fe2o3_scram.specs.ClientKeys.{ClientKeys}
 use Rattle.fe2o3_scram.specs.KeyedScramClient.{KeyedSide, KeyedAnswersIn, KeyedBelievesIn, keyed_started, with_keys}
 use Rattle.fe2o3_scram.specs.Hmac.{mechanism_name}

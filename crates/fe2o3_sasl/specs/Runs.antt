@@ -1,5 +1,5 @@
 -- What an acceptor and a profile do with a list of frame bodies (AMQP 1.0, part 5, section 5.3.2).
-use Rattle.std.specs.Prelude.{◌≡◌, ◌⊎◌, ℕ, Option, option_map, List, [], ◌∷◌, length, Result, Ok, Err}
+use Rattle.std.specs.Prelude.{◌≡◌, ◌⊎◌, ℕ, Option, None, option_map, List, [], ◌∷◌, length, Result, Ok, Err}
 use Rattle.fe2o3_sasl_wire.specs.declared.sasl_frames.error.Error.{Error}
 use Rattle.fe2o3_sasl_wire.specs.declared.sasl_frames.error.Error.TheVariants as faults
 use Rattle.fe2o3_sasl_wire.specs.AmqpTypes.{binary_bytes}
@@ -7,17 +7,17 @@ use Rattle.fe2o3_sasl_wire.specs.SaslFrames.{canonical, SaslFrame}
 use Rattle.fe2o3_sasl_wire.specs.SaslFrames as frames
 use Rattle.fe2o3_scram.specs.declared.hmac.ScramVersion.{ScramVersion}
 use Rattle.fe2o3_sasl.specs.Events.{Given, Login, ServerSays, Challenged, Concluded, Failed, ClientSays, Started, Answered, Reported, Refused, ClientFault, Frame, OutOfMemory}
-use Rattle.fe2o3_sasl.specs.ServerHistory.{SpellsBody, carried}
-use Rattle.fe2o3_sasl.specs.Profiles.{Profile, profile_machine, ProfileAllocates}
+use Rattle.fe2o3_sasl.specs.Bodies.{SpellsBody, carried}
+use Rattle.fe2o3_sasl.specs.Profiles.{Profile, profile_machine, scram_profile, ProfileAllocates}
 use Rattle.fe2o3_sasl.specs.ProfileFaults.{client_fault}
 use Rattle.fe2o3_sasl.specs.Hex.{SpellsHex}
-use Rattle.fe2o3_sasl.specs.declared.runs.events.ClientReply.{ClientReply}
-use Rattle.fe2o3_sasl.specs.declared.runs.events.ClientReply.TheVariants as client_replies
-use Rattle.fe2o3_sasl.specs.declared.runs.events.Event.{Event}
-use Rattle.fe2o3_sasl.specs.declared.runs.events.EventError.{EventError}
-use Rattle.fe2o3_sasl.specs.declared.runs.events.EventError.TheVariants as event_faults
-use Rattle.fe2o3_sasl.specs.declared.runs.events.ServerReply.{ServerReply}
-use Rattle.fe2o3_sasl.specs.declared.runs.events.ServerReply.TheVariants as server_replies
+use Rattle.fe2o3_sasl.specs.declared.events.ClientReply.{ClientReply}
+use Rattle.fe2o3_sasl.specs.declared.events.ClientReply.TheVariants as client_replies
+use Rattle.fe2o3_sasl.specs.declared.events.Event.{Event}
+use Rattle.fe2o3_sasl.specs.declared.events.EventError.{EventError}
+use Rattle.fe2o3_sasl.specs.declared.events.EventError.TheVariants as event_faults
+use Rattle.fe2o3_sasl.specs.declared.events.ServerReply.{ServerReply}
+use Rattle.fe2o3_sasl.specs.declared.events.ServerReply.TheVariants as server_replies
 use Rattle.fe2o3_sasl.specs.declared.sasl_profile.error.ProfileError.{ProfileError}
 
 -- a frame is sent in its canonical body, and only then the next state holds; a frame without one leaves the state
@@ -90,6 +90,10 @@ Runs {S} {A} Step state (event ∷ events) replies last =
     (says : A) × (next : S) × (others : List A) × Step state event says next × (replies ≡ says ∷ others)
     × Runs Step next events others last
 
+-- the profile before its first message is that of this login, and so is the hostname of its run
+abbrev pub StartsAs : Profile → Option (List ℕ) → Login → Type 0
+StartsAs profile hostname login = (profile ≡ scram_profile login) × (hostname ≡ login.hostname)
+
 -- ---- the code's values
 
 -- the event that a value is
@@ -127,7 +131,7 @@ abbrev pub client_answer : Result ClientReply ProfileError → ClientSays
 client_answer (Ok reply) = client_reply reply
 client_answer (Err fault) = Refused (client_fault fault)
 
--- the login of these words
+-- the login of these words, without a hostname
 abbrev pub login_of : ScramVersion → List ℕ → List ℕ → ℕ → Login
 login_of version user password limit =
-    record { version = version; user = user; password = password; limit = limit }
+    record { version = version; user = user; password = password; limit = limit; hostname = None }

@@ -1,15 +1,16 @@
 -- What a SCRAM server answers to a list of frame bodies (RFC 5802, section 5; AMQP 1.0, part 5, section 5.3.2).
 -- Nothing here is a state: what is open is a position in the list.
-use Rattle.std.specs.Prelude.{◌≡◌, ◌⊎◌, ℕ, Bool, true, false, Option, Some, None, List, length, slice_get, Result, Ok, Err}
+use Rattle.std.specs.Prelude.{◌≡◌, ◌⊎◌, ℕ, Bool, true, false, Some, None, List, length, slice_get, Result, Ok, Err}
 use Rattle.fe2o3_sasl_wire.specs.declared.amqp_types.SaslCode.TheVariants as outcomes
 use Rattle.fe2o3_sasl_wire.specs.declared.sasl_frames.error.Error.{Error}
 use Rattle.fe2o3_sasl_wire.specs.declared.sasl_frames.error.Error.TheVariants as faults
-use Rattle.fe2o3_sasl_wire.specs.SaslFrames.{ReadsBody, canonical, SaslFrame}
+use Rattle.fe2o3_sasl_wire.specs.SaslFrames.{canonical, SaslFrame}
 use Rattle.fe2o3_sasl_wire.specs.SaslFrames as frames
 use Rattle.fe2o3_scram.specs.Texts.{base64_text}
 use Rattle.fe2o3_scram.specs.ServerFirst.{challenge_of}
 use Rattle.fe2o3_scram.specs.ClientFirst.{ClientFirst, ReadsClientFirst}
 use Rattle.fe2o3_scram.specs.Credentials.{Record, Provider, record_at}
+use Rattle.fe2o3_sasl.specs.Bodies.{SpellsBody, carried}
 use Rattle.fe2o3_sasl.specs.Events.{Given, ServerSays, Challenged, Concluded, Failed}
 use Rattle.fe2o3_scram.specs.Hmac.{mechanism_name}
 use Rattle.fe2o3_sasl.specs.Positions.{OpenBy}
@@ -60,11 +61,6 @@ FitsAsResponse provider IsOpen frame accepted = ⊥
 abbrev pub final_message : Provider → Accepted → List ℕ
 final_message provider accepted = server_final_of (server_at provider accepted.challenge) accepted.final
 
--- the reply that carries a frame in its canonical body; the frame is too large where it has none
-abbrev pub carried : {A : Type 0} → A → (List ℕ → A) → Option (List ℕ) → A
-carried too_large says None = too_large
-carried too_large says (Some body) = says body
-
 -- the reply of a challenge
 abbrev pub says_challenge : Challenging → ServerSays
 says_challenge challenge = carried (Failed faults.TooLarge) (λ body. Challenged body)
@@ -98,11 +94,6 @@ abbrev pub ServerAllocates : Result SaslFrame Error → Type 0
 ServerAllocates (Ok (frames.Init mechanism response hostname)) = Unit {0}
 ServerAllocates (Ok (frames.Response text)) = Unit {0}
 ServerAllocates spelled = ⊥
-
--- what a body spells: the frame that a beginning of it spells, or the fault of a body of which none does
-abbrev pub SpellsBody : List ℕ → Result SaslFrame Error → Type 0
-SpellsBody body (Ok frame) = (n : ℕ) × ReadsBody body (Ok (frame, n))
-SpellsBody body (Err fault) = ReadsBody body (Err fault)
 
 -- a challenge
 abbrev pub is_challenge : ServerSays → Bool

@@ -19,10 +19,11 @@ mod server_receipts;
 use crate::audit::client_receipts::{client_is_complete, client_receipts};
 use crate::audit::matching::{match_proofs, match_verifiers};
 use crate::audit::server_receipts::{server_is_complete, server_receipts};
-use crate::runs::{Event, scram_client_run_limited, scram_server_run};
+use crate::events::Event;
+use crate::whole_runs::{scram_client_run_limited, scram_server_run};
 use fe2o3_scram::credentials::ScramCredentialProvider;
 use fe2o3_scram::hmac::ScramVersion;
-use std::alloc::{AllocError, AllocFailed, Global};
+use std::alloc::{AllocError, Global};
 use std::fmt;
 use thiserror::Error;
 
@@ -39,14 +40,6 @@ impl From<AllocError> for AuditError {
     ghost from_gives = { λ _ error. error ≡ NoMemory };
 
     fn from(_error: AllocError) -> Self {
-        AuditError::OutOfMemory
-    }
-}
-
-impl<T: Drop> From<AllocFailed<T>> for AuditError {
-    ghost from_gives = { λ _ error. error ≡ NoMemory };
-
-    fn from(_error: AllocFailed<T>) -> Self {
         AuditError::OutOfMemory
     }
 }

@@ -3,13 +3,9 @@
 
 ghost use Rattle.fe2o3_sasl.specs.Hex.{OneBytesOfHex, HexIsReadAgain};
 ghost use Rattle.fe2o3_sasl.specs.MechanismLaws.{OneAcceptorReply, OneProfileReply, OffersAgree, PlainLetsIn, PlainRefuses, AnonymousLetsIn, SomethingIsOffered, NamesDiffer};
-ghost use Rattle.fe2o3_sasl.specs.examples.Examples.{ShiftedTextsPass, RefusalsHaveOneBody, ServersAnswer, ClientsAnswer, ShiftedHistoriesPass};
-ghost use Rattle.fe2o3_sasl.specs.examples.PlainExamples.{GuestsEnter, SwappedWordsFail, WrongPasswordsFail, NamesAloneFail, EmptyInitsFail, ResponsesToPlainFail, GuestsStart, OthersAreNotImplemented, PlainReportsOutcomes, GuestsWantMemory, ExternalStarts, AnonymousAlwaysEnters, MechanismsAreNamed, NamesAreOffered};
-ghost use Rattle.fe2o3_sasl.specs.examples.HexExamples.{DigitsOfBothCases, OtherTextsSpellNothing};
-ghost use Rattle.fe2o3_sasl.specs.examples.ReplyExamples.{OtherMechanismsFail, OtherTextsAreRefused, ClientsWantMemory, LongTextsHaveNoBody, ServersWantMemory, FailuresAreReported, NamesAreFound, FindingsInOrder, UnsentChallenges, UnsentStarts};
+ghost use Rattle.fe2o3_sasl.specs.examples.Examples.{PremisesCanBeMet, RefusalsAreUnaltered, ShiftedTextsPass};
 ghost use Rattle.fe2o3_sasl.specs.Headline.{EveryServer, EveryClient, AnswersOkExactly, ReportsOkExactly, TakenVerifiersAgree};
-ghost use Rattle.fe2o3_sasl.specs.Laws.{OneServerHistory, OneClientHistory, SomeServerHistory, SomeClientHistory, AcceptorRunsAreHistories, ProfileRunsAreHistories, KeyedRunsAreRuns, KeyedRunsAreHistories, OksWithinChallenges, RepeatedResponsesAreRefused, OneResponseOneNonce, RefusalsLeaveOpen, PositionsAreUsedOnce, EqualMessagesAgree, NoShortExtensions, TakenVerifiersAreJudged, ShownProofsAreJudged, OneVerdictEach, OneAuditEach, RepeatedClientPositions, RepeatedServerPositions, RepeatedClientFindings, RepeatedServerFindings, ClientsLogIn, ServersLogIn};
-ghost use Rattle.fe2o3_sasl.specs.examples.UnalteredExample.{PremisesCanBeMet};
+ghost use Rattle.fe2o3_sasl.specs.Laws.{OneServerHistory, OneClientHistory, SomeServerHistory, SomeClientHistory, AcceptorRunsAreHistories, ProfileRunsAreHistories, KeyedRunsAreRuns, KeyedRunsAreHistories, OksWithinChallenges, RepeatedResponsesAreRefused, OneResponseOneNonce, RefusalsLeaveOpen, PositionsAreUsedOnce, EqualMessagesAgree, NoShortExtensions, TakenVerifiersAreJudged, ShownProofsAreJudged, OneVerdictEach, OneAuditEach, RepeatedClientPositions, RepeatedServerPositions, RepeatedClientFindings, RepeatedServerFindings, ClientsLogIn, ServersLogIn, ServersWantMemory, ClientsWantMemory, ProfilesWantMemory};
 
 pub use fe2o3_scram::laws::{
     base64_texts, clone_of_version, digests, each_text_is_read, escaped_names, kept_keys,
@@ -113,23 +109,15 @@ pub fn unaltered_runs()
     ensures server { ServersLogIn }
 {}
 
-/// What the definitions say of worked examples: the acceptor of PLAIN; a server (if its wrong proof
-/// does not happen to meet the stored key) and a client over lists of events; and a text that is
-/// shifted between two messages, on which both sides agree although they mean two nonces, so that no
-/// more than user name and client nonce can be had there; and an unaltered run that meets each premise
-/// of the law of unaltered runs.
+/// Three worked examples of the definitions: a login that nobody alters, one that the server refuses, and
+/// one with a text that is shifted between two messages. The first meets each premise of the law of
+/// unaltered runs. The second is an unaltered run too: no reply is premised to send a body. In the third
+/// both sides agree although they mean two nonces, so that no more than user name and client nonce can be
+/// had there.
 pub fn worked_examples()
-    ensures guests_enter { GuestsEnter }
-    ensures wrong_passwords_fail { WrongPasswordsFail }
-    ensures names_alone_fail { NamesAloneFail }
-    ensures empty_inits_fail { EmptyInitsFail }
-    ensures responses_to_plain_fail { ResponsesToPlainFail }
-    ensures shifted_texts_pass { ShiftedTextsPass }
-    ensures refusals_have_one_body { RefusalsHaveOneBody }
-    ensures servers_answer { ServersAnswer }
-    ensures clients_answer { ClientsAnswer }
-    ensures shifted_histories_pass { ShiftedHistoriesPass }
     ensures premises_can_be_met { PremisesCanBeMet }
+    ensures refusals_are_unaltered { RefusalsAreUnaltered }
+    ensures shifted_texts_pass { ShiftedTextsPass }
 {}
 
 /// What holds of every mechanism: each acceptor and each profile has one reply to a frame; a server
@@ -155,52 +143,18 @@ pub fn hex_texts()
     ensures again { HexIsReadAgain }
 {}
 
-/// More of what the definitions say of worked examples.
-///
-/// Of PLAIN for the user `guest` with the password `secret`: the two words in the other order end with
-/// Auth; a list with PLAIN among other names is answered by an init with the words and the hostname, a
-/// list without it by NotImplemented; outcomes are reported as they are; memory may be wanting at such
-/// a list and at an outcome with data. EXTERNAL starts without a response, ANONYMOUS ends with Ok
-/// whatever it is sent, the six names are those of their standards, and a server without a name offers
-/// ANONYMOUS.
-///
-/// Of hexadecimal text: digits of both cases are read, an odd number of digits and other characters
-/// are not.
-///
-/// Of SCRAM: inits of other mechanisms end with Auth; a challenge that is not UTF-8 is refused as such
-/// before it is refused as early; outcomes of the codes other than Ok are reported unchecked; the name
-/// is found among others; a challenge and a start without a body are TooLarge and leave the state, and
-/// a text of 4 GiB has no body; memory may be wanting at an init and at a response of a server, at a
-/// list with the name, a challenge and an outcome with data of a client, and nowhere else.
-///
-/// Of an audit: findings stand by the client's position first and then by the server's.
-pub fn more_examples()
-    ensures swapped_words_fail { SwappedWordsFail }
-    ensures guests_start { GuestsStart }
-    ensures others_are_not_implemented { OthersAreNotImplemented }
-    ensures plain_reports_outcomes { PlainReportsOutcomes }
-    ensures guests_want_memory { GuestsWantMemory }
-    ensures external_starts { ExternalStarts }
-    ensures anonymous_always_enters { AnonymousAlwaysEnters }
-    ensures mechanisms_are_named { MechanismsAreNamed }
-    ensures names_are_offered { NamesAreOffered }
-    ensures digits_of_both_cases { DigitsOfBothCases }
-    ensures other_texts_spell_nothing { OtherTextsSpellNothing }
-    ensures other_mechanisms_fail { OtherMechanismsFail }
-    ensures other_texts_are_refused { OtherTextsAreRefused }
-    ensures failures_are_reported { FailuresAreReported }
-    ensures names_are_found { NamesAreFound }
-    ensures unsent_challenges { UnsentChallenges }
-    ensures unsent_starts { UnsentStarts }
-    ensures long_texts_have_no_body { LongTextsHaveNoBody }
-    ensures servers_want_memory { ServersWantMemory }
-    ensures clients_want_memory { ClientsWantMemory }
-    ensures findings_in_order { FindingsInOrder }
-{}
-
 /// Over every list of events whose bodies are bytes, each server and each client has a history in which
 /// memory is not wanting: with `one_history_each` it has exactly one.
 pub fn histories_exist()
     ensures server { SomeServerHistory }
     ensures client { SomeClientHistory }
+{}
+
+/// Memory may be wanting at an init and at a response of a server; at a list with the name, at a challenge
+/// and at an outcome with data of a SCRAM client; at such a list and at such an outcome of any profile; and
+/// nowhere else. All other replies are determined: `one_history_each`, `mechanisms`.
+pub fn want_of_memory()
+    ensures server { ServersWantMemory }
+    ensures client { ClientsWantMemory }
+    ensures profile { ProfilesWantMemory }
 {}

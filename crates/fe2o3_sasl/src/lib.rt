@@ -11,11 +11,14 @@
 #![tactic(auto)]
 
 pub mod audit;
+mod events;
 pub mod laws;
 mod mechanism_names;
 pub mod runs;
 pub mod sasl_acceptor;
 pub mod sasl_profile;
+mod steps;
+mod whole_runs;
 
 pub use crate::audit::{AuditError, Finding, FindingKind, Parameters, Verdict, audit_limited};
 pub use crate::runs::{
@@ -47,7 +50,7 @@ pub use fe2o3_scram::scram_messages::{
 };
 pub use fe2o3_scram::scram_server::ScramAuthenticator;
 pub use fe2o3_scram::{
-    client_keys, credentials, hmac, keyed_scram_client, keys, pbkdf2_hi, saslprep_ascii,
+    client_keys, credentials, hmac, keyed_scram_client, keys, pbkdf2_hi, provider, saslprep_ascii,
     scram_client, scram_messages, scram_server,
 };
 pub use std::alloc::AllocError as OutOfMemory;

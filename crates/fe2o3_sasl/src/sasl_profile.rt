@@ -1,7 +1,7 @@
 //! The client's side of a negotiation: what it answers to the frames of a server (AMQP 1.0, part 5,
 //! section 5.3.2).
 
-ghost use Rattle.std.specs.Prelude.{◌≡◌, ◌↔◌, ◌++◌, Option, ℕ, List, ◌∷◌, IfOk, IfErr, OnOk, OnErr, IsSome, IsTrue, IsAscii, option_map, string_bytes};
+ghost use Rattle.std.specs.Prelude.{◌≡◌, ◌↔◌, ◌++◌, ◌∷◌, Option, ℕ, List, IfOk, IfErr, OnOk, OnErr, IsSome, IsTrue, IsAscii, option_map, string_bytes};
 ghost use Rattle.std.specs.List.{Contains};
 ghost use Rattle.fe2o3_sasl_wire.specs.AmqpTypes.{binary_bytes, init_frame, response_frame, outcome_frame};
 ghost use Rattle.fe2o3_sasl_wire.specs.FrameView.{shown, viewed_frame};
@@ -9,8 +9,9 @@ ghost use Rattle.fe2o3_sasl_wire.specs.Owned.{owned_frame};
 ghost use Rattle.fe2o3_sasl_wire.specs.SaslFrames.{Init, Challenge, Outcome};
 ghost use Rattle.fe2o3_sasl.specs.Profiles.{ScramProfile, PlainProfile, scram_profile, profile_name, initial_response, after_init, ProfileAnswers};
 ghost use Rattle.fe2o3_sasl.specs.ProfileFaults.{answered};
+ghost use Rattle.fe2o3_sasl.specs.Runs.{login_of};
 ghost use Rattle.fe2o3_sasl.specs.SaslProfile.{RefusesUrl, HasCredentials, negotiated_frame, profile_of};
-ghost use Rattle.fe2o3_sasl.specs.private.Writing.{is_scram};
+ghost use Rattle.fe2o3_sasl.specs.private.Writing.{is_scram, AnswersAlways};
 
 mod error;
 mod scram;
@@ -23,7 +24,7 @@ use fe2o3_sasl_wire::{
     Binary, Frame, FrameView, SaslCode, SaslInit, SaslMechanisms, SaslOutcome, SaslResponse, Symbol,
 };
 use fe2o3_scram::hmac::ScramVersion;
-pub use scram::{SaslScramSha1, SaslScramSha256, SaslScramSha512};
+pub use scram::{SaslScram, SaslScramSha1, SaslScramSha256, SaslScramSha512};
 use scram_side::ScramSide;
 use std::alloc::{AllocError, Global};
 use std::fmt;
@@ -105,21 +106,16 @@ impl SaslProfile {
         version: ScramVersion,
         limit: u32,
     ) -> SaslProfile
-        ensures { profile_of result ≡ scram_profile (record {
-          version = version;
-          user = string_bytes username;
-          password =
-              string_bytes password;
-          limit = limit;
-        }) }
+        ensures { profile_of result ≡ scram_profile (login_of version (string_bytes username)
+            (string_bytes password) limit) }
     {
         let client = ScramSide::by_password(username, password, version).with_iteration_limit(
             limit,
         );
         match version {
-            ScramVersion::Sha1 => SaslProfile::ScramSha1(SaslScramSha1 { client }),
-            ScramVersion::Sha256 => SaslProfile::ScramSha256(SaslScramSha256 { client }),
-            ScramVersion::Sha512 => SaslProfile::ScramSha512(SaslScramSha512 { client }),
+            ScramVersion::Sha1 => SaslProfile::ScramSha1(SaslScramSha1::of(client)),
+            ScramVersion::Sha256 => SaslProfile::ScramSha256(SaslScramSha256::of(client)),
+            ScramVersion::Sha512 => SaslProfile::ScramSha512(SaslScramSha512::of(client)),
         }
     }
 
@@ -278,8 +274,8 @@ impl SaslProfile {
         alloc: Global,
         challenge: &[u8],
     ) -> Result<SaslResponse, ProfileError>
-        ensures answer { (hostname : Option (List ℕ)) (nonce : List ℕ) → ProfileAnswers (profile_of self.old) hostname
-            nonce (Challenge challenge.now) (answered response_frame result) (profile_of self.new) }
+        ensures answer { AnswersAlways (profile_of self.old) (Challenge challenge.now) (answered response_frame result)
+            (profile_of self.new) }
         ensures err { OnErr result (profile_of self.new ≡ profile_of self.old) }
     {
         match self {

@@ -2,9 +2,9 @@
 use Rattle.std.specs.Prelude.{ℕ, List, [], ◌≡◌, ◌≤◌, ◌+◌, OnOk, length, Result, Ok, Err, Vec}
 use Rattle.std.specs.declared.alloc.Global.{Global}
 use Rattle.fe2o3_scram.specs.declared.hmac.ScramVersion.{ScramVersion}
-use Rattle.fe2o3_scram.specs.declared.client_keys.KeyedClientError.{KeyedClientError}
-use Rattle.fe2o3_scram.specs.declared.client_keys.KeyedClientError.TheVariants.{Scram, OtherKeys}
-use Rattle.fe2o3_scram.specs.declared.credentials.scram_record.RecordError.{RecordError}
+use Rattle.fe2o3_scram.specs.declared.scram_messages.error.KeyedClientError.{KeyedClientError}
+use Rattle.fe2o3_scram.specs.declared.scram_messages.error.KeyedClientError.TheVariants.{Scram, OtherKeys}
+use Rattle.fe2o3_scram.specs.declared.keys.RecordError.{RecordError}
 use Rattle.fe2o3_scram.specs.declared.scram_messages.error.ScramErrorKind.{ScramErrorKind}
 use Rattle.fe2o3_scram.specs.ClientFinal.{Answer, answer_of, answer_values, client_final_of, without_proof}
 use Rattle.fe2o3_scram.specs.Credentials.{making_tests}

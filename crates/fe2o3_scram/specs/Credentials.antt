@@ -2,9 +2,9 @@
 use Rattle.std.specs.Prelude.{ℕ, List, [], ◌∷◌, ◌≡◌, ◌≤◌, ◌+◌, Option, Some, None, Result, Ok, Err, if◌then◌else◌, nat_eq}
 use Rattle.std.specs.Cmp.Lexicographic.{pointwise}
 use Rattle.fe2o3_scram.specs.declared.hmac.ScramVersion.{ScramVersion}
-use Rattle.fe2o3_scram.specs.declared.credentials.StoredPassword.{StoredPassword}
-use Rattle.fe2o3_scram.specs.declared.credentials.scram_record.RecordError.{RecordError}
-use Rattle.fe2o3_scram.specs.declared.credentials.scram_record.RecordError.TheVariants.{NormalizeError, ZeroIterations, OutOfMemory}
+use Rattle.fe2o3_scram.specs.declared.provider.StoredPassword.{StoredPassword}
+use Rattle.fe2o3_scram.specs.declared.keys.RecordError.{RecordError}
+use Rattle.fe2o3_scram.specs.declared.keys.RecordError.TheVariants.{NormalizeError, ZeroIterations, OutOfMemory}
 use Rattle.fe2o3_scram.specs.Keys.{client_key, stored_key, server_key}
 use Rattle.fe2o3_scram.specs.Pbkdf2Hi.{salted_of}
 use Rattle.fe2o3_scram.specs.Readings.{Reads}

@@ -11,13 +11,14 @@ use Rattle.fe2o3_scram.specs.ClientKeys.{ClientKeys, AnswersWithKeys, keyed_clie
 use Rattle.fe2o3_scram.specs.KeyedScramClient.{KeyedSide, KeyedAnswersIn, KeyedBelievesIn, keyed_started, with_password}
 use Rattle.fe2o3_scram.specs.SaslprepAscii.{IsPrintable}
 use Rattle.fe2o3_scram.specs.ScramClient.{AnswersIn, BelievesIn, started}
-use Rattle.fe2o3_scram.specs.declared.client_keys.KeyedClientError.{KeyedClientError}
-use Rattle.fe2o3_scram.specs.declared.client_keys.KeyedClientError.TheVariants.{Scram, OtherKeys}
+use Rattle.fe2o3_scram.specs.declared.scram_messages.error.KeyedClientError.{KeyedClientError}
+use Rattle.fe2o3_scram.specs.declared.scram_messages.error.KeyedClientError.TheVariants.{Scram, OtherKeys}
 use Rattle.fe2o3_scram.specs.Credentials.{Record, Records, VersionedRecord, record_of}
 use Rattle.fe2o3_scram.specs.Escape.{escaped}
 use Rattle.fe2o3_scram.specs.Exchanges.{Exchange, IsSound, Succeeds}
 use Rattle.fe2o3_scram.specs.Hmac.{mechanism_name, digest, digest_len, hmac_of}
-use Rattle.fe2o3_scram.specs.ClientFinal.{Answer, AnswersServerFirst, Server, ClientFinal, ReadsFinalText, ReadsClientFinal}
+use Rattle.fe2o3_scram.specs.ServerFirstAnswers.{AnswersServerFirst}
+use Rattle.fe2o3_scram.specs.ClientFinal.{Answer, Server, ClientFinal, ReadsFinalText, ReadsClientFinal}
 use Rattle.fe2o3_scram.specs.RecordText.{IsReadable, ReadsRecord, record_text}
 use Rattle.fe2o3_scram.specs.declared.credentials.record_text.RecordTextError.{RecordTextError}
 use Rattle.fe2o3_scram.specs.declared.credentials.record_lines.ReadLinesError.{ReadLinesError}

@@ -13,6 +13,7 @@ pub mod Error
 pub mod ClientFirst
 pub mod ServerFirst
 pub mod ClientFinal
+pub mod ServerFirstAnswers
 pub mod ClientKeys
 pub mod ServerFinal
 pub mod ScramClient

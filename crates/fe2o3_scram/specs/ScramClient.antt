@@ -1,13 +1,12 @@
 -- A SCRAM client from message to message (RFC 5802, section 5).
 use Rattle.std.specs.Prelude.{ℕ, List, ◌≡◌, Result, Ok, Err}
-use Rattle.std.specs.String.{string_bytes}
 use Rattle.fe2o3_scram.specs.declared.hmac.ScramVersion.{ScramVersion}
 use Rattle.fe2o3_scram.specs.declared.scram_client.ScramClientState.{ScramClientState}
 use Rattle.fe2o3_scram.specs.declared.scram_client.ScramClientState.TheVariants.{Initial as CodeInitial, ClientFirstSent as CodeClientFirstSent, ClientFinalSent as CodeClientFinalSent, Complete as CodeComplete}
 use Rattle.fe2o3_scram.specs.declared.scram_messages.error.ScramErrorKind.{ScramErrorKind}
 use Rattle.fe2o3_scram.specs.declared.scram_messages.error.ScramErrorKind.TheVariants.{IllegalClientState}
 use Rattle.fe2o3_scram.specs.Texts.{base64_text}
-use Rattle.fe2o3_scram.specs.ClientFinal.{AnswersServerFirst, AnswerCosts}
+use Rattle.fe2o3_scram.specs.ServerFirstAnswers.{AnswersServerFirst, AnswerCosts}
 use Rattle.fe2o3_scram.specs.ClientFirst.{client_first_bare}
 use Rattle.fe2o3_scram.specs.ServerFirst.{Client, client_of, ReachesSalt, ReadsServerFirst}
 use Rattle.fe2o3_scram.specs.ServerFinal.{ReachesVerifier, ReadsServerFinal}
@@ -90,6 +89,6 @@ ReachesVerifierIn state text = ⊥
 -- the state that the code's state is
 abbrev pub state_of : ScramClientState → ClientState
 state_of CodeInitial = Initial
-state_of (CodeClientFirstSent nonce bare) = ClientFirstSent (string_bytes nonce) bare
+state_of (CodeClientFirstSent nonce bare) = ClientFirstSent (base64_text nonce) bare.items
 state_of (CodeClientFinalSent signature) = ClientFinalSent signature.items
 state_of CodeComplete = Complete

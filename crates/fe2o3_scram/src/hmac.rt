@@ -9,8 +9,8 @@ pub(crate) mod keyed;
 pub(crate) mod meter;
 
 use crate::OutOfMemory;
-pub use crate::hmac::hasher::DigestBytes;
 use crate::hmac::hasher::digest_of;
+pub use crate::hmac::hasher::{DigestBytes, XorLengthMismatch};
 use crate::hmac::keyed::HmacKey;
 pub use crate::hmac::meter::Meter;
 use std::alloc::Global;

@@ -9,14 +9,14 @@ ghost use Rattle.fe2o3_scram.specs.KeyedScramClient.{KeyedAnswersIn, KeyedAnswer
 ghost use Rattle.fe2o3_scram.specs.ScramClient.{Initial, ReachesSaltIn, ReachesVerifierIn};
 ghost use Rattle.fe2o3_scram.specs.Readings.{Gives};
 ghost use Rattle.fe2o3_scram.specs.ServerFirst.{no_limit};
-ghost use Rattle.fe2o3_scram.specs.declared.client_keys.KeyedClientError.TheVariants.{Scram};
+ghost use Rattle.fe2o3_scram.specs.declared.scram_messages.error.KeyedClientError.TheVariants.{Scram};
 ghost use Rattle.fe2o3_scram.specs.declared.scram_messages.error.ScramErrorKind.TheVariants.{OutOfMemory as NoMemory};
 
 use crate::OutOfMemory;
-use crate::client_keys::{KeyedClientError, ScramClientKeys};
 use crate::hmac::{Meter, ScramVersion};
+use crate::keys::ScramClientKeys;
 use crate::scram_client::ScramClient;
-use crate::scram_messages::error::ScramErrorKind;
+use crate::scram_messages::error::{KeyedClientError, ScramErrorKind};
 use bytes::Bytes;
 use std::alloc::{AllocError, Global};
 use std::fmt;

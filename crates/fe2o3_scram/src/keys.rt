@@ -10,21 +10,49 @@
 ghost use Rattle.std.specs.Prelude.{◌≡◌, ◌<◌, ◌+◌, ◌^◌, ◌↔◌, IsTrue, IfOk};
 ghost use Rattle.fe2o3_scram.specs.Hmac.{digest_bytes, exclusive_or, version_of};
 ghost use Rattle.fe2o3_scram.specs.Keys.{CostsOne, MeetsStoredKey, OkWhereSized, auth_message, client_key, client_proof, client_signature, recovered_client_key, server_key, server_signature, stored_key};
+ghost use Rattle.fe2o3_scram.specs.declared.keys.RecordError.TheVariants.{OutOfMemory as OutOfMemoryError};
 ghost use Rattle.fe2o3_scram.specs.private.Pieces.{whole};
+
+mod client_keys;
 
 use crate::OutOfMemory;
 use crate::hmac::hasher::digest_of;
 use crate::hmac::keyed::HmacKey;
-use crate::hmac::{DigestBytes, Meter, ScramVersion};
+use crate::hmac::{DigestBytes, Meter, ScramVersion, XorLengthMismatch};
+pub use crate::keys::client_keys::ScramClientKeys;
 use crate::same_bytes::same_bytes;
-use crate::scram_messages::error::XorLengthMismatch;
-use std::alloc::Global;
+use std::alloc::{AllocError, Global};
+use thiserror::Error;
 
 /// What the ClientKey is made of.
 const CLIENT_KEY_LABEL: &[u8] = b"Client Key";
 
 /// What the ServerKey is made of.
 const SERVER_KEY_LABEL: &[u8] = b"Server Key";
+
+/// Why no keys and no record are made of a password.
+#[derive(Debug, Clone, Copy, PartialEq, Eq, Error)]
+pub enum RecordError {
+    /// The password is not printable ASCII.
+    #[error("Error normalizing password")]
+    NormalizeError,
+
+    /// The iteration count is 0.
+    #[error("Iteration count is zero")]
+    ZeroIterations,
+
+    /// A request for memory was refused.
+    #[error("Out of memory")]
+    OutOfMemory,
+}
+
+impl From<AllocError> for RecordError {
+    ghost from_gives = { λ _ error. error ≡ OutOfMemoryError };
+
+    fn from(_error: AllocError) -> Self {
+        RecordError::OutOfMemory
+    }
+}
 
 /// The AuthMessage: the client-first message without its GS2 header, the server-first message, and
 /// the client-final message up to its proof, with commas between them, each as it was sent (RFC

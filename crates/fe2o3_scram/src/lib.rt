@@ -20,6 +20,7 @@ pub mod keyed_scram_client;
 pub mod keys;
 pub mod laws;
 pub mod pbkdf2_hi;
+pub mod provider;
 mod same_bytes;
 pub mod saslprep_ascii;
 pub mod scram_client;
@@ -27,21 +28,20 @@ pub mod scram_messages;
 pub mod scram_server;
 mod texts;
 
-pub use crate::client_keys::{KeyedClientError, ScramClientKeys};
 pub use crate::credentials::{
-    AddRecordError, DEFAULT_SCRAM_ITERATIONS, ReadLinesError, ReadLinesErrorKind, RecordError,
-    RecordTextError, ScramCredentialProvider, ScramCredentials, ScramRecord, SingleScramCredential,
-    StoredPassword, StoredScramCredential, WriteLinesError,
+    AddRecordError, DEFAULT_SCRAM_ITERATIONS, ReadLinesError, ReadLinesErrorKind, RecordTextError,
+    ScramCredentials, ScramRecord, SingleScramCredential, StoredScramCredential, WriteLinesError,
 };
-pub use crate::hmac::{DigestBytes, Meter, ScramVersion, UnknownMechanism};
+pub use crate::hmac::{DigestBytes, Meter, ScramVersion, UnknownMechanism, XorLengthMismatch};
 pub use crate::keyed_scram_client::KeyedScramClient;
-pub use crate::keys::auth_message;
+pub use crate::keys::{RecordError, ScramClientKeys, auth_message};
 pub use crate::pbkdf2_hi::KeyError;
+pub use crate::provider::{ScramCredentialProvider, StoredPassword};
 pub use crate::saslprep_ascii::{NormalizeError, saslprep};
 pub use crate::scram_client::ScramClient;
 pub use crate::scram_messages::{
-    ClientFinal, ClientFirst, ScramErrorKind, ServerFinal, ServerFirst, ServerFirstMessage,
-    ServerScramErrorKind, UnescapeError, XorLengthMismatch, escape_username, unescape_username,
+    ClientFinal, ClientFirst, KeyedClientError, ScramErrorKind, ServerFinal, ServerFirst,
+    ServerFirstMessage, ServerScramErrorKind, UnescapeError, escape_username, unescape_username,
 };
 pub use crate::scram_server::ScramAuthenticator;
 pub use std::alloc::AllocError as OutOfMemory;

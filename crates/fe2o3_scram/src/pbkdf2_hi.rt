@@ -12,7 +12,7 @@ use crate::hmac::hasher::{DigestBytes, Hasher, xor};
 use crate::hmac::keyed::{HmacKey, PaddedKey};
 use crate::hmac::{Meter, ScramVersion};
 use crate::saslprep_ascii::{self, saslprep};
-use std::alloc::{AllocError, AllocFailed, Global};
+use std::alloc::{AllocError, Global};
 use thiserror::Error;
 
 /// Why a password gives no salted password.
@@ -31,14 +31,6 @@ impl From<AllocError> for KeyError {
     ghost from_gives = { λ _ error. error ≡ OutOfMemory };
 
     fn from(_error: AllocError) -> KeyError {
-        KeyError::OutOfMemory
-    }
-}
-
-impl<T: Drop> From<AllocFailed<T>> for KeyError {
-    ghost from_gives = { λ _ error. error ≡ OutOfMemory };
-
-    fn from(_error: AllocFailed<T>) -> KeyError {
         KeyError::OutOfMemory
     }
 }

@@ -8,14 +8,14 @@ ghost use Rattle.fe2o3_scram.specs.KeyedScramClient.{AnswersAndKeepsIn, KeyedAns
 ghost use Rattle.fe2o3_scram.specs.ScramClient.{Initial, AnswersIn, AnswerCostsIn, BelievesIn, ReachesSaltIn, ReachesVerifierIn, started, state_of, with_state};
 ghost use Rattle.fe2o3_scram.specs.Readings.{Gives};
 ghost use Rattle.fe2o3_scram.specs.ServerFirst.{no_limit};
-ghost use Rattle.fe2o3_scram.specs.declared.client_keys.KeyedClientError.TheVariants.{Scram};
+ghost use Rattle.fe2o3_scram.specs.declared.scram_messages.error.KeyedClientError.TheVariants.{Scram};
 ghost use Rattle.fe2o3_scram.specs.declared.scram_messages.error.ScramErrorKind.TheVariants.{OutOfMemory as NoMemory};
 
 use crate::OutOfMemory;
-use crate::client_keys::{KeyedClientError, ScramClientKeys};
 use crate::hmac::{Meter, ScramVersion};
-use crate::scram_messages::error::ScramErrorKind;
-use crate::texts::base64_of;
+use crate::keys::ScramClientKeys;
+use crate::scram_messages::error::{KeyedClientError, ScramErrorKind};
+use crate::texts::base64_of_nonce;
 use bytes::Bytes;
 use std::alloc::{AllocError, Global};
 use std::fmt;
@@ -26,8 +26,9 @@ use std::marker::Model;
 enum ScramClientState {
     Initial,
     ClientFirstSent {
-        client_nonce: String,
-        client_first_message_bare: Bytes,
+        /// As bytes: its text is written again for the answer, which takes no memory.
+        nonce: [u8; 32],
+        client_first_message_bare: Vec<u8>,
     },
     ClientFinalSent {
         server_signature: Vec<u8>,
@@ -43,10 +44,10 @@ impl ScramClientState {
         Ok(match self {
             ScramClientState::Initial => ScramClientState::Initial,
             ScramClientState::ClientFirstSent {
-                client_nonce,
+                nonce,
                 client_first_message_bare,
             } => ScramClientState::ClientFirstSent {
-                client_nonce: client_nonce.clone()?,
+                nonce: *nonce,
                 client_first_message_bare: client_first_message_bare.clone()?,
             },
             ScramClientState::ClientFinalSent { server_signature } => {
@@ -150,13 +151,14 @@ impl ScramClient {
         ensures started { OnOk result (self.new ≡ started self.old nonce.now) }
         ensures err { OnErr result (self.new ≡ self.old) }
     {
-        let client_nonce = base64_of(alloc, nonce)?;
+        let mut room = [0; 44];
+        let client_nonce = base64_of_nonce(nonce, &mut room);
         let (client_first_message, client_first_message_bare) = self
             .scram
             .client_first_message(alloc, self.username.as_bytes(), client_nonce.as_bytes())?;
         self.state = ScramClientState::ClientFirstSent {
-            client_nonce,
-            client_first_message_bare,
+            nonce: *nonce,
+            client_first_message_bare: client_first_message_bare.to_vec(alloc)?,
         };
         Ok(client_first_message)
     }
@@ -221,9 +223,11 @@ impl ScramClient {
     {
         match &self.state {
             ScramClientState::ClientFirstSent {
-                client_nonce,
+                nonce,
                 client_first_message_bare,
             } => {
+                let mut room = [0; 44];
+                let client_nonce = base64_of_nonce(nonce, &mut room);
                 let ((client_final, server_signature), keys) = self
                     .scram
                     .compute_client_final_message_and_keys(
@@ -271,9 +275,11 @@ impl ScramClient {
     {
         match &self.state {
             ScramClientState::ClientFirstSent {
-                client_nonce,
+                nonce,
                 client_first_message_bare,
             } => {
+                let mut room = [0; 44];
+                let client_nonce = base64_of_nonce(nonce, &mut room);
                 let (client_final, server_signature) = keys.compute_client_final_message_limited(
                     alloc,
                     client_nonce,

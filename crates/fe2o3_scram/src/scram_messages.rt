@@ -15,7 +15,9 @@ mod server_first_reading;
 
 pub use crate::scram_messages::client_final_reading::ClientFinal;
 pub use crate::scram_messages::client_first_reading::ClientFirst;
-pub use crate::scram_messages::error::{ScramErrorKind, ServerScramErrorKind, XorLengthMismatch};
+pub use crate::scram_messages::error::{
+    KeyedClientError, ScramErrorKind, ServerScramErrorKind, XorLengthMismatch,
+};
 pub use crate::scram_messages::escape::{UnescapeError, escape_username, unescape_username};
 pub use crate::scram_messages::server_final_reading::ServerFinal;
 pub use crate::scram_messages::server_first::ServerFirstMessage;

@@ -6,8 +6,8 @@ ghost use Rattle.fe2o3_scram.specs.ServerFirst.{ReachesChallenge};
 ghost use Rattle.fe2o3_scram.specs.Readings.{Gives};
 
 use crate::OutOfMemory;
-use crate::credentials::ScramCredentialProvider;
 use crate::hmac::Meter;
+use crate::provider::ScramCredentialProvider;
 use crate::scram_messages::error::ServerScramErrorKind;
 use crate::scram_messages::{ServerFirstMessage, challenge};
 use crate::texts::base64_of_nonce;

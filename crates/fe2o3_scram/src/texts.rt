@@ -38,13 +38,6 @@ pub(crate) fn after<'a>(text: &'a str, prefix: &str) -> Option<&'a str>
     text.strip_prefix(prefix)
 }
 
-/// The base64 text of the bytes.
-pub(crate) fn base64_of(alloc: Global, bytes: &[u8]) -> Result<String, OutOfMemory>
-    ensures { IfOk result (λ text. string_bytes text ≡ base64_text bytes.now) }
-{
-    STANDARD.encode(alloc, bytes)
-}
-
 /// The base64 text of 32 bytes, in the room that is lent. It takes no memory.
 pub(crate) fn base64_of_nonce<'a>(nonce: &[u8; 32], room: &'a mut [u8; 44]) -> &'a str
     ensures { result.now ≡ base64_text nonce.now }

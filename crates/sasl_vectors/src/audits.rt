@@ -1,10 +1,10 @@
-//! Audits of two transcripts, each with its findings.
+//! Audits of two transcripts, each with its findings, as the program `sasl_lab` makes them.
 
 use crate::Unconfirmed;
-use crate::runs::{credential, event_of, text_of, version_of};
-use fe2o3_sasl::audit::{AuditError, Finding, FindingKind, Parameters, Verdict, audit};
-use fe2o3_sasl::runs::Event;
-use std::alloc::Global;
+use crate::runs::words::text_of;
+use fe2o3_sasl::audit::AuditError;
+use std::alloc::{AllocError, Global};
+use std::io::Cursor;
 
 impl From<AuditError> for Unconfirmed {
     fn from(_error: AuditError) -> Self {
@@ -14,140 +14,69 @@ impl From<AuditError> for Unconfirmed {
 
 /// An audit as the file has it.
 #[derive(Drop)]
-struct Audit<'a> {
-    /// What the two sides are made of.
-    sides: Vec<&'a str>,
+struct Audit {
+    /// The words of the program.
+    words: Vec<String>,
 
-    /// What the client was given.
-    client: Vec<Event>,
+    /// The lines of the events of both sides.
+    input: String,
 
-    /// What the server was given.
-    server: Vec<Event>,
-
-    /// What is found.
-    findings: Vec<&'a str>,
+    /// The lines of what is found.
+    findings: String,
 }
 
 /// Checks the audit that a paragraph spells, and answers how many findings it has.
 pub fn check(alloc: Global, paragraph: &str) -> Result<usize, Unconfirmed> {
-    let wanted = read(alloc, paragraph)?;
-    let found = findings(alloc, &wanted)?;
-    for (found, wanted) in found.iter().zip(wanted.findings.iter()) {
-        if found.as_str() != *wanted {
-            return Err(Unconfirmed::Other(found.clone()?));
-        }
+    let audit = read(alloc, paragraph)?;
+    let mut input = Cursor::new(audit.input.as_bytes());
+    let (mut printed, mut usage) = (Vec::new(alloc), Vec::new(alloc));
+    let status = sasl_commands::run(alloc, &audit.words, &mut input, &mut printed, &mut usage);
+    let Ok(printed) = String::from_utf8(printed) else {
+        return Err(Unconfirmed::Malformed);
+    };
+    if status != 0 || printed != audit.findings {
+        return Err(Unconfirmed::Other(printed));
     }
-    if found.len() != wanted.findings.len() {
-        let len = found.len();
-        return Err(Unconfirmed::Other(format!(in alloc; "{len} findings")?));
-    }
-    Ok(found.len())
+    Ok(audit.findings.lines().count())
 }
 
 /// Reads a paragraph: a line for the sides, one for each event, and one for each finding.
-fn read<'a>(alloc: Global, paragraph: &'a str) -> Result<Audit<'a>, Unconfirmed> {
+fn read(alloc: Global, paragraph: &str) -> Result<Audit, Unconfirmed> {
     let mut audit = Audit {
-        sides: Vec::new(alloc),
-        client: Vec::new(alloc),
-        server: Vec::new(alloc),
-        findings: Vec::new(alloc),
+        words: Vec::new(alloc),
+        input: String::new(alloc),
+        findings: String::new(alloc),
     };
     for line in paragraph.lines() {
         let (mark, words) = line.split_once(' ').ok_or(Unconfirmed::Malformed)?;
         match mark {
-            "audit" => {
-                for word in words.split(' ') {
-                    audit.sides.push(word)?;
-                }
-            }
-            "<" => read_event(alloc, &mut audit, words)?,
-            ">" => audit.findings.push(words)?,
+            "#" => {}
+            "audit" => audit.words = words_of(alloc, words)?,
+            "<" => push_line(&mut audit.input, words)?,
+            ">" => push_line(&mut audit.findings, words)?,
             _ => return Err(Unconfirmed::Malformed),
         }
     }
     Ok(audit)
 }
 
-/// Reads the event of a side.
-fn read_event(alloc: Global, audit: &mut Audit<'_>, words: &str) -> Result<(), Unconfirmed> {
-    let (side, event) = words.split_once(' ').ok_or(Unconfirmed::Malformed)?;
-    let event = event_of(alloc, event)?;
-    match side {
-        "c" => audit.client.push(event)?,
-        "s" => audit.server.push(event)?,
-        _ => return Err(Unconfirmed::Malformed),
-    }
-    Ok(())
+/// Adds a line and its end.
+fn push_line(text: &mut String, line: &str) -> Result<(), AllocError> {
+    text.push_str(line)?;
+    text.push('\n')
 }
 
-/// What is found of the two sides, in the words of the file.
-fn findings(alloc: Global, wanted: &Audit<'_>) -> Result<Vec<String>, Unconfirmed> {
-    let [mechanism, user, password, salt] = wanted.sides.as_slice() else {
+/// The program's words for what the two sides are made of.
+fn words_of(alloc: Global, sides: &str) -> Result<Vec<String>, Unconfirmed> {
+    let sides: Vec<&str> = sides.split(' ').collect(alloc)?;
+    let [version, user, password, salt] = sides.as_slice() else {
         return Err(Unconfirmed::Malformed);
     };
-    let credential = credential(alloc, mechanism, user, password, salt)?;
-    let version = version_of(mechanism)?;
-    let user = text_of(alloc, user)?;
-    let password = text_of(alloc, password)?;
-    let (client, server) = (&wanted.client, &wanted.server);
-    let found = audit(
-        alloc,
-        &user,
-        &password,
-        version,
-        client,
-        &credential,
-        server,
-    )?;
-    let mut lines = Vec::with_capacity(alloc, found.len())?;
-    for finding in &found {
-        lines.push(line_of(alloc, finding)?)?;
-    }
-    Ok(lines)
-}
-
-/// A finding in the words of the file.
-fn line_of(alloc: Global, finding: &Finding) -> Result<String, Unconfirmed> {
-    let kind = match finding.kind {
-        FindingKind::Verifier => "verifier",
-        FindingKind::Proof => "proof",
-    };
-    let verdict = verdict_of(alloc, &finding.verdict)?;
-    let (client, server) = (finding.client, finding.server);
-    Ok(format!(in alloc; "{kind} {client} {server} {verdict}")?)
-}
-
-/// A verdict in the words of the file, which has no other than agreed ones.
-fn verdict_of(alloc: Global, verdict: &Verdict) -> Result<String, Unconfirmed> {
-    let Verdict::Agreed {
-        username,
-        client_nonce,
-        parameters,
-    } = verdict
-    else {
-        return Ok(format!(in alloc; "{verdict:?}")?);
-    };
-    let user = word_of(alloc, username.as_bytes())?;
-    let nonce = word_of(alloc, client_nonce.as_bytes())?;
-    let Some(parameters) = parameters else {
-        return Ok(format!(in alloc; "agreed {user} {nonce}")?);
-    };
-    let more = parameters_of(alloc, parameters)?;
-    Ok(format!(in alloc; "agreed {user} {nonce} {more}")?)
-}
-
-/// Parameters in the words of the file.
-fn parameters_of(alloc: Global, parameters: &Parameters) -> Result<String, Unconfirmed> {
-    let nonce = word_of(alloc, parameters.full_nonce.as_bytes())?;
-    let salt = word_of(alloc, &parameters.salt)?;
-    let iterations = parameters.iterations;
-    Ok(format!(in alloc; "{nonce} {salt} {iterations}")?)
-}
-
-/// Bytes in hexadecimal digits, where `-` is none.
-fn word_of(alloc: Global, bytes: &[u8]) -> Result<String, Unconfirmed> {
-    if bytes.is_empty() {
-        return Ok("-".to_string(alloc)?);
-    }
-    Ok(hex::encode(alloc, bytes)?)
+    let mut words = Vec::new(alloc);
+    words.push("audit".to_string(alloc)?)?;
+    words.push(version.to_string(alloc)?)?;
+    words.push(text_of(alloc, user)?)?;
+    words.push(text_of(alloc, password)?)?;
+    words.push(salt.to_string(alloc)?)?;
+    Ok(words)
 }

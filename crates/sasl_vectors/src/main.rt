@@ -5,6 +5,7 @@
 
 mod audits;
 mod frames;
+mod named_audits;
 mod runs;
 mod strangers;
 
@@ -67,6 +68,7 @@ fn replay_bodies<W: Write>(
 enum Paragraphs {
     Runs,
     Audits,
+    NamedAudits,
 }
 
 impl Paragraphs {
@@ -75,6 +77,7 @@ impl Paragraphs {
         match self {
             Paragraphs::Runs => runs::check(alloc, paragraph),
             Paragraphs::Audits => audits::check(alloc, paragraph),
+            Paragraphs::NamedAudits => named_audits::check(alloc, paragraph),
         }
     }
 
@@ -82,7 +85,7 @@ impl Paragraphs {
     fn words(self) -> (&'static str, &'static str) {
         match self {
             Paragraphs::Runs => ("runs", "bodies"),
-            Paragraphs::Audits => ("audits", "findings"),
+            Paragraphs::Audits | Paragraphs::NamedAudits => ("audits", "findings"),
         }
     }
 }
@@ -143,7 +146,9 @@ fn replay_all(rt: &HostRuntime) -> Result<bool, io::Error> {
     for (kind, name) in [
         (Paragraphs::Runs, "runs.txt"),
         (Paragraphs::Runs, "peer-runs.txt"),
+        (Paragraphs::Runs, "named-runs.txt"),
         (Paragraphs::Audits, "audits.txt"),
+        (Paragraphs::NamedAudits, "named-audits.txt"),
     ] {
         let text = fs::read_to_string(rt, name)?;
         confirmed &= replay_paragraphs(rt.alloc(), kind, name, text.as_str(), &mut output)?;

@@ -1,15 +1,5 @@
-pub mod ClientExampleLemmas
 pub mod ExampleBodyLemmas
-pub mod ExampleByteLemmas
+pub mod ExampleLemmas
+pub mod ExampleLoginLemmas
 pub mod ExampleReadingLemmas
 pub mod ExampleTextLemmas
-pub mod HexExampleLemmas
-pub mod MemoryExampleLemmas
-pub mod PlainExampleLemmas
-pub mod ReplyByReplyLemmas
-pub mod ReplyExampleLemmas
-pub mod ServerExampleLemmas
-pub mod ShiftedHistoryLemmas
-pub mod ShiftedTextLemmas
-pub mod UnsentExampleLemmas
-pub mod UnalteredExampleLemmas

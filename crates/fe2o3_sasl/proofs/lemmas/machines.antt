@@ -1,6 +1,7 @@
 pub mod ClientMachineLemmas
 pub mod KeyedRunLemmas
 pub mod MechanismLemmas
+pub mod MemoryLemmas
 pub mod OneReplyLemmas
 pub mod ServerMachineLemmas
 pub mod ZeroPartLemmas

@@ -1,25 +1,23 @@
--- Worked examples: what the definitions say of small cases. Hashes stay as they are.
-use Rattle.std.specs.Prelude.{◌≡◌, ◌≢◌, ℕ, Some, None, List, [], ◌∷◌, ◌++◌, map, replicate, codes, Ok}
-use Rattle.std.specs.List.{AllByRecursion}
+-- Worked examples: one login over frame bodies, as it is sent, shifted by somebody on the way, and refused. Hashes stay
+-- as they are.
+use Rattle.std.specs.Prelude.{◌≢◌, ℕ, Some, None, List, [], ◌∷◌, ◌++◌, replicate, codes}
 use Rattle.fe2o3_sasl_wire.specs.declared.amqp_types.SaslCode.TheVariants as outcomes
-use Rattle.fe2o3_sasl_wire.specs.declared.sasl_frames.error.Error.TheVariants as faults
-use Rattle.fe2o3_sasl_wire.specs.SaslFrames.{canonical, SaslFrame}
+use Rattle.fe2o3_sasl_wire.specs.SaslFrames.{canonical, fault_of, SaslFrame}
 use Rattle.fe2o3_sasl_wire.specs.SaslFrames as frames
 use Rattle.fe2o3_scram.specs.declared.hmac.ScramVersion.TheVariants.{Sha256}
-use Rattle.fe2o3_scram.specs.declared.scram_messages.error.ScramErrorKind.TheVariants.{IllegalClientState, ServerSignatureMismatch}
 use Rattle.fe2o3_scram.specs.Texts.{base64_text, joined}
-use Rattle.fe2o3_scram.specs.ClientFirst.{ReadsClientFirst}
-use Rattle.fe2o3_sasl.specs.ClientHistory.{Answering, client_at, answer_at, OpenAnswer, ClientHistory}
-use Rattle.fe2o3_scram.specs.Credentials.{Record, Provider, record_at, record_of}
-use Rattle.fe2o3_sasl.specs.Events.{Given, AreGiven, Login, IsLogin, IsRecord, ServerSays, Challenged, Concluded, Failed, ClientSays, Started, Answered, Reported, Refused, Scram}
-use Rattle.fe2o3_scram.specs.ClientFinal.{ReadsClientFinal, Meets}
-use Rattle.fe2o3_scram.specs.ServerFinal.{ReadsServerFinal}
-use Rattle.fe2o3_scram.specs.ServerFirst.{ReadsServerFirst}
-use Rattle.fe2o3_sasl.specs.ServerHistory.{Challenging, Accepted, full_nonce, server_at, final_message, carried, says_auth, ServerHistory}
-use Rattle.fe2o3_sasl.specs.TwoSides.{Sides, Histories, Takes, Shows, proof_at, client_message, server_message, HasParts}
+use Rattle.fe2o3_scram.specs.Credentials.{Record, Provider, record_of}
+use Rattle.fe2o3_sasl.specs.ClientHistory.{Answering, answer_at, OpenAnswer}
+use Rattle.fe2o3_sasl.specs.Events.{Given, Login, IsLogin, IsRecord, Challenged, Concluded, Failed, Started, Answered, Reported, Refused, Frame}
+use Rattle.fe2o3_sasl.specs.Bodies.{carried}
+use Rattle.fe2o3_sasl.specs.ServerHistory.{Challenging, Accepted, full_nonce}
+use Rattle.fe2o3_sasl.specs.TwoSides.{Sides, Histories, Takes, Shows, HasParts, proof_at}
 use Rattle.fe2o3_sasl.specs.Audit.{Agreed, JudgesVerifier, JudgesProof}
+use Rattle.fe2o3_sasl.specs.UnalteredRuns.{UnalteredRun, Suffices, HoldsLogin}
 
--- the nonce of the client's event
+-- ---- the client and the server
+
+-- the nonce of the client's events
 abbrev pub client_bytes : List ℕ
 client_bytes = replicate 32 1
 
@@ -45,7 +43,13 @@ salt = replicate 32 3
 
 -- the client's login
 abbrev pub login : Login
-login = record { version = Sha256; user = codes "user"; password = codes "pencil"; limit = 4294967295 }
+login = record {
+  version = Sha256;
+  user = codes "user";
+  password = codes "pencil";
+  limit = 4294967295;
+  hostname = None;
+}
 
 -- the record of its password
 abbrev pub stored : Record
@@ -54,6 +58,8 @@ stored = record_of Sha256 (codes "pencil") salt 4096
 -- a provider with that record alone
 abbrev pub provider : Provider
 provider = record { version = Sha256; records = (codes "user", stored) ∷ [] }
+
+-- ---- messages
 
 -- the parts of a client-first message without its header
 abbrev pub names : List ℕ → List (List ℕ)
@@ -85,6 +91,12 @@ challenging bare = record {
   stored = stored;
 }
 
+-- ---- frames
+
+-- the list of the one mechanism
+abbrev pub offers : SaslFrame
+offers = frames.Mechanisms (codes "SCRAM-SHA-256" ∷ [])
+
 -- an init with the user's message
 abbrev pub sends_init : List ℕ → SaslFrame
 sends_init bare = frames.Init (codes "SCRAM-SHA-256") (Some (codes "n,," ++ bare)) None
@@ -93,187 +105,116 @@ sends_init bare = frames.Init (codes "SCRAM-SHA-256") (Some (codes "n,," ++ bare
 abbrev pub sends_response : List ℕ → List ℕ → SaslFrame
 sends_response without proof = frames.Response (joined (without ∷ (codes "p=" ++ base64_text proof) ∷ []))
 
--- the outcome with the signature that the client waits for
+-- the verifier with the signature that the client waits for
+abbrev pub verifier : Answering → List ℕ
+verifier answer = codes "v=" ++ base64_text (answer_at login answer).1
+
+-- the outcome Ok with it
 abbrev pub sends_ok : Answering → SaslFrame
-sends_ok answer = frames.Outcome outcomes.Ok (Some (codes "v=" ++ base64_text (answer_at login answer).1))
+sends_ok answer = frames.Outcome outcomes.Ok (Some (verifier answer))
+
+-- the outcome Auth
+abbrev pub sends_auth : SaslFrame
+sends_auth = frames.Outcome outcomes.Auth None
 
 -- the body of a frame
 abbrev pub body_of : SaslFrame → List ℕ
 body_of frame = carried [] (λ body. body) (canonical frame)
 
--- each frame has a canonical body
-abbrev pub HaveBodies : List SaslFrame → Type 0
-HaveBodies sent = AllByRecursion (λ frame. canonical frame ≡ Some (body_of frame)) sent
-
 -- a frame that arrives in its body, with these bytes for a nonce
-abbrev pub arrives : List ℕ → SaslFrame → Given
-arrives nonce frame = record { body = body_of frame; nonce = nonce }
+abbrev pub event_of : List ℕ → SaslFrame → Given
+event_of nonce frame = record { body = body_of frame; nonce = nonce }
 
--- each of the frames
-abbrev pub arrive : List ℕ → List SaslFrame → List Given
-arrive nonce sent = map (arrives nonce) sent
+-- nothing in place of a body
+abbrev pub silent : List ℕ → Given
+silent nonce = record { body = []; nonce = nonce }
 
--- the client's answer to the server's own message
-abbrev pub answer : Answering
-answer = answering (joined (values both)) both
+-- ---- a login to which somebody on the way may add
 
--- the body of the outcome Auth
-abbrev pub auth_body : List ℕ
-auth_body = 2 ∷ 1 ∷ 0 ∷ 0 ∷ 0 ∷ 0x53 ∷ 0x44 ∷ 0xc0 ∷ 3 ∷ 1 ∷ 0x50 ∷ 1 ∷ []
+-- what is added: to the client's nonce, where the server adds its own; and parts behind the client's first message, behind
+-- the server's, and in front of the proof
+pub record Added : Type 0 where
+  pub nonce : List ℕ
+  pub init : List (List ℕ)
+  pub challenge : List (List ℕ)
+  pub response : List (List ℕ)
 
--- a refusal has this body
-abbrev pub RefusalsHaveOneBody : Type 0
-RefusalsHaveOneBody = says_auth ≡ Concluded outcomes.Auth auth_body
+-- the nonce of both sides that the client is told
+abbrev pub told : Added → List ℕ
+told added = client_nonce ++ added.nonce
 
--- what a server is sent: the init of `user`, an init of `nobody`, a response whose proof is the client's 32
--- bytes, the right response, the same again, and a list of mechanisms
-abbrev pub server_given : List SaslFrame
-server_given =
-    sends_init (joined (names (codes "user")))
-    ∷ sends_init (joined (names (codes "nobody")))
-    ∷ sends_response (joined (binds both)) client_bytes
-    ∷ sends_response (joined (binds both)) (proof_at login answer)
-    ∷ sends_response (joined (binds both)) (proof_at login answer)
-    ∷ frames.Mechanisms (codes "SCRAM-SHA-256" ∷ [])
-    ∷ []
+-- the client's first message as the server gets it
+abbrev pub init_text : Added → List ℕ
+init_text added = joined (names (codes "user") ++ added.init)
 
--- and what it answers: a challenge, Auth, Auth, Ok, Auth, and that a list is not for it
-abbrev pub server_said : List ServerSays
-server_said =
-    Challenged (body_of (frames.Challenge (joined (values both))))
-    ∷ Concluded outcomes.Auth auth_body
-    ∷ Concluded outcomes.Auth auth_body
-    ∷ Concluded outcomes.Ok (body_of (sends_ok answer))
-    ∷ Concluded outcomes.Auth auth_body
-    ∷ Failed faults.NotImplemented
-    ∷ []
+-- the server's first message as the client gets it
+abbrev pub challenge_text : Added → List ℕ
+challenge_text added = joined (values (told added) ++ added.challenge)
 
--- the proof of 32 bytes 01 does not meet the stored key
-abbrev pub IsWrong : List ℕ → Type 0
-IsWrong proof = ¬ Meets (server_at provider (challenging (joined (names (codes "user")))))
-    (record { without = joined (binds both); proof = proof })
+-- what stands before the proof in the client's last message, as the server gets it
+abbrev pub response_text : Added → List ℕ
+response_text added = joined (binds both ++ added.response)
 
--- a server, if the wrong proof does not happen to meet the stored key: refusals leave the challenge open, and
--- what it has accepted it does not accept again
-abbrev pub ServersAnswer : Type 0
-ServersAnswer = HaveBodies server_given × HaveBodies (frames.Challenge (joined (values both)) ∷ sends_ok answer ∷ [])
-    × (IsWrong client_bytes → ServerHistory provider (arrive server_bytes server_given) server_said)
+-- what the client makes of it all
+abbrev pub answer_to : Added → Answering
+answer_to added = answering (challenge_text added) (told added)
 
--- what a client is sent: the list of the one mechanism, an outcome Ok before its time, the challenge, an
--- outcome Ok without data, an outcome Auth, the right outcome, and the same again
-abbrev pub client_given : List SaslFrame
-client_given =
-    frames.Mechanisms (codes "SCRAM-SHA-256" ∷ [])
-    ∷ frames.Outcome outcomes.Ok (Some (codes "v=AA=="))
-    ∷ frames.Challenge (joined (values both))
-    ∷ frames.Outcome outcomes.Ok None
-    ∷ frames.Outcome outcomes.Auth None
-    ∷ sends_ok answer
-    ∷ sends_ok answer
-    ∷ []
+-- and the server
+abbrev pub accepted_with : Added → Accepted
+accepted_with added = record {
+  challenge = challenging (init_text added);
+  final = record { without = response_text added; proof = proof_at login (answer_to added) };
+}
 
--- and what it answers: it starts, refuses, answers, refuses, reports Auth, reports Ok, and refuses
-abbrev pub client_said : List ClientSays
-client_said =
-    Started (body_of (sends_init (joined (names (codes "user")))))
-    ∷ Refused (Scram IllegalClientState)
-    ∷ Answered (body_of (sends_response (joined (binds both)) (proof_at login answer)))
-    ∷ Refused (Scram ServerSignatureMismatch)
-    ∷ Reported outcomes.Auth None
-    ∷ Reported outcomes.Ok (Some (codes "v=" ++ base64_text (answer_at login answer).1))
-    ∷ Refused (Scram IllegalClientState)
-    ∷ []
+-- what both sides are given, and what they say: each reports Ok
+abbrev pub sides_with : Added → Sides
+sides_with added =
+    let answer = answer_to added in
+    let proof = proof_at login answer in
+    record {
+      login = login;
+      client_events = event_of client_bytes offers ∷ event_of client_bytes (frames.Challenge (challenge_text added))
+          ∷ event_of client_bytes (sends_ok answer) ∷ [];
+      client_replies = Started (body_of (sends_init (joined (names (codes "user")))))
+          ∷ Answered (body_of (sends_response (joined (binds (told added))) proof))
+          ∷ Reported outcomes.Ok (Some (verifier answer)) ∷ [];
+      provider = provider;
+      server_events = event_of server_bytes (sends_init (init_text added))
+          ∷ event_of server_bytes (sends_response (response_text added) proof) ∷ [];
+      server_replies = Challenged (body_of (frames.Challenge (joined (values both))))
+          ∷ Concluded outcomes.Ok (body_of (sends_ok answer)) ∷ [];
+    }
 
--- a client: refusals and an outcome other than Ok leave the answer open, and what it has believed it does not
--- believe again
-abbrev pub ClientsAnswer : Type 0
-ClientsAnswer = HaveBodies client_given
-    × HaveBodies (sends_init (joined (names (codes "user")))
-    ∷ sends_response (joined (binds both)) (proof_at login answer) ∷ [])
-    × ClientHistory login (arrive client_bytes client_given) client_said
+-- ---- nobody adds anything
+
+abbrev pub unaltered : Added
+unaltered = record { nonce = server_nonce; init = []; challenge = []; response = [] }
+
+-- the premises of the law of unaltered runs can be met
+abbrev pub PremisesCanBeMet : Type 0
+PremisesCanBeMet =
+    let sides = sides_with unaltered in
+    UnalteredRun sides × Histories sides × IsLogin login × HoldsLogin sides salt 4096 × Suffices sides
 
 -- ---- the shifted text
 
--- the nonce that the client believes to be that of both sides
-abbrev pub shifted_nonce : List ℕ
-shifted_nonce = client_nonce ++ codes "x"
+-- behind the client's first message stand the parts of a server-first message with another nonce, which the client is told;
+-- what the server says for itself comes to the client behind those, and the rest of it to the server before the proof
+abbrev pub shifted : Added
+shifted =
+    let nonce = client_nonce ++ codes "x" in
+    record {
+      nonce = codes "x";
+      init = values nonce;
+      challenge = values both ++ binds both;
+      response = binds nonce;
+    }
 
--- the client's first message as the server gets it, with the parts of a server-first message behind its own
-abbrev pub shifted_bare : List ℕ
-shifted_bare = joined (names (codes "user") ++ values shifted_nonce)
-
--- the server's first message as the client gets it, with the server's own and the beginning of a client-final
--- message behind it
-abbrev pub shifted_first : List ℕ
-shifted_first = joined (values shifted_nonce ++ (values both ++ binds both))
-
--- what stands before the proof in the client's last message as the server gets it: the beginning of the one
--- that it waits for, and the client's
-abbrev pub shifted_without : List ℕ
-shifted_without = joined (binds both ++ binds shifted_nonce)
-
--- what the client makes of its message
-abbrev pub shifted_answer : Answering
-shifted_answer = answering shifted_first shifted_nonce
-
--- what the server makes of it
-abbrev pub shifted_accepted : Accepted
-shifted_accepted = record {
-  challenge = challenging shifted_bare;
-  final =
-      record { without = shifted_without; proof = proof_at login shifted_answer };
-}
-
--- each side accepts what it reads, the proof that the server accepts is the client's, the verifier that the
--- client takes is the server's, and both have one AuthMessage; but the init has five parts, and the sides mean
--- two nonces
-pub record IsShifted (answer : Answering) (accepted : Accepted) : Type 0 where
-  pub client_first : ReadsClientFirst (codes "n,," ++ shifted_bare) (Ok accepted.challenge.client)
-  pub kept : record_at provider.records accepted.challenge.client.user ≡ Some accepted.challenge.stored
-  pub server_first : ReadsServerFirst (client_at login answer.nonce) shifted_first (Ok answer.first)
-  pub client_final : ReadsClientFinal (server_at provider accepted.challenge)
-      (joined (shifted_without ∷ (codes "p=" ++ base64_text (proof_at login answer)) ∷ [])) (Ok accepted.final)
-  pub proof : proof_at login answer ≡ accepted.final.proof
-  pub server_final : ReadsServerFinal (answer_at login answer).1 (final_message provider accepted) (Ok tt)
-  pub message : client_message login answer ≡ server_message accepted
-  pub five : HasParts accepted.challenge.client.bare 5
-  pub apart : answer.first.nonce ≢ full_nonce accepted.challenge
-
--- agreement on more than user name and client nonce cannot be had where the init has five parts
-abbrev pub ShiftedTextsPass : Type 0
-ShiftedTextsPass = IsShifted shifted_answer shifted_accepted
-
--- the same over two lists of frame bodies
-abbrev pub shifted_sides : Sides
-shifted_sides = record {
-  login = login;
-  client_events = arrive client_bytes (frames.Mechanisms (codes "SCRAM-SHA-256" ∷ []) ∷ frames.Challenge shifted_first
-      ∷ sends_ok shifted_answer ∷ []);
-  client_replies =
-      Started (body_of (sends_init (joined (names (codes "user")))))
-      ∷ Answered (body_of (sends_response (joined (binds shifted_nonce)) (proof_at login shifted_answer)))
-      ∷ Reported outcomes.Ok (Some (codes "v=" ++ base64_text (answer_at login shifted_answer).1))
-      ∷ [];
-  provider = provider;
-  server_events = arrive server_bytes (sends_init shifted_bare
-      ∷ sends_response shifted_without (proof_at login shifted_answer) ∷ []);
-  server_replies = Challenged (body_of (frames.Challenge (joined (values both))))
-      ∷ Concluded outcomes.Ok (body_of (sends_ok shifted_answer)) ∷ [];
-}
-
--- each frame has a body, the two lists are histories, the client takes the server's verifier and shows it the
--- proof that it accepts, and both are judged to agree on user name and client nonce, and on nothing more
-pub record ShiftsHistories (sides : Sides) (answer : Answering) (accepted : Accepted) : Type 0 where
-  pub client_given : HaveBodies (frames.Mechanisms (codes "SCRAM-SHA-256" ∷ []) ∷ frames.Challenge shifted_first
-      ∷ sends_ok shifted_answer ∷ [])
-  pub client_said : HaveBodies (sends_init (joined (names (codes "user")))
-      ∷ sends_response (joined (binds shifted_nonce)) (proof_at login shifted_answer) ∷ [])
-  pub server_given : HaveBodies (sends_init shifted_bare
-      ∷ sends_response shifted_without (proof_at login shifted_answer) ∷ [])
-  pub server_said : HaveBodies (frames.Challenge (joined (values both)) ∷ sends_ok shifted_answer ∷ [])
+-- the two lists are histories, the client takes the server's verifier and shows it the proof that it accepts, and both
+-- are judged to agree on user name and client nonce, and on nothing more: the init has five parts, and the sides mean two
+-- nonces
+pub record IsShifted (sides : Sides) (answer : Answering) (accepted : Accepted) : Type 0 where
   pub login : IsLogin sides.login
-  pub client_held : AreGiven sides.client_events
-  pub server_held : AreGiven sides.server_events
   pub record_held : IsRecord accepted.challenge.stored
   pub histories : Histories sides
   pub takes : Takes sides 2 1 accepted
@@ -281,7 +222,27 @@ pub record ShiftsHistories (sides : Sides) (answer : Answering) (accepted : Acce
   pub answers : OpenAnswer sides.login sides.client_events sides.client_replies 2 answer
   pub verifier : JudgesVerifier sides answer accepted (Agreed (codes "user") client_nonce None)
   pub proof : JudgesProof sides answer accepted (Agreed (codes "user") client_nonce None)
+  pub five : HasParts accepted.challenge.client.bare 5
+  pub apart : answer.first.nonce ≢ full_nonce accepted.challenge
 
--- that is so
-abbrev pub ShiftedHistoriesPass : Type 0
-ShiftedHistoriesPass = ShiftsHistories shifted_sides shifted_answer shifted_accepted
+-- agreement on more than user name and client nonce cannot be had where the init has five parts
+abbrev pub ShiftedTextsPass : Type 0
+ShiftedTextsPass = IsShifted (sides_with shifted) (answer_to shifted) (accepted_with shifted)
+
+-- ---- a login that is refused
+
+-- the server knows no user and says so, the client reports it, and whatever comes after is no body
+abbrev pub refused_sides : Sides
+refused_sides = record {
+  login = login;
+  client_events = event_of client_bytes offers ∷ event_of client_bytes sends_auth ∷ silent client_bytes ∷ [];
+  client_replies = Started (body_of (sends_init (joined (names (codes "user"))))) ∷ Reported outcomes.Auth None
+      ∷ Refused (Frame (fault_of [])) ∷ [];
+  provider = record { version = Sha256; records = [] };
+  server_events = event_of server_bytes (sends_init (joined (names (codes "user")))) ∷ silent server_bytes ∷ [];
+  server_replies = Concluded outcomes.Auth (body_of sends_auth) ∷ Failed (fault_of []) ∷ [];
+}
+
+-- it is an unaltered run too: no reply is premised to send a body
+abbrev pub RefusalsAreUnaltered : Type 0
+RefusalsAreUnaltered = UnalteredRun refused_sides × Histories refused_sides

@@ -4,19 +4,15 @@ use Rattle.std.specs.Str.{IsUtf8}
 use Rattle.fe2o3_sasl_wire.specs.declared.amqp_types.SaslCode.{SaslCode}
 use Rattle.fe2o3_sasl_wire.specs.declared.amqp_types.SaslCode.TheVariants as outcomes
 use Rattle.fe2o3_sasl_wire.specs.SaslFrames as frames
-use Rattle.fe2o3_scram.specs.Hmac.{digest_bytes}
-use Rattle.fe2o3_scram.specs.Keys.{client_key, server_key, stored_key}
-use Rattle.fe2o3_scram.specs.Pbkdf2Hi.{salted_of}
+use Rattle.fe2o3_scram.specs.ClientKeys.{ClientKeys, keys_of}
 use Rattle.fe2o3_scram.specs.ServerFirst.{ServerFirst, ReadsServerFirst}
 use Rattle.fe2o3_scram.specs.Texts.{Part, base64_text}
 use Rattle.fe2o3_sasl.specs.ClientHistory.{client_at, is_start, is_answer, ends_answer}
-use Rattle.fe2o3_sasl.specs.declared.audit.client_receipts.ClientKeys.{ClientKeys}
-use Rattle.fe2o3_sasl.specs.declared.audit.client_receipts.SaltedKeys.{SaltedKeys}
 use Rattle.fe2o3_sasl.specs.declared.audit.client_receipts.Words.{Words}
 use Rattle.fe2o3_sasl.specs.Events.{Given, Login, ClientSays, Started, Answered, Reported, Refused}
 use Rattle.fe2o3_sasl.specs.Positions.{IsLastOpen}
 use Rattle.fe2o3_sasl.specs.Runs.{login_of}
-use Rattle.fe2o3_sasl.specs.ServerHistory.{SpellsBody}
+use Rattle.fe2o3_sasl.specs.Bodies.{SpellsBody}
 use Rattle.fe2o3_sasl.specs.TwoSides.{proof_at}
 use Rattle.fe2o3_sasl.specs.private.Receipts.{ClientReceipt, OfAnswer, Covers, IsShownReceipt, IsTakenReceipt, RespondsAt, ReportsAt}
 
@@ -77,14 +73,10 @@ abbrev pub login_at : Words → Login
 login_at words = login_of words.version words.user.now words.password.now words.limit
 
 -- the keys that the login's password has with this salt and this count
-pub record AreKeys (login : Login) (salt : List ℕ) (count : ℕ) (keys : ClientKeys) : Type 0 where
-  pub client : digest_bytes keys.client_key
-      ≡ client_key login.version (salted_of login.version login.password salt count)
-  pub stored : digest_bytes keys.stored_key ≡ stored_key login.version (digest_bytes keys.client_key)
-  pub server : digest_bytes keys.server_key
-      ≡ server_key login.version (salted_of login.version login.password salt count)
+abbrev pub AreKeys : Login → List ℕ → ℕ → ClientKeys → Type 0
+AreKeys login salt count keys = keys ≡ keys_of login.version login.password salt count
 
 -- what is kept, if anything, are the keys of its salt and its count
-abbrev pub KeptKeys : Login → Option SaltedKeys → Type 0
+abbrev pub KeptKeys : Login → Option ClientKeys → Type 0
 KeptKeys login None = Unit {0}
-KeptKeys login (Some kept) = AreKeys login kept.salt.items kept.iterations kept.keys
+KeptKeys login (Some keys) = AreKeys login keys.salt keys.count keys

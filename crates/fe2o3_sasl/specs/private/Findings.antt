@@ -21,9 +21,9 @@ client_receipt receipt = record {
   place = receipt.place;
   shown = receipt.shown.items;
   message = receipt.message.items;
-  client_key = digest_bytes receipt.client_key;
+  client_key = receipt.keys.client_key;
   stored_key = digest_bytes receipt.stored_key;
-  server_key = digest_bytes receipt.server_key;
+  server_key = receipt.keys.server_key;
 }
 
 -- the receipt that a value of a server is
@@ -104,13 +104,13 @@ findings_of meets finding lefts rights = flat_map (λ left. flat_map (found meet
 -- ---- the same for both kinds, with the server's receipts in an index
 
 -- what a finding of this kind compares with what the client has
-abbrev pub key_of : FindingKind → ServerReceipt → List ℕ
-key_of OfVerifier server = server.verifier
-key_of OfProof server = server.proof
+abbrev pub compared_by : FindingKind → ServerReceipt → List ℕ
+compared_by OfVerifier server = server.verifier
+compared_by OfProof server = server.proof
 
 -- the receipts meet in it
 abbrev pub meets_on : FindingKind → ClientReceipt → ServerReceipt → Bool
-meets_on kind client server = same client.shown (key_of kind server)
+meets_on kind client server = same client.shown (compared_by kind server)
 
 -- the verdict
 abbrev pub verdict_on : FindingKind → ClientReceipt → ServerReceipt → Verdict

@@ -11,7 +11,8 @@ use Rattle.fe2o3_scram.specs.Texts.{base64_text}
 use Rattle.fe2o3_sasl.specs.declared.audit.server_receipts.challenges.Opened.{Opened}
 use Rattle.fe2o3_sasl.specs.Events.{Given, ServerSays, Challenged, Concluded, Failed}
 use Rattle.fe2o3_sasl.specs.Positions.{IsLastOpen}
-use Rattle.fe2o3_sasl.specs.ServerHistory.{SpellsBody, Challenging, is_challenge, is_ok}
+use Rattle.fe2o3_sasl.specs.Bodies.{SpellsBody}
+use Rattle.fe2o3_sasl.specs.ServerHistory.{Challenging, is_challenge, is_ok}
 use Rattle.fe2o3_sasl.specs.private.Receipts.{ServerReceipt, OfAccepted, Covers, IsOkReceipt, ConcludesAt}
 
 -- memory was wanting

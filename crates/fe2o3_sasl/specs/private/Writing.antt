@@ -6,12 +6,18 @@ use Rattle.fe2o3_sasl_wire.specs.declared.sasl_frames.error.Error.{Error}
 use Rattle.fe2o3_sasl_wire.specs.declared.sasl_frames.error.Error.TheVariants as faults
 use Rattle.fe2o3_sasl.specs.declared.sasl_profile.error.ProfileError.{ProfileError}
 use Rattle.fe2o3_sasl.specs.declared.sasl_profile.error.ProfileError.TheVariants as profile_faults
-use Rattle.fe2o3_sasl.specs.Profiles.{Profile, ScramProfile}
+use Rattle.fe2o3_sasl.specs.Events.{ClientFault}
+use Rattle.fe2o3_sasl.specs.Profiles.{Profile, ScramProfile, ProfileAnswers}
 
 -- whether a profile answers challenges
 abbrev pub is_scram : Profile → Bool
 is_scram (ScramProfile client) = true
 is_scram profile = false
+
+-- what a profile answers to a frame, whatever the hostname and the nonce are
+abbrev pub AnswersAlways : Profile → SaslFrame → Result SaslFrame ClientFault → Profile → Type 0
+AnswersAlways profile frame answer next =
+    (hostname : Option (List ℕ)) (nonce : List ℕ) → ProfileAnswers profile hostname nonce frame answer next
 
 -- an init or a response
 abbrev pub IsRequest : SaslFrame → Type 0

@@ -3,7 +3,7 @@
 
 ghost use Rattle.std.specs.Prelude.{◌≡◌, ◌++◌, ◌∷◌, [], ℕ, List, if◌then◌else◌, map, filter, IfOk, OnOk};
 ghost use Rattle.fe2o3_sasl.specs.Audit.{finding_of, kind_of};
-ghost use Rattle.fe2o3_sasl.specs.private.Findings.{client_receipt, server_receipt, same, is_taken, is_shown, verifier_finding, proof_finding, findings_of, key_of, finding_on, meets_on, row_at};
+ghost use Rattle.fe2o3_sasl.specs.private.Findings.{client_receipt, server_receipt, same, is_taken, is_shown, verifier_finding, proof_finding, findings_of, compared_by, finding_on, meets_on, row_at};
 
 mod verdicts;
 
@@ -19,8 +19,8 @@ use std::collections::BTreeMap;
 type Index<'a> = BTreeMap<&'a [u8], Vec<&'a ServerReceipt>>;
 
 /// The bytes of a server's receipt that a finding of this kind compares.
-fn key(kind: FindingKind, server: &ServerReceipt) -> &[u8]
-    ensures { result.now ≡ key_of (kind_of kind) (server_receipt server.now) }
+fn compared_bytes(kind: FindingKind, server: &ServerReceipt) -> &[u8]
+    ensures { result.now ≡ compared_by (kind_of kind) (server_receipt server.now) }
 {
     match kind {
         FindingKind::Verifier => &server.verifier,
@@ -49,11 +49,11 @@ fn index_of<'a>(
     oks: &'a [ServerReceipt],
 ) -> Result<Index<'a>, OutOfMemory>
     ensures { IfOk result (λ index. (bytes : List ℕ) → row_at index bytes
-        ≡ filter (λ server. same bytes (key_of (kind_of kind) server)) (map server_receipt oks.now)) }
+        ≡ filter (λ server. same bytes (compared_by (kind_of kind) server)) (map server_receipt oks.now)) }
 {
     let mut index = BTreeMap::new(alloc);
     for server in oks {
-        put(&mut index, key(kind, server), server)?;
+        put(&mut index, compared_bytes(kind, server), server)?;
     }
     Ok(index)
 }

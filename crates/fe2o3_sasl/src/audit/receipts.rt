@@ -1,6 +1,7 @@
 //! What is kept of the positions of two runs.
 
 use crate::audit::Parameters;
+use fe2o3_scram::client_keys::ScramClientKeys;
 use fe2o3_scram::hmac::DigestBytes;
 
 /// Of a position of the client: the proof that it showed there or the verifier that it took, and
@@ -10,9 +11,8 @@ pub(crate) struct ClientReceipt {
     pub place: usize,
     pub shown: Vec<u8>,
     pub message: Vec<u8>,
-    pub client_key: DigestBytes,
+    pub keys: ScramClientKeys,
     pub stored_key: DigestBytes,
-    pub server_key: DigestBytes,
 }
 
 /// Of a position where the server answered Ok: the verifier that it gave, the proof that it

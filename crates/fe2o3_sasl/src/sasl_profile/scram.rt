@@ -1,159 +1,78 @@
-//! The SCRAM profiles: a client for each version (RFC 5802, section 5).
+//! The SCRAM profiles: one type over the versions (RFC 5802, section 5), and a name for each of the three.
 
 ghost use Rattle.std.specs.Prelude.{◌≡◌, ◌≢◌, MatchOption, string_bytes};
+ghost use Rattle.fe2o3_scram.specs.declared.hmac.ScramVersion.{ScramVersion};
 ghost use Rattle.fe2o3_scram.specs.declared.hmac.ScramVersion.TheVariants.{Sha1, Sha256, Sha512};
 ghost use Rattle.fe2o3_scram.specs.ServerFirst.{no_limit};
 ghost use Rattle.fe2o3_sasl.specs.Profiles.{ScramProfile, scram_profile, keyed_profile, with_limit};
+ghost use Rattle.fe2o3_sasl.specs.Runs.{login_of};
 
 use crate::sasl_profile::scram_side::ScramSide;
 use fe2o3_scram::client_keys::ScramClientKeys;
 use fe2o3_scram::hmac::ScramVersion;
 use std::alloc::AllocError;
-use std::marker::Model;
+use std::fmt;
+use std::marker::{Model, PhantomData};
 
 /// SCRAM-SHA-1 (RFC 5802). New applications should take SHA-256.
-#[derive(Debug, Drop)]
-pub struct SaslScramSha1 {
-    pub(super) client: ScramSide,
-}
-
-impl Model for SaslScramSha1 {
-    ghost use Rattle.fe2o3_sasl.specs.Profiles.{EitherSide};
-
-    ghost Value = { EitherSide };
-
-    ghost view = { λ scram. scram.client };
-}
-
-impl SaslScramSha1 {
-    /// A client of this user with this password, which accepts every iteration count from 1 on.
-    pub fn new(username: String, password: String) -> Self
-        ensures { ScramProfile result ≡ scram_profile (record {
-          version = Sha1;
-          user = string_bytes username;
-          password =
-              string_bytes password;
-          limit = no_limit;
-        }) }
-    {
-        Self {
-            client: ScramSide::by_password(username, password, ScramVersion::Sha1),
-        }
-    }
-
-    /// A client of this user that keeps these keys in place of the password (RFC 5802, section 3), and
-    /// accepts every iteration count from 1 on. `None` where the keys are of another version.
-    ///
-    /// It answers a challenge as the client with the password does whose keys they are, by two HMAC
-    /// values in place of those of the iteration count. `OtherKeys` refuses a challenge that names another
-    /// salt or another count than theirs, and then the password is needed.
-    pub fn with_keys(username: String, keys: ScramClientKeys) -> Option<Self>
-        ensures { MatchOption result (keys.version ≢ Sha1)
-            (λ scram. (keys.version ≡ Sha1) × (ScramProfile scram ≡ keyed_profile (string_bytes username) keys no_limit)) }
-    {
-        if keys.scram_version() != ScramVersion::Sha1 {
-            return None;
-        }
-        Some(Self {
-            client: ScramSide::by_keys(username, keys),
-        })
-    }
-
-    /// The same client, which refuses an iteration count above the limit.
-    pub fn with_iteration_limit(self, limit: u32) -> Self
-        ensures { result ≡ with_limit self limit }
-    {
-        Self {
-            client: self.client.with_iteration_limit(limit),
-        }
-    }
-}
-
-impl Clone for SaslScramSha1 {
-    ghost is_clone = { λ scram copy. copy ≡ scram };
-
-    fn clone(&self) -> Result<Self, AllocError> {
-        Ok(Self {
-            client: self.client.clone()?,
-        })
-    }
-}
+pub type SaslScramSha1 = SaslScram<OfSha1>;
 
 /// SCRAM-SHA-256 (RFC 7677).
-#[derive(Debug, Drop)]
-pub struct SaslScramSha256 {
-    pub(super) client: ScramSide,
-}
-
-impl Model for SaslScramSha256 {
-    ghost use Rattle.fe2o3_sasl.specs.Profiles.{EitherSide};
-
-    ghost Value = { EitherSide };
-
-    ghost view = { λ scram. scram.client };
-}
-
-impl SaslScramSha256 {
-    /// A client of this user with this password, which accepts every iteration count from 1 on.
-    pub fn new(username: String, password: String) -> Self
-        ensures { ScramProfile result ≡ scram_profile (record {
-          version = Sha256;
-          user = string_bytes username;
-          password =
-              string_bytes password;
-          limit = no_limit;
-        }) }
-    {
-        Self {
-            client: ScramSide::by_password(username, password, ScramVersion::Sha256),
-        }
-    }
-
-    /// A client of this user that keeps these keys in place of the password (RFC 5802, section 3), and
-    /// accepts every iteration count from 1 on. `None` where the keys are of another version.
-    ///
-    /// It answers a challenge as the client with the password does whose keys they are, by two HMAC
-    /// values in place of those of the iteration count. `OtherKeys` refuses a challenge that names another
-    /// salt or another count than theirs, and then the password is needed.
-    pub fn with_keys(username: String, keys: ScramClientKeys) -> Option<Self>
-        ensures { MatchOption result (keys.version ≢ Sha256)
-            (λ scram. (keys.version ≡ Sha256) × (ScramProfile scram ≡ keyed_profile (string_bytes username) keys no_limit)) }
-    {
-        if keys.scram_version() != ScramVersion::Sha256 {
-            return None;
-        }
-        Some(Self {
-            client: ScramSide::by_keys(username, keys),
-        })
-    }
-
-    /// The same client, which refuses an iteration count above the limit.
-    pub fn with_iteration_limit(self, limit: u32) -> Self
-        ensures { result ≡ with_limit self limit }
-    {
-        Self {
-            client: self.client.with_iteration_limit(limit),
-        }
-    }
-}
-
-impl Clone for SaslScramSha256 {
-    ghost is_clone = { λ scram copy. copy ≡ scram };
-
-    fn clone(&self) -> Result<Self, AllocError> {
-        Ok(Self {
-            client: self.client.clone()?,
-        })
-    }
-}
+pub type SaslScramSha256 = SaslScram<OfSha256>;
 
 /// SCRAM-SHA-512.
-#[derive(Debug, Drop)]
-pub struct SaslScramSha512 {
-    pub(super) client: ScramSide,
+pub type SaslScramSha512 = SaslScram<OfSha512>;
+
+/// A version of SCRAM as a type. It has no public path, so there are these three and no others.
+pub trait OfVersion {
+    ghost version: { ScramVersion };
+
+    /// The version.
+    fn version() -> ScramVersion
+        ensures { result ≡ version };
 }
 
-impl Model for SaslScramSha512 {
+/// SHA-1.
+pub struct OfSha1 {}
+
+/// SHA-256.
+pub struct OfSha256 {}
+
+/// SHA-512.
+pub struct OfSha512 {}
+
+impl OfVersion for OfSha1 {
+    ghost version = { Sha1 };
+
+    fn version() -> ScramVersion {
+        ScramVersion::Sha1
+    }
+}
+
+impl OfVersion for OfSha256 {
+    ghost version = { Sha256 };
+
+    fn version() -> ScramVersion {
+        ScramVersion::Sha256
+    }
+}
+
+impl OfVersion for OfSha512 {
+    ghost version = { Sha512 };
+
+    fn version() -> ScramVersion {
+        ScramVersion::Sha512
+    }
+}
+
+/// A client of one user, by SCRAM of the version that `V` names.
+#[derive(Drop)]
+pub struct SaslScram<V: OfVersion> {
+    pub(super) client: ScramSide,
+    pub(super) version: PhantomData<V>,
+}
+
+impl<V: OfVersion> Model for SaslScram<V> {
     ghost use Rattle.fe2o3_sasl.specs.Profiles.{EitherSide};
 
     ghost Value = { EitherSide };
@@ -161,20 +80,23 @@ impl Model for SaslScramSha512 {
     ghost view = { λ scram. scram.client };
 }
 
-impl SaslScramSha512 {
-    /// A client of this user with this password, which accepts every iteration count from 1 on.
-    pub fn new(username: String, password: String) -> Self
-        ensures { ScramProfile result ≡ scram_profile (record {
-          version = Sha512;
-          user = string_bytes username;
-          password =
-              string_bytes password;
-          limit = no_limit;
-        }) }
+impl<V: OfVersion> SaslScram<V> {
+    /// The profile of this client.
+    pub(super) fn of(client: ScramSide) -> Self
+        ensures { result ≡ client }
     {
         Self {
-            client: ScramSide::by_password(username, password, ScramVersion::Sha512),
+            client,
+            version: PhantomData,
         }
+    }
+
+    /// A client of this user with this password, which accepts every iteration count from 1 on.
+    pub fn new(username: String, password: String) -> Self
+        ensures { ScramProfile result ≡ scram_profile (login_of V.version (string_bytes username)
+            (string_bytes password) no_limit) }
+    {
+        Self::of(ScramSide::by_password(username, password, V::version()))
     }
 
     /// A client of this user that keeps these keys in place of the password (RFC 5802, section 3), and
@@ -184,33 +106,40 @@ impl SaslScramSha512 {
     /// values in place of those of the iteration count. `OtherKeys` refuses a challenge that names another
     /// salt or another count than theirs, and then the password is needed.
     pub fn with_keys(username: String, keys: ScramClientKeys) -> Option<Self>
-        ensures { MatchOption result (keys.version ≢ Sha512)
-            (λ scram. (keys.version ≡ Sha512) × (ScramProfile scram ≡ keyed_profile (string_bytes username) keys no_limit)) }
+        ensures { MatchOption result (keys.version ≢ V.version)
+            (λ scram. (keys.version ≡ V.version)
+            × (ScramProfile scram ≡ keyed_profile (string_bytes username) keys no_limit)) }
     {
-        if keys.scram_version() != ScramVersion::Sha512 {
+        if keys.scram_version() != V::version() {
             return None;
         }
-        Some(Self {
-            client: ScramSide::by_keys(username, keys),
-        })
+        Some(Self::of(ScramSide::by_keys(username, keys)))
     }
 
     /// The same client, which refuses an iteration count above the limit.
     pub fn with_iteration_limit(self, limit: u32) -> Self
         ensures { result ≡ with_limit self limit }
     {
-        Self {
-            client: self.client.with_iteration_limit(limit),
-        }
+        Self::of(self.client.with_iteration_limit(limit))
     }
 }
 
-impl Clone for SaslScramSha512 {
+impl<V: OfVersion> Clone for SaslScram<V> {
     ghost is_clone = { λ scram copy. copy ≡ scram };
 
     fn clone(&self) -> Result<Self, AllocError> {
-        Ok(Self {
-            client: self.client.clone()?,
-        })
+        Ok(Self::of(self.client.clone()?))
+    }
+}
+
+impl<V: OfVersion> fmt::Debug for SaslScram<V> {
+    /// The name of the version's profile, and the client, which hides its secrets.
+    fn fmt<W: fmt::Write>(&self, f: &mut fmt::Formatter<W>) -> fmt::Result {
+        let name = match V::version() {
+            ScramVersion::Sha1 => "SaslScramSha1",
+            ScramVersion::Sha256 => "SaslScramSha256",
+            ScramVersion::Sha512 => "SaslScramSha512",
+        };
+        f.debug_struct(name).field("client", &self.client).finish()
     }
 }

@@ -8,6 +8,8 @@ ghost use Rattle.fe2o3_scram.specs.KeyedScramClient.{with_keys};
 ghost use Rattle.fe2o3_scram.specs.ServerFirst.{no_limit};
 ghost use Rattle.fe2o3_sasl.specs.Profiles.{ScramProfile, ByPassword, ByKeys, ProfileAnswers, scram_profile, keyed_profile, profile_name, with_limit, initial_response, after_init};
 ghost use Rattle.fe2o3_sasl.specs.ProfileFaults.{answered};
+ghost use Rattle.fe2o3_sasl.specs.Runs.{login_of};
+ghost use Rattle.fe2o3_sasl.specs.private.Writing.{AnswersAlways};
 
 use crate::OutOfMemory;
 use crate::sasl_profile::error::ProfileError;
@@ -39,13 +41,8 @@ impl Model for ScramSide {
 impl ScramSide {
     /// A client of this user with this password, which accepts every iteration count from 1 on.
     pub(super) fn by_password(username: String, password: String, version: ScramVersion) -> Self
-        ensures { ScramProfile result ≡ scram_profile (record {
-          version = version;
-          user = string_bytes username;
-          password =
-              string_bytes password;
-          limit = no_limit;
-        }) }
+        ensures { ScramProfile result ≡ scram_profile (login_of version (string_bytes username)
+            (string_bytes password) no_limit) }
     {
         Self {
             client: ScramClient::new(username, password, version),
@@ -90,7 +87,8 @@ impl ScramSide {
         alloc: Global,
         nonce: &[u8; 32],
     ) -> Result<Binary, OutOfMemory>
-        ensures ok { IfOk result (λ message. Some (binary_bytes message) ≡ initial_response (ScramProfile self.old) nonce.now) }
+        ensures ok { IfOk result (λ message.
+            Some (binary_bytes message) ≡ initial_response (ScramProfile self.old) nonce.now) }
         ensures started { OnOk result (ScramProfile self.new ≡ after_init (ScramProfile self.old) nonce.now) }
         ensures err { OnErr result (self.new ≡ self.old) }
     {
@@ -107,8 +105,8 @@ impl ScramSide {
         alloc: Global,
         challenge: &[u8],
     ) -> Result<SaslResponse, ProfileError>
-        ensures answer { (hostname : Option (List ℕ)) (nonce : List ℕ) → ProfileAnswers (ScramProfile self.old) hostname nonce
-            (Challenge challenge.now) (answered response_frame result) (ScramProfile self.new) }
+        ensures answer { AnswersAlways (ScramProfile self.old) (Challenge challenge.now)
+            (answered response_frame result) (ScramProfile self.new) }
         ensures err { OnErr result (self.new ≡ self.old) }
     {
         match str::from_utf8(challenge) {
@@ -127,8 +125,9 @@ impl ScramSide {
         alloc: Global,
         outcome: &SaslOutcome,
     ) -> Result<(), ProfileError>
-        ensures answer { (hostname : Option (List ℕ)) (nonce : List ℕ) → ProfileAnswers (ScramProfile self.old) hostname nonce
-            (outcome_frame outcome.now) (answered (λ _. outcome_frame outcome.now) result) (ScramProfile self.new) }
+        ensures answer { (hostname : Option (List ℕ)) (nonce : List ℕ) → ProfileAnswers (ScramProfile self.old) hostname
+            nonce (outcome_frame outcome.now) (answered (λ _. outcome_frame outcome.now) result)
+            (ScramProfile self.new) }
         ensures err { OnErr result (self.new ≡ self.old) }
     {
         if outcome.code != SaslCode::Ok {
@@ -165,9 +164,8 @@ fn answer_by_password(
     alloc: Global,
     server_first: &str,
 ) -> Result<SaslResponse, ProfileError>
-    ensures answer { (hostname : Option (List ℕ)) (nonce : List ℕ) → IsUtf8 server_first.now
-        → ProfileAnswers (ScramProfile (ByPassword client.old)) hostname nonce (Challenge server_first.now)
-        (answered response_frame result) (ScramProfile (ByPassword client.new)) }
+    ensures answer { IsUtf8 server_first.now → AnswersAlways (ScramProfile (ByPassword client.old))
+        (Challenge server_first.now) (answered response_frame result) (ScramProfile (ByPassword client.new)) }
     ensures err { OnErr result (client.new ≡ client.old) }
 {
     match client.compute_client_final_message(alloc, server_first) {
@@ -185,9 +183,9 @@ fn answer_by_keys(
     keys: &ScramClientKeys,
     server_first: &str,
 ) -> Result<SaslResponse, ProfileError>
-    ensures answer { (hostname : Option (List ℕ)) (nonce : List ℕ) → IsUtf8 server_first.now
-        → ProfileAnswers (ScramProfile (ByKeys (with_keys client.old keys.now))) hostname nonce (Challenge server_first.now)
-        (answered response_frame result) (ScramProfile (ByKeys (with_keys client.new keys.now))) }
+    ensures answer { IsUtf8 server_first.now → AnswersAlways (ScramProfile (ByKeys (with_keys client.old keys.now)))
+        (Challenge server_first.now) (answered response_frame result)
+        (ScramProfile (ByKeys (with_keys client.new keys.now))) }
     ensures err { OnErr result (client.new ≡ client.old) }
 {
     let mut meter = Meter::new();

@@ -8,13 +8,14 @@ use Rattle.fe2o3_sasl_wire.specs.AmqpTypes.{DecodesCode}
 use Rattle.fe2o3_sasl_wire.specs.private.Reading.{sasl_code}
 
 -- a byte that is handed back stands for no code
-pub no_code : (n : ℕ) (r : Result SaslCode ℕ) → DecodesCode n r → result_ok r ≡ None → sasl_code n ≡ None
-no_code n (Ok code) gives none = absurd cc
-no_code n (Err back) gives none =
+pub no_code : (byte : ℕ) (answer : Result SaslCode ℕ) → DecodesCode byte answer → result_ok answer ≡ None
+    → sasl_code byte ≡ None
+no_code byte (Ok code) gives none = absurd cc
+no_code byte (Err back) gives none =
     rw (
-      ne_eqb n 0 (λ is. gives.1 sasl_codes.Ok (sym is)),
-      ne_eqb n 1 (λ is. gives.1 sasl_codes.Auth (sym is)),
-      ne_eqb n 2 (λ is. gives.1 sasl_codes.Sys (sym is)),
-      ne_eqb n 3 (λ is. gives.1 sasl_codes.SysPerm (sym is)),
-      ne_eqb n 4 (λ is. gives.1 sasl_codes.SysTemp (sym is)),
+      ne_eqb byte 0 (λ is. gives.1 sasl_codes.Ok (sym is)),
+      ne_eqb byte 1 (λ is. gives.1 sasl_codes.Auth (sym is)),
+      ne_eqb byte 2 (λ is. gives.1 sasl_codes.Sys (sym is)),
+      ne_eqb byte 3 (λ is. gives.1 sasl_codes.SysPerm (sym is)),
+      ne_eqb byte 4 (λ is. gives.1 sasl_codes.SysTemp (sym is)),
     ) refl

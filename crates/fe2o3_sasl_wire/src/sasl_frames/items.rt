@@ -59,19 +59,48 @@ pub(crate) fn list_at(bytes: &[u8]) -> Option<(Items<'_>, &[u8])>
 }
 
 impl<'a> Items<'a> {
+    /// The value that was read from the bytes. Moves past it, where an item is left.
+    #[inline(always)]
+    #[tactic(auto, unfolding(crate::specs::private::Reading::required))]
+    fn take<T: Drop>(&mut self, read: Option<(T, &'a [u8])>) -> Option<T>
+        ensures { option_map (λ x. (x, self.new)) result
+            ≡ required (λ _. option_map (λ x. (x.0, x.1.now)) read.entry) self.old }
+    {
+        if self.count == 0 {
+            return None;
+        }
+        let (value, rest) = read?;
+        self.count -= 1;
+        self.bytes = rest;
+        Some(value)
+    }
+
+    /// The value that was read from the bytes, or none where they begin with a null or no item is left.
+    /// Moves past what was there.
+    #[inline(always)]
+    #[tactic(auto, unfolding(crate::specs::private::Reading::required, crate::specs::private::Reading::optional_at))]
+    fn take_optional<T: Drop>(&mut self, read: Option<(T, &'a [u8])>) -> Option<Option<T>>
+        ensures { option_map (λ x. (x, self.new)) result
+            ≡ optional_at (λ _. option_map (λ x. (x.0, x.1.now)) read.entry) self.old }
+    {
+        if self.count == 0 {
+            return Some(None);
+        }
+        if let Some(rest) = null_at(self.bytes) {
+            return self.take(Some((None, rest)));
+        }
+        let value = self.take(read)?;
+        Some(Some(value))
+    }
+
     /// The next item, which has to be a binary.
     #[inline(always)]
     #[tactic(auto, unfolding(crate::specs::private::Reading::required))]
     pub(crate) fn binary(&mut self) -> Option<&'a [u8]>
         ensures { option_map (λ x. (x.now, self.new)) result ≡ required binary_at self.old }
     {
-        if self.count == 0 {
-            return None;
-        }
-        let (value, rest) = binary_at(self.bytes)?;
-        self.count -= 1;
-        self.bytes = rest;
-        Some(value)
+        let read = binary_at(self.bytes);
+        self.take(read)
     }
 
     /// The next item, which has to be an outcome's code.
@@ -80,13 +109,8 @@ impl<'a> Items<'a> {
     pub(crate) fn code(&mut self) -> Option<SaslCode>
         ensures { option_map (λ x. (x, self.new)) result ≡ required code_at self.old }
     {
-        if self.count == 0 {
-            return None;
-        }
-        let (value, rest) = code_at(self.bytes)?;
-        self.count -= 1;
-        self.bytes = rest;
-        Some(value)
+        let read = code_at(self.bytes);
+        self.take(read)
     }
 
     /// The next item, which has to be a symbol.
@@ -95,13 +119,8 @@ impl<'a> Items<'a> {
     pub(crate) fn symbol(&mut self) -> Option<&'a str>
         ensures { option_map (λ x. (x.now, self.new)) result ≡ required symbol_at self.old }
     {
-        if self.count == 0 {
-            return None;
-        }
-        let (value, rest) = symbol_at(self.bytes)?;
-        self.count -= 1;
-        self.bytes = rest;
-        Some(value)
+        let read = symbol_at(self.bytes);
+        self.take(read)
     }
 
     /// The next item, which has to be an array of symbols or one symbol.
@@ -110,13 +129,8 @@ impl<'a> Items<'a> {
     pub(crate) fn symbols(&mut self) -> Option<SymbolsView<'a>>
         ensures { option_map (λ x. (x, self.new)) result ≡ required symbols_at self.old }
     {
-        if self.count == 0 {
-            return None;
-        }
-        let (value, rest) = symbols_at(self.bytes)?;
-        self.count -= 1;
-        self.bytes = rest;
-        Some(value)
+        let read = symbols_at(self.bytes);
+        self.take(read)
     }
 
     /// The next item, which may be a binary, null or absent.
@@ -126,18 +140,8 @@ impl<'a> Items<'a> {
         ensures { option_map (λ x. (option_map (λ y. y.now) x, self.new)) result
             ≡ optional_at binary_at self.old }
     {
-        if self.count == 0 {
-            return Some(None);
-        }
-        if let Some(rest) = null_at(self.bytes) {
-            self.count -= 1;
-            self.bytes = rest;
-            return Some(None);
-        }
-        let (value, rest) = binary_at(self.bytes)?;
-        self.count -= 1;
-        self.bytes = rest;
-        Some(Some(value))
+        let read = binary_at(self.bytes);
+        self.take_optional(read)
     }
 
     /// The next item, which may be a string, null or absent.
@@ -147,18 +151,8 @@ impl<'a> Items<'a> {
         ensures { option_map (λ x. (option_map (λ y. y.now) x, self.new)) result
             ≡ optional_at string_at self.old }
     {
-        if self.count == 0 {
-            return Some(None);
-        }
-        if let Some(rest) = null_at(self.bytes) {
-            self.count -= 1;
-            self.bytes = rest;
-            return Some(None);
-        }
-        let (value, rest) = string_at(self.bytes)?;
-        self.count -= 1;
-        self.bytes = rest;
-        Some(Some(value))
+        let read = string_at(self.bytes);
+        self.take_optional(read)
     }
 
     /// That no item and no byte is left.

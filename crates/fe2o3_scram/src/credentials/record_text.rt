@@ -9,11 +9,11 @@ ghost use Rattle.fe2o3_scram.specs.Texts.{IsBase64, IsPlainCount};
 ghost use Rattle.fe2o3_scram.specs.declared.credentials.record_text.RecordTextError.TheVariants.{OutOfMemory as OutOfMemoryError};
 
 use crate::OutOfMemory;
-use crate::credentials::StoredPassword;
 use crate::credentials::scram_record::ScramRecord;
 use crate::hmac::ScramVersion;
+use crate::provider::StoredPassword;
 use crate::texts::{base64_len, bytes_of, cut, plain_count_of, push_base64};
-use std::alloc::{AllocError, AllocFailed, Global};
+use std::alloc::{AllocError, Global};
 use thiserror::Error;
 
 /// What the separators and the longest count take.
@@ -51,14 +51,6 @@ impl From<AllocError> for RecordTextError {
     ghost from_gives = { λ _ error. error ≡ OutOfMemoryError };
 
     fn from(_error: AllocError) -> Self {
-        RecordTextError::OutOfMemory
-    }
-}
-
-impl<T: Drop> From<AllocFailed<T>> for RecordTextError {
-    ghost from_gives = { λ _ error. error ≡ OutOfMemoryError };
-
-    fn from(_error: AllocFailed<T>) -> Self {
         RecordTextError::OutOfMemory
     }
 }

@@ -7,8 +7,8 @@ ghost use Rattle.fe2o3_scram.specs.Credentials.{kept, record_at};
 ghost use Rattle.fe2o3_scram.specs.declared.credentials.scram_credentials.AddRecordError.TheVariants.{OutOfMemory};
 
 use crate::credentials::scram_record::ScramRecord;
-use crate::credentials::{ScramCredentialProvider, StoredPassword};
 use crate::hmac::ScramVersion;
+use crate::provider::{ScramCredentialProvider, StoredPassword};
 use std::alloc::{AllocError, AllocFailed, Global};
 use std::fmt;
 use std::marker::Model;

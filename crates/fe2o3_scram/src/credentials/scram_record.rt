@@ -3,47 +3,14 @@
 ghost use Rattle.std.specs.Prelude.{◌≡◌, ◌≤◌, ◌^◌};
 ghost use Rattle.fe2o3_scram.specs.Credentials.{MakesRecord, MakingCosts, VersionedRecord, kept, making_tests};
 ghost use Rattle.fe2o3_scram.specs.Readings.{Gives, NoneHolds};
-ghost use Rattle.fe2o3_scram.specs.declared.credentials.scram_record.RecordError.TheVariants.{OutOfMemory};
 
-use crate::credentials::StoredPassword;
 use crate::hmac::{Meter, ScramVersion};
+pub use crate::keys::RecordError;
+use crate::provider::StoredPassword;
 use crate::saslprep_ascii::saslprep;
-use std::alloc::{AllocError, AllocFailed, Global};
+use std::alloc::{AllocError, Global};
 use std::fmt;
 use std::marker::Model;
-use thiserror::Error;
-
-/// Why no record is made of a password.
-#[derive(Debug, Clone, Copy, PartialEq, Eq, Error)]
-pub enum RecordError {
-    /// The password is not printable ASCII.
-    #[error("Error normalizing password")]
-    NormalizeError,
-
-    /// The iteration count is 0.
-    #[error("Iteration count is zero")]
-    ZeroIterations,
-
-    /// A request for memory was refused.
-    #[error("Out of memory")]
-    OutOfMemory,
-}
-
-impl From<AllocError> for RecordError {
-    ghost from_gives = { λ _ error. error ≡ OutOfMemory };
-
-    fn from(_error: AllocError) -> Self {
-        RecordError::OutOfMemory
-    }
-}
-
-impl<T: Drop> From<AllocFailed<T>> for RecordError {
-    ghost from_gives = { λ _ error. error ≡ OutOfMemory };
-
-    fn from(_error: AllocFailed<T>) -> Self {
-        RecordError::OutOfMemory
-    }
-}
 
 /// What a server keeps of one password, and the version that it is for. The password itself is not
 /// in it.

@@ -5,8 +5,8 @@ ghost use Rattle.std.specs.String.{string_bytes};
 ghost use Rattle.fe2o3_scram.specs.Credentials.{Record};
 
 use crate::credentials::scram_record::ScramRecord;
-use crate::credentials::{ScramCredentialProvider, StoredPassword};
 use crate::hmac::ScramVersion;
+use crate::provider::{ScramCredentialProvider, StoredPassword};
 use std::alloc::AllocError;
 use std::fmt;
 use std::marker::Model;

@@ -8,8 +8,13 @@ ghost use Rattle.sha1.specs.Sha1.{Holds};
 ghost use Rattle.sha2.specs.Hashers.{Holds256, Holds512};
 
 use crate::hmac::ScramVersion;
-use crate::scram_messages::error::XorLengthMismatch;
 use sha2::{Digest, Sha256, Sha512};
+use thiserror::Error;
+
+/// The two texts of an exclusive or have different lengths.
+#[derive(Debug, Clone, Copy, PartialEq, Eq, Error)]
+#[error("XorLengthMismatch")]
+pub struct XorLengthMismatch;
 
 /// A digest or an HMAC value of one of the three hashes, which may be a secret: it has no `Debug`,
 /// and is compared by its bytes, and not in constant time.

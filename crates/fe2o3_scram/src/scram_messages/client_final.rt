@@ -1,14 +1,16 @@
 //! The client-final message, which answers a server-first message.
 
 ghost use Rattle.std.specs.Prelude.{◌≡◌, ◌≤◌, ◌+◌, ◌^◌, IfOk, IfErr, OnOk, OnErr, string_bytes};
-ghost use Rattle.fe2o3_scram.specs.ClientFinal.{AnswerCosts, answer_values, without_proof, client_final_of, answer_of, AnswersServerFirst};
+ghost use Rattle.fe2o3_scram.specs.ClientFinal.{answer_values, without_proof, client_final_of, answer_of};
+ghost use Rattle.fe2o3_scram.specs.ServerFirstAnswers.{AnswerCosts, AnswersServerFirst};
 ghost use Rattle.fe2o3_scram.specs.ClientKeys.{AnswersAndKeeps, keys_of, kept_values};
+ghost use Rattle.fe2o3_scram.specs.Keys.{auth_message};
 ghost use Rattle.fe2o3_scram.specs.Readings.{Gives};
 ghost use Rattle.fe2o3_scram.specs.ServerFirst.{ReachesSalt, client_of, no_limit, server_first_values};
 
 use crate::OutOfMemory;
-use crate::client_keys::ScramClientKeys;
 use crate::hmac::{Meter, ScramVersion};
+use crate::keys::{ScramClientKeys, auth_message};
 use crate::scram_messages::attributes::{CHANNEL_BINDING_KEY, GS2_HEADER, NONCE_KEY, PROOF_KEY};
 use crate::scram_messages::error::ScramErrorKind;
 use crate::scram_messages::server_first_reading::ServerFirst;
@@ -191,6 +193,31 @@ impl ScramVersion {
             meter,
         )?;
         Ok((answer, keys))
+    }
+}
+
+impl ServerFirst<'_> {
+    /// The AuthMessage of an answer to this message (RFC 5802, section 3), for whoever makes its proof or tests
+    /// it anew. `client_first_message_bare` and `server_first_message` are the texts as they were sent, and are not
+    /// read; the client-final message is the one that binds no channel and names the nonce of both sides.
+    ///
+    /// `OutOfMemory` is the only refusal.
+    pub fn auth_message(
+        &self,
+        alloc: Global,
+        client_first_message_bare: &[u8],
+        server_first_message: &[u8],
+    ) -> Result<Vec<u8>, OutOfMemory>
+        ensures { IfOk result (λ text. text.items ≡ auth_message client_first_message_bare.now
+            server_first_message.now (without_proof self.now.nonce.now)) }
+    {
+        let without_proof = without_proof(alloc, self.nonce, 0)?;
+        auth_message(
+            alloc,
+            client_first_message_bare,
+            server_first_message,
+            without_proof.as_bytes(),
+        )
     }
 }
 

@@ -1,18 +1,15 @@
 //! Why a SCRAM message is refused. Kinds and texts are those of `fe2o3-amqp` 0.18.4.
 
 ghost use Rattle.std.specs.Prelude.{◌≡◌};
+ghost use Rattle.fe2o3_scram.specs.declared.scram_messages.error.KeyedClientError.TheVariants.{Scram};
 ghost use Rattle.fe2o3_scram.specs.declared.scram_messages.error.ScramErrorKind.TheVariants.{OutOfMemory as ClientOutOfMemory, XorLengthMismatch as ClientXorLengthMismatch};
 ghost use Rattle.fe2o3_scram.specs.declared.scram_messages.error.ServerScramErrorKind.TheVariants.{OutOfMemory as ServerOutOfMemory, XorLengthMismatch as ServerXorLengthMismatch};
 ghost use Rattle.fe2o3_scram.specs.Error.{key_fault};
 
+pub use crate::hmac::XorLengthMismatch;
 use crate::pbkdf2_hi::KeyError;
-use std::alloc::{AllocError, AllocFailed};
+use std::alloc::AllocError;
 use thiserror::Error;
-
-/// The two texts of an exclusive or have different lengths.
-#[derive(Debug, Clone, Copy, PartialEq, Eq, Error)]
-#[error("XorLengthMismatch")]
-pub struct XorLengthMismatch;
 
 /// Why the client refuses a message.
 #[derive(Debug, Clone, Copy, PartialEq, Eq, Error)]
@@ -90,19 +87,40 @@ impl From<AllocError> for ScramErrorKind {
     }
 }
 
-impl<T: Drop> From<AllocFailed<T>> for ScramErrorKind {
-    ghost from_gives = { λ _ kind. kind ≡ ClientOutOfMemory };
-
-    fn from(_error: AllocFailed<T>) -> Self {
-        ScramErrorKind::OutOfMemory
-    }
-}
-
 impl From<XorLengthMismatch> for ScramErrorKind {
     ghost from_gives = { λ _ kind. kind ≡ ClientXorLengthMismatch };
 
     fn from(_error: XorLengthMismatch) -> Self {
         ScramErrorKind::XorLengthMismatch
+    }
+}
+
+/// Why a client that keeps its keys does not answer.
+#[derive(Debug, Clone, Copy, PartialEq, Eq, Error)]
+pub enum KeyedClientError {
+    /// The message is refused, as a client with the password refuses it.
+    #[error("Scram")]
+    Scram(ScramErrorKind),
+
+    /// The server-first message names another salt or another iteration count than the keys are of.
+    /// The password is needed.
+    #[error("The keys are of another salt or iteration count")]
+    OtherKeys,
+}
+
+impl From<ScramErrorKind> for KeyedClientError {
+    ghost from_gives = { λ kind error. error ≡ Scram kind };
+
+    fn from(kind: ScramErrorKind) -> Self {
+        KeyedClientError::Scram(kind)
+    }
+}
+
+impl From<AllocError> for KeyedClientError {
+    ghost from_gives = { λ _ error. error ≡ Scram ClientOutOfMemory };
+
+    fn from(_error: AllocError) -> Self {
+        KeyedClientError::Scram(ScramErrorKind::OutOfMemory)
     }
 }
 
@@ -176,14 +194,6 @@ impl From<AllocError> for ServerScramErrorKind {
     ghost from_gives = { λ _ kind. kind ≡ ServerOutOfMemory };
 
     fn from(_error: AllocError) -> Self {
-        ServerScramErrorKind::OutOfMemory
-    }
-}
-
-impl<T: Drop> From<AllocFailed<T>> for ServerScramErrorKind {
-    ghost from_gives = { λ _ kind. kind ≡ ServerOutOfMemory };
-
-    fn from(_error: AllocFailed<T>) -> Self {
         ServerScramErrorKind::OutOfMemory
     }
 }

@@ -8,7 +8,7 @@ ghost use Rattle.fe2o3_scram.specs.declared.scram_messages.escape.UnescapeError.
 
 use crate::OutOfMemory;
 use crate::texts::after;
-use std::alloc::{AllocError, AllocFailed, Global};
+use std::alloc::{AllocError, Global};
 use std::borrow::CowStr;
 use thiserror::Error;
 
@@ -28,14 +28,6 @@ impl From<AllocError> for UnescapeError {
     ghost from_gives = { λ _ error. error ≡ OutOfMemoryError };
 
     fn from(_error: AllocError) -> Self {
-        UnescapeError::OutOfMemory
-    }
-}
-
-impl<T: Drop> From<AllocFailed<T>> for UnescapeError {
-    ghost from_gives = { λ _ error. error ≡ OutOfMemoryError };
-
-    fn from(_error: AllocFailed<T>) -> Self {
         UnescapeError::OutOfMemory
     }
 }

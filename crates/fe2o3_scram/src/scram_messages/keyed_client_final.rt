@@ -5,14 +5,13 @@ ghost use Rattle.fe2o3_scram.specs.ClientFinal.{answer_values};
 ghost use Rattle.fe2o3_scram.specs.ClientKeys.{AnswersWithKeys, Fits, KeyedCosts, answer_by, keyed_client};
 ghost use Rattle.fe2o3_scram.specs.Readings.{Gives};
 ghost use Rattle.fe2o3_scram.specs.ServerFirst.{ReachesSalt, no_limit, server_first_values};
-ghost use Rattle.fe2o3_scram.specs.declared.client_keys.KeyedClientError.TheVariants.{Scram};
+ghost use Rattle.fe2o3_scram.specs.declared.scram_messages.error.KeyedClientError.TheVariants.{Scram};
 ghost use Rattle.fe2o3_scram.specs.declared.scram_messages.error.ScramErrorKind.TheVariants.{OutOfMemory as NoMemory};
 
-use crate::client_keys::{KeyedClientError, ScramClientKeys};
 use crate::hmac::Meter;
-use crate::keys::auth_pieces;
+use crate::keys::{ScramClientKeys, auth_pieces};
 use crate::scram_messages::client_final::{push_proof, without_proof};
-use crate::scram_messages::error::ScramErrorKind;
+use crate::scram_messages::error::{KeyedClientError, ScramErrorKind};
 use crate::scram_messages::server_first_reading::ServerFirst;
 use std::alloc::Global;
 

@@ -12,9 +12,9 @@ ghost use Rattle.fe2o3_scram.specs.private.Answers.{AnswersProof};
 ghost use Rattle.fe2o3_scram.specs.private.Pieces.{whole};
 
 use crate::OutOfMemory;
-use crate::credentials::StoredPassword;
 use crate::hmac::{Meter, ScramVersion};
 use crate::keys::auth_pieces;
+use crate::provider::StoredPassword;
 use crate::scram_messages::attributes::VERIFIER_KEY;
 use crate::scram_messages::client_final_reading::ClientFinal;
 use crate::scram_messages::error::ServerScramErrorKind;

@@ -7,8 +7,8 @@ ghost use Rattle.fe2o3_scram.specs.Credentials.{kept};
 ghost use Rattle.fe2o3_scram.specs.Readings.{Gives};
 
 use crate::OutOfMemory;
-use crate::credentials::{ScramCredentialProvider, StoredPassword};
 use crate::hmac::ScramVersion;
+use crate::provider::{ScramCredentialProvider, StoredPassword};
 use crate::scram_messages::attributes::{ITERATION_COUNT_KEY, NONCE_KEY, SALT_KEY};
 use crate::scram_messages::client_first_reading::ClientFirst;
 use crate::scram_messages::error::ServerScramErrorKind;

@@ -1,7 +1,7 @@
 //! The lists of each side, and what may come of them.
 
 use crate::Unconfirmed;
-use crate::runs::{client_words, server_words};
+use crate::runs::words::{client_words, server_words};
 use crate::strangers::logins::{Login, PASSWORD, Quick, USER, copy_of};
 use crate::strangers::numbers::Numbers;
 use fe2o3_sasl::audit::{Verdict, audit_limited};

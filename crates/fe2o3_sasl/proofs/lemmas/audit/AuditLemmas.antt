@@ -17,7 +17,8 @@ use Rattle.fe2o3_sasl.specs.private.Receipts.{ClientReceipt, ServerReceipt, OfAn
 use Rattle.fe2o3_scram.specs.Credentials.{Provider}
 use Rattle.fe2o3_scram.specs.Texts.{Part}
 use Rattle.fe2o3_scram.proofs.lemmas.texts.PartsLemmas.{one_part}
-use Rattle.fe2o3_sasl.proofs.lemmas.audit.FoundLemmas.{each_found, found_pairs, member_each}
+use Rattle.fe2o3_sasl.proofs.lemmas.audit.FoundLemmas.{each_found, found_pairs}
+use Rattle.fe2o3_sasl.proofs.lemmas.lists.EachLemmas.{member_each}
 use Rattle.fe2o3_sasl.proofs.lemmas.histories.OneClientHistoryLemmas.{one_answers_at, one_open_answer}
 use Rattle.fe2o3_sasl.proofs.lemmas.histories.OneServerHistoryLemmas.{one_accepted}
 use Rattle.fe2o3_sasl.proofs.lemmas.two_sides.VerdictLemmas.{one_value, taken_verifiers_are_judged, shown_proofs_are_judged}

@@ -15,7 +15,8 @@ use Rattle.fe2o3_sasl.specs.Events.{Given, Login, ClientSays, Started, Answered,
 use Rattle.fe2o3_sasl.specs.Positions.{test_at, IsLastOpen}
 use Rattle.fe2o3_sasl.specs.private.ClientReceipts.{ClientSoFar, ShownFor, TakenFor, ClientKeeps}
 use Rattle.fe2o3_sasl.specs.private.Receipts.{ClientReceipt, OfAnswer, IsShownReceipt, IsTakenReceipt, RespondsAt, ReportsAt, Member}
-use Rattle.fe2o3_sasl.proofs.lemmas.audit.CoverLemmas.{covers_skip, covers_push, member_last, member_each}
+use Rattle.fe2o3_sasl.proofs.lemmas.audit.CoverLemmas.{covers_skip, covers_push}
+use Rattle.fe2o3_sasl.proofs.lemmas.lists.EachLemmas.{member_last, member_each}
 use Rattle.fe2o3_sasl.proofs.lemmas.frames.SpellingLemmas.{carried_not}
 use Rattle.fe2o3_sasl.proofs.lemmas.positions.PositionLemmas.{some_at, opens_here, was_open, one_open}
 use Rattle.fe2o3_sasl.proofs.lemmas.two_sides.HeadlineLemmas.{reports_ok_exactly}
@@ -31,7 +32,7 @@ module _ (login : Login) (Due : List ℕ → Type 0) (IsOpen : Answering → Typ
   due_of event (Ok (frames.Mechanisms names)) body (inl says) =
       absurd (carried_not (Refused (Frame faults.TooLarge)) (λ body. Started body)
       (canonical (frames.Init (mechanism_name login.version)
-      (Some (client_first login.user (base64_text event.nonce))) None)) (Answered body) (λ is. cc)
+      (Some (client_first login.user (base64_text event.nonce))) login.hostname)) (Answered body) (λ is. cc)
       (λ body is. cc) (sym says.1))
   due_of event (Ok (frames.Mechanisms names)) body (inr says) = let is = says.1 in absurd (cc)
   due_of event (Ok (frames.Challenge text)) body (inl says) = (says.0.nonce, says.1.2)

@@ -1,39 +1,12 @@
 -- Receipts that are made position by position.
-use Rattle.std.proofs.Common.{◌≡◌, ◌≢◌, ℕ, zero, suc, ◌<◌, ◌+◌, Some, List, [], ◌∷◌, ◌++◌, map, length, take, get_or, refl, sym, ap, ◌∙◌, subst, arith, inl, inr, ⊎_elim}
+use Rattle.std.proofs.Common.{◌≡◌, ◌≢◌, ℕ, zero, suc, ◌<◌, ◌+◌, Some, List, [], ◌∷◌, ◌++◌, map, length, take, get_or, sym, ap, ◌∙◌, subst, arith, ⊎_elim}
 use Rattle.std.specs.Prelude.{slice_get}
 use Rattle.std.specs.List.{AllByRecursion}
 use Rattle.std.proofs.lemmas.List.{map-append, take_more}
 use Rattle.std.proofs.lemmas.Option.{same_Some}
-use Rattle.fe2o3_sasl.specs.private.Receipts.{Member, Rising, Covers}
+use Rattle.fe2o3_sasl.specs.private.Receipts.{Rising, Covers}
+use Rattle.fe2o3_sasl.proofs.lemmas.lists.EachLemmas.{each_append, each_weaker, member_front, member_last}
 use Rattle.fe2o3_sasl.proofs.lemmas.positions.PositionLemmas.{below_or_at}
-
--- ---- what holds of each
-
-each_append : {X : Type 0} (P : X → Type 0) (xs ys : List X) → AllByRecursion P xs → AllByRecursion P ys
-    → AllByRecursion P (xs ++ ys)
-each_append P [] ys h k = k
-each_append P (x ∷ xs) ys h k = (h.0, each_append P xs ys h.1 k)
-
-each_weaker : {X : Type 0} (P Q : X → Type 0) (xs : List X) → ((x : X) → P x → Q x) → AllByRecursion P xs
-    → AllByRecursion Q xs
-each_weaker P Q [] f h = tt
-each_weaker P Q (x ∷ xs) f h = (f x h.0, each_weaker P Q xs f h.1)
-
--- ---- members
-
-member_front : {X : Type 0} (x : X) (xs ys : List X) → Member x xs → Member x (xs ++ ys)
-member_front x [] ys m = absurd m
-member_front x (y ∷ xs) ys (inl e) = inl e
-member_front x (y ∷ xs) ys (inr m) = inr (member_front x xs ys m)
-
-pub member_last : {X : Type 0} (xs : List X) (y : X) → Member y (xs ++ y ∷ [])
-member_last [] y = inl refl
-member_last (x ∷ xs) y = inr (member_last xs y)
-
-pub member_each : {X : Type 0} (P : X → Type 0) (xs : List X) (x : X) → AllByRecursion P xs → Member x xs → P x
-member_each P [] x h m = absurd m
-member_each P (y ∷ xs) x h (inl e) = subst (λ (z : _). P z) e h.0
-member_each P (y ∷ xs) x h (inr m) = member_each P xs x h.1 m
 
 -- ---- one position more
 
@@ -45,9 +18,6 @@ module _ {X : Type 0} (Is : X → Type 0) (place : X → ℕ) (At : ℕ → Type
     each_append (λ z. place x < place z) xs (y ∷ []) rises.0 (omega (arith, at, below.0), tt),
     rising_push i xs y at below.1 rises.1,
   )
-
-  pub covers_none : Covers Is place At 0 []
-  covers_none = record { each = tt; below = tt; rising = tt; every = λ k l at. absurd (omega arith) }
 
   pub covers_skip : (i : ℕ) (xs : List X) → Covers Is place At i xs → ¬ At i → Covers Is place At (suc i) xs
   covers_skip i xs covers none = record {

@@ -1,52 +1,14 @@
 -- What is found of two lists of receipts, in order.
-use Rattle.std.proofs.Common.{◌≡◌, ℕ, suc, ◌<◌, ◌+◌, Bool, true, false, true≢false, cond, List, [], ◌∷◌, ◌++◌, map, length, take, get_or, refl, sym, ap, ◌∙◌, subst, arith, inl, inr, append_assoc}
-use Rattle.std.specs.List.{AllByRecursion, Contains, flat_map}
+use Rattle.std.proofs.Common.{◌≡◌, ℕ, ◌<◌, ◌+◌, Bool, true, false, true≢false, cond, List, [], ◌∷◌, ◌++◌, map, length, take, get_or, refl, sym, ap, ◌∙◌, subst, arith, inl, inr, append_assoc}
+use Rattle.std.specs.List.{AllByRecursion, flat_map}
 use Rattle.std.proofs.lemmas.Grind.{flat_map-append}
 use Rattle.std.proofs.lemmas.List.{map-append, take_more, append-nil}
 use Rattle.fe2o3_sasl.specs.private.Findings.{found, findings_of}
 use Rattle.fe2o3_sasl.specs.private.Receipts.{Member, Rising}
 use Rattle.fe2o3_sasl.specs.Audit.{Before, Ascending, Lists}
-
--- ---- what holds of each element
-
--- of two lists together
-pub each_append : {X : Type 0} (P : X → Type 0) (xs ys : List X) → AllByRecursion P xs → AllByRecursion P ys
-    → AllByRecursion P (xs ++ ys)
-each_append P [] ys h k = k
-each_append P (x ∷ xs) ys h k = (h.0, each_append P xs ys h.1 k)
-
--- what follows
-pub each_weaker : {X : Type 0} (P Q : X → Type 0) (xs : List X) → ((x : X) → P x → Q x) → AllByRecursion P xs
-    → AllByRecursion Q xs
-each_weaker P Q [] f h = tt
-each_weaker P Q (x ∷ xs) f h = (f x h.0, each_weaker P Q xs f h.1)
-
--- of the images
-pub each_map : {X Y : Type 0} (P : Y → Type 0) (g : X → Y) (xs : List X) → AllByRecursion (λ x. P (g x)) xs
-    → AllByRecursion P (map g xs)
-each_map P g [] h = tt
-each_map P g (x ∷ xs) h = (h.0, each_map P g xs h.1)
-
--- element by element
-pub each_member : {X : Type 0} (P : X → Type 0) (xs : List X) → ((x : X) → Member x xs → P x) → AllByRecursion P xs
-each_member P [] h = tt
-each_member P (x ∷ xs) h = (h x (inl refl), each_member P xs (λ y m. h y (inr m)))
-
-pub member_each : {X : Type 0} (P : X → Type 0) (xs : List X) (x : X) → AllByRecursion P xs → Member x xs → P x
-member_each P [] x h m = absurd m
-member_each P (y ∷ xs) x h (inl e) = subst (λ (z : _). P z) e h.0
-member_each P (y ∷ xs) x h (inr m) = member_each P xs x h.1 m
+use Rattle.fe2o3_sasl.proofs.lemmas.lists.EachLemmas.{each_append, each_weaker, each_map, member_front, member_behind, member_each, member_contains}
 
 -- ---- pairs of positions
-
-among_left : (q : ℕ × ℕ) (xs ys : List (ℕ × ℕ)) → Member q xs → Member q (xs ++ ys)
-among_left q [] ys h = absurd h
-among_left q (x ∷ xs) ys (inl e) = inl e
-among_left q (x ∷ xs) ys (inr a) = inr (among_left q xs ys a)
-
-among_right : (q : ℕ × ℕ) (xs ys : List (ℕ × ℕ)) → Member q ys → Member q (xs ++ ys)
-among_right q [] ys h = h
-among_right q (x ∷ xs) ys h = inr (among_right q xs ys h)
 
 -- two ascending lists, where the first is before the second
 ascending_append : (P Q : ℕ × ℕ → Type 0) (xs ys : List (ℕ × ℕ)) → ((p q : ℕ × ℕ) → P p → Q q → Before p q)
@@ -56,12 +18,6 @@ ascending_append P Q (x ∷ xs) ys b h k a c = (
   each_append (Before x) xs ys a.0 (each_weaker Q (Before x) ys (λ q. b x q h.0) k),
   ascending_append P Q xs ys b h.1 k a.1 c,
 )
-
--- a member has a place in the list
-member_contains : {X : Type 0} (x : X) (xs : List X) → Member x xs → Contains xs x
-member_contains x [] m = absurd m
-member_contains x (y ∷ xs) (inl e) = (0, omega arith, e)
-member_contains x (y ∷ xs) (inr m) = let c = member_contains x xs m in (suc c.0, omega (arith, c.1), c.2)
 
 -- ---- what is found
 
@@ -118,10 +74,10 @@ module _ {A B F : Type 0} (meets : A → B → Bool) (finding : A → B → F) w
         go : (Member left lefts → Member (at left, by right) (map place (rows lefts rights)))
             → Member left (first ∷ lefts) → Member (at left, by right)
             (map place (row first rights) ++ map place (rows lefts rights))
-        go ih (inl s) = among_left (at left, by right) (map place (row first rights)) (map place (rows lefts rights))
+        go ih (inl s) = member_front (at left, by right) (map place (row first rights)) (map place (rows lefts rights))
             (subst (λ (l : A). Member (at left, by right) (map place (row l rights))) (sym s)
             (row_every left right rights n e))
-        go ih (inr m) = among_right (at left, by right) (map place (row first rights)) (map place (rows lefts rights))
+        go ih (inr m) = member_behind (at left, by right) (map place (row first rights)) (map place (rows lefts rights))
             (ih m)
 
     row_ordered : (left : A) (rights : List B) → Rising by rights → Ascending (map place (row left rights))

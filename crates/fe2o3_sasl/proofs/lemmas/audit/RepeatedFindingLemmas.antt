@@ -9,7 +9,7 @@ use Rattle.fe2o3_sasl.specs.Laws.{Start, FromTwoStarts, FromTwoChallenges, Takes
 use Rattle.fe2o3_sasl.specs.Positions.{test_at, IsLastOpen}
 use Rattle.fe2o3_sasl.specs.ServerHistory.{Accepted}
 use Rattle.fe2o3_sasl.specs.TwoSides.{Sides, OkAt, IsPlainInit}
-use Rattle.fe2o3_sasl.proofs.lemmas.audit.FoundLemmas.{each_append, each_weaker}
+use Rattle.fe2o3_sasl.proofs.lemmas.lists.EachLemmas.{each_append, each_weaker}
 use Rattle.fe2o3_sasl.proofs.lemmas.histories.RepeatedNonceLemmas.{not_none, repeated_client_positions, repeated_server_positions}
 use Rattle.fe2o3_sasl.proofs.lemmas.two_sides.EqualMessageLemmas.{is_challenging, accepts_open}
 

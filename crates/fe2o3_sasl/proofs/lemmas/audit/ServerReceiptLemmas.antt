@@ -14,7 +14,8 @@ use Rattle.fe2o3_scram.proofs.lemmas.messages.OneValueLemmas.{one_client_first_v
 use Rattle.fe2o3_scram.proofs.lemmas.texts.PartsLemmas.{pieces, Parts-pieces, one_list_of_parts}
 use Rattle.fe2o3_sasl.specs.Events.{Given, ServerSays, Challenged, Concluded, Failed}
 use Rattle.fe2o3_sasl.specs.Positions.{test_at, IsLastOpen}
-use Rattle.fe2o3_sasl.specs.ServerHistory.{Challenging, Accepted, AcceptsAt, FitsAsInit, FitsAt, Open, ServerHistory, SpellsBody, is_challenge, is_ok}
+use Rattle.fe2o3_sasl.specs.Bodies.{SpellsBody}
+use Rattle.fe2o3_sasl.specs.ServerHistory.{Challenging, Accepted, AcceptsAt, FitsAsInit, FitsAt, Open, ServerHistory, is_challenge, is_ok}
 use Rattle.fe2o3_sasl.specs.TwoSides.{HasParts}
 use Rattle.fe2o3_sasl.specs.private.Receipts.{ServerReceipt, OfAccepted, IsOkReceipt, ConcludesAt}
 use Rattle.fe2o3_sasl.specs.private.ServerReceipts.{ServerSoFar, OpenedFor, OkFor, ServerKeeps}

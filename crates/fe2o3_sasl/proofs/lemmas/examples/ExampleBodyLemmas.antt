@@ -14,8 +14,8 @@ use Rattle.fe2o3_sasl_wire.proofs.lemmas.writing.BodyPartsLemmas.{has_body}
 use Rattle.fe2o3_sasl_wire.proofs.lemmas.frames.LawLemmas.{written_bodies_are_read}
 use Rattle.fe2o3_scram.specs.Texts.{base64_text, joined}
 use Rattle.fe2o3_sasl.specs.ClientHistory.{Answering, answer_at}
-use Rattle.fe2o3_sasl.specs.examples.Examples.{client_bytes, server_bytes, client_nonce, server_nonce, both, salt, login, names, values, binds, sends_init, sends_response, sends_ok, body_of, RefusalsHaveOneBody}
-use Rattle.fe2o3_sasl.specs.ServerHistory.{SpellsBody, carried}
+use Rattle.fe2o3_sasl.specs.examples.Examples.{client_bytes, server_bytes, client_nonce, server_nonce, both, salt, login, names, values, binds, sends_init, sends_response, sends_ok, body_of}
+use Rattle.fe2o3_sasl.specs.Bodies.{SpellsBody, carried}
 use Rattle.fe2o3_scram.proofs.lemmas.texts.AsciiLemmas.{IsAscii-literal}
 use Rattle.fe2o3_scram.proofs.lemmas.hashes.DigestLemmas.{length-hmac_of}
 use Rattle.fe2o3_sasl.proofs.lemmas.examples.ExampleTextLemmas.{length-base64_text}
@@ -65,7 +65,7 @@ init_bodied bare short = bodied (sends_init bare) (omega
 -- ---- lengths of texts
 
 -- a part is short
-abbrev Short : List ℕ → Type 0
+abbrev pub Short : List ℕ → Type 0
 Short part = length part ≤ 200
 
 pub short_joined : (parts : List (List ℕ)) → AllByRecursion Short parts → length (joined parts) ≤ 201 * length parts
@@ -73,11 +73,6 @@ short_joined [] short = omega arith
 short_joined (part ∷ []) short = let one = short.0 in omega (arith, one)
 short_joined (part ∷ next ∷ more) short = let one = short.0 in
     omega (arith, one, length-append part (44 ∷ joined (next ∷ more)), short_joined (next ∷ more) short.1)
-
-pub short_more : (parts more : List (List ℕ)) → AllByRecursion Short parts → AllByRecursion Short more
-    → AllByRecursion Short (parts ++ more)
-short_more [] more short too = too
-short_more (part ∷ parts) more short too = (short.0, short_more parts more short.1 too)
 
 length-client_nonce : length client_nonce ≡ 44
 length-client_nonce = length-base64_text client_bytes refl
@@ -122,22 +117,9 @@ pub mechanisms_sent : canonical (frames.Mechanisms (codes "SCRAM-SHA-256" ∷ []
 unfolding canonical
 mechanisms_sent = refl
 
-pub refusals_have_one_body : RefusalsHaveOneBody
-unfolding canonical
-refusals_have_one_body = refl
-
 pub auth_bodied : canonical (frames.Outcome outcomes.Auth None) ≡ Some (body_of (frames.Outcome outcomes.Auth None))
 unfolding canonical
 auth_bodied = refl
-
-pub bare_ok_sent : canonical (frames.Outcome outcomes.Ok None) ≡ Some (body_of (frames.Outcome outcomes.Ok None))
-unfolding canonical
-bare_ok_sent = refl
-
-pub early_ok_sent : canonical (frames.Outcome outcomes.Ok (Some (codes "v=AA==")))
-    ≡ Some (body_of (frames.Outcome outcomes.Ok (Some (codes "v=AA=="))))
-unfolding canonical
-early_ok_sent = refl
 
 -- ---- what a body spells
 

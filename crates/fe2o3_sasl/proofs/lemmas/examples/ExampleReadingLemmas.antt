@@ -3,6 +3,7 @@ use Rattle.std.proofs.Common.{◌≡◌, ◌≤◌, ℕ, List, [], ◌∷◌, �
 use Rattle.std.specs.List.{AllByRecursion}
 use Rattle.std.specs.Str.{IsUtf8}
 use Rattle.std.proofs.lemmas.List.Elements.{All-from_recursion}
+use Rattle.std.proofs.lemmas.Option.{none-some}
 use Rattle.std.proofs.lemmas.Str.{IsUtf8-append}
 use Rattle.base64.specs.GeneralPurpose.{IsBytes}
 use Rattle.fe2o3_scram.specs.declared.hmac.ScramVersion.TheVariants.{Sha256}
@@ -11,6 +12,7 @@ use Rattle.fe2o3_scram.specs.ClientFinal.{without_proof, Server, HasProof, Reads
 use Rattle.fe2o3_scram.specs.ClientFirst.{ReadsClientFirst}
 use Rattle.fe2o3_sasl.specs.ClientHistory.{client_at, answer_at}
 use Rattle.fe2o3_scram.specs.Escape.{escaped}
+use Rattle.fe2o3_sasl.specs.Events.{IsLogin, IsRecord}
 use Rattle.fe2o3_sasl.specs.examples.Examples.{client_bytes, server_bytes, client_nonce, server_nonce, both, salt, login, stored, names, values, binds, answering, challenging}
 use Rattle.fe2o3_scram.specs.Hmac.{digest, digest_len, hmac_of, exclusive_or}
 use Rattle.fe2o3_scram.specs.Keys.{auth_message}
@@ -22,15 +24,37 @@ use Rattle.fe2o3_sasl.specs.TwoSides.{proof_at, client_message}
 use Rattle.fe2o3_sasl.specs.Audit.{client_key_at}
 use Rattle.fe2o3_scram.proofs.lemmas.texts.AsciiLemmas.{IsUtf8-literal}
 use Rattle.fe2o3_scram.proofs.lemmas.messages.ClientFirstLemmas.{named}
-use Rattle.fe2o3_scram.proofs.lemmas.hashes.DigestLemmas.{length-hmac_of, IsBytes-hmac_of}
-use Rattle.fe2o3_sasl.proofs.lemmas.examples.ExampleTextLemmas.{Plain, plain-literal, plain-append, plain-base64_text, plain-more, parts_joined, utf8_joined, joined-append, header_text, user_text, count_text, IsBytes-replicate}
+use Rattle.fe2o3_scram.proofs.lemmas.hashes.DigestLemmas.{length-hmac_of, IsBytes-digest, IsBytes-hmac_of}
+use Rattle.fe2o3_sasl.proofs.lemmas.examples.ExampleTextLemmas.{Plain, plain-literal, plain-append, plain-base64_text, parts_joined, utf8_joined, joined-append, header_text, user_text, count_text, IsBytes-replicate}
 use Rattle.fe2o3_scram.proofs.lemmas.messages.ExchangeLemmas.{IsBytes-literal, IsBytes-exclusive_or, length-exclusive_or, exclusive_or-back, IsCount-decimal, not_extended, final_read, reads_signature}
 use Rattle.fe2o3_scram.proofs.lemmas.messages.ServerFirstLemmas.{values_read, same_nonce, not_too_large}
+use Rattle.fe2o3_sasl.proofs.lemmas.lists.EachLemmas.{each_append}
+
+-- ---- login and record
+
+pub is_login : IsLogin login
+is_login = record {
+  user = IsUtf8-literal (codes "user") refl;
+  password = IsUtf8-literal (codes "pencil") refl;
+  limit = omega arith;
+  hostname = λ host is. absurd (none-some host is);
+}
+
+pub is_record : IsRecord stored
+is_record = record {
+  salt = IsBytes-replicate 32 3 (omega arith);
+  count = omega arith;
+  stored_key = IsBytes-digest Sha256 _;
+  server_key = IsBytes-hmac_of Sha256 _ _;
+}
 
 -- ---- the parts
 
 pub plain_both : Plain both
 plain_both = plain-append client_nonce server_nonce (plain-base64_text client_bytes) (plain-base64_text server_bytes)
+
+pub plain_user : Plain (codes "user")
+plain_user = plain-literal (codes "user") refl refl
 
 plain_nonce : (nonce : List ℕ) → Plain nonce → Plain (codes "r=" ++ nonce)
 plain_nonce nonce plain = plain-append (codes "r=") nonce (plain-literal (codes "r=") refl refl) plain
@@ -60,7 +84,7 @@ pub reads_names : (user : List ℕ) (more : List (List ℕ)) → escaped user �
     → ReadsClientFirst (codes "n,," ++ joined (names user ++ more))
     (Ok (record { user = user; nonce = client_nonce; bare = joined (names user ++ more) }))
 reads_names user more sent plain too =
-    let all = plain-more (names user) more (plain_names user plain) too in
+    let all = each_append Plain (names user) more (plain_names user plain) too in
     let parts = parts_joined (codes "n=" ++ user) ((codes "r=" ++ client_nonce) ∷ more) all in
     named (codes "n,," ++ joined (names user ++ more)) (joined (names user ++ more))
     (IsUtf8-append (codes "n,,") (joined (names user ++ more)) (IsUtf8-literal (codes "n,,") refl)
@@ -69,7 +93,7 @@ reads_names user more sent plain too =
 
 -- ---- the server-first message, with more parts behind the count
 
-password_printable : IsPrintable (codes "pencil")
+pub password_printable : IsPrintable (codes "pencil")
 password_printable =
     let each : AllByRecursion (λ byte. (0x20 ≤ byte) × (byte ≤ 0x7e)) (codes "pencil") = (
       (omega arith, omega arith),
@@ -95,7 +119,7 @@ pub reads_values : (nonce rest : List ℕ) (more : List (List ℕ)) → nonce �
     (Ok (answering (joined (values nonce ++ more)) nonce).first)
 reads_values nonce rest more begins plain too =
     let text = joined (values nonce ++ more) in
-    let all = plain-more (values nonce) more (plain_values nonce plain) too in
+    let all = each_append Plain (values nonce) more (plain_values nonce plain) too in
     let parts = parts_joined (codes "r=" ++ nonce) ((codes "s=" ++ base64_text salt) ∷ codes "i=4096" ∷ more) all in
     let has_nonce : Part text 0 (codes "r=" ++ nonce) = (values nonce ++ more, parts, refl) in
     let has_salt : HasSalt text salt = (IsBytes-replicate 32 3 (omega arith), (values nonce ++ more, parts, refl)) in
@@ -208,8 +232,8 @@ module _ (more : List (List ℕ)) (too : AllByRecursion Plain more) (proof : Lis
   parts = binds both ++ (more ++ last ∷ [])
 
   plain_parts : AllByRecursion Plain parts
-  plain_parts = plain-more (binds both) (more ++ last ∷ []) (plain_binds both plain_both)
-      (plain-more more (last ∷ []) too (plain_last, tt))
+  plain_parts = each_append Plain (binds both) (more ++ last ∷ []) (plain_binds both plain_both)
+      (each_append Plain more (last ∷ []) too (plain_last, tt))
 
   whole : final_text more proof ≡ joined parts
   whole = joined-append (codes "c=biws") ((codes "r=" ++ both) ∷ more) last []

@@ -28,11 +28,6 @@ plain-append front back plain too = (no_comma-append front back plain.0 too.0, s
 pub plain-base64_text : (bytes : List ℕ) → Plain (base64_text bytes)
 plain-base64_text bytes = (no_comma-base64_text bytes, small-base64_text bytes)
 
-pub plain-more : (parts more : List (List ℕ)) → AllByRecursion Plain parts → AllByRecursion Plain more
-    → AllByRecursion Plain (parts ++ more)
-plain-more [] more plain too = too
-plain-more (part ∷ parts) more plain too = (plain.0, plain-more parts more plain.1 too)
-
 -- such texts are the parts of what they are joined to
 pub parts_joined : (part : List ℕ) (parts : List (List ℕ)) → AllByRecursion Plain (part ∷ parts)
     → Parts (joined (part ∷ parts)) (part ∷ parts)
@@ -51,14 +46,6 @@ small_joined (part ∷ next ∷ more) plain = small-append part (44 ∷ joined (
 pub utf8_joined : (parts : List (List ℕ)) → AllByRecursion Plain parts → IsUtf8 (joined parts)
 utf8_joined parts plain = IsUtf8-small (joined parts) (small_joined parts plain)
 
-pub IsBytes-small : (text : List ℕ) → Small text → IsBytes text
-IsBytes-small [] small = IsBytes-nil
-IsBytes-small (byte ∷ text) small = let below = small.0 in
-    IsBytes-cons byte text (omega (arith, below)) (IsBytes-small text small.1)
-
-pub bytes_joined : (parts : List (List ℕ)) → AllByRecursion Plain parts → IsBytes (joined parts)
-bytes_joined parts plain = IsBytes-small (joined parts) (small_joined parts plain)
-
 -- two joined texts are joined
 pub joined-append : (part : List ℕ) (parts : List (List ℕ)) (other : List ℕ) (others : List (List ℕ))
     → joined (part ∷ parts) ++ 44 ∷ joined (other ∷ others) ≡ joined (part ∷ parts ++ other ∷ others)
@@ -75,10 +62,6 @@ header_text = refl
 pub user_text : escaped (codes "user") ≡ codes "user"
 unfolding escaped
 user_text = refl
-
-pub nobody_text : escaped (codes "nobody") ≡ codes "nobody"
-unfolding escaped
-nobody_text = refl
 
 pub count_text : decimal 4096 ≡ codes "4096"
 unfolding digits

@@ -1,6 +1,7 @@
 -- What a canonical body spells, and what a body spells at most.
 use Rattle.std.proofs.Common.{◌≡◌, ◌⊎◌, inl, inr, ℕ, Option, List, [], ◌∷◌, Some, None, length, refl, sym, ap, ◌∙◌, subst, Result, Ok, Err}
 use Rattle.std.specs.Prelude.{codes, IsAscii}
+use Rattle.std.specs.Str.{IsUtf8}
 use Rattle.std.proofs.lemmas.List.{append-nil}
 use Rattle.fe2o3_sasl_wire.specs.declared.amqp_types.SaslCode.{SaslCode}
 use Rattle.fe2o3_sasl_wire.specs.declared.sasl_frames.error.Error.{Error}
@@ -13,7 +14,7 @@ use Rattle.fe2o3_scram.specs.declared.hmac.ScramVersion.{ScramVersion}
 use Rattle.fe2o3_scram.specs.declared.hmac.ScramVersion.TheVariants.{Sha1, Sha256, Sha512}
 use Rattle.fe2o3_scram.specs.Hmac.{mechanism_name}
 use Rattle.fe2o3_sasl.specs.Runs.{Sends}
-use Rattle.fe2o3_sasl.specs.ServerHistory.{SpellsBody, carried}
+use Rattle.fe2o3_sasl.specs.Bodies.{SpellsBody, carried}
 
 -- a canonical body spells its frame
 pub spells_canonical : (frame : SaslFrame) (body : List ℕ) → HasTexts frame → canonical frame ≡ Some body
@@ -68,11 +69,16 @@ pub spells_mechanisms : (version : ScramVersion) (body : List ℕ)
 spells_mechanisms version body is = spells_canonical (frames.Mechanisms (mechanism_name version ∷ [])) body
     ((IsAscii-mechanism_name version, tt), tt) is
 
-pub spells_init : (version : ScramVersion) (text body : List ℕ)
-    → canonical (frames.Init (mechanism_name version) (Some text) None) ≡ Some body
-    → SpellsBody body (Ok (frames.Init (mechanism_name version) (Some text) None))
-spells_init version text body is = spells_canonical (frames.Init (mechanism_name version) (Some text) None) body
+pub spells_init : (version : ScramVersion) (text : List ℕ) (hostname : Option (List ℕ)) (body : List ℕ)
+    → ((host : List ℕ) → hostname ≡ Some host → IsUtf8 host)
+    → canonical (frames.Init (mechanism_name version) (Some text) hostname) ≡ Some body
+    → SpellsBody body (Ok (frames.Init (mechanism_name version) (Some text) hostname))
+spells_init version text None body utf8 is =
+    spells_canonical (frames.Init (mechanism_name version) (Some text) None) body
     (IsAscii-mechanism_name version, (tt, (tt, tt))) is
+spells_init version text (Some host) body utf8 is =
+    spells_canonical (frames.Init (mechanism_name version) (Some text) (Some host)) body
+    (IsAscii-mechanism_name version, (tt, (utf8 host refl, tt))) is
 
 pub spells_challenge : (text body : List ℕ) → canonical (frames.Challenge text) ≡ Some body
     → SpellsBody body (Ok (frames.Challenge text))

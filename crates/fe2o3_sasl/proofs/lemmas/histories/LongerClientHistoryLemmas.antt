@@ -6,7 +6,7 @@ use Rattle.fe2o3_sasl_wire.specs.declared.sasl_frames.error.Error.{Error}
 use Rattle.fe2o3_sasl_wire.specs.SaslFrames.{SaslFrame}
 use Rattle.fe2o3_sasl.specs.ClientHistory.{ClientAnswers, ClientAllocates, is_start, is_answer, ends_answer, NonceAt, IsDue, AnswersAt, OpenAnswer, ClientHistory}
 use Rattle.fe2o3_sasl.specs.Events.{Given, Login, ClientSays, Refused, OutOfMemory}
-use Rattle.fe2o3_sasl.specs.ServerHistory.{SpellsBody}
+use Rattle.fe2o3_sasl.specs.Bodies.{SpellsBody}
 use Rattle.fe2o3_sasl.proofs.lemmas.histories.OneClientHistoryLemmas.{challenge_moves, client_moves}
 use Rattle.fe2o3_sasl.proofs.lemmas.positions.OpenStateLemmas.{AreSame, open_by_front}
 use Rattle.fe2o3_sasl.proofs.lemmas.positions.PositionLemmas.{below_or_at, slice_get-front, slice_get-behind}

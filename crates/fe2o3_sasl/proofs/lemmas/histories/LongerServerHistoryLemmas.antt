@@ -8,7 +8,8 @@ use Rattle.fe2o3_sasl_wire.specs.SaslFrames as frames
 use Rattle.fe2o3_sasl_wire.specs.SaslFrames.{SaslFrame}
 use Rattle.fe2o3_scram.specs.Credentials.{Provider}
 use Rattle.fe2o3_sasl.specs.Events.{Given, ServerSays, Failed}
-use Rattle.fe2o3_sasl.specs.ServerHistory.{Challenging, FitsAt, Open, ServerAnswers, ServerAllocates, ServerHistory, SpellsBody, is_challenge, is_ok}
+use Rattle.fe2o3_sasl.specs.Bodies.{SpellsBody}
+use Rattle.fe2o3_sasl.specs.ServerHistory.{Challenging, FitsAt, Open, ServerAnswers, ServerAllocates, ServerHistory, is_challenge, is_ok}
 use Rattle.fe2o3_sasl.proofs.lemmas.positions.OpenStateLemmas.{AreSame, open_by_front}
 use Rattle.fe2o3_sasl.proofs.lemmas.positions.PositionLemmas.{slice_get-front, slice_get-behind, below_or_at}
 

@@ -13,7 +13,7 @@ use Rattle.fe2o3_sasl.specs.Events.{Given, Login, ClientSays, Refused, Scram, Ou
 use Rattle.fe2o3_sasl.specs.Laws.{OneClientHistory}
 use Rattle.fe2o3_scram.specs.ServerFinal.{ReadsServerFinal}
 use Rattle.fe2o3_scram.specs.ServerFirst.{ServerFirst, ReadsServerFirst}
-use Rattle.fe2o3_sasl.specs.ServerHistory.{SpellsBody}
+use Rattle.fe2o3_sasl.specs.Bodies.{SpellsBody}
 use Rattle.fe2o3_sasl.specs.Complete.{ClientComplete}
 use Rattle.fe2o3_sasl.proofs.lemmas.positions.OpenStateLemmas.{AreSame, OfOne, AgreeBelow, one_open_by, open_by_agrees}
 use Rattle.fe2o3_sasl.proofs.lemmas.positions.PositionLemmas.{below_or_at, some_at, same_list}

@@ -11,7 +11,8 @@ use Rattle.fe2o3_scram.specs.Credentials.{Record, Provider, record_at}
 use Rattle.fe2o3_sasl.specs.Events.{Given, ServerSays, Failed}
 use Rattle.fe2o3_sasl.specs.Laws.{OneServerHistory}
 use Rattle.fe2o3_scram.specs.ClientFinal.{ClientFinal, ReadsClientFinal}
-use Rattle.fe2o3_sasl.specs.ServerHistory.{Challenging, Accepted, FitsAsInit, FitsAsResponse, FitsAt, AcceptsAt, Open, ServerAnswers, ServerAllocates, ServerHistory, SpellsBody, is_challenge, is_ok, says_challenge, says_ok, server_at}
+use Rattle.fe2o3_sasl.specs.Bodies.{SpellsBody}
+use Rattle.fe2o3_sasl.specs.ServerHistory.{Challenging, Accepted, FitsAsInit, FitsAsResponse, FitsAt, AcceptsAt, Open, ServerAnswers, ServerAllocates, ServerHistory, is_challenge, is_ok, says_challenge, says_ok, server_at}
 use Rattle.fe2o3_sasl.specs.Complete.{ServerComplete}
 use Rattle.fe2o3_scram.proofs.lemmas.messages.OneValueLemmas.{one_client_first_value, one_client_final_value}
 use Rattle.fe2o3_sasl.proofs.lemmas.positions.PositionLemmas.{one_open, open_agree, some_at, same_list, below_or_at}

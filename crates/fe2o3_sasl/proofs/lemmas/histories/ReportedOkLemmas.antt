@@ -42,7 +42,7 @@ module _ (login : Login) (Due : List ℕ → Type 0) (IsOpen : Answering → Typ
   reported event (Ok (frames.Mechanisms names)) more (inl says) =
       absurd (carried_not (Refused (Frame faults.TooLarge)) (λ body. Started body)
       (canonical (frames.Init (mechanism_name login.version)
-      (Some (client_first login.user (base64_text event.nonce))) None)) (Reported outcomes.Ok more) (λ is. cc)
+      (Some (client_first login.user (base64_text event.nonce))) login.hostname)) (Reported outcomes.Ok more) (λ is. cc)
       (λ body is. cc) (sym says.1))
   reported event (Ok (frames.Mechanisms names)) more (inr says) = let is = says.1 in absurd (cc)
   reported event (Ok (frames.Challenge text)) more (inl says) =

@@ -12,7 +12,8 @@ use Rattle.fe2o3_scram.specs.Credentials.{Provider}
 use Rattle.fe2o3_sasl.specs.Events.{Given, ServerSays, Challenged, Concluded, Failed}
 use Rattle.fe2o3_sasl.specs.Laws.{OksWithinChallenges, RepeatedResponsesAreRefused, OneResponseOneNonce, RefusalsLeaveOpen}
 use Rattle.fe2o3_sasl.specs.Positions.{test_at, IsLastOpen}
-use Rattle.fe2o3_sasl.specs.ServerHistory.{Challenging, Accepted, FitsAsResponse, AcceptsAt, Open, ServerAnswers, ServerAllocates, ServerHistory, SpellsBody, is_challenge, is_ok, full_nonce, first_message, says_auth, server_at}
+use Rattle.fe2o3_sasl.specs.Bodies.{SpellsBody}
+use Rattle.fe2o3_sasl.specs.ServerHistory.{Challenging, Accepted, FitsAsResponse, AcceptsAt, Open, ServerAnswers, ServerAllocates, ServerHistory, is_challenge, is_ok, full_nonce, first_message, says_auth, server_at}
 use Rattle.fe2o3_scram.specs.Texts.{Part}
 use Rattle.fe2o3_scram.proofs.lemmas.messages.ClientFinalLemmas.{NamesAcceptedFinal, names_client_final}
 use Rattle.fe2o3_scram.proofs.lemmas.texts.PartsLemmas.{one_part}
@@ -94,20 +95,17 @@ not_both : (o : Option ServerSays) → test_at is_challenge o ≡ true → test_
 not_both o h k = let x = ok_at o k in true≢false (sym h ∙ ap (test_at is_challenge) x.1)
 
 -- one more reply that passes, or none
-passing : {A : Type 0} → (A → Bool) → List A → ℕ → ℕ
-passing test replies k = length (filter test (take k replies))
-
-passing-suc : {A : Type 0} (test : A → Bool) (replies : List A) (k : ℕ)
+one_more_passes : {A : Type 0} (test : A → Bool) (replies : List A) (k : ℕ)
     → length (filter test (take (suc k) replies)) ≡ length (filter test (take k replies)) + cond
     (test_at test (slice_get replies k)) 1 0
-passing-suc test [] zero = refl
-passing-suc test [] (suc k) = refl
-passing-suc test (x ∷ xs) zero = go (test x)
+one_more_passes test [] zero = refl
+one_more_passes test [] (suc k) = refl
+one_more_passes test (x ∷ xs) zero = go (test x)
   where
     go : (b : Bool) → length (cond b (x ∷ []) []) ≡ 0 + cond b 1 0
     go true = refl
     go false = refl
-passing-suc test (x ∷ xs) (suc k) = go (passing-suc test xs k) (test x)
+one_more_passes test (x ∷ xs) (suc k) = go (one_more_passes test xs k) (test x)
   where
     go : length (filter test (take (suc k) xs)) ≡ length (filter test (take k xs)) + cond
         (test_at test (slice_get xs k)) 1 0 → (b : Bool)
@@ -129,15 +127,15 @@ counted_step : (replies : List ServerSays) (k : ℕ) → (test_at is_ok (slice_g
 counted_step replies k opens h true true p q = absurd (not_both (slice_get replies k) p q)
 counted_step replies k opens h true false p q =
     let within = h.within in
-    let oks = passing-suc is_ok replies k ∙ ap (λ (b : Bool). length (filter is_ok (take k replies)) + cond b 1 0) q in
-    let challenges = passing-suc is_challenge replies k
+    let oks = one_more_passes is_ok replies k ∙ ap (λ (b : Bool). length (filter is_ok (take k replies)) + cond b 1 0) q in
+    let challenges = one_more_passes is_challenge replies k
     ∙ ap (λ (b : Bool). length (filter is_challenge (take k replies)) + cond b 1 0) p in
     record { within = omega (arith, oks, challenges, within); more = λ j x. omega (arith, oks, challenges, within) }
 counted_step replies k opens h false true p q =
     let x = opens q in
     let less = h.more x.0 x.1 in
-    let oks = passing-suc is_ok replies k ∙ ap (λ (b : Bool). length (filter is_ok (take k replies)) + cond b 1 0) q in
-    let challenges = passing-suc is_challenge replies k
+    let oks = one_more_passes is_ok replies k ∙ ap (λ (b : Bool). length (filter is_ok (take k replies)) + cond b 1 0) q in
+    let challenges = one_more_passes is_challenge replies k
     ∙ ap (λ (b : Bool). length (filter is_challenge (take k replies)) + cond b 1 0) p in
     record {
       within = omega (arith, oks, challenges, less);
@@ -146,8 +144,8 @@ counted_step replies k opens h false true p q =
     }
 counted_step replies k opens h false false p q =
     let within = h.within in
-    let oks = passing-suc is_ok replies k ∙ ap (λ (b : Bool). length (filter is_ok (take k replies)) + cond b 1 0) q in
-    let challenges = passing-suc is_challenge replies k
+    let oks = one_more_passes is_ok replies k ∙ ap (λ (b : Bool). length (filter is_ok (take k replies)) + cond b 1 0) q in
+    let challenges = one_more_passes is_challenge replies k
     ∙ ap (λ (b : Bool). length (filter is_challenge (take k replies)) + cond b 1 0) p in
     record {
       within = omega (arith, oks, challenges, within);

@@ -22,7 +22,7 @@ use Rattle.fe2o3_scram.specs.Hmac.{mechanism_name}
 use Rattle.fe2o3_sasl.specs.Profiles.{Profile, ScramProfile, ByPassword, client_frame, profile_machine, ProfileAllocates}
 use Rattle.fe2o3_sasl.specs.Runs.{Replies, ProfileGives, ProfileSteps, Runs}
 use Rattle.fe2o3_scram.specs.ServerFinal.{ReadsServerFinal}
-use Rattle.fe2o3_sasl.specs.ServerHistory.{carried, SpellsBody}
+use Rattle.fe2o3_sasl.specs.Bodies.{carried, SpellsBody}
 use Rattle.fe2o3_sasl.proofs.lemmas.histories.OneClientHistoryLemmas.{challenge_moves, client_moves, one_nonce_at, one_answers_at}
 use Rattle.fe2o3_sasl.proofs.lemmas.positions.OpenStateLemmas.{AreSame, Holds, Turns, holds_nothing, holds_push}
 use Rattle.fe2o3_sasl.proofs.lemmas.frames.SpellingLemmas.{sent}
@@ -106,12 +106,12 @@ start_step : (login : Login) (state : ClientState) (due : Option (List ℕ)) (wa
     (names : List (List ℕ)) (says : ClientSays) (next : Profile) → Contains names (mechanism_name login.version) →
     Replies (profile_in login state) (profile_in login (started_state login (base64_text event.nonce)))
     (Ok (frames.Init (mechanism_name login.version) (Some (client_first login.user (base64_text event.nonce)))
-    None)) says next →
+    login.hostname)) says next →
     StepsTo login state due waits event (Ok (frames.Mechanisms names)) says next
 start_step login state due waits event names says next has h =
     let nonce = base64_text event.nonce in
     let s = sent (Refused (Frame faults.TooLarge)) (λ body. Started body)
-    (canonical (frames.Init (mechanism_name login.version) (Some (client_first login.user nonce)) None))
+    (canonical (frames.Init (mechanism_name login.version) (Some (client_first login.user nonce)) login.hostname))
     (profile_in login state) (profile_in login (started_state login nonce)) says next h in
     let row : SaysRow login due waits event (Ok (frames.Mechanisms names)) says = inr (inl (has, s.0)) in
     ⊎_elim (λ (x : (says ≡ Refused (Frame faults.TooLarge)) × (next ≡ profile_in login state)). refused login state due
@@ -244,14 +244,14 @@ replied profile moved then reply other says next e n h =
 machine_step : (login : Login) (state : ClientState) (due : Option (List ℕ)) (waits : Option Answering) (event : Given)
     (frame : SaslFrame) (reply : Result SaslFrame ClientFault) (moved : Profile) (says : ClientSays) (next : Profile)
     → StandsFor login state due waits →
-    profile_machine (profile_in login state) None event.nonce frame reply moved
+    profile_machine (profile_in login state) login.hostname event.nonce frame reply moved
     → Replies (profile_in login state) moved reply says next
     → StepsTo login state due waits event (Ok frame) says next
 machine_step login state due waits event (frames.Mechanisms names) reply moved says next stands (inl m) h =
     start_step login state due waits event names says next m.0
     (replied (profile_in login state) moved (profile_in login (started_state login (base64_text event.nonce))) reply
     (Ok (frames.Init (mechanism_name login.version) (Some (client_first login.user (base64_text event.nonce)))
-    None)) says next m.1 m.2 h)
+    login.hostname)) says next m.1 m.2 h)
 machine_step login state due waits event (frames.Mechanisms names) reply moved says next stands (inr m) h =
     let r = replied (profile_in login state) moved (profile_in login state) reply
     (Err NotImplemented) says next m.1 m.2 h in
@@ -314,7 +314,7 @@ allocates login state (frames.Response text) h = absurd h
 pub profile_step : (login : Login) (state : ClientState) (due : Option (List ℕ)) (waits : Option Answering)
     (event : Given) (spelled : Result SaslFrame Error) (says : ClientSays) (next : Profile)
     → StandsFor login state due waits →
-    ProfileGives None (profile_in login state) event spelled says next
+    ProfileGives login.hostname (profile_in login state) event spelled says next
     → StepsTo login state due waits event spelled says next
 profile_step login state due waits event (Err fault) says next stands h =
     refused login state due waits event (Err fault) says next (Frame fault) h.0 h.1 (inr h.0)
@@ -425,7 +425,7 @@ running_push login events replies state next event spelled says running spells r
 
 runs_on : (login : Login) (events more : List Given) (replies others : List ClientSays) (state : ClientState)
     (last : Profile) → Running login events replies state
-    → Runs (ProfileSteps None) (profile_in login state) more others last
+    → Runs (ProfileSteps login.hostname) (profile_in login state) more others last
     → ClientHistory login (events ++ more) (replies ++ others)
 runs_on login events [] replies others state last running run =
     rw (run.0, nil events, nil replies) running.history
@@ -440,7 +440,7 @@ runs_on login events (event ∷ more) replies others state last running run =
     let to = profile_step login state running.due running.waits event step.0 says run.1 running.stands step.2 in
     let pushed = running_push login events replies state to.0 event step.0 says running step.1 to.2 to.3 in
     let ih = runs_on login (events ++ event ∷ []) more (replies ++ says ∷ []) rest to.0 last pushed
-    (subst (λ (p : Profile). Runs (ProfileSteps None) p more rest last) to.1 run.5) in
+    (subst (λ (p : Profile). Runs (ProfileSteps login.hostname) p more rest last) to.1 run.5) in
     subst (λ (r : List ClientSays). ClientHistory login (events ++ event ∷ more) (replies ++ r)) (sym run.4)
     (subst (λ (e : List Given). ClientHistory login e (replies ++ says ∷ rest)) (append_assoc events (event ∷ []) more)
     (subst (λ (r : List ClientSays). ClientHistory login ((events ++ event ∷ []) ++ more) r)

@@ -7,8 +7,8 @@ use Rattle.fe2o3_sasl_wire.specs.declared.amqp_types.SaslCode.TheVariants as out
 use Rattle.fe2o3_sasl_wire.specs.declared.sasl_frames.error.Error.{Error}
 use Rattle.fe2o3_sasl_wire.specs.SaslFrames.{canonical, SaslFrame}
 use Rattle.fe2o3_sasl_wire.specs.SaslFrames as frames
-use Rattle.fe2o3_scram.specs.declared.client_keys.KeyedClientError.{KeyedClientError}
-use Rattle.fe2o3_scram.specs.declared.client_keys.KeyedClientError.TheVariants as keyed_faults
+use Rattle.fe2o3_scram.specs.declared.scram_messages.error.KeyedClientError.{KeyedClientError}
+use Rattle.fe2o3_scram.specs.declared.scram_messages.error.KeyedClientError.TheVariants as keyed_faults
 use Rattle.fe2o3_scram.specs.ClientKeys.{ClientKeys, keys_of}
 use Rattle.fe2o3_scram.specs.KeyedScramClient.{KeyedSide, KeyedAnswersIn, KeyedBelievesIn, keyed_started, with_password}
 use Rattle.fe2o3_scram.specs.Laws.{AreKeysOf}
@@ -20,7 +20,7 @@ use Rattle.fe2o3_sasl.specs.Events.{Given, ClientSays, Refused, ClientFault, Oth
 use Rattle.fe2o3_sasl.specs.Laws.{KeysFit, KeyedRunsAreRuns, KeyedRunsAreHistories}
 use Rattle.fe2o3_sasl.specs.Profiles.{Profile, ScramProfile, ByPassword, ByKeys, ProfileAllocates, keyed_frame, profile_machine}
 use Rattle.fe2o3_sasl.specs.Runs.{ProfileGives, ProfileReplies, ProfileSteps, Replies, Runs, Sends}
-use Rattle.fe2o3_sasl.specs.ServerHistory.{SpellsBody}
+use Rattle.fe2o3_sasl.specs.Bodies.{SpellsBody}
 use Rattle.fe2o3_sasl.proofs.lemmas.machines.ClientMachineLemmas.{profile_runs_are_histories}
 
 -- the profile with keys, and the one that has the password in their place
@@ -233,15 +233,15 @@ runs_alike password side hostname (event ∷ events) replies last printable are 
     (rest.0, (says, twin password step.0, others, step.3, run.4, rest.1))
 
 pub keyed_runs_are_runs : KeyedRunsAreRuns
-keyed_runs_are_runs login salt count hostname events replies last printable run fit =
+keyed_runs_are_runs login salt count events replies last printable run fit =
     runs_alike login.password (record {
       user = login.user;
       keys = keys_of login.version login.password salt count;
       limit = login.limit;
       state = Initial;
-    }) hostname events replies last printable refl run fit
+    }) login.hostname events replies last printable refl run fit
 
 pub keyed_runs_are_histories : KeyedRunsAreHistories
 keyed_runs_are_histories login salt count events replies last printable run fit =
-    let twin_run = keyed_runs_are_runs login salt count None events replies last printable run fit in
+    let twin_run = keyed_runs_are_runs login salt count events replies last printable run fit in
     profile_runs_are_histories login events replies twin_run.0 twin_run.1

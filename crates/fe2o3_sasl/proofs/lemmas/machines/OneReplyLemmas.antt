@@ -9,8 +9,8 @@ use Rattle.fe2o3_scram.specs.declared.scram_messages.error.ServerScramErrorKind.
 use Rattle.fe2o3_scram.specs.ClientFinal.{Server, ClientFinal, ReadsClientFinal, Answer, answer_of, server_of}
 use Rattle.fe2o3_scram.specs.ClientFirst.{ClientFirst, ReadsClientFirst}
 use Rattle.fe2o3_scram.specs.Credentials.{Record, Provider, record_at}
-use Rattle.fe2o3_scram.specs.declared.client_keys.KeyedClientError.{KeyedClientError}
-use Rattle.fe2o3_scram.specs.declared.client_keys.KeyedClientError.TheVariants as keyed_faults
+use Rattle.fe2o3_scram.specs.declared.scram_messages.error.KeyedClientError.{KeyedClientError}
+use Rattle.fe2o3_scram.specs.declared.scram_messages.error.KeyedClientError.TheVariants as keyed_faults
 use Rattle.fe2o3_scram.specs.ClientKeys.{Fits, answer_with}
 use Rattle.fe2o3_scram.specs.KeyedScramClient.{KeyedSide, KeyedAnswersIn, KeyedBelievesIn, keyed_in, keyed_holding}
 use Rattle.fe2o3_scram.specs.ScramClient as client_states

@@ -20,7 +20,8 @@ use Rattle.fe2o3_scram.specs.Hmac.{mechanism_name}
 use Rattle.fe2o3_sasl.specs.Runs.{AcceptorGives, AcceptorSteps, Sends, server_says, Runs}
 use Rattle.fe2o3_sasl.specs.SaslAcceptor.{acceptor_machine, Acceptor, ScramAcceptor, ends_with, server_frame}
 use Rattle.fe2o3_scram.specs.ClientFinal.{ReadsClientFinal, server_of}
-use Rattle.fe2o3_sasl.specs.ServerHistory.{Challenging, Accepted, FitsAsInit, FitsAsResponse, FitsAt, Open, ServerAnswers, ServerAllocates, ServerHistory, SpellsBody, carried, is_challenge, is_ok, first_message, full_nonce, final_message, server_at, says_auth}
+use Rattle.fe2o3_sasl.specs.Bodies.{SpellsBody, carried}
+use Rattle.fe2o3_sasl.specs.ServerHistory.{Challenging, Accepted, FitsAsInit, FitsAsResponse, FitsAt, Open, ServerAnswers, ServerAllocates, ServerHistory, is_challenge, is_ok, first_message, full_nonce, final_message, server_at, says_auth}
 use Rattle.fe2o3_scram.specs.ScramServer.{ServerState, Initial, ServerFirstSent, ServerFinalSent, ChallengesFrom, ConcludesFrom}
 use Rattle.fe2o3_scram.proofs.lemmas.messages.ClientFinalLemmas.{one_client_final}
 use Rattle.fe2o3_scram.proofs.lemmas.messages.ClientFirstLemmas.{one_client_first}

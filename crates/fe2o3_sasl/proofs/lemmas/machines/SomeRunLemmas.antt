@@ -1,6 +1,6 @@
 -- Each list of events whose bodies are bytes has a run of either machine in which memory is not wanting, and so a
 -- history.
-use Rattle.std.proofs.Common.{◌≡◌, ◌≢◌, ℕ, zero, suc, ◌<◌, Bool, true, false, cond, Option, Some, None, List, [], ◌∷◌, length, refl, sym, ◌∙◌, arith, inl, inr, Result, Ok, Err}
+use Rattle.std.proofs.Common.{◌≡◌, ◌≢◌, ℕ, zero, suc, ◌<◌, Option, Some, None, List, [], ◌∷◌, length, refl, sym, ◌∙◌, arith, inl, inr, Result, Ok, Err}
 use Rattle.std.specs.List.{Contains}
 use Rattle.std.specs.Prelude.{slice_get, slice_index_or, IsUtf8}
 use Rattle.std.proofs.lemmas.Option.{none-some, same_Some}
@@ -32,22 +32,12 @@ use Rattle.fe2o3_sasl.specs.Runs.{Runs, AcceptorGives, AcceptorSteps, ProfileGiv
 use Rattle.fe2o3_sasl.specs.SaslAcceptor.{ScramAcceptor, acceptor_machine, ends_with, server_frame}
 use Rattle.fe2o3_sasl.specs.Profiles.{ScramProfile, ByPassword, profile_machine, client_frame, initial_response}
 use Rattle.fe2o3_sasl.specs.Complete.{ServerComplete, ClientComplete}
-use Rattle.fe2o3_sasl.specs.ServerHistory.{SpellsBody}
+use Rattle.fe2o3_sasl.specs.Bodies.{SpellsBody}
 use Rattle.fe2o3_sasl.proofs.lemmas.machines.ClientMachineLemmas.{profile_runs_are_histories}
+use Rattle.fe2o3_sasl.proofs.lemmas.machines.MemoryLemmas.{no_want}
 use Rattle.fe2o3_sasl.proofs.lemmas.machines.ServerMachineLemmas.{acceptor_runs_are_histories}
 
 -- ---- what a body spells
-
--- the fault of a body is not want of memory
-no_want : (body : List ℕ) → fault_of body ≢ faults.OutOfMemory
-unfolding fault_of
-no_want body = go _ _
-  where
-    go : (short right : Bool) → cond short faults.DecodeError (cond right faults.DecodeError faults.NotImplemented)
-        ≢ faults.OutOfMemory
-    go true right is = cc
-    go false true is = cc
-    go false false is = cc
 
 -- it is not a fault of memory
 abbrev Readable : Result SaslFrame Error → Type 0
@@ -268,24 +258,26 @@ told_frame frame (Ok answer) = tt
 told_frame frame (Err kind) = λ is. cc
 
 -- what the machine of a SCRAM profile does
-abbrev Moves : ClientSide → List ℕ → SaslFrame → Type 0
-Moves side nonce frame = (reply : Result SaslFrame ClientFault) × (moved : ClientSide)
-    × profile_machine (ScramProfile (ByPassword side)) None nonce frame reply (ScramProfile (ByPassword moved)) × Told reply
+abbrev Moves : Option (List ℕ) → ClientSide → List ℕ → SaslFrame → Type 0
+Moves hostname side nonce frame = (reply : Result SaslFrame ClientFault) × (moved : ClientSide)
+    × profile_machine (ScramProfile (ByPassword side)) hostname nonce frame reply (ScramProfile (ByPassword moved))
+    × Told reply
 
-some_move : (side : ClientSide) (nonce : List ℕ) (frame : SaslFrame) → Moves side nonce frame
-some_move side nonce (frames.Mechanisms names) = go (contains_or names (mechanism_name side.version))
+some_move : (hostname : Option (List ℕ)) (side : ClientSide) (nonce : List ℕ) (frame : SaslFrame)
+    → Moves hostname side nonce frame
+some_move hostname side nonce (frames.Mechanisms names) = go (contains_or names (mechanism_name side.version))
   where
-    go : Decided (Contains names (mechanism_name side.version)) → Moves side nonce (frames.Mechanisms names)
+    go : Decided (Contains names (mechanism_name side.version)) → Moves hostname side nonce (frames.Mechanisms names)
     go (inl has) = (
-      Ok (frames.Init (mechanism_name side.version) (initial_response (ScramProfile (ByPassword side)) nonce) None),
+      Ok (frames.Init (mechanism_name side.version) (initial_response (ScramProfile (ByPassword side)) nonce) hostname),
       started side nonce,
       inl (has, refl, refl),
       tt,
     )
     go (inr none) = (Err NotImplemented, side, inr (none, refl, refl), λ is. cc)
-some_move side nonce (frames.Challenge text) = go (utf8_or text)
+some_move hostname side nonce (frames.Challenge text) = go (utf8_or text)
   where
-    go : Decided (IsUtf8 text) → Moves side nonce (frames.Challenge text)
+    go : Decided (IsUtf8 text) → Moves hostname side nonce (frames.Challenge text)
     go (inl utf8) = let answer = some_answer side.state side text in (
       client_frame (λ message. frames.Response message) answer.0,
       answer.1,
@@ -293,24 +285,24 @@ some_move side nonce (frames.Challenge text) = go (utf8_or text)
       told_frame (λ message. frames.Response message) answer.0,
     )
     go (inr other) = (Err (Scram Utf8Error), side, inl (other, refl, refl), λ is. cc)
-some_move side nonce (frames.Outcome outcomes.Ok None) =
+some_move hostname side nonce (frames.Outcome outcomes.Ok None) =
     (Err (Scram ServerSignatureMismatch), side, (refl, refl), λ is. cc)
-some_move side nonce (frames.Outcome outcomes.Ok (Some text)) = let answer = some_belief side.state side text in (
+some_move hostname side nonce (frames.Outcome outcomes.Ok (Some text)) = let answer = some_belief side.state side text in (
   client_frame (λ believed. frames.Outcome outcomes.Ok (Some text)) answer.0,
   answer.1,
   (answer.0, answer.1, answer.2, refl, refl),
   told_frame (λ believed. frames.Outcome outcomes.Ok (Some text)) answer.0,
 )
-some_move side nonce (frames.Outcome outcomes.Auth more) =
+some_move hostname side nonce (frames.Outcome outcomes.Auth more) =
     (Ok (frames.Outcome outcomes.Auth more), side, (refl, refl), tt)
-some_move side nonce (frames.Outcome outcomes.Sys more) =
+some_move hostname side nonce (frames.Outcome outcomes.Sys more) =
     (Ok (frames.Outcome outcomes.Sys more), side, (refl, refl), tt)
-some_move side nonce (frames.Outcome outcomes.SysPerm more) =
+some_move hostname side nonce (frames.Outcome outcomes.SysPerm more) =
     (Ok (frames.Outcome outcomes.SysPerm more), side, (refl, refl), tt)
-some_move side nonce (frames.Outcome outcomes.SysTemp more) =
+some_move hostname side nonce (frames.Outcome outcomes.SysTemp more) =
     (Ok (frames.Outcome outcomes.SysTemp more), side, (refl, refl), tt)
-some_move side nonce (frames.Init mechanism response hostname) = (Err NotImplemented, side, (refl, refl), λ is. cc)
-some_move side nonce (frames.Response text) = (Err NotImplemented, side, (refl, refl), λ is. cc)
+some_move hostname side nonce (frames.Init mechanism response host) = (Err NotImplemented, side, (refl, refl), λ is. cc)
+some_move hostname side nonce (frames.Response text) = (Err NotImplemented, side, (refl, refl), λ is. cc)
 
 -- what a client says with a reply
 abbrev SaysWith : ClientSide → ClientSide → Result SaslFrame ClientFault → Type 0
@@ -345,25 +337,25 @@ some_says side moved (Ok (frames.Response text)) told =
     some_carried side moved (λ body. Answered body) (canonical (frames.Response text)) (λ body is. cc)
 
 -- what the profile gives
-some_told : (side : ClientSide) (event : Given) (spelled : Result SaslFrame Error)
+some_told : (hostname : Option (List ℕ)) (side : ClientSide) (event : Given) (spelled : Result SaslFrame Error)
     → (says : ClientSays) × (after : ClientSide)
-    × ProfileGives None (ScramProfile (ByPassword side)) event spelled says (ScramProfile (ByPassword after))
+    × ProfileGives hostname (ScramProfile (ByPassword side)) event spelled says (ScramProfile (ByPassword after))
     × (says ≢ Refused OutOfMemory)
-some_told side event (Err fault) = (Refused (Frame fault), side, (refl, refl), λ is. cc)
-some_told side event (Ok frame) =
-    let move = some_move side event.nonce frame in
+some_told hostname side event (Err fault) = (Refused (Frame fault), side, (refl, refl), λ is. cc)
+some_told hostname side event (Ok frame) =
+    let move = some_move hostname side event.nonce frame in
     let reply = some_says side move.1 move.0 move.3 in
     (reply.0, reply.1, inr (move.0, ScramProfile (ByPassword move.1), move.2, reply.2), reply.3)
 
-some_profile_run : (side : ClientSide) (events : List Given) → BodiesAreBytes events
+some_profile_run : (hostname : Option (List ℕ)) (side : ClientSide) (events : List Given) → BodiesAreBytes events
     → (replies : List ClientSays) × (last : ClientSide)
-    × Runs (ProfileSteps None) (ScramProfile (ByPassword side)) events replies (ScramProfile (ByPassword last))
+    × Runs (ProfileSteps hostname) (ScramProfile (ByPassword side)) events replies (ScramProfile (ByPassword last))
     × ClientComplete replies
-some_profile_run side [] are = ([], side, (refl, refl), λ k is. none-some (Refused OutOfMemory) is)
-some_profile_run side (event ∷ events) are =
+some_profile_run hostname side [] are = ([], side, (refl, refl), λ k is. none-some (Refused OutOfMemory) is)
+some_profile_run hostname side (event ∷ events) are =
     let spelled = some_spelling event.body (are 0 event refl) in
-    let step = some_told side event spelled.0 in
-    let rest = some_profile_run step.1 events (λ k. are (suc k)) in (
+    let step = some_told hostname side event spelled.0 in
+    let rest = some_profile_run hostname step.1 events (λ k. are (suc k)) in (
       step.0 ∷ rest.0,
       rest.1,
       (step.0, ScramProfile (ByPassword step.1), rest.0, (spelled.0, spelled.1, step.2), refl, rest.2),
@@ -379,5 +371,5 @@ some_client_history login events are =
       limit = login.limit;
       state = client_states.Initial;
     } in
-    let run = some_profile_run side events are in
+    let run = some_profile_run login.hostname side events are in
     (run.0, profile_runs_are_histories login events run.0 (ScramProfile (ByPassword run.1)) run.2, run.3)

@@ -1,13 +1,13 @@
 -- A run goes on by one step, and what holds of every history holds of a run from a fresh start.
-use Rattle.std.proofs.Common.{◌≡◌, ℕ, None, List, [], ◌∷◌, ◌++◌, ◌+◌, ◌<◌, map, length, take, get_or, refl, sym, ap, ◌∙◌, subst, Result, Ok, Err}
+use Rattle.std.proofs.Common.{◌≡◌, ℕ, Option, List, [], ◌∷◌, ◌++◌, ◌+◌, ◌<◌, map, length, take, get_or, refl, sym, ap, ◌∙◌, subst, Result, Ok, Err}
 use Rattle.std.specs.Prelude.{IfOk}
 use Rattle.std.proofs.lemmas.List.{take_more, map-append}
 use Rattle.fe2o3_sasl.specs.Events.{Given, Login, ServerSays, ClientSays}
 use Rattle.fe2o3_sasl.specs.ClientHistory.{ClientHistory}
 use Rattle.fe2o3_sasl.specs.ServerHistory.{ServerHistory}
-use Rattle.fe2o3_sasl.specs.Runs.{AcceptorSteps, ProfileSteps, Runs}
+use Rattle.fe2o3_sasl.specs.Runs.{AcceptorSteps, ProfileSteps, Runs, StartsAs}
 use Rattle.fe2o3_sasl.specs.SaslAcceptor.{Acceptor, ScramAcceptor, acceptor_machine}
-use Rattle.fe2o3_sasl.specs.Profiles.{Profile, scram_profile}
+use Rattle.fe2o3_sasl.specs.Profiles.{Profile}
 use Rattle.fe2o3_scram.specs.Credentials.{Provider}
 use Rattle.fe2o3_scram.specs.ScramServer as server_states
 use Rattle.fe2o3_sasl.proofs.lemmas.machines.ClientMachineLemmas.{profile_runs_are_histories}
@@ -60,9 +60,11 @@ server_run_is_history provider acceptor last events replies is run =
     acceptor_runs_are_histories provider events replies last
     (subst (λ (a : Acceptor). Runs (AcceptorSteps acceptor_machine) a events replies last) is run)
 
-pub client_run_is_history : (login : Login) (profile last : Profile) (events : List Given)
-    (replies : List ClientSays) → profile ≡ scram_profile login
-    → Runs (ProfileSteps None) profile events replies last → ClientHistory login events replies
-client_run_is_history login profile last events replies is run =
+-- and so is one from where a login starts, with its hostname
+pub client_run_is_history : (login : Login) (hostname : Option (List ℕ)) (profile last : Profile) (events : List Given)
+    (replies : List ClientSays) → StartsAs profile hostname login
+    → Runs (ProfileSteps hostname) profile events replies last → ClientHistory login events replies
+client_run_is_history login hostname profile last events replies starts run =
     profile_runs_are_histories login events replies last
-    (subst (λ (p : Profile). Runs (ProfileSteps None) p events replies last) is run)
+    (subst (λ (p : Profile). Runs (ProfileSteps login.hostname) p events replies last) starts.0
+    (subst (λ (h : Option (List ℕ)). Runs (ProfileSteps h) profile events replies last) starts.1 run))

@@ -14,7 +14,8 @@ use Rattle.fe2o3_sasl.specs.Events.{Given, Login, IsRecord, ServerSays, Conclude
 use Rattle.fe2o3_sasl.specs.Headline.{AnswersOkExactly, SignedAt, ReportsOkExactly, VerifierAgrees, TakenVerifiersAgree, EveryServer, EveryClient}
 use Rattle.fe2o3_scram.specs.Hmac.{hmac_of}
 use Rattle.fe2o3_sasl.specs.Positions.{test_at}
-use Rattle.fe2o3_sasl.specs.ServerHistory.{Challenging, Accepted, FitsAsResponse, AcceptsAt, Open, ServerAnswers, ServerAllocates, ServerHistory, SpellsBody, says_ok, is_ok}
+use Rattle.fe2o3_sasl.specs.Bodies.{SpellsBody}
+use Rattle.fe2o3_sasl.specs.ServerHistory.{Challenging, Accepted, FitsAsResponse, AcceptsAt, Open, ServerAnswers, ServerAllocates, ServerHistory, says_ok, is_ok}
 use Rattle.fe2o3_sasl.specs.TwoSides.{Sides, sides_of, Histories, Takes, server_message}
 use Rattle.fe2o3_sasl.proofs.lemmas.histories.OneClientHistoryLemmas.{one_open_answer, one_reading_of_outcome}
 use Rattle.fe2o3_sasl.proofs.lemmas.histories.ReportedOkLemmas.{reported}

@@ -18,7 +18,8 @@ use Rattle.fe2o3_sasl.specs.Positions.{IsLastOpen, OpenBy}
 use Rattle.fe2o3_scram.specs.ClientFinal.{ClientFinal, ReadsClientFinal}
 use Rattle.fe2o3_scram.specs.ServerFinal.{ReadsServerFinal}
 use Rattle.fe2o3_scram.specs.ServerFirst.{ServerFirst, ReadsServerFirst}
-use Rattle.fe2o3_sasl.specs.ServerHistory.{Challenging, Accepted, FitsAsInit, FitsAsResponse, Open, ServerAnswers, ServerAllocates, ServerHistory, SpellsBody, carried, first_message, final_message, server_at}
+use Rattle.fe2o3_sasl.specs.Bodies.{SpellsBody, carried}
+use Rattle.fe2o3_sasl.specs.ServerHistory.{Challenging, Accepted, FitsAsInit, FitsAsResponse, Open, ServerAnswers, ServerAllocates, ServerHistory, first_message, final_message, server_at}
 use Rattle.fe2o3_sasl.specs.UnalteredRuns.{client_body, server_body, Arrives}
 use Rattle.fe2o3_sasl.specs.Complete.{ClientComplete, ServerComplete}
 use Rattle.fe2o3_scram.proofs.lemmas.messages.OneValueLemmas.{one_server_first_value, one_client_final_value}
@@ -106,12 +107,12 @@ start_row : (login : Login) (events : List Given) (replies : List ClientSays) (k
     → says ≢ Refused OutOfMemory → says ≢ Refused (Frame faults.TooLarge) → Arrives (client_body (Some says)) body
     → (says ≡ Started body)
     × (canonical (frames.Init (mechanism_name login.version)
-    (Some (client_first login.user (base64_text event.nonce))) None) ≡ Some body)
+    (Some (client_first login.user (base64_text event.nonce))) login.hostname) ≡ Some body)
 start_row login events replies k event says body (inl wants) memory small arrives = absurd (memory wants.1)
 start_row login events replies k event says body (inr (inl starts)) memory small arrives =
     sent_as client_body (Refused (Frame faults.TooLarge)) (λ (b : List ℕ). Started b) (λ bytes. refl)
     (canonical (frames.Init (mechanism_name login.version)
-    (Some (client_first login.user (base64_text event.nonce))) None)) says body starts.1 small arrives
+    (Some (client_first login.user (base64_text event.nonce))) login.hostname)) says body starts.1 small arrives
 start_row login events replies k event says body (inr (inr other)) memory small arrives =
     absurd (other.0 (0, omega arith, refl))
 
@@ -122,7 +123,7 @@ pub client_starts : (login : Login) (events : List Given) (replies : List Client
     → ClientComplete replies → ClientSmall replies → Arrives (client_body (slice_get replies k)) body
     → (slice_get replies k ≡ Some (Started body))
     × (canonical (frames.Init (mechanism_name login.version)
-    (Some (client_first login.user (base64_text event.nonce))) None) ≡ Some body)
+    (Some (client_first login.user (base64_text event.nonce))) login.hostname) ≡ Some body)
 client_starts login events replies k event body history at spells complete small arrives =
     let reply = client_reply login events replies k event
     (frames.Mechanisms (mechanism_name login.version ∷ [])) history at spells in

@@ -1,5 +1,5 @@
 -- An unaltered run logs in.
-use Rattle.std.proofs.Common.{◌≡◌, ◌≤◌, ◌<◌, ◌^◌, ℕ, zero, suc, List, [], ◌∷◌, ◌++◌, codes, Some, None, length, refl, sym, ap, ◌∙◌, subst, arith, Result, Ok}
+use Rattle.std.proofs.Common.{◌≡◌, ◌≤◌, ◌<◌, ◌^◌, ℕ, zero, suc, Option, List, [], ◌∷◌, ◌++◌, codes, Some, None, length, refl, sym, ap, ◌∙◌, subst, arith, Result, Ok}
 use Rattle.std.specs.Prelude.{slice_get}
 use Rattle.std.specs.Fmt.{decimal}
 use Rattle.std.specs.Str.{IsUtf8}
@@ -24,7 +24,8 @@ use Rattle.fe2o3_sasl.specs.Positions.{test_at, IsLastOpen}
 use Rattle.fe2o3_scram.specs.ClientFinal.{ReadsClientFinal, server_of}
 use Rattle.fe2o3_scram.specs.ServerFinal.{server_final_of, ReadsServerFinal}
 use Rattle.fe2o3_scram.specs.SaslprepAscii.{IsPrintable}
-use Rattle.fe2o3_sasl.specs.ServerHistory.{Challenging, Accepted, FitsAsInit, FitsAsResponse, FitsAt, Open, SpellsBody, final_message, is_challenge, is_ok}
+use Rattle.fe2o3_sasl.specs.Bodies.{SpellsBody}
+use Rattle.fe2o3_sasl.specs.ServerHistory.{Challenging, Accepted, FitsAsInit, FitsAsResponse, FitsAt, Open, final_message, is_challenge, is_ok}
 use Rattle.fe2o3_sasl.specs.TwoSides.{Sides, sides_of, Histories, IsPlainInit, OkAt, Takes, Shows}
 use Rattle.fe2o3_sasl.specs.UnalteredRuns.{UnalteredRun, Suffices, HoldsLogin, LogsIn, agreed_findings}
 use Rattle.fe2o3_sasl.specs.Audit.{AreAgreed, Lists, Audits}
@@ -82,9 +83,9 @@ answering_in x = record { nonce = x.client_nonce; text = first_in x; first = nam
 abbrev accepted_in : Exchange → Accepted
 accepted_in x = record { challenge = challenge_in x; final = final_in x }
 
--- its frames
-abbrev init_in : Exchange → SaslFrame
-init_in x = frames.Init (mechanism_name x.version) (Some (client_first x.user x.client_nonce)) None
+-- its init, with this hostname
+abbrev init_in : Option (List ℕ) → Exchange → SaslFrame
+init_in hostname x = frames.Init (mechanism_name x.version) (Some (client_first x.user x.client_nonce)) hostname
 
 -- the server-first message is UTF-8
 first_text : (x : Exchange) → IsSound x → IsUtf8 (first_in x)
@@ -193,23 +194,26 @@ module _ (sides : Sides) (salt : List ℕ) (count : ℕ) (run : UnalteredRun sid
 
   -- the client starts
   starts : (slice_get sides.client_replies 0 ≡ Some (Started run.init.body))
-      × (canonical (init_in exchange) ≡ Some run.init.body)
+      × (canonical (init_in sides.login.hostname exchange) ≡ Some run.init.body)
   starts = client_starts sides.login sides.client_events sides.client_replies 0 run.offer run.init.body histories.client
       offer_at (spells_mechanisms sides.login.version run.offer.body run.offered) fits.client fits.client_small
       run.started
 
-  init_spelled : SpellsBody run.init.body (Ok (init_in exchange))
-  init_spelled = spells_init sides.login.version (client_first sides.login.user exchange.client_nonce) run.init.body
-      starts.1
+  abbrev init_sent : SaslFrame
+  init_sent = init_in sides.login.hostname exchange
+
+  init_spelled : SpellsBody run.init.body (Ok init_sent)
+  init_spelled = spells_init sides.login.version (client_first sides.login.user exchange.client_nonce)
+      sides.login.hostname run.init.body login.hostname starts.1
 
   -- the server challenges
-  init_fits : FitsAsInit sides.provider run.init (init_in exchange) (challenge_in exchange)
+  init_fits : FitsAsInit sides.provider run.init init_sent (challenge_in exchange)
   init_fits = (ap mechanism_name (sym holds.version), meets.client_first, holds.stored, refl)
 
   challenges : (slice_get sides.server_replies 0 ≡ Some (Challenged run.challenge.body))
       × (canonical (frames.Challenge (first_in exchange)) ≡ Some run.challenge.body)
   challenges = server_challenges sides.provider sides.server_events sides.server_replies 0 run.init
-      (mechanism_name sides.login.version) (client_first sides.login.user exchange.client_nonce) None
+      (mechanism_name sides.login.version) (client_first sides.login.user exchange.client_nonce) sides.login.hostname
       (challenge_in exchange) run.challenge.body histories.server init_at init_spelled init_fits fits.server
       fits.server_small run.challenged
 
@@ -247,7 +251,7 @@ module _ (sides : Sides) (salt : List ℕ) (count : ℕ) (run : UnalteredRun sid
   challenged_open = opens_here is_challenge is_ok sides.server_replies 0 (ap (test_at is_challenge) challenges.0)
 
   is_open : Open sides.provider sides.server_events sides.server_replies 1 (challenge_in exchange)
-  is_open = (0, challenged_open, (run.init, init_in exchange, init_at, init_spelled, init_fits))
+  is_open = (0, challenged_open, (run.init, init_sent, init_at, init_spelled, init_fits))
 
   one_open_challenge : (challenge : Challenging)
       → Open sides.provider sides.server_events sides.server_replies 1 challenge → challenge ≡ challenge_in exchange
@@ -255,10 +259,10 @@ module _ (sides : Sides) (salt : List ℕ) (count : ℕ) (run : UnalteredRun sid
       let at = open_value is_challenge is_ok (FitsAt sides.provider sides.server_events) sides.server_replies 1 0
       challenge challenged_open also in
       let event = same_Some at.0 run.init (sym at.2 ∙ init_at) in
-      let frame = same_frame at.1 (init_in exchange) (one_spelling run.init.body (Ok at.1) (Ok (init_in exchange))
+      let frame = same_frame at.1 init_sent (one_spelling run.init.body (Ok at.1) (Ok init_sent)
       (subst (λ (e : Given). SpellsBody e.body (Ok at.1)) event at.3) init_spelled) in
       one_fits sides.provider run.init (frames.Init (mechanism_name sides.login.version)
-      (Some (client_first sides.login.user exchange.client_nonce)) None) challenge (challenge_in exchange)
+      (Some (client_first sides.login.user exchange.client_nonce)) sides.login.hostname) challenge (challenge_in exchange)
       (subst (λ (f : SaslFrame). FitsAsInit sides.provider run.init f challenge) frame
       (subst (λ (e : Given). FitsAsInit sides.provider e at.1 challenge) event at.4)) init_fits
     where

@@ -65,7 +65,7 @@ fn judge_verifier(
         agreed(alloc, server)
     } else {
         Ok(Verdict::SameMac {
-            client_key: client.server_key.as_slice().to_vec(alloc)?,
+            client_key: client.keys.server_key().to_vec(alloc)?,
             client_text: client.message.clone()?,
             server_key: server.server_key.clone()?,
             server_text: server.message.clone()?,
@@ -88,7 +88,7 @@ fn judge_proof(
     if client.message == server.message {
         return agreed(alloc, server);
     }
-    let client_key = client.client_key.as_slice();
+    let client_key = client.keys.client_key();
     if client_key == server.recovered_key.as_slice() {
         Ok(Verdict::SameMac {
             client_key: server.stored_key.clone()?,

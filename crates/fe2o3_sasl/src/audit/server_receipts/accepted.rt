@@ -7,7 +7,8 @@ ghost use Rattle.fe2o3_scram.specs.Keys.{auth_message as auth_message_of, recove
 ghost use Rattle.fe2o3_scram.specs.Texts.{base64_text};
 ghost use Rattle.fe2o3_sasl.specs.Audit.{AreParameters, parameters_of};
 ghost use Rattle.fe2o3_sasl.specs.Events.{IsRecord};
-ghost use Rattle.fe2o3_sasl.specs.ServerHistory.{SpellsBody, first_message};
+ghost use Rattle.fe2o3_sasl.specs.Bodies.{SpellsBody};
+ghost use Rattle.fe2o3_sasl.specs.ServerHistory.{first_message};
 ghost use Rattle.fe2o3_sasl.specs.TwoSides.{HasParts};
 ghost use Rattle.fe2o3_sasl.specs.private.Findings.{server_receipt};
 ghost use Rattle.fe2o3_sasl.specs.private.Receipts.{OfAccepted};

@@ -75,17 +75,20 @@ is_none p q = cc
 
 -- ---- the four refusals, in their order
 
+-- fewer than four bytes are a DecodeError
 pub refuses_short : (bytes : List ℕ) → length bytes < 4 → ReadsBody bytes (Err faults.DecodeError)
 unfolding fault_of
 refuses_short bytes short =
     (rw (lt-ltb _ _ short) refl, λ frame n begins. omega (arith, (read_back bytes frame n begins).start.long))
 
+-- a frame of another type than that of SASL is NotImplemented
 pub refuses_type : (bytes : List ℕ) → 4 ≤ length bytes → (get_or bytes 1 0 ≡ 1 → ⊥)
     → ReadsBody bytes (Err faults.NotImplemented)
 unfolding fault_of
 refuses_type bytes long other =
     (rw (le-ltb _ _ long, ne_eqb _ _ other) refl, λ frame n begins. other (read_back bytes frame n begins).start.kind)
 
+-- a SASL frame with another data offset than 2 is NotImplemented
 pub refuses_offset : (bytes : List ℕ) → 4 ≤ length bytes → get_or bytes 1 0 ≡ 1 → (get_or bytes 0 0 ≡ 2 → ⊥)
     → ReadsBody bytes (Err faults.NotImplemented)
 unfolding fault_of
@@ -94,6 +97,7 @@ refuses_offset bytes long kind other = (
   λ frame n begins. other (read_back bytes frame n begins).start.offset,
 )
 
+-- a sound start with no value behind it is a DecodeError
 pub refuses_value : (bytes : List ℕ) → StartsSoundly bytes → value_at (drop 4 bytes) ≡ None
     → ReadsBody bytes (Err faults.DecodeError)
 unfolding fault_of
@@ -119,6 +123,7 @@ begins_once bytes frame other m n f s =
 abbrev answer_with : SaslFrame → ℕ → SaslFrame × ℕ
 answer_with frame n = (frame, n)
 
+-- two answers to one body are the same answer
 pub one_answer : (bytes : List ℕ) (left right : Result (SaslFrame × ℕ) Error) → ReadsBody bytes left
     → ReadsBody bytes right → left ≡ right
 one_answer bytes (Ok x) (Ok y) f s =
@@ -161,6 +166,7 @@ answered_length bytes true fits e = (Err faults.DecodeError, refuses_short bytes
 answered_length bytes false fits e =
     answered_type bytes (eqb (get_or bytes 1 0) 1) fits (ltb-false (length bytes) 4 e) refl
 
+-- each list of bytes has an answer
 pub some_answer : (bytes : List ℕ) → IsBytes bytes → Answered bytes
 some_answer bytes fits = answered_length bytes (ltb (length bytes) 4) fits refl
 

@@ -12,6 +12,7 @@ use Rattle.fe2o3_sasl_wire.proofs.lemmas.frames.PrefixLemmas.{no_spelling_begins
 use Rattle.fe2o3_sasl_wire.proofs.lemmas.frames.BodyAnswerLemmas.{one_answer, some_answer}
 use Rattle.fe2o3_sasl_wire.proofs.lemmas.writing.CanonicalSpellsLemmas.{canonical_spells}
 
+-- two frames that one body spells are one: the law of this name
 pub spellings_have_one_frame : SpellingsHaveOneFrame
 spellings_have_one_frame left right body s t = (no_spelling_begins_another left right body body [] [] s t refl).0
 
@@ -23,11 +24,13 @@ spelling_begins frame body rest s = record {
   spelled = subst (Spells frame) (sym (take_at body rest (length body) refl)) s;
 }
 
+-- what is written is read back, whatever follows it: the law of this name
 pub written_bodies_are_read : WrittenBodiesAreRead
 written_bodies_are_read frame body rest answer texts e =
     let read = spelling_begins frame body rest (canonical_spells frame body texts e) in
     (read, λ other. one_answer (body ++ rest) answer (Ok (frame, length body)) other read)
 
+-- each list of bytes is read in exactly one way: the law of this name
 pub bodies_have_one_answer : BodiesHaveOneAnswer
 bodies_have_one_answer body fits =
     let some = some_answer body fits in
@@ -36,6 +39,7 @@ bodies_have_one_answer body fits =
 not_null : (mechanism : List ℕ) → Symbol mechanism ≡ Null → ⊥
 not_null mechanism e = cc
 
+-- the mechanism of an init that a body spells is ASCII: the law of this name
 pub spelled_mechanisms_are_ascii : SpelledMechanismsAreAscii
 spelled_mechanisms_are_ascii (Mechanisms names) body s = tt
 spelled_mechanisms_are_ascii (Challenge bytes) body s = tt
@@ -58,5 +62,6 @@ same_header left right same =
     let revision : left.revision ≡ right.revision = cc in
     λ i. record { id = id i; major = major i; minor = minor i; revision = revision i }
 
+-- frames, codes, headers and protocols that are equal by `==` are one: the law of this name
 pub equal_values_are_one : EqualValuesAreOne
 equal_values_are_one = (same_frame_decides, same_code, same_header, same_id)

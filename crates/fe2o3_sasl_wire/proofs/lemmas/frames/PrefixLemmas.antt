@@ -25,6 +25,7 @@ values_of : (third fourth other next : ℕ) (value last : List ℕ)
     → value ≡ last
 values_of third fourth other next value last same = cc
 
+-- a body that spells a frame begins no other such body: the law of this name
 pub no_spelling_begins_another : NoSpellingBeginsAnother
 no_spelling_begins_another left right body other rest others spelled spells same =
     let value = spelled.value ++ rest in

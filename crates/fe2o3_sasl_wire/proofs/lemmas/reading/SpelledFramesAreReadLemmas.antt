@@ -16,33 +16,34 @@ use Rattle.fe2o3_sasl_wire.proofs.lemmas.reading.SpelledValuesAreReadLemmas.{num
 -- ---- items
 
 -- a step that reads the first field and leaves the others
-pub record Goes {A : Type 0} (answer : Option (A × Items)) (x : A) (fields : List Field) : Type 0 where
+pub record Goes {A : Type 0} (answer : Option (A × Items)) (value : A) (fields : List Field) : Type 0 where
   pub left : Items
-  pub read : answer ≡ Some (x, left)
+  pub read : answer ≡ Some (value, left)
   pub others : SpellsItems fields left.0 left.1
 
 -- a reader of a field
 pub record Rereads {A : Type 0} (read : List ℕ → Option (A × List ℕ)) (field : A → Field) : Type 0 where
-  pub again : (x : A) (b rest : List ℕ) → SpellsField (field x) b → read (b ++ rest) ≡ Some (x, rest)
-  pub there : (x : A) → field x ≡ Null → ⊥
+  pub again : (value : A) (spelling rest : List ℕ) → SpellsField (field value) spelling
+      → read (spelling ++ rest) ≡ Some (value, rest)
+  pub there : (value : A) → field value ≡ Null → ⊥
 
 required_step : {A : Type 0} (read : List ℕ → Option (A × List ℕ)) (count before : ℕ) (items item others : List ℕ)
-    (x : A) → count ≡ suc before → items ≡ item ++ others
-    → read (item ++ others) ≡ Some (x, others) → required read (count, items) ≡ Some (x, (before, others))
+    (value : A) → count ≡ suc before → items ≡ item ++ others
+    → read (item ++ others) ≡ Some (value, others) → required read (count, items) ≡ Some (value, (before, others))
 unfolding required
-required_step read count before items item others x e f r =
+required_step read count before items item others value e f r =
     let more : eqb count 0 ≡ false = ne_eqb count 0 (λ z. absurd (omega arith)) in
     let less : count - 1 ≡ before = omega arith in
     rw (more, f, r, less) refl
 
 required_again : {A : Type 0} (read : List ℕ → Option (A × List ℕ)) (field : A → Field) → Rereads read field
-    → (x : A) (fields : List Field) (count : ℕ) (items : List ℕ)
-    → SpellsItems (field x ∷ fields) count items → Goes (required read (count, items)) x fields
-required_again read field rereads x fields count items (inl none) = absurd (rereads.there x none.0.0)
-required_again read field rereads x fields count items (inr s) =
+    → (value : A) (fields : List Field) (count : ℕ) (items : List ℕ)
+    → SpellsItems (field value ∷ fields) count items → Goes (required read (count, items)) value fields
+required_again read field rereads value fields count items (inl none) = absurd (rereads.there value none.0.0)
+required_again read field rereads value fields count items (inr s) =
     record {
       left = (s.0, s.2);
-      read = required_step read count s.0 items s.1 s.2 x s.3 s.4 (rereads.again x s.1 s.2 s.5);
+      read = required_step read count s.0 items s.1 s.2 value s.3 s.4 (rereads.again value s.1 s.2 s.5);
       others = s.6;
     }
 
@@ -65,17 +66,18 @@ null_step read count before items item others e f g =
     rw (more, f, g, less) refl
 
 there_step : {A : Type 0} (read : List ℕ → Option (A × List ℕ)) (count before : ℕ) (items item others : List ℕ)
-    (x : A) → count ≡ suc before → items ≡ item ++ others
-    → null_at (item ++ others) ≡ None → read (item ++ others) ≡ Some (x, others)
-    → optional_at read (count, items) ≡ Some (Some x, (before, others))
+    (value : A) → count ≡ suc before → items ≡ item ++ others
+    → null_at (item ++ others) ≡ None → read (item ++ others) ≡ Some (value, others)
+    → optional_at read (count, items) ≡ Some (Some value, (before, others))
 unfolding optional_at
-there_step read count before items item others x e f n r =
+there_step read count before items item others value e f n r =
     let more : eqb count 0 ≡ false = ne_eqb count 0 (λ z. absurd (omega arith)) in
     let less : count - 1 ≡ before = omega arith in
     rw (more, f, n, r, less) refl
 
+-- a spelling of such a field never begins with a null
 abbrev pub NotNull : (List ℕ → Field) → Type 0
-NotNull field = (x b rest : List ℕ) → SpellsField (field x) b → null_at (b ++ rest) ≡ None
+NotNull field = (value spelling rest : List ℕ) → SpellsField (field value) spelling → null_at (spelling ++ rest) ≡ None
 
 optional_again : (read : List ℕ → Option (List ℕ × List ℕ)) (field : List ℕ → Field) → Rereads read field
     → NotNull field → (o : Option (List ℕ)) (fields : List Field) (count : ℕ) (items : List ℕ)
@@ -99,11 +101,11 @@ optional_again read field rereads apart (Some x) fields count items (inr s) =
 ended_again : (items : Items) → SpellsItems [] items.0 items.1 → ended items ≡ Some tt
 ended_again items s = rw (s.0, s.1) refl
 
-variable_null : (short long : ℕ) → eqb short 0x40 ≡ false → eqb long 0x40 ≡ false → (x b rest : List ℕ)
-    → SpellsVariable short long x b → null_at (b ++ rest) ≡ None
-variable_null short long p q x b rest s = rw s.whole (first s.form)
+variable_null : (short long : ℕ) → eqb short 0x40 ≡ false → eqb long 0x40 ≡ false → (value spelling rest : List ℕ)
+    → SpellsVariable short long value spelling → null_at (spelling ++ rest) ≡ None
+variable_null short long p q value spelling rest s = rw s.whole (first s.form)
   where
-    first : (form : Form) → null_at (choice short long form ∷ content form x ++ rest) ≡ None
+    first : (form : Form) → null_at (choice short long form ∷ content form value ++ rest) ≡ None
     first Eight = rw p refl
     first ThirtyTwo = rw q refl
 
@@ -128,8 +130,8 @@ binary_not_null x b rest s = variable_null 0xa0 0xb0 refl refl x b rest s
 string_not_null : NotNull Text
 string_not_null x b rest s = variable_null 0xa1 0xb1 refl refl x b rest s.1
 
-fields_again : (f : SaslFrame) (count : ℕ) (items : List ℕ) → SpellsItems (fields_of f) count items
-    → fields_at (kind_of f) (count, items) ≡ Some f
+fields_again : (frame : SaslFrame) (count : ℕ) (items : List ℕ) → SpellsItems (fields_of frame) count items
+    → fields_at (kind_of frame) (count, items) ≡ Some frame
 unfolding fields_at
 fields_again (Mechanisms names) count items s =
     let a = required_again symbols_at Symbols symbols_reread names [] count items s in
@@ -168,15 +170,15 @@ sized_again ThirtyTwo count items rest size few =
       number_again ThirtyTwo count items few,
     ) refl
 
-empty_again : (count : ℕ) (items b rest : List ℕ) → count ≡ 0 → items ≡ [] → b ≡ 0x45 ∷ []
-    → list_at (b ++ rest) ≡ Some ((count, items), rest)
+empty_again : (count : ℕ) (items spelling rest : List ℕ) → count ≡ 0 → items ≡ [] → spelling ≡ 0x45 ∷ []
+    → list_at (spelling ++ rest) ≡ Some ((count, items), rest)
 unfolding list_at
-empty_again count items b rest e f g = rw (e, f, g) refl
+empty_again count items spelling rest e f g = rw (e, f, g) refl
 
-list_again : (count : ℕ) (items b rest : List ℕ) → SpellsList count items b
-    → list_at (b ++ rest) ≡ Some ((count, items), rest)
-list_again count items b rest (inl s) = empty_again count items b rest s.0 s.1 s.2
-list_again count items b rest (inr s) = rw s.whole (sized_again s.form count items rest s.size s.few)
+list_again : (count : ℕ) (items spelling rest : List ℕ) → SpellsList count items spelling
+    → list_at (spelling ++ rest) ≡ Some ((count, items), rest)
+list_again count items spelling rest (inl s) = empty_again count items spelling rest s.0 s.1 s.2
+list_again count items spelling rest (inr s) = rw s.whole (sized_again s.form count items rest s.size s.few)
 
 name_again : (kind : Kind) → kind_of_name (name_of kind) ≡ Some kind
 unfolding kind_of_name
@@ -222,24 +224,26 @@ unfolding descriptor_at
 named_step kind Eight rest e = rw (e, name_again kind) refl
 named_step kind ThirtyTwo rest e = rw (e, name_again kind) refl
 
-descriptor_again : (kind : Kind) (b rest : List ℕ) → SpellsDescriptor kind b
-    → descriptor_at (b ++ rest) ≡ Some (kind, rest)
-descriptor_again kind b rest (inl e) = rw e (short_descriptor kind rest)
-descriptor_again kind b rest (inr (inl e)) = rw e (long_descriptor kind rest)
-descriptor_again kind b rest (inr (inr s)) =
-    rw s.1.whole (named_step kind s.1.form rest (rw s.1.whole at (symbol_again (name_of kind) b rest s)))
+descriptor_again : (kind : Kind) (spelling rest : List ℕ) → SpellsDescriptor kind spelling
+    → descriptor_at (spelling ++ rest) ≡ Some (kind, rest)
+descriptor_again kind spelling rest (inl e) = rw e (short_descriptor kind rest)
+descriptor_again kind spelling rest (inr (inl e)) = rw e (long_descriptor kind rest)
+descriptor_again kind spelling rest (inr (inr s)) =
+    rw s.1.whole (named_step kind s.1.form rest (rw s.1.whole at (symbol_again (name_of kind) spelling rest s)))
 
-value_step : (f : SaslFrame) (count : ℕ) (descriptor items fields rest : List ℕ)
-    → descriptor_at (descriptor ++ (fields ++ rest)) ≡ Some (kind_of f, fields ++ rest)
-    → list_at (fields ++ rest) ≡ Some ((count, items), rest) → fields_at (kind_of f) (count, items) ≡ Some f
-    → value_at (0 ∷ descriptor ++ (fields ++ rest)) ≡ Some (f, rest)
+value_step : (frame : SaslFrame) (count : ℕ) (descriptor items fields rest : List ℕ)
+    → descriptor_at (descriptor ++ (fields ++ rest)) ≡ Some (kind_of frame, fields ++ rest)
+    → list_at (fields ++ rest) ≡ Some ((count, items), rest) → fields_at (kind_of frame) (count, items) ≡ Some frame
+    → value_at (0 ∷ descriptor ++ (fields ++ rest)) ≡ Some (frame, rest)
 unfolding value_at
-value_step f count descriptor items fields rest d l i = rw (d, l, i) refl
+value_step frame count descriptor items fields rest d l i = rw (d, l, i) refl
 
-pub value_again : (f : SaslFrame) (b rest : List ℕ) → SpellsValue f b → value_at (b ++ rest) ≡ Some (f, rest)
-value_again f b rest s =
-    let regrouped : b ++ rest ≡ 0 ∷ s.descriptor ++ (s.fields ++ rest) =
+-- a value that is spelled is read back, whatever follows it
+pub value_again : (frame : SaslFrame) (spelling rest : List ℕ) → SpellsValue frame spelling
+    → value_at (spelling ++ rest) ≡ Some (frame, rest)
+value_again frame spelling rest s =
+    let regrouped : spelling ++ rest ≡ 0 ∷ s.descriptor ++ (s.fields ++ rest) =
     rw s.whole (ap (λ (t : List ℕ). 0 ∷ t) (append_assoc s.descriptor s.fields rest)) in
-    ap value_at regrouped ∙ value_step f s.count s.descriptor s.items s.fields rest
-    (descriptor_again (kind_of f) s.descriptor (s.fields ++ rest) s.described)
-    (list_again s.count s.items s.fields rest s.listed) (fields_again f s.count s.items s.each)
+    ap value_at regrouped ∙ value_step frame s.count s.descriptor s.items s.fields rest
+    (descriptor_again (kind_of frame) s.descriptor (s.fields ++ rest) s.described)
+    (list_again s.count s.items s.fields rest s.listed) (fields_again frame s.count s.items s.each)

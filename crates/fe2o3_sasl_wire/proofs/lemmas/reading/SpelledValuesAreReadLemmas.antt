@@ -16,6 +16,7 @@ use Rattle.fe2o3_sasl_wire.specs.private.Writing.{elements}
 use Rattle.fe2o3_sasl_wire.specs.private.Reading.{number_at, content_at, form_at, variable_at, element_at, symbol_at, string_at, elements_at, array_at, one_at, symbols_at, code_at, binary_at}
 use Rattle.fe2o3_sasl_wire.proofs.lemmas.reading.TextLemmas.{is_ascii-from_IsAscii}
 
+-- a number that is written is read back, whatever follows it
 pub number_again : (form : Form) (n : ℕ) (rest : List ℕ) → n < limit form
     → number_at form (number form n ++ rest) ≡ Some (n, rest)
 number_again Eight n rest lt = refl
@@ -24,28 +25,31 @@ number_again ThirtyTwo n rest lt =
     let long : ltb (length (bytes ++ rest)) 4 ≡ false = le-ltb _ _ (omega (arith, length-append bytes rest)) in
     rw (long, from_be_bytes-to_be_bytes_4 n lt) refl
 
-pub content_again : (form : Form) (x rest : List ℕ) → length x < limit form
-    → content_at form (content form x ++ rest) ≡ Some (x, rest)
+-- a length and that many bytes are read back, whatever follows them
+pub content_again : (form : Form) (value rest : List ℕ) → length value < limit form
+    → content_at form (content form value ++ rest) ≡ Some (value, rest)
 unfolding content_at
-content_again form x rest lt =
-    let long : ltb (length (x ++ rest)) (length x) ≡ false = le-ltb _ _ (omega (arith, length-append x rest)) in
+content_again form value rest lt =
+    let long : ltb (length (value ++ rest)) (length value) ≡ false =
+    le-ltb _ _ (omega (arith, length-append value rest)) in
     rw (
-      append_assoc (number form (length x)) x rest,
-      number_again form (length x) (x ++ rest) lt,
+      append_assoc (number form (length value)) value rest,
+      number_again form (length value) (value ++ rest) lt,
       long,
-      take_at x rest (length x) refl,
-      drop_at x rest (length x) refl,
+      take_at value rest (length value) refl,
+      drop_at value rest (length value) refl,
     ) refl
 
 -- the constructor says which form it is
 abbrev Tells : ℕ → ℕ → Type 0
 Tells short long = (form : Form) → form_at short long (choice short long form) ≡ Some form
 
-variable_again : (short long : ℕ) → Tells short long → (x b rest : List ℕ) → SpellsVariable short long x b
-    → variable_at short long (b ++ rest) ≡ Some (x, rest)
+variable_again : (short long : ℕ) → Tells short long → (value spelling rest : List ℕ)
+    → SpellsVariable short long value spelling
+    → variable_at short long (spelling ++ rest) ≡ Some (value, rest)
 unfolding variable_at
-variable_again short long tells x b rest s =
-    rw (s.whole, tells s.form, content_again s.form x rest s.fits) refl
+variable_again short long tells value spelling rest s =
+    rw (s.whole, tells s.form, content_again s.form value rest s.fits) refl
 
 symbol_form : Tells 0xa3 0xb3
 symbol_form Eight = refl
@@ -59,24 +63,35 @@ string_form : Tells 0xa1 0xb1
 string_form Eight = refl
 string_form ThirtyTwo = refl
 
-pub binary_again : (x b rest : List ℕ) → SpellsVariable 0xa0 0xb0 x b → binary_at (b ++ rest) ≡ Some (x, rest)
+-- a binary that is spelled is read back, whatever follows it
+pub binary_again : (value spelling rest : List ℕ) → SpellsVariable 0xa0 0xb0 value spelling
+    → binary_at (spelling ++ rest) ≡ Some (value, rest)
 unfolding binary_at
-binary_again x b rest s = variable_again 0xa0 0xb0 binary_form x b rest s
+binary_again value spelling rest s = variable_again 0xa0 0xb0 binary_form value spelling rest s
 
-pub string_again : (x b rest : List ℕ) → IsUtf8 x × SpellsVariable 0xa1 0xb1 x b
-    → string_at (b ++ rest) ≡ Some (x, rest)
+-- a string that is spelled is read back, whatever follows it
+pub string_again : (value spelling rest : List ℕ) → IsUtf8 value × SpellsVariable 0xa1 0xb1 value spelling
+    → string_at (spelling ++ rest) ≡ Some (value, rest)
 unfolding string_at
-string_again x b rest s = rw (variable_again 0xa1 0xb1 string_form x b rest s.1, is_utf8-from_IsUtf8 x s.0) refl
+string_again value spelling rest s =
+    rw (variable_again 0xa1 0xb1 string_form value spelling rest s.1, is_utf8-from_IsUtf8 value s.0) refl
 
-element_again : (form : Form) (x rest : List ℕ) → IsElement form x
-    → element_at form (content form x ++ rest) ≡ Some (x, rest)
+element_again : (form : Form) (value rest : List ℕ) → IsElement form value
+    → element_at form (content form value ++ rest) ≡ Some (value, rest)
 unfolding element_at
-element_again form x rest s = rw (content_again form x rest s.fits, is_ascii-from_IsAscii x s.ascii) refl
+element_again form value rest s = rw (content_again form value rest s.fits, is_ascii-from_IsAscii value s.ascii) refl
 
-pub symbol_again : (x b rest : List ℕ) → SpellsSymbol x b → symbol_at (b ++ rest) ≡ Some (x, rest)
+-- a symbol that is spelled is read back, whatever follows it
+pub symbol_again : (value spelling rest : List ℕ) → SpellsSymbol value spelling
+    → symbol_at (spelling ++ rest) ≡ Some (value, rest)
 unfolding symbol_at
-symbol_again x b rest s =
-    rw (s.1.whole, symbol_form s.1.form, element_again s.1.form x rest (record { ascii = s.0; fits = s.1.fits })) refl
+symbol_again value spelling rest s =
+    rw (
+      s.1.whole,
+      symbol_form s.1.form,
+      element_again s.1.form value rest
+          (record { ascii = s.0; fits = s.1.fits }),
+    ) refl
 
 elements_again : (form : Form) (xs : List (List ℕ)) (rest : List ℕ) → AllByRecursion (IsElement form) xs
     → elements_at form (length xs) (elements form xs ++ rest) ≡ Some (xs, rest)
@@ -105,16 +120,17 @@ array_again xs rest form inner each size count =
       all,
     ) refl
 
-one_again : (form : Form) (x rest : List ℕ) → IsElement form x
-    → one_at form (content form x ++ rest) ≡ Some (x ∷ [], rest)
+one_again : (form : Form) (value rest : List ℕ) → IsElement form value
+    → one_at form (content form value ++ rest) ≡ Some (value ∷ [], rest)
 unfolding one_at elements_at
-one_again form x rest s = rw (element_again form x rest s) refl
+one_again form value rest s = rw (element_again form value rest s) refl
 
-single_again : (xs : List (List ℕ)) (x : List ℕ) (rest : List ℕ) (form : Form) → xs ≡ x ∷ [] → IsElement form x
-    → symbols_at (choice 0xa3 0xb3 form ∷ content form x ++ rest) ≡ Some (xs, rest)
+single_again : (xs : List (List ℕ)) (value : List ℕ) (rest : List ℕ) (form : Form) → xs ≡ value ∷ []
+    → IsElement form value
+    → symbols_at (choice 0xa3 0xb3 form ∷ content form value ++ rest) ≡ Some (xs, rest)
 unfolding symbols_at
-single_again xs x rest Eight e s = rw (one_again Eight x rest s, e) refl
-single_again xs x rest ThirtyTwo e s = rw (one_again ThirtyTwo x rest s, e) refl
+single_again xs value rest Eight e s = rw (one_again Eight value rest s, e) refl
+single_again xs value rest ThirtyTwo e s = rw (one_again ThirtyTwo value rest s, e) refl
 
 many_again : (xs : List (List ℕ)) (rest : List ℕ) (form inner : Form) → AllByRecursion (IsElement inner) xs
     → length (array_body form inner xs) < limit form → length xs < limit form
@@ -123,13 +139,14 @@ unfolding symbols_at
 many_again xs rest Eight inner each size count = array_again xs rest Eight inner each size count
 many_again xs rest ThirtyTwo inner each size count = array_again xs rest ThirtyTwo inner each size count
 
-pub symbols_again : (xs : List (List ℕ)) (b rest : List ℕ) → SpellsField (Symbols xs) b
-    → symbols_at (b ++ rest) ≡ Some (xs, rest)
-symbols_again xs b rest (inl one) =
+-- symbols that are spelled, as an array or as one, are read back, whatever follows them
+pub symbols_again : (xs : List (List ℕ)) (spelling rest : List ℕ) → SpellsField (Symbols xs) spelling
+    → symbols_at (spelling ++ rest) ≡ Some (xs, rest)
+symbols_again xs spelling rest (inl one) =
     rw one.2.1.whole (single_again xs one.0 rest one.2.1.form one.1 (record { ascii = one.2.0; fits = one.2.1.fits }))
-symbols_again xs b rest (inr s) = rw s.whole (many_again xs rest s.form s.inner s.each s.size s.count)
+symbols_again xs spelling rest (inr s) = rw s.whole (many_again xs rest s.form s.inner s.each s.size s.count)
 
-code_of_again : (c : SaslCode) (rest : List ℕ) → code_at (0x50 ∷ outcome_code c ∷ rest) ≡ Some (c, rest)
+code_of_again : (code : SaslCode) (rest : List ℕ) → code_at (0x50 ∷ outcome_code code ∷ rest) ≡ Some (code, rest)
 unfolding code_at
 code_of_again sasl_codes.Ok rest = refl
 code_of_again sasl_codes.Auth rest = refl
@@ -137,6 +154,7 @@ code_of_again sasl_codes.Sys rest = refl
 code_of_again sasl_codes.SysPerm rest = refl
 code_of_again sasl_codes.SysTemp rest = refl
 
-pub code_again : (c : SaslCode) (b rest : List ℕ) → SpellsField (Ubyte (outcome_code c)) b
-    → code_at (b ++ rest) ≡ Some (c, rest)
-code_again c b rest e = rw e (code_of_again c rest)
+-- an outcome's code that is spelled is read back, whatever follows it
+pub code_again : (code : SaslCode) (spelling rest : List ℕ) → SpellsField (Ubyte (outcome_code code)) spelling
+    → code_at (spelling ++ rest) ≡ Some (code, rest)
+code_again code spelling rest e = rw e (code_of_again code rest)

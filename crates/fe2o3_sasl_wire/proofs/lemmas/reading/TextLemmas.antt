@@ -8,41 +8,52 @@ use Rattle.std.proofs.lemmas.Bool.{ltb-true, lt-ltb, and_parts, and_from, false_
 use Rattle.std.proofs.lemmas.Str.{IsUtf8-from_is_utf8, is_utf8-from_IsUtf8, IsUtf8-from_ascii}
 use Rattle.fe2o3_sasl_wire.specs.private.Reading.{is_ascii}
 
-pub shows_utf8 : {E : Type 0} (r : Result (Bor (List ℕ)) E) (b : List ℕ) (Q : E → Type 0)
-    → MatchResult r (λ s. (s.now ≡ b) × IsUtf8 b) (λ e. (¬ (IsUtf8 b)) × Q e)
-    → option_map (λ x. x.now) (result_ok r) ≡ cond (is_utf8 b) (Some b) None
-shows_utf8 (Ok s) b Q h = ap Some h.0 ∙ sym (cond-true (is_utf8 b) (Some b) None (is_utf8-from_IsUtf8 b h.1))
-shows_utf8 (Err e) b Q h =
-    sym (cond-false (is_utf8 b) (Some b) None (false_from_ne_true (is_utf8 b) (λ t. h.0 (IsUtf8-from_is_utf8 b t))))
+-- the text that the conversion gives stands exactly where the test for UTF-8 passes
+pub shows_utf8 : {E : Type 0} (answer : Result (Bor (List ℕ)) E) (bytes : List ℕ) (Q : E → Type 0)
+    → MatchResult answer (λ s. (s.now ≡ bytes) × IsUtf8 bytes) (λ e. (¬ (IsUtf8 bytes)) × Q e)
+    → option_map (λ x. x.now) (result_ok answer) ≡ cond (is_utf8 bytes) (Some bytes) None
+shows_utf8 (Ok s) bytes Q h =
+    ap Some h.0 ∙ sym (cond-true (is_utf8 bytes) (Some bytes) None (is_utf8-from_IsUtf8 bytes h.1))
+shows_utf8 (Err e) bytes Q h =
+    sym (cond-false (is_utf8 bytes) (Some bytes) None
+    (false_from_ne_true (is_utf8 bytes) (λ t. h.0 (IsUtf8-from_is_utf8 bytes t))))
 
-pub IsAscii-from_is_ascii : (b : List ℕ) → is_ascii b ≡ true → IsAscii b
+-- bytes that pass the test are ASCII
+pub IsAscii-from_is_ascii : (bytes : List ℕ) → is_ascii bytes ≡ true → IsAscii bytes
 IsAscii-from_is_ascii [] h i = omega arith
-IsAscii-from_is_ascii (x ∷ b) h zero = ltb-true x 128 (and_parts (ltb x 128) (is_ascii b) h).0
-IsAscii-from_is_ascii (x ∷ b) h (suc i) = IsAscii-from_is_ascii b (and_parts (ltb x 128) (is_ascii b) h).1 i
+IsAscii-from_is_ascii (x ∷ bytes) h zero = ltb-true x 128 (and_parts (ltb x 128) (is_ascii bytes) h).0
+IsAscii-from_is_ascii (x ∷ bytes) h (suc i) = IsAscii-from_is_ascii bytes (and_parts (ltb x 128) (is_ascii bytes) h).1 i
 
-pub is_ascii-from_IsAscii : (b : List ℕ) → IsAscii b → is_ascii b ≡ true
+-- bytes that are ASCII pass the test
+pub is_ascii-from_IsAscii : (bytes : List ℕ) → IsAscii bytes → is_ascii bytes ≡ true
 is_ascii-from_IsAscii [] h = refl
-is_ascii-from_IsAscii (x ∷ b) h =
-    and_from (ltb x 128) (is_ascii b) (lt-ltb x 128 (h 0)) (is_ascii-from_IsAscii b (λ i. h (suc i)))
+is_ascii-from_IsAscii (x ∷ bytes) h =
+    and_from (ltb x 128) (is_ascii bytes) (lt-ltb x 128 (h 0)) (is_ascii-from_IsAscii bytes (λ i. h (suc i)))
 
-pub shows_ascii : {E : Type 0} (r : Result (Bor (List ℕ)) E) (b : List ℕ) (Q : E → Type 0) → IsAscii b
-    → MatchResult r (λ s. (s.now ≡ b) × IsUtf8 b) (λ e. (¬ (IsUtf8 b)) × Q e)
-    → option_map (λ x. x.now) (result_ok r) ≡ cond (is_ascii b) (Some b) None
-shows_ascii (Ok s) b Q a h = ap Some h.0 ∙ sym (cond-true (is_ascii b) (Some b) None (is_ascii-from_IsAscii b a))
-shows_ascii (Err e) b Q a h = absurd (h.0 (IsUtf8-from_ascii b a))
+-- of bytes that are ASCII the conversion gives the text, where the test for ASCII passes
+pub shows_ascii : {E : Type 0} (answer : Result (Bor (List ℕ)) E) (bytes : List ℕ) (Q : E → Type 0) → IsAscii bytes
+    → MatchResult answer (λ s. (s.now ≡ bytes) × IsUtf8 bytes) (λ e. (¬ (IsUtf8 bytes)) × Q e)
+    → option_map (λ x. x.now) (result_ok answer) ≡ cond (is_ascii bytes) (Some bytes) None
+shows_ascii (Ok s) bytes Q a h =
+    ap Some h.0 ∙ sym (cond-true (is_ascii bytes) (Some bytes) None (is_ascii-from_IsAscii bytes a))
+shows_ascii (Err e) bytes Q a h = absurd (h.0 (IsUtf8-from_ascii bytes a))
 
-pub shows_none : (b : List ℕ) → IsNotAscii b → cond (is_ascii b) (Some b) None ≡ None
-shows_none b n =
-    cond-false (is_ascii b) (Some b) None
-    (false_from_ne_true (is_ascii b) (λ t. let a = IsAscii-from_is_ascii b t in omega (arith, a n.0, n.1)))
+-- of bytes that are not ASCII the test gives nothing
+pub shows_none : (bytes : List ℕ) → IsNotAscii bytes → cond (is_ascii bytes) (Some bytes) None ≡ None
+shows_none bytes n =
+    cond-false (is_ascii bytes) (Some bytes) None
+    (false_from_ne_true (is_ascii bytes) (λ t. let a = IsAscii-from_is_ascii bytes t in omega (arith, a n.0, n.1)))
 
-pub shown_ascii : {E : Type 0} (r : Result (Bor (List ℕ)) E) (b : List ℕ) (Q : E → Type 0) → IsAscii b
-    → MatchResult r (λ s. (s.now ≡ b) × IsUtf8 b) (λ e. (¬ (IsUtf8 b)) × Q e)
-    → IfSome (result_ok r) (λ x. IsAscii x.now)
-shown_ascii (Ok s) b Q a h = rw h.0 a
-shown_ascii (Err e) b Q a h = tt
+-- the text of bytes that are ASCII is ASCII
+pub shown_ascii : {E : Type 0} (answer : Result (Bor (List ℕ)) E) (bytes : List ℕ) (Q : E → Type 0) → IsAscii bytes
+    → MatchResult answer (λ s. (s.now ≡ bytes) × IsUtf8 bytes) (λ e. (¬ (IsUtf8 bytes)) × Q e)
+    → IfSome (result_ok answer) (λ x. IsAscii x.now)
+shown_ascii (Ok s) bytes Q a h = rw h.0 a
+shown_ascii (Err e) bytes Q a h = tt
 
-pub tells_ascii : (r : Bool) (b : List ℕ) → MatchBool r (IsAscii b) (IsNotAscii b) → r ≡ is_ascii b
-tells_ascii true b a = sym (is_ascii-from_IsAscii b a)
-tells_ascii false b n =
-    sym (false_from_ne_true (is_ascii b) (λ t. let a = IsAscii-from_is_ascii b t in omega (arith, a n.0, n.1)))
+-- an answer that tells whether bytes are ASCII is that of the test
+pub tells_ascii : (answer : Bool) (bytes : List ℕ) → MatchBool answer (IsAscii bytes) (IsNotAscii bytes)
+    → answer ≡ is_ascii bytes
+tells_ascii true bytes a = sym (is_ascii-from_IsAscii bytes a)
+tells_ascii false bytes n =
+    sym (false_from_ne_true (is_ascii bytes) (λ t. let a = IsAscii-from_is_ascii bytes t in omega (arith, a n.0, n.1)))

@@ -84,6 +84,7 @@ body_parts frame form size count =
     2 ∷ 1 ∷ 0 ∷ 0 ∷ 0 ∷ 0x53 ∷ code_of (kind_of frame) ∷ choice 0xc0 0xd0 form
     ∷ (number form size ++ (number form count ++ items_of frame))
 
+-- the canonical body is its parts, with the form and the size that its items ask for
 pub body_in_parts : (frame : SaslFrame) (form : Form) (n size : ℕ) → n ≡ length (items_of frame) → 4 + n < 2 ^ 32
     → form ≡ shortest (1 + n) → size ≡ width form + n
     → canonical frame ≡ Some (body_parts frame form size (count_of frame))
@@ -98,6 +99,7 @@ body_in_parts frame form n size len_is fits form_is size_is =
     let parts = list_parts form count size items list_form_is (omega arith) in
     rw (written_so, parts) refl
 
+-- a frame whose items fit in a list has a canonical body
 pub has_body : (frame : SaslFrame) (n : ℕ) → n ≡ length (items_of frame) → 4 + n < 2 ^ 32 → IsSome (canonical frame)
 has_body frame n e lt = rw (body_in_parts frame (shortest (1 + n)) n (width (shortest (1 + n)) + n) e lt refl refl) refl
 

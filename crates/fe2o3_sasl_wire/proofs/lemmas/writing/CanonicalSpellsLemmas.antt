@@ -15,6 +15,7 @@ length-number : (form : Form) (n : ℕ) → length (number form n) ≡ width for
 length-number Eight n = refl
 length-number ThirtyTwo n = refl
 
+-- how long a length and that many bytes are
 pub length-content : (form : Form) (bytes : List ℕ) → length (content form bytes) ≡ width form + length bytes
 length-content form bytes =
     length-append (number form (length bytes)) bytes ∙ ap (λ (n : ℕ). n + length bytes)
@@ -49,6 +50,7 @@ long_elements (name ∷ names) ascii lt =
     let first = length-content ThirtyTwo name in
     (record { ascii = ascii.0; fits = omega arith }, long_elements names ascii.1 (omega arith))
 
+-- there are no more names than bytes of their elements
 pub few_names : (inner : Form) (names : List (List ℕ)) → length names ≤ length (elements inner names)
 few_names inner [] = omega arith
 few_names inner (name ∷ names) =
@@ -106,6 +108,7 @@ array_in ThirtyTwo inner names each e lt =
       whole = refl;
     }
 
+-- the elements of an array that can be written leave room for what stands before them
 pub small_array : (form inner : Form) (names : List (List ℕ))
     → form ≡ shortest (length (array_body Eight inner names))
     → length (choice 0xe0 0xf0 form ∷ content form (array_body form inner names)) < 2 ^ 32
@@ -230,6 +233,7 @@ items_spell (field ∷ fields) texts lt =
 
 -- ---- the list
 
+-- how long the count and the items of a list are
 pub length-list_body : (form : Form) (count : ℕ) (items : List ℕ)
     → length (list_body form count items) ≡ width form + length items
 length-list_body form count items =
@@ -252,6 +256,7 @@ sized_in Eight count items e lt few =
 sized_in ThirtyTwo count items e lt few =
     record { form = ThirtyTwo; size = lt; few = omega (arith, length-list_body ThirtyTwo count items); whole = refl }
 
+-- the canonical body of a frame with texts spells that frame
 pub canonical_spells : (frame : SaslFrame) (b : List ℕ) → HasTexts frame → canonical frame ≡ Some b → Spells frame b
 unfolding canonical
 canonical_spells frame b texts e =

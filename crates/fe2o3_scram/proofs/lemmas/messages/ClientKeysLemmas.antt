@@ -1,7 +1,7 @@
 -- The answer of a client that keeps its keys.
 use Rattle.std.proofs.Common.{◌≡◌, ℕ, ◌+◌, ◌≤◌, List, Result, Ok, Err, subst}
 use Rattle.std.specs.Prelude.{OnOk}
-use Rattle.fe2o3_scram.specs.declared.client_keys.KeyedClientError.{KeyedClientError}
+use Rattle.fe2o3_scram.specs.declared.scram_messages.error.KeyedClientError.{KeyedClientError}
 use Rattle.fe2o3_scram.specs.ServerFirst.{Client, ServerFirst, ReadsServerFirst}
 use Rattle.fe2o3_scram.specs.ClientKeys.{ClientKeys, Fits, KeyedCosts}
 use Rattle.fe2o3_scram.proofs.lemmas.messages.ServerFirstLemmas.{one_server_first}

@@ -1,11 +1,12 @@
 -- A client that keeps the keys of its password answers as with the password.
 use Rattle.std.proofs.Common.{◌≡◌, ◌⊎◌, ℕ, List, [], ◌∷◌, ◌++◌, Result, Ok, Err, sym, ◌∙◌, ap, inl, inr}
 use Rattle.std.proofs.lemmas.List.Elements.{All-from_recursion}
-use Rattle.fe2o3_scram.specs.declared.client_keys.KeyedClientError.{KeyedClientError}
-use Rattle.fe2o3_scram.specs.declared.client_keys.KeyedClientError.TheVariants.{Scram, OtherKeys}
+use Rattle.fe2o3_scram.specs.declared.scram_messages.error.KeyedClientError.{KeyedClientError}
+use Rattle.fe2o3_scram.specs.declared.scram_messages.error.KeyedClientError.TheVariants.{Scram, OtherKeys}
 use Rattle.fe2o3_scram.specs.declared.scram_messages.error.ScramErrorKind.{ScramErrorKind}
 use Rattle.fe2o3_scram.specs.declared.scram_messages.error.ScramErrorKind.TheVariants.{NormalizeError}
-use Rattle.fe2o3_scram.specs.ClientFinal.{Answer, AnswersServerFirst, answer_of, without_proof}
+use Rattle.fe2o3_scram.specs.ClientFinal.{Answer, answer_of, without_proof}
+use Rattle.fe2o3_scram.specs.ServerFirstAnswers.{AnswersServerFirst}
 use Rattle.fe2o3_scram.specs.ClientKeys.{ClientKeys, AnswersWithKeys, Fits, answer_by, answer_with, keyed_client}
 use Rattle.fe2o3_scram.specs.KeyedScramClient.{KeyedSide, KeyedAnswersIn, KeyedBelievesIn, keyed_in, with_password}
 use Rattle.fe2o3_scram.specs.Keys.{client_key, server_key}

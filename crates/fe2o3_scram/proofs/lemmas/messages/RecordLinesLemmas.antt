@@ -116,16 +116,6 @@ one_more_user version text rest more users user is line =
     ∙ sym (append_assoc (users_text version users) (user_line version user ++ (10 ∷ [])) more)
     ∙ ap (λ (start : List ℕ). start ++ more) (sym (users_text-append version users (user ∷ [])))
 
--- what follows a line is shorter
-pub line_shorter : (version : ScramVersion) (user : List ℕ × Record) (rest more : List ℕ)
-    → rest ≡ user_line version user ++ 10 ∷ more → length more < length rest
-line_shorter version user rest more is = subst (λ (text : List ℕ). length more < length text) (sym is)
-    (go (user_line version user))
-  where
-    go : (line : List ℕ) → length more < length (line ++ 10 ∷ more)
-    go [] = omega arith
-    go (x ∷ line) = let less = go line in omega (arith, less)
-
 -- one more line is written
 users_text-next : (version : ScramVersion) (users : Records) (k : ℕ) (other : List ℕ × Record) → k < length users
     → users_text version (take (k + 1) users)

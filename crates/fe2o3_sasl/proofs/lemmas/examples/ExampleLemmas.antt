@@ -1,0 +1,228 @@
+-- The three worked examples.
+use Rattle.std.proofs.Common.{◌≡◌, ◌≢◌, ◌≤◌, ℕ, zero, suc, List, [], ◌∷◌, ◌++◌, length, Err, Ok, refl, sym, ◌∙◌, ap, arith, codes, inr}
+use Rattle.std.specs.Prelude.{Some, slice_get}
+use Rattle.std.proofs.lemmas.List.{length-append}
+use Rattle.std.proofs.lemmas.Option.{none-some}
+use Rattle.fe2o3_sasl_wire.specs.declared.amqp_types.SaslCode.TheVariants as outcomes
+use Rattle.fe2o3_sasl_wire.specs.declared.sasl_frames.error.Error.{Error}
+use Rattle.fe2o3_sasl_wire.specs.declared.sasl_frames.error.Error.TheVariants as faults
+use Rattle.fe2o3_sasl_wire.specs.SaslFrames.{fault_of, Begins, SaslFrame}
+use Rattle.fe2o3_scram.specs.Texts.{joined, Parts}
+use Rattle.fe2o3_sasl.specs.ClientHistory.{ClientHistory}
+use Rattle.fe2o3_sasl.specs.Events.{Concluded, ClientFault, Failed, Frame, OutOfMemory, Refused}
+use Rattle.fe2o3_sasl.specs.Bodies.{SpellsBody, carried}
+use Rattle.fe2o3_sasl.specs.ServerHistory.{ServerHistory, says_auth}
+use Rattle.fe2o3_sasl.specs.TwoSides.{Agree, IsPlainInit}
+use Rattle.fe2o3_sasl.specs.UnalteredRuns.{UnalteredRun, HoldsLogin, Suffices}
+use Rattle.fe2o3_sasl.specs.examples.Examples.{client_bytes, server_bytes, client_nonce, server_nonce, both, salt, login, names, values, binds, sends_init, sends_auth, body_of, told, init_text, answer_to, accepted_with, sides_with, unaltered, PremisesCanBeMet, shifted, ShiftedTextsPass, refused_sides, RefusalsAreUnaltered}
+use Rattle.fe2o3_scram.proofs.lemmas.texts.PartsLemmas.{one_list_of_parts}
+use Rattle.fe2o3_sasl.proofs.lemmas.examples.ExampleBodyLemmas.{Short, auth_bodied, init_texts, length-both, mechanisms_sent, short_binds, short_joined, short_names, short_values, spells_body}
+use Rattle.fe2o3_sasl.proofs.lemmas.examples.ExampleLoginLemmas.{PassesUnseen, client_history, server_history, start_sent, starts, histories, takes, shows, open_two}
+use Rattle.fe2o3_sasl.proofs.lemmas.examples.ExampleReadingLemmas.{is_login, is_record, password_printable, plain_user, plain_both, plain_names, plain_values, plain_binds, client_joined, server_joined}
+use Rattle.fe2o3_sasl.proofs.lemmas.examples.ExampleTextLemmas.{Plain, plain-literal, plain-append, plain-base64_text, parts_joined, length-base64_text, IsBytes-replicate}
+use Rattle.fe2o3_sasl.proofs.lemmas.lists.EachLemmas.{each_append}
+
+short_both : length both ≤ 100
+short_both = omega (arith, length-both)
+
+-- ---- nobody adds anything
+
+is_unaltered : PassesUnseen unaltered
+is_unaltered = record {
+  nonce = plain_both;
+  init = tt;
+  challenge = tt;
+  response = tt;
+  short_nonce = short_both;
+  short_init = omega (arith, short_joined (names (codes "user")) (short_names (codes "user") (omega arith)));
+  short_challenge = omega (arith, short_joined (values both) (short_values both short_both));
+  short_response = omega (arith, short_joined (binds both) (short_binds both short_both));
+  message = client_joined both [] ∙ sym (server_joined [] []);
+}
+
+run : UnalteredRun (sides_with unaltered)
+run = record {
+  offer = _;
+  challenge = _;
+  outcome = _;
+  init = _;
+  response = _;
+  client_events = refl;
+  server_events = refl;
+  offered = mechanisms_sent;
+  started = refl;
+  challenged = refl;
+  answered = refl;
+  concluded = refl;
+}
+
+holds : HoldsLogin (sides_with unaltered) salt 4096
+holds = record {
+  version = refl;
+  stored = refl;
+  bytes = IsBytes-replicate 32 3 (omega arith);
+  printable = password_printable;
+  some = omega arith;
+  within = omega arith;
+}
+
+-- no reply is a fault
+no_client_fault : (fault : ClientFault) (k : ℕ)
+    → slice_get (sides_with unaltered).client_replies k ≢ Some (Refused fault)
+no_client_fault fault zero e = absurd (cc)
+no_client_fault fault (suc zero) e = absurd (cc)
+no_client_fault fault (suc (suc zero)) e = absurd (cc)
+no_client_fault fault (suc (suc (suc k))) e = absurd (cc)
+
+no_server_fault : (fault : Error) (k : ℕ) → slice_get (sides_with unaltered).server_replies k ≢ Some (Failed fault)
+no_server_fault fault zero e = absurd (cc)
+no_server_fault fault (suc zero) e = absurd (cc)
+no_server_fault fault (suc (suc k)) e = absurd (cc)
+
+suffices : Suffices (sides_with unaltered)
+suffices = record {
+  client = no_client_fault OutOfMemory;
+  server = no_server_fault faults.OutOfMemory;
+  client_small = no_client_fault (Frame faults.TooLarge);
+  server_small = no_server_fault faults.TooLarge;
+}
+
+pub premises_can_be_met : PremisesCanBeMet
+premises_can_be_met = (run, histories unaltered is_unaltered, is_login, holds, suffices)
+
+-- ---- the shifted text
+
+abbrev nonce : List ℕ
+nonce = told shifted
+
+plain_nonce : Plain nonce
+plain_nonce = plain-append client_nonce (codes "x") (plain-base64_text client_bytes)
+    (plain-literal (codes "x") refl refl)
+
+short_nonce : length nonce ≤ 100
+short_nonce = omega (arith, length-both, length-append client_nonce (codes "x"), length-append client_nonce server_nonce)
+
+is_shifted : PassesUnseen shifted
+is_shifted = record {
+  nonce = plain_nonce;
+  init = plain_values nonce plain_nonce;
+  challenge = each_append Plain (values both) (binds both) (plain_values both plain_both) (plain_binds both plain_both);
+  response = plain_binds nonce plain_nonce;
+  short_nonce = short_nonce;
+  short_init = omega (
+    arith,
+    short_joined (names (codes "user") ++ values nonce) (each_append Short (names (codes "user")) (values nonce)
+        (short_names (codes "user") (omega arith)) (short_values nonce short_nonce)),
+  );
+  short_challenge = omega (
+    arith,
+    short_joined (values nonce ++ (values both ++ binds both)) (each_append Short (values nonce) (values both ++ binds both)
+        (short_values nonce short_nonce)
+        (each_append Short (values both) (binds both) (short_values both short_both) (short_binds both short_both))),
+  );
+  short_response = omega (
+    arith,
+    short_joined (binds both ++ binds nonce)
+        (each_append Short (binds both) (binds nonce) (short_binds both short_both) (short_binds nonce short_nonce)),
+  );
+  -- both sides join the same twelve parts
+  message = client_joined nonce (values both ++ binds both) ∙ sym (server_joined (values nonce) (binds nonce));
+}
+
+abbrev bare_parts : List (List ℕ)
+bare_parts = names (codes "user") ++ values nonce
+
+five_parts : Parts (init_text shifted) bare_parts
+five_parts = parts_joined (codes "n=user") ((codes "r=" ++ client_nonce) ∷ values nonce)
+    (each_append Plain (names (codes "user")) (values nonce) (plain_names (codes "user") plain_user)
+    (plain_values nonce plain_nonce))
+
+-- the init has not two parts
+not_plain : ¬ IsPlainInit (accepted_with shifted)
+not_plain is = let same = ap length (one_list_of_parts (init_text shifted) is.0 bare_parts is.1 five_parts) in
+    omega (arith, same, is.2)
+
+-- the sides agree on the user name and the client's nonce
+agree : Agree login (sides_with shifted).provider (answer_to shifted) (accepted_with shifted)
+agree = record {
+  version = refl;
+  user = refl;
+  nonce = refl;
+  full_nonce = λ is. absurd (not_plain is);
+  salt = λ is. absurd (not_plain is);
+  count = λ is. absurd (not_plain is);
+}
+
+nonces_apart : nonce ≢ both
+nonces_apart same =
+    let long = length-base64_text server_bytes refl in
+    let length_is : length nonce ≡ length both = ap length same in
+    omega (arith, long, length_is, length-append client_nonce (codes "x"), length-append client_nonce server_nonce)
+
+pub shifted_texts_pass : ShiftedTextsPass
+shifted_texts_pass = record {
+  login = is_login;
+  record_held = is_record;
+  histories = histories shifted is_shifted;
+  takes = takes shifted is_shifted;
+  shows = shows shifted is_shifted;
+  answers = open_two shifted is_shifted;
+  verifier = (is_shifted.message, agree, refl, refl, not_plain);
+  proof = (refl, (is_shifted.message, agree, refl, refl, not_plain));
+  five = (bare_parts, five_parts, refl);
+  apart = nonces_apart;
+}
+
+-- ---- a login that is refused
+
+refused_run : UnalteredRun refused_sides
+refused_run = record {
+  offer = _;
+  challenge = _;
+  outcome = _;
+  init = _;
+  response = _;
+  client_events = refl;
+  server_events = refl;
+  offered = mechanisms_sent;
+  started = refl;
+  challenged = refl;
+  answered = tt;
+  concluded = tt;
+}
+
+-- nothing spells no frame
+empty_spells_none : (frame : SaslFrame) (n : ℕ) → ¬ Begins [] frame n
+empty_spells_none frame zero begins = let e = ap length begins.spelled.whole in absurd (omega (arith, e))
+empty_spells_none frame (suc n) begins = let e = ap length begins.spelled.whole in absurd (omega (arith, e))
+
+empty_spelled : SpellsBody [] (Err (fault_of []))
+empty_spelled = (refl, empty_spells_none)
+
+auth_said : Concluded outcomes.Auth (body_of sends_auth) ≡ says_auth
+auth_said = sym (ap (carried (Failed faults.TooLarge) (λ body. Concluded outcomes.Auth body)) auth_bodied)
+
+refusing : ServerHistory refused_sides.provider refused_sides.server_events refused_sides.server_replies
+refusing =
+    let init = sends_init (joined (names (codes "user"))) in
+    server_history refused_sides.provider refused_sides.server_events refused_sides.server_replies refl (
+      (
+        Ok init,
+        spells_body init (init_texts (joined (names (codes "user")))) start_sent,
+        inr (inr (λ challenge fits. none-some challenge.stored fits.2, auth_said)),
+      ),
+      ((Err (fault_of []), empty_spelled, inr refl), tt),
+    )
+
+reporting : ClientHistory login refused_sides.client_events refused_sides.client_replies
+reporting =
+    client_history login refused_sides.client_events refused_sides.client_replies refl (
+      starts refused_sides.client_events refused_sides.client_replies,
+      (
+        (Ok sends_auth, spells_body sends_auth (tt, (tt, tt)) auth_bodied, inr refl),
+        ((Err (fault_of []), empty_spelled, inr refl), tt),
+      ),
+    )
+
+pub refusals_are_unaltered : RefusalsAreUnaltered
+refusals_are_unaltered = (refused_run, record { client = reporting; server = refusing })

@@ -1,0 +1,155 @@
+-- Where memory may be wanting.
+use Rattle.std.proofs.Common.{◌≡◌, ◌≢◌, ◌⊎◌, ℕ, Option, Some, None, Bool, true, false, cond, List, refl, sym, ◌∙◌, subst, arith, inl, inr, Result, Ok, Err}
+use Rattle.std.proofs.lemmas.Option.{slice_get_within}
+use Rattle.fe2o3_sasl_wire.specs.declared.amqp_types.SaslCode.{SaslCode}
+use Rattle.fe2o3_sasl_wire.specs.declared.amqp_types.SaslCode.TheVariants as outcomes
+use Rattle.fe2o3_sasl_wire.specs.declared.sasl_frames.error.Error.{Error}
+use Rattle.fe2o3_sasl_wire.specs.declared.sasl_frames.error.Error.TheVariants as faults
+use Rattle.fe2o3_sasl_wire.specs.SaslFrames.{fault_of, SaslFrame}
+use Rattle.fe2o3_sasl_wire.specs.SaslFrames as frames
+use Rattle.fe2o3_scram.specs.Credentials.{Provider}
+use Rattle.fe2o3_scram.specs.declared.scram_messages.error.ScramErrorKind.{ScramErrorKind}
+use Rattle.fe2o3_sasl.specs.ClientHistory.{Answering, ClientAllocates, ClientAnswers, IsDue, OpenAnswer}
+use Rattle.fe2o3_sasl.specs.Events.{Given, Login, ClientFault, Reported, Refused, NotImplemented, Scram, OutOfMemory, Failed}
+use Rattle.fe2o3_sasl.specs.Laws.{WantsAtServer, ServersWantMemory, WantsAtProfile, ClientsWantMemory, ProfilesWantMemory}
+use Rattle.fe2o3_sasl.specs.Profiles.{Profile, ScramProfile, scram_profile, profile_machine}
+use Rattle.fe2o3_sasl.specs.Runs.{Replies}
+use Rattle.fe2o3_sasl.specs.Bodies.{SpellsBody}
+use Rattle.fe2o3_sasl.specs.ServerHistory.{Challenging, Open, ServerAllocates, ServerAnswers}
+use Rattle.fe2o3_sasl.proofs.lemmas.positions.PositionLemmas.{some_at}
+
+-- ---- a server
+
+-- the fault of a body is not want of memory
+pub no_want : (body : List ℕ) → fault_of body ≢ faults.OutOfMemory
+unfolding fault_of
+no_want body = go _ _
+  where
+    go : (short right : Bool) → cond short faults.DecodeError (cond right faults.DecodeError faults.NotImplemented)
+        ≢ faults.OutOfMemory
+    go true right is = cc
+    go false true is = cc
+    go false false is = cc
+
+same_failure : (fault other : Error) → Failed fault ≡ Failed other → fault ≡ other
+same_failure fault other is = cc
+
+server_wants : (provider : Provider) (IsOpen : Challenging → Type 0) (event : Given) (spelled : Result SaslFrame Error)
+    → SpellsBody event.body spelled
+    → (ServerAllocates spelled × (Failed faults.OutOfMemory ≡ Failed faults.OutOfMemory))
+    ⊎ ServerAnswers provider IsOpen event spelled (Failed faults.OutOfMemory)
+    → (frame : SaslFrame) × SpellsBody event.body (Ok frame) × WantsAtServer frame
+server_wants provider IsOpen event (Err fault) spells (inl wants) = absurd wants.0
+server_wants provider IsOpen event (Err fault) spells (inr is) =
+    absurd (no_want event.body (sym spells.0 ∙ same_failure fault faults.OutOfMemory (sym is)))
+server_wants provider IsOpen event (Ok (frames.Init mechanism response hostname)) spells is =
+    (frames.Init mechanism response hostname, spells, inl (mechanism, response, hostname, refl))
+server_wants provider IsOpen event (Ok (frames.Response text)) spells is =
+    (frames.Response text, spells, inr (text, refl))
+server_wants provider IsOpen event (Ok (frames.Mechanisms names)) spells (inl wants) = absurd wants.0
+server_wants provider IsOpen event (Ok (frames.Mechanisms names)) spells (inr is) = absurd (cc)
+server_wants provider IsOpen event (Ok (frames.Challenge text)) spells (inl wants) = absurd wants.0
+server_wants provider IsOpen event (Ok (frames.Challenge text)) spells (inr is) = absurd (cc)
+server_wants provider IsOpen event (Ok (frames.Outcome code more)) spells (inl wants) = absurd wants.0
+server_wants provider IsOpen event (Ok (frames.Outcome code more)) spells (inr is) = absurd (cc)
+
+pub servers_want_memory : ServersWantMemory
+servers_want_memory provider events replies k history is =
+    let event = some_at events k (omega (arith, history.count, slice_get_within replies k (Failed faults.OutOfMemory) is))
+    in
+    let row = history.each k event.0 (Failed faults.OutOfMemory) event.1 is in
+    let wants = server_wants provider (Open provider events replies k) event.0 row.0 row.1 row.2 in
+    (event.0, wants.0, event.1, wants.1, wants.2)
+
+-- ---- a SCRAM client
+
+-- want of memory is no other reply
+not_reported : (code : SaslCode) (more : Option (List ℕ)) → Refused OutOfMemory ≢ Reported code more
+not_reported code more is = absurd (cc)
+
+client_wants : (login : Login) (Due : List ℕ → Type 0) (IsOpen : Answering → Type 0) (event : Given)
+    (spelled : Result SaslFrame Error) → SpellsBody event.body spelled
+    → (ClientAllocates login spelled × (Refused OutOfMemory ≡ Refused OutOfMemory))
+    ⊎ ClientAnswers login Due IsOpen event spelled (Refused OutOfMemory)
+    → (frame : SaslFrame) × SpellsBody event.body (Ok frame) × WantsAtProfile (scram_profile login) frame
+client_wants login Due IsOpen event (Err fault) spells (inl wants) = absurd wants.0
+client_wants login Due IsOpen event (Err fault) spells (inr is) = absurd (cc)
+client_wants login Due IsOpen event (Ok (frames.Mechanisms names)) spells (inl wants) =
+    (frames.Mechanisms names, spells, inl (names, wants.0, refl))
+client_wants login Due IsOpen event (Ok (frames.Mechanisms names)) spells (inr (inl named)) =
+    (frames.Mechanisms names, spells, inl (names, named.0, refl))
+client_wants login Due IsOpen event (Ok (frames.Mechanisms names)) spells (inr (inr unnamed)) =
+    let is = unnamed.1 in absurd (cc)
+client_wants login Due IsOpen event (Ok (frames.Challenge text)) spells is =
+    (frames.Challenge text, spells, inr (inl (_, text, refl, refl)))
+client_wants login Due IsOpen event (Ok (frames.Outcome code (Some text))) spells is =
+    (frames.Outcome code (Some text), spells, inr (inr (code, text, refl)))
+client_wants login Due IsOpen event (Ok (frames.Outcome code None)) spells (inl wants) = absurd wants.0
+client_wants login Due IsOpen event (Ok (frames.Outcome outcomes.Ok None)) spells (inr (inl believed)) =
+    absurd believed.0
+client_wants login Due IsOpen event (Ok (frames.Outcome outcomes.Ok None)) spells (inr (inr refused)) =
+    let is = refused.2 in absurd (cc)
+client_wants login Due IsOpen event (Ok (frames.Outcome outcomes.Auth None)) spells (inr is) = absurd (cc)
+client_wants login Due IsOpen event (Ok (frames.Outcome outcomes.Sys None)) spells (inr is) = absurd (cc)
+client_wants login Due IsOpen event (Ok (frames.Outcome outcomes.SysPerm None)) spells (inr is) = absurd (cc)
+client_wants login Due IsOpen event (Ok (frames.Outcome outcomes.SysTemp None)) spells (inr is) = absurd (cc)
+client_wants login Due IsOpen event (Ok (frames.Init mechanism response hostname)) spells (inl wants) = absurd wants.0
+client_wants login Due IsOpen event (Ok (frames.Init mechanism response hostname)) spells (inr is) = absurd (cc)
+client_wants login Due IsOpen event (Ok (frames.Response text)) spells (inl wants) = absurd wants.0
+client_wants login Due IsOpen event (Ok (frames.Response text)) spells (inr is) = absurd (cc)
+
+pub clients_want_memory : ClientsWantMemory
+clients_want_memory login events replies k history is =
+    let event = some_at events k (omega (arith, history.count, slice_get_within replies k (Refused OutOfMemory) is)) in
+    let row = history.each k event.0 (Refused OutOfMemory) event.1 is in
+    let wants = client_wants login (IsDue events replies k) (OpenAnswer login events replies k) event.0 row.0 row.1
+    row.2 in
+    (event.0, wants.0, event.1, wants.1, wants.2)
+
+-- ---- any profile
+
+-- neither a refusal of another kind nor an outcome is want of memory
+refused_otherwise : (profile moved next : Profile) (reply : Result SaslFrame ClientFault) (fault : ClientFault)
+    → reply ≡ Err fault → Refused OutOfMemory ≢ Refused fault → ¬ Replies profile moved reply (Refused OutOfMemory) next
+refused_otherwise profile moved next reply fault is apart said = apart (subst
+    (λ (some : Result SaslFrame ClientFault). Replies profile moved some (Refused OutOfMemory) next) is said).0
+
+reported_otherwise : (profile moved next : Profile) (reply : Result SaslFrame ClientFault) (code : SaslCode)
+    → reply ≡ Ok (frames.Outcome code None) → ¬ Replies profile moved reply (Refused OutOfMemory) next
+reported_otherwise profile moved next reply code is said = not_reported code None (subst
+    (λ (some : Result SaslFrame ClientFault). Replies profile moved some (Refused OutOfMemory) next) is said).0
+
+not_unexpected : Refused OutOfMemory ≢ Refused NotImplemented
+not_unexpected is = absurd (cc)
+
+not_scram : (kind : ScramErrorKind) → Refused OutOfMemory ≢ Refused (Scram kind)
+not_scram kind is = absurd (cc)
+
+-- the reply that the machine gives in its place
+machine_wants : (hostname : Option (List ℕ)) (profile next : Profile) (nonce : List ℕ) (frame : SaslFrame)
+    (reply : Result SaslFrame ClientFault) (moved : Profile) → profile_machine profile hostname nonce frame reply moved
+    → Replies profile moved reply (Refused OutOfMemory) next → WantsAtProfile profile frame
+machine_wants hostname profile next nonce (frames.Mechanisms names) reply moved (inl named) said =
+    inl (names, named.0, refl)
+machine_wants hostname profile next nonce (frames.Mechanisms names) reply moved (inr unnamed) said =
+    absurd (refused_otherwise profile moved next reply NotImplemented unnamed.1 not_unexpected said)
+machine_wants hostname (ScramProfile client) next nonce (frames.Challenge text) reply moved is said =
+    inr (inl (client, text, refl, refl))
+machine_wants hostname profile next nonce (frames.Outcome code (Some text)) reply moved is said =
+    inr (inr (code, text, refl))
+machine_wants hostname (ScramProfile client) next nonce (frames.Outcome outcomes.Ok None) reply moved is said =
+    absurd (refused_otherwise (ScramProfile client) moved next reply (Scram _) is.0 (not_scram _) said)
+machine_wants hostname profile next nonce (frames.Outcome code None) reply moved is said =
+    absurd (reported_otherwise profile moved next reply code is.0 said)
+machine_wants hostname profile next nonce frame reply moved is said =
+    absurd (refused_otherwise profile moved next reply NotImplemented is.0 not_unexpected said)
+
+pub profiles_want_memory : ProfilesWantMemory
+profiles_want_memory hostname profile next nonce frame (inr said) =
+    machine_wants hostname profile next nonce frame said.0 said.1 said.2 said.3
+profiles_want_memory hostname profile next nonce (frames.Mechanisms names) (inl wants) = inl (names, wants.0, refl)
+profiles_want_memory hostname (ScramProfile client) next nonce (frames.Challenge text) (inl wants) =
+    inr (inl (client, text, refl, refl))
+profiles_want_memory hostname profile next nonce (frames.Outcome code (Some text)) (inl wants) =
+    inr (inr (code, text, refl))
+profiles_want_memory hostname profile next nonce frame (inl wants) = absurd wants.0

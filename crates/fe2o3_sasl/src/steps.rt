@@ -1,0 +1,252 @@
+//! Steps over bodies of frames. Each reads the body where it stands, works on a copy of the state,
+//! writes the answer, and keeps the new state last.
+
+ghost use Rattle.std.specs.Prelude.{◌≡◌, ◌↔◌, true, ℕ, List, Option, Some, IfOk, IfErr, OnErr};
+ghost use Rattle.std.specs.List.{Contains};
+ghost use Rattle.fe2o3_sasl_wire.specs.FrameView.{shown, viewed_frame};
+ghost use Rattle.fe2o3_sasl_wire.specs.Owned.{owned_frame};
+ghost use Rattle.fe2o3_sasl_wire.specs.SaslFrames.{canonical, RefusesFrame, Challenge as ChallengeFrame, Mechanisms as MechanismsFrame, Outcome as OutcomeFrame};
+ghost use Rattle.fe2o3_sasl.specs.SaslAcceptor.{sent_frame};
+ghost use Rattle.fe2o3_sasl.specs.Profiles.{profile_name};
+ghost use Rattle.fe2o3_sasl.specs.SaslProfile.{profile_of};
+ghost use Rattle.fe2o3_sasl.specs.Runs.{AcceptorAnswers, AcceptorSteps, ProfileReplies, ProfileSteps, server_says, given, server_answer, server_reply, client_answer};
+ghost use Rattle.fe2o3_sasl.specs.private.Writing.{is_scram, IsRequest, Writes, WritesBody};
+
+use crate::OutOfMemory;
+use crate::events::{ClientReply, Event, ServerReply};
+use crate::sasl_acceptor::{SaslAcceptor, SaslServerFrame};
+use crate::sasl_profile::{ProfileError, SaslProfile, outcome_of};
+use bytes::BytesMut;
+use fe2o3_sasl_wire::{Error, Frame, FrameCodec, FrameView, SaslCode, SymbolsView, view_frame};
+use std::alloc::Global;
+
+/// The canonical body of a frame.
+fn body_of(alloc: Global, frame: Frame) -> Result<Vec<u8>, Error>
+    ensures ok { IfOk result (λ body. canonical (owned_frame frame) ≡ Some body.items) }
+    ensures err { IfErr result (λ fault. RefusesFrame (owned_frame frame) fault) }
+{
+    let mut body = BytesMut::new(alloc);
+    (FrameCodec {}).encode(frame, &mut body)?;
+    Ok(body.into_vec()?)
+}
+
+/// The reply that an acceptor's frame is.
+fn write_reply(alloc: Global, frame: SaslServerFrame) -> Result<ServerReply, Error>
+    ensures { Writes server_reply (server_says (sent_frame frame)) (canonical (sent_frame frame)) result }
+{
+    match frame {
+        SaslServerFrame::Challenge(challenge) => Ok(ServerReply::Challenge {
+            body: body_of(alloc, Frame::Challenge(challenge))?,
+        }),
+        SaslServerFrame::Outcome(outcome) => Ok(ServerReply::Outcome {
+            code: outcome.code,
+            body: body_of(alloc, Frame::Outcome(outcome))?,
+        }),
+    }
+}
+
+/// Whether the frame is an init or a response.
+fn is_request(view: &FrameView<'_>) -> bool
+    ensures { result ≡ true ↔ IsRequest (viewed_frame view.now) }
+{
+    match view {
+        FrameView::Init { .. } | FrameView::Response(_) => true,
+        FrameView::Mechanisms(_) | FrameView::Challenge(_) | FrameView::Outcome { .. } => false,
+    }
+}
+
+/// One step of an acceptor over a body, whose bytes after the frame are left alone: the fault of a
+/// body that is not read; NotImplemented for a frame that is no init and no response; else the
+/// acceptor's reply, or TooLarge where that has no body. After a refusal the acceptor is as before.
+/// Only an init and a response take memory.
+pub fn acceptor_step<A: SaslAcceptor>(
+    alloc: Global,
+    acceptor: &mut A,
+    event: &Event,
+) -> Result<ServerReply, Error>
+    ensures { AcceptorSteps A.machine (A.state acceptor.old) (given event.now) (server_answer result)
+        (A.state acceptor.new) }
+{
+    let (view, _) = match view_frame(&event.body) {
+        Ok(read) => read,
+        Err(fault) => return Err(fault),
+    };
+    if !is_request(&view) {
+        return Err(Error::NotImplemented);
+    }
+    match view.to_frame(alloc) {
+        Ok(frame) => answer(alloc, acceptor, frame, &event.nonce),
+        Err(fault) => Err(fault),
+    }
+}
+
+/// The answer to an init or a response, which is written before the acceptor has the next state.
+fn answer<A: SaslAcceptor>(
+    alloc: Global,
+    acceptor: &mut A,
+    frame: Frame,
+    nonce: &[u8; 32],
+) -> Result<ServerReply, Error>
+    requires { IsRequest (owned_frame frame) }
+    ensures { AcceptorAnswers A.machine (A.state acceptor.old) nonce.now (owned_frame frame) (server_answer result)
+        (A.state acceptor.new) }
+{
+    let mut next = acceptor.clone()?;
+    let reply = ask(alloc, &mut next, frame, nonce)?;
+    match write_reply(alloc, reply) {
+        Ok(says) => {
+            *acceptor = next;
+            Ok(says)
+        }
+        Err(fault) => Err(fault),
+    }
+}
+
+/// What the acceptor replies.
+fn ask<A: SaslAcceptor>(
+    alloc: Global,
+    acceptor: &mut A,
+    frame: Frame,
+    nonce: &[u8; 32],
+) -> Result<SaslServerFrame, OutOfMemory>
+    requires { IsRequest (owned_frame frame) }
+    ensures ok { IfOk result (λ reply. A.machine (A.state acceptor.old) nonce.now (owned_frame frame)
+        (sent_frame reply) (A.state acceptor.new)) }
+    ensures err { OnErr result (A.state acceptor.new ≡ A.state acceptor.old) }
+{
+    match frame {
+        Frame::Init(init) => acceptor.on_init(alloc, init, nonce),
+        Frame::Response(response) => acceptor.on_response(alloc, response),
+        Frame::Mechanisms(_) | Frame::Challenge(_) | Frame::Outcome(_) => unreachable!(),
+    }
+}
+
+/// One step of a profile over a body, whose bytes after the frame are left alone: `Frame` with the
+/// fault of a body that is not read; NotImplemented for mechanisms without the profile's name, for a
+/// challenge to a profile other than SCRAM, and for an init or a response; `Scram` with what SCRAM
+/// refuses; else the answer, or `Frame` with TooLarge where that has no body. After a refusal the
+/// profile is as before. A body that is not read and one that is not implemented take no memory.
+pub fn profile_step(
+    alloc: Global,
+    profile: &mut SaslProfile,
+    event: &Event,
+    hostname: Option<&str>,
+) -> Result<ClientReply, ProfileError>
+    ensures { ProfileSteps (shown hostname.entry) (profile_of profile.old) (given event.now) (client_answer result)
+        (profile_of profile.new) }
+{
+    let (view, _) = match view_frame(&event.body) {
+        Ok(read) => read,
+        Err(fault) => return Err(ProfileError::Frame(fault)),
+    };
+    answer_view(alloc, profile, view, hostname, &event.nonce)
+}
+
+/// The answer to a frame, in its body.
+fn answer_view(
+    alloc: Global,
+    profile: &mut SaslProfile,
+    view: FrameView<'_>,
+    hostname: Option<&str>,
+    nonce: &[u8; 32],
+) -> Result<ClientReply, ProfileError>
+    ensures { ProfileReplies (shown hostname.entry) (profile_of profile.old) nonce.now (viewed_frame view.entry)
+        (client_answer result) (profile_of profile.new) }
+{
+    match view {
+        FrameView::Mechanisms(names) => {
+            if !names.contains(profile.name()) {
+                return Err(ProfileError::NotImplemented);
+            }
+            start(alloc, profile, &names, hostname, nonce)
+        }
+        FrameView::Challenge(challenge) => {
+            if !profile.is_scram() {
+                return Err(ProfileError::NotImplemented);
+            }
+            respond(alloc, profile, challenge)
+        }
+        FrameView::Outcome {
+            code,
+            additional_data,
+        } => report(alloc, profile, code, additional_data),
+        FrameView::Init { .. } => Err(ProfileError::NotImplemented),
+        FrameView::Response(_) => Err(ProfileError::NotImplemented),
+    }
+}
+
+/// The init of a profile whose name the server has, which is written before the profile is started.
+fn start(
+    alloc: Global,
+    profile: &mut SaslProfile,
+    names: &SymbolsView<'_>,
+    hostname: Option<&str>,
+    nonce: &[u8; 32],
+) -> Result<ClientReply, ProfileError>
+    requires { Contains names.now (profile_name (profile_of profile.old)) }
+    ensures { ProfileReplies (shown hostname.entry) (profile_of profile.old) nonce.now (MechanismsFrame names.now)
+        (client_answer result) (profile_of profile.new) }
+{
+    let mut next = profile.clone()?;
+    let init = next.start(alloc, hostname, nonce)?;
+    match client_body_of(alloc, Frame::Init(init)) {
+        Ok(body) => {
+            *profile = next;
+            Ok(ClientReply::Init { body })
+        }
+        Err(fault) => Err(fault),
+    }
+}
+
+/// The response of a profile, which is written before the profile waits for the outcome.
+fn respond(
+    alloc: Global,
+    profile: &mut SaslProfile,
+    challenge: &[u8],
+) -> Result<ClientReply, ProfileError>
+    requires { is_scram (profile_of profile.old) ≡ true }
+    ensures { (hostname : Option (List ℕ)) (nonce : List ℕ) → ProfileReplies hostname (profile_of profile.old) nonce
+        (ChallengeFrame challenge.now) (client_answer result) (profile_of profile.new) }
+{
+    let mut next = profile.clone()?;
+    match next.respond(alloc, challenge) {
+        Ok(response) => match client_body_of(alloc, Frame::Response(response)) {
+            Ok(body) => {
+                *profile = next;
+                Ok(ClientReply::Response { body })
+            }
+            Err(fault) => Err(fault),
+        },
+        Err(fault) => Err(fault),
+    }
+}
+
+/// The outcome, if the profile reports it. Its data is copied before the profile ends its exchange.
+fn report(
+    alloc: Global,
+    profile: &mut SaslProfile,
+    code: SaslCode,
+    additional_data: Option<&[u8]>,
+) -> Result<ClientReply, ProfileError>
+    ensures { (hostname : Option (List ℕ)) (nonce : List ℕ) → ProfileReplies hostname (profile_of profile.old) nonce
+        (OutcomeFrame code (shown additional_data.entry)) (client_answer result) (profile_of profile.new) }
+{
+    match outcome_of(alloc, code, additional_data) {
+        Ok(outcome) => match profile.conclude(alloc, &outcome) {
+            Ok(()) => Ok(ClientReply::Outcome(outcome)),
+            Err(fault) => Err(fault),
+        },
+        Err(_) => Err(ProfileError::OutOfMemory),
+    }
+}
+
+/// The canonical body of a client's frame.
+fn client_body_of(alloc: Global, frame: Frame) -> Result<Vec<u8>, ProfileError>
+    ensures { WritesBody (λ body. body.items) (canonical (owned_frame frame)) result }
+{
+    match body_of(alloc, frame) {
+        Ok(body) => Ok(body),
+        Err(Error::OutOfMemory) => Err(ProfileError::OutOfMemory),
+        Err(fault) => Err(ProfileError::Frame(fault)),
+    }
+}

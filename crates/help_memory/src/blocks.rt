@@ -1,0 +1,89 @@
+//! Memory that is all taken, so that each further request is refused.
+
+use std::alloc::{AllocError, Global};
+
+/// How much the one block that can be given back in part holds, in bytes.
+const ROOM: usize = 16384;
+
+/// How much memory there is while none is refused, in bytes. It is so much that the few hundred freed
+/// blocks which the allocator keeps aside cannot cut it into pieces that are all smaller than `ROOM`.
+const PLENTY: usize = 1 << 24;
+
+/// All the memory that the process can get, in two parts: the first stays taken until this is dropped,
+/// the second, of about `PLENTY`, can be taken and given back many times.
+#[derive(Drop)]
+pub struct TakenMemory {
+    alloc: Global,
+    far: Vec<Vec<u8>>,
+    near: Vec<Vec<u8>>,
+    kept: Vec<u8>,
+}
+
+/// Takes blocks of ever smaller sizes, of these two and between them, until none is given.
+fn take_all(
+    alloc: Global,
+    blocks: &mut Vec<Vec<u8>>,
+    largest: usize,
+    smallest: usize,
+) -> Result<(), AllocError> {
+    let mut size = largest;
+    for _ in 0..200000 {
+        match Vec::with_capacity(alloc, size) {
+            Ok(block) => blocks.push(block)?,
+            Err(_) => {
+                if size <= smallest {
+                    break;
+                }
+                size = size / 2;
+            }
+        }
+    }
+    Ok(())
+}
+
+/// Takes the blocks that were given back and that the allocator keeps aside, each for requests of its
+/// own size alone.
+fn take_kept_aside(alloc: Global, blocks: &mut Vec<Vec<u8>>) -> Result<(), AllocError> {
+    for class in 1..70usize {
+        for _ in 0..1000 {
+            match Vec::with_capacity(alloc, class * 16 + 8) {
+                Ok(block) => blocks.push(block)?,
+                Err(_) => break,
+            }
+        }
+    }
+    Ok(())
+}
+
+impl TakenMemory {
+    /// Takes all memory but for plenty.
+    pub fn take(alloc: Global) -> Result<TakenMemory, AllocError> {
+        let plenty: Vec<u8> = Vec::with_capacity(alloc, PLENTY)?;
+        let near: Vec<Vec<u8>> = Vec::with_capacity(alloc, 100000)?;
+        let mut far: Vec<Vec<u8>> = Vec::with_capacity(alloc, 100000)?;
+        take_all(alloc, &mut far, 1 << 46, PLENTY)?;
+        drop(plenty);
+        Ok(TakenMemory {
+            alloc,
+            far,
+            near,
+            kept: Vec::new(alloc),
+        })
+    }
+
+    /// Takes the rest too, but for about this many bytes.
+    pub fn leave(&mut self, spare: usize) -> Result<(), AllocError> {
+        self.kept = Vec::with_capacity(self.alloc, ROOM)?;
+        take_all(self.alloc, &mut self.near, PLENTY, 8)?;
+        take_kept_aside(self.alloc, &mut self.near)?;
+        self.kept = Vec::new(self.alloc);
+        self.kept = Vec::with_capacity(self.alloc, ROOM.saturating_sub(spare))?;
+        Ok(())
+    }
+
+    /// Gives the rest back.
+    pub fn give_back(&mut self) {
+        self.near.clear();
+        self.kept = Vec::new(self.alloc);
+    }
+}

@@ -1,0 +1,60 @@
+//! The commands of the program `sasl_lab`, over any reader and writer: `client-final` makes a SCRAM
+//! message, `login` plays a whole login, and `audit` compares the transcripts of two sides.
+#![tactic(auto)]
+
+pub mod audit;
+pub mod client_final;
+pub mod command;
+pub mod digits;
+pub mod login;
+pub mod stop;
+pub mod transcript;
+
+use crate::command::Command;
+use crate::stop::Stop;
+use std::alloc::Global;
+use std::io::{Read, Write};
+
+/// The words that the program takes.
+pub static USAGE: &str = "\
+usage: sasl_lab client-final VERSION USER PASSWORD CLIENT-NONCE SERVER-FIRST [LIMIT]
+       sasl_lab login VERSION USER PASSWORD SALT-HEX CLIENT-NONCE-HEX SERVER-NONCE-HEX
+       sasl_lab audit VERSION USER PASSWORD SALT-HEX
+client-final prints the client-final message, and the server-final message that the client accepts.
+login prints the five frame bodies of a login. audit reads lines 'c NONCE-HEX BODY-HEX' of a client
+and 's NONCE-HEX BODY-HEX' of a server, and prints what the logins of both have in common.
+VERSION: SCRAM-SHA-1, SCRAM-SHA-256 or SCRAM-SHA-512
+LIMIT: the largest iteration count that the client accepts, at most 4294967295
+SALT-HEX, and the nonces of login and audit: 64 hexadecimal digits
+status: 0 done, 1 refused, 2 wrong words or a wrong line
+";
+
+/// Does what the words ask, and answers the status to end with: 0 where it is done, 1 where it is
+/// refused or a write fails, 2 where the words ask for nothing that the program does or a line of the
+/// input is no event. The errors are given the usage alone, and that behind `wrong words` alone.
+pub fn run<R: Read, W: Write, E: Write>(
+    alloc: Global,
+    words: &[String],
+    input: &mut R,
+    output: &mut W,
+    errors: &mut E,
+) -> u8 {
+    let Some(command) = Command::from_words(words) else {
+        return refuse_words(output, errors);
+    };
+    match command.run(alloc, input, output) {
+        Ok(()) => 0,
+        Err(stop) => stop.end(output),
+    }
+}
+
+/// Prints `wrong words`, and then tells the usage. After a failed write it tells nothing.
+fn refuse_words<W: Write, E: Write>(output: &mut W, errors: &mut E) -> u8 {
+    let stop = Stop::WrongWords;
+    if stop.print(output).is_err() {
+        return Stop::Output.status();
+    }
+    // The words are refused already, whether or not the usage can be written.
+    let _ = errors.write_all(USAGE.as_bytes());
+    stop.status()
+}

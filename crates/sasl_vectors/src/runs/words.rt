@@ -1,0 +1,138 @@
+//! The words of the files: bytes, texts, numbers, and the replies of each side.
+
+use crate::Unconfirmed;
+use bytes::BytesMut;
+use fe2o3_sasl::hmac::ScramVersion;
+use fe2o3_sasl::runs::{ClientReply, ServerReply};
+use fe2o3_sasl::sasl_profile::{Negotiation, ProfileError};
+use fe2o3_sasl_wire::{Error, Frame, FrameCodec};
+use hex::FromHex;
+use std::alloc::Global;
+
+/// The version of this name.
+pub fn version_of(mechanism: &str) -> Result<ScramVersion, Unconfirmed> {
+    ScramVersion::from_mechanism(mechanism).ok_or(Unconfirmed::Malformed)
+}
+
+/// The 32 bytes of hexadecimal digits.
+pub fn salt_of(digits: &str) -> Result<[u8; 32], Unconfirmed> {
+    match <[u8; 32] as FromHex>::from_hex(digits) {
+        Ok(salt) => Ok(salt),
+        Err(_) => Err(Unconfirmed::Malformed),
+    }
+}
+
+/// The bytes of hexadecimal digits, where `-` is none.
+pub fn bytes_of(alloc: Global, digits: &str) -> Result<Vec<u8>, Unconfirmed> {
+    let digits = if digits == "-" { "" } else { digits };
+    match hex::decode(alloc, digits) {
+        Ok(bytes) => Ok(bytes),
+        Err(_) => Err(Unconfirmed::Malformed),
+    }
+}
+
+/// The text of hexadecimal digits, where `-` is the empty text.
+pub fn text_of(alloc: Global, digits: &str) -> Result<String, Unconfirmed> {
+    match String::from_utf8(bytes_of(alloc, digits)?) {
+        Ok(text) => Ok(text),
+        Err(_) => Err(Unconfirmed::Malformed),
+    }
+}
+
+/// The number of decimal digits.
+pub fn number_of(digits: &str) -> Result<u32, Unconfirmed> {
+    match digits.parse::<u32>() {
+        Ok(number) => Ok(number),
+        Err(_) => Err(Unconfirmed::Malformed),
+    }
+}
+
+/// The body of a frame, in hexadecimal digits.
+fn digits_of(alloc: Global, frame: Frame) -> Result<String, Unconfirmed> {
+    let mut body = BytesMut::new(alloc);
+    FrameCodec {}.encode(frame, &mut body)?;
+    Ok(hex::encode(alloc, body.as_slice())?)
+}
+
+/// A server's reply in the words of the file.
+pub fn server_word(
+    alloc: Global,
+    reply: &Result<ServerReply, Error>,
+) -> Result<String, Unconfirmed> {
+    match reply {
+        Ok(ServerReply::Challenge { body }) => {
+            Ok(format!(in alloc; "Challenge {}", hex::encode(alloc, body)?)?)
+        }
+        Ok(ServerReply::Outcome { code, body }) => {
+            Ok(format!(in alloc; "Outcome:{code:?} {}", hex::encode(alloc, body)?)?)
+        }
+        Err(fault) => Ok(format!(in alloc; "{fault:?}")?),
+    }
+}
+
+/// A server's replies in the words of the file.
+pub fn server_words(
+    alloc: Global,
+    replies: &[Result<ServerReply, Error>],
+) -> Result<Vec<String>, Unconfirmed> {
+    let mut words = Vec::with_capacity(alloc, replies.len())?;
+    for reply in replies {
+        words.push(server_word(alloc, reply)?)?;
+    }
+    Ok(words)
+}
+
+/// A client's reply in the words of the file.
+pub fn client_word(
+    alloc: Global,
+    reply: &Result<ClientReply, ProfileError>,
+) -> Result<String, Unconfirmed> {
+    match reply {
+        Ok(ClientReply::Init { body }) => {
+            Ok(format!(in alloc; "Init {}", hex::encode(alloc, body)?)?)
+        }
+        Ok(ClientReply::Response { body }) => {
+            Ok(format!(in alloc; "Response {}", hex::encode(alloc, body)?)?)
+        }
+        Ok(ClientReply::Outcome(outcome)) => {
+            let body = digits_of(alloc, Frame::Outcome(outcome.clone()?))?;
+            Ok(format!(in alloc; "Outcome:{:?} {body}", outcome.code)?)
+        }
+        Err(fault) => Ok(format!(in alloc; "{fault:?}")?),
+    }
+}
+
+/// A client's replies in the words of the file.
+pub fn client_words(
+    alloc: Global,
+    replies: &[Result<ClientReply, ProfileError>],
+) -> Result<Vec<String>, Unconfirmed> {
+    let mut words = Vec::with_capacity(alloc, replies.len())?;
+    for reply in replies {
+        words.push(client_word(alloc, reply)?)?;
+    }
+    Ok(words)
+}
+
+/// What a profile answers to a frame, in the words of the file.
+pub fn negotiation_word(
+    alloc: Global,
+    answer: Result<Negotiation, ProfileError>,
+) -> Result<String, Unconfirmed> {
+    match answer {
+        Ok(Negotiation::Init(init)) => {
+            let body = digits_of(alloc, Frame::Init(init))?;
+            Ok(format!(in alloc; "Init {body}")?)
+        }
+        Ok(Negotiation::Response(response)) => {
+            let body = digits_of(alloc, Frame::Response(response))?;
+            Ok(format!(in alloc; "Response {body}")?)
+        }
+        Ok(Negotiation::Outcome(outcome)) => {
+            let code = outcome.code;
+            let body = digits_of(alloc, Frame::Outcome(outcome))?;
+            Ok(format!(in alloc; "Outcome:{code:?} {body}")?)
+        }
+        Err(fault) => Ok(format!(in alloc; "{fault:?}")?),
+    }
+}

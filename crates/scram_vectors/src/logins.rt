@@ -1,0 +1,168 @@
+//! Logins through both machines, call after call.
+
+use crate::rows::{Answers, Unconfirmed, bytes_of, message_text, text_of};
+use fe2o3_scram::credentials::{
+    ScramCredentialProvider, ScramCredentials, ScramRecord, SingleScramCredential,
+};
+use fe2o3_scram::hmac::{Meter, ScramVersion};
+use fe2o3_scram::scram_client::ScramClient;
+use fe2o3_scram::scram_messages::{ScramErrorKind, ServerScramErrorKind};
+use fe2o3_scram::scram_server::ScramAuthenticator;
+use std::alloc::Global;
+
+/// A client of `user` with the password `pencil`, and a server.
+#[derive(Drop)]
+pub struct Sides<C: ScramCredentialProvider> {
+    client: Box<ScramClient>,
+    server: Box<ScramAuthenticator<C>>,
+}
+
+impl<C: ScramCredentialProvider + Drop> Sides<C> {
+    /// Both sides before their first call.
+    pub fn new(alloc: Global, credentials: C) -> Result<Sides<C>, Unconfirmed> {
+        let server = Box::new(alloc, ScramAuthenticator::new(credentials))?;
+        let username = "user".to_string(alloc)?;
+        let password = "pencil".to_string(alloc)?;
+        let client = ScramClient::new(username, password, ScramVersion::Sha256);
+        Ok(Sides {
+            client: Box::new(alloc, client)?,
+            server,
+        })
+    }
+
+    /// Clones of both sides.
+    fn copy(&self, alloc: Global) -> Result<Sides<C>, Unconfirmed> {
+        let client: &ScramClient = &self.client;
+        let server: &ScramAuthenticator<C> = &self.server;
+        Ok(Sides {
+            client: Box::new(alloc, client.clone()?)?,
+            server: Box::new(alloc, server.clone()?)?,
+        })
+    }
+
+    /// Makes the call of these words, with 32 bytes 01 as the client's nonce and 32 bytes 02 as the
+    /// server's.
+    fn call(&mut self, alloc: Global, words: &[&str]) -> Result<String, Unconfirmed> {
+        let mut meter = Meter::new();
+        match words {
+            ["start"] => start(alloc, &mut self.client),
+            ["client-reads-first", text] => {
+                let text = text_of(alloc, text)?;
+                let client = &mut self.client;
+                let answer = client.compute_client_final_message_metered(alloc, &text, &mut meter);
+                answered(alloc, answer, &meter)
+            }
+            ["client-reads-final", text] => {
+                let text = bytes_of(alloc, text)?;
+                believed(alloc, self.client.validate_server_final(alloc, &text))
+            }
+            ["server-reads-first", text] => {
+                let text = bytes_of(alloc, text)?;
+                let answer = self
+                    .server
+                    .compute_server_first_message(alloc, &text, &[2; 32]);
+                served(alloc, answer, &meter)
+            }
+            ["server-reads-final", text] => {
+                let text = bytes_of(alloc, text)?;
+                let server = &mut self.server;
+                let answer = server.compute_server_final_message_metered(alloc, &text, &mut meter);
+                served(alloc, answer, &meter)
+            }
+            _ => Err(Unconfirmed::Malformed),
+        }
+    }
+}
+
+impl<C: ScramCredentialProvider + Drop> Answers for Sides<C> {
+    /// Makes a call on clones, and then on the sides themselves.
+    fn answer(&mut self, alloc: Global, words: &[&str]) -> Result<String, Unconfirmed> {
+        let copied = self.copy(alloc)?.call(alloc, words)?;
+        let answer = self.call(alloc, words)?;
+        if answer == copied {
+            Ok(answer)
+        } else {
+            Ok(format!(in alloc; "{answer}, and clones {copied}")?)
+        }
+    }
+}
+
+/// The client's first message.
+fn start(alloc: Global, client: &mut ScramClient) -> Result<String, Unconfirmed> {
+    let message = client.compute_client_first_message(alloc, &[1; 32])?;
+    Ok(message_text(&message)?.to_string(alloc)?)
+}
+
+/// What the client answers, and the HMAC values that it cost.
+fn answered(
+    alloc: Global,
+    answer: Result<Vec<u8>, ScramErrorKind>,
+    meter: &Meter,
+) -> Result<String, Unconfirmed> {
+    let cost = meter.count();
+    match answer {
+        Ok(message) => Ok(format!(in alloc; "{} {cost}", message_text(&message)?)?),
+        Err(kind) => Ok(format!(in alloc; "{kind:?} {cost}")?),
+    }
+}
+
+/// Whether the client believes the server.
+fn believed(alloc: Global, verdict: Result<(), ScramErrorKind>) -> Result<String, Unconfirmed> {
+    match verdict {
+        Ok(()) => Ok(String::from_str(alloc, "believed")?),
+        Err(kind) => Ok(format!(in alloc; "{kind:?}")?),
+    }
+}
+
+/// What the server answers, and the HMAC values that it cost.
+fn served(
+    alloc: Global,
+    answer: Result<Option<Vec<u8>>, ServerScramErrorKind>,
+    meter: &Meter,
+) -> Result<String, Unconfirmed> {
+    let cost = meter.count();
+    match answer {
+        Ok(Some(message)) => Ok(format!(in alloc; "{} {cost}", message_text(&message)?)?),
+        Ok(None) => Ok(format!(in alloc; "unknown user {cost}")?),
+        Err(kind) => Ok(format!(in alloc; "{kind:?} {cost}")?),
+    }
+}
+
+/// The credential of `user` with the salt of 32 bytes 03.
+pub fn credential(alloc: Global) -> Result<SingleScramCredential, Unconfirmed> {
+    let user = "user".to_string(alloc)?;
+    let version = ScramVersion::Sha256;
+    match SingleScramCredential::new(alloc, user, "pencil", version, [3; 32]) {
+        Ok(credential) => Ok(credential),
+        Err(_) => Err(Unconfirmed::Malformed),
+    }
+}
+
+/// The same user behind another, and before a further record of the name.
+pub fn credentials(alloc: Global) -> Result<ScramCredentials, Unconfirmed> {
+    let mut users = ScramCredentials::new(alloc, ScramVersion::Sha256);
+    add(alloc, &mut users, "admin", "pencil", &[3; 32], 1)?;
+    add(alloc, &mut users, "user", "pencil", &[3; 32], 4096)?;
+    add(alloc, &mut users, "user", "pen", &[4; 32], 2)?;
+    Ok(users)
+}
+
+/// Adds a user with this password.
+fn add(
+    alloc: Global,
+    users: &mut ScramCredentials,
+    name: &str,
+    password: &str,
+    salt: &[u8],
+    iterations: u32,
+) -> Result<(), Unconfirmed> {
+    let name = name.to_string(alloc)?;
+    let version = ScramVersion::Sha256;
+    let Ok(record) = ScramRecord::from_password(alloc, version, password, salt, iterations) else {
+        return Err(Unconfirmed::Malformed);
+    };
+    match users.add(name, record) {
+        Ok(()) => Ok(()),
+        Err(_) => Err(Unconfirmed::Malformed),
+    }
+}

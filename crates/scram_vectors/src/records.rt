@@ -1,0 +1,78 @@
+//! Texts of records, and lines of users.
+
+use crate::rows::{Unconfirmed, text_of};
+use fe2o3_scram::credentials::{ReadLinesError, ScramCredentials, ScramRecord};
+use fe2o3_scram::hmac::ScramVersion;
+use std::alloc::Global;
+
+/// Whether a record is written as it was read, and made again of its password: `RECORD PASSWORD`.
+pub fn record(alloc: Global, words: &[&str]) -> Result<String, Unconfirmed> {
+    let [text, password] = words else {
+        return Err(Unconfirmed::Malformed);
+    };
+    let password = text_of(alloc, password)?;
+    let Ok(record) = ScramRecord::parse(alloc, text) else {
+        return Err(Unconfirmed::Malformed);
+    };
+    let written = record.to_text(alloc)?;
+    let made = made_again(alloc, &record, &password)?;
+    if written.as_str() == *text && made == written {
+        Ok(String::from_str(alloc, "written and made again")?)
+    } else {
+        Ok(format!(in alloc; "{written} {made}")?)
+    }
+}
+
+/// The record of this password, with the salt and the count of another.
+fn made_again(alloc: Global, record: &ScramRecord, password: &str) -> Result<String, Unconfirmed> {
+    let kept = record.as_stored_password();
+    let version = *record.scram_version();
+    match ScramRecord::from_password(alloc, version, password, kept.salt, kept.iterations) {
+        Ok(made) => Ok(made.to_text(alloc)?),
+        Err(error) => Ok(format!(in alloc; "{error:?}")?),
+    }
+}
+
+/// Why a text is no record: `TEXT`.
+pub fn record_fault(alloc: Global, words: &[&str]) -> Result<String, Unconfirmed> {
+    let [text] = words else {
+        return Err(Unconfirmed::Malformed);
+    };
+    let text = text_of(alloc, text)?;
+    match ScramRecord::parse(alloc, &text) {
+        Ok(_) => Ok(String::from_str(alloc, "a record")?),
+        Err(error) => Ok(format!(in alloc; "{error:?}")?),
+    }
+}
+
+/// Which line is not read and why, of a text and of the same behind other lines:
+/// `VERSION LINES TEXT`.
+pub fn record_lines(alloc: Global, words: &[&str]) -> Result<String, Unconfirmed> {
+    let [version, lines, text] = words else {
+        return Err(Unconfirmed::Malformed);
+    };
+    let Some(version) = ScramVersion::from_mechanism(version) else {
+        return Err(Unconfirmed::Malformed);
+    };
+    let mut lines = text_of(alloc, lines)?;
+    let text = text_of(alloc, text)?;
+    let alone = refusal(alloc, version, &text)?;
+    lines.push_str(&text)?;
+    let behind = refusal(alloc, version, &lines)?;
+    Ok(format!(in alloc;
+        "{} {:?}, {} {:?}",
+        alone.line, alone.kind, behind.line, behind.kind
+    )?)
+}
+
+/// The first line that is not read.
+fn refusal(
+    alloc: Global,
+    version: ScramVersion,
+    text: &str,
+) -> Result<ReadLinesError, Unconfirmed> {
+    match ScramCredentials::parse_lines(alloc, version, text) {
+        Ok(_) => Err(Unconfirmed::Malformed),
+        Err(error) => Ok(error),
+    }
+}

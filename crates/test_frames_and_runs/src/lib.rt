@@ -1,0 +1,25 @@
+//! Tests of the acceptors, the profiles, the runs and the audits of `fe2o3_sasl`: what no run shows. Runs
+//! and audits themselves are data, which `sasl_vectors` replays. Expected values come from the standards
+//! and from Python's `hmac` and `hashlib`.
+#![tactic(auto)]
+
+#[cfg(test)]
+mod acceptors;
+#[cfg(test)]
+mod addresses;
+#[cfg(test)]
+mod audit_texts;
+#[cfg(test)]
+mod closed;
+#[cfg(test)]
+mod debug_texts;
+#[cfg(test)]
+mod events;
+#[cfg(test)]
+mod faults;
+#[cfg(test)]
+mod kept_keys;
+#[cfg(test)]
+mod own_acceptor;
+#[cfg(test)]
+mod profiles;

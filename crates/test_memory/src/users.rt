@@ -1,0 +1,31 @@
+//! The user of the logins, as what a server keeps of the password.
+
+use fe2o3_scram::credentials::{ScramRecord, StoredScramCredential};
+use help_bodies::bodies::{RECORD, USER};
+use std::alloc::Global;
+use std::test::Fail;
+
+/// The record of the password.
+pub fn record(alloc: Global) -> Result<ScramRecord, Fail> {
+    Ok(ScramRecord::parse(alloc, RECORD)?)
+}
+
+/// The record as a provider of the one user.
+pub fn stored(alloc: Global) -> Result<StoredScramCredential, Fail> {
+    let username = USER.to_string(alloc)?;
+    Ok(StoredScramCredential::new(username, record(alloc)?))
+}
+
+/// The user's name, twice: one for each call that is handed it.
+pub fn two_names(alloc: Global) -> Result<Vec<String>, Fail> {
+    let mut names = Vec::with_capacity(alloc, 2)?;
+    names.push(USER.to_string(alloc)?)?;
+    names.push(USER.to_string(alloc)?)?;
+    Ok(names)
+}
+
+/// The last two of the words.
+pub fn two_of(words: &mut Vec<String>) -> Option<(String, String)> {
+    let first = words.pop()?;
+    Some((first, words.pop()?))
+}

@@ -1,0 +1,67 @@
+//! What `Debug` prints of what holds a password or a key: neither of them.
+
+use crate::kept_keys::KEPT;
+use fe2o3_scram::credentials::{ScramCredentialProvider, SingleScramCredential};
+use fe2o3_scram::hmac::ScramVersion;
+use fe2o3_scram::keyed_scram_client::KeyedScramClient;
+use fe2o3_scram::scram_client::ScramClient;
+use fe2o3_scram::scram_server::ScramAuthenticator;
+use std::alloc::Global;
+use std::fmt::Debug;
+use std::test::Fail;
+
+/// Whether this is what `Debug` prints.
+fn shows<T: Debug>(alloc: Global, value: &T, wanted: &str) -> Result<bool, Fail> {
+    let text = format!(in alloc; "{value:?}")?;
+    Ok(text.as_str() == wanted)
+}
+
+#[test]
+fn hides_the_password_of_a_client(rt: HostRuntime) -> Result<(), Fail> {
+    let username = "user".to_string(rt.alloc())?;
+    let password = "pencil".to_string(rt.alloc())?;
+    let client = ScramClient::new(username, password, ScramVersion::Sha256);
+    let wanted =
+        "ScramClient { username: \"user\", scram: Sha256, iteration_limit: 4294967295, .. }";
+    assert!(rt; shows(rt.alloc(), &client, wanted)?);
+    Ok(())
+}
+
+/// The credential of `user`, with a salt of bytes 03.
+fn credential(alloc: Global) -> Result<SingleScramCredential, Fail> {
+    let username = "user".to_string(alloc)?;
+    let version = ScramVersion::Sha1;
+    Ok(SingleScramCredential::new(alloc, username, "pencil", version, [3; 32])?)
+}
+
+#[test]
+fn hides_the_keys_of_a_credential(rt: HostRuntime) -> Result<(), Fail> {
+    let credential = credential(rt.alloc())?;
+    let wanted =
+        "SingleScramCredential { scram_version: Sha1, username: \"user\", iterations: 4096, .. }";
+    assert!(rt; shows(rt.alloc(), &credential, wanted)?);
+    let stored = credential.get_stored_password("user");
+    let wanted = "Some(StoredPassword { iterations: 4096, .. })";
+    assert!(rt; shows(rt.alloc(), &stored, wanted)?);
+    Ok(())
+}
+
+#[test]
+fn hides_what_a_server_holds(rt: HostRuntime) -> Result<(), Fail> {
+    let server = ScramAuthenticator::new(credential(rt.alloc())?);
+    let wanted = "ScramAuthenticator { scram_version: Sha1, .. }";
+    assert!(rt; shows(rt.alloc(), &server, wanted)?);
+    Ok(())
+}
+
+#[test]
+fn the_keys_are_not_shown(rt: HostRuntime) -> Result<(), Fail> {
+    let keys = KEPT[1].keys(rt.alloc())?;
+    let wanted = "ScramClientKeys { scram_version: Sha256, iterations: 4096, .. }";
+    assert!(rt; shows(rt.alloc(), &keys, wanted)?);
+    let client = KeyedScramClient::new("user".to_string(rt.alloc())?, keys);
+    let wanted =
+        "KeyedScramClient { username: \"user\", scram: Sha256, iteration_limit: 4294967295, .. }";
+    assert!(rt; shows(rt.alloc(), &client, wanted)?);
+    Ok(())
+}

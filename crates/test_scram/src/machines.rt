@@ -1,0 +1,132 @@
+//! What the two machines show and keep. Logins through both stand in the data of `scram_vectors`.
+
+use crate::short_logins::{CLIENT_FINAL, SERVER_FINAL, SERVER_FIRST, client};
+use fe2o3_scram::credentials::{ScramCredentialProvider, SingleScramCredential};
+use fe2o3_scram::hmac::{Meter, ScramVersion};
+use fe2o3_scram::scram_client::ScramClient;
+use fe2o3_scram::scram_messages::ScramErrorKind;
+use fe2o3_scram::scram_server::ScramAuthenticator;
+use std::alloc::Global;
+use std::test::Fail;
+
+/// The credential of `user` with the salt of 32 bytes 03.
+fn credential(alloc: Global) -> Result<SingleScramCredential, Fail> {
+    let username = "user".to_string(alloc)?;
+    let version = ScramVersion::Sha256;
+    Ok(SingleScramCredential::new(alloc, username, "pencil", version, [3; 32])?)
+}
+
+/// Whether both sides send the messages of the login, and accept each other.
+fn logs_in(
+    alloc: Global,
+    client: &mut ScramClient,
+    server: &mut ScramAuthenticator<SingleScramCredential>,
+) -> Result<bool, Fail> {
+    let client_first = client.compute_client_first_message(alloc, &[1; 32])?;
+    let server_first = server.compute_server_first_message(alloc, &client_first, &[2; 32])?;
+    let client_final = client.compute_client_final_message(alloc, SERVER_FIRST)?;
+    let server_final = server.compute_server_final_message(alloc, &client_final)?;
+    client.validate_server_final(alloc, SERVER_FINAL.as_bytes())?;
+    Ok(
+        server_first.as_deref() == Some(SERVER_FIRST.as_bytes())
+            && client_final.as_slice() == CLIENT_FINAL.as_bytes()
+            && server_final.as_deref() == Some(SERVER_FINAL.as_bytes()),
+    )
+}
+
+#[test]
+fn two_machines_log_in(rt: HostRuntime) -> Result<(), Fail> {
+    let mut client = client(rt.alloc())?;
+    let mut server = ScramAuthenticator::new(credential(rt.alloc())?);
+    let right = logs_in(rt.alloc(), &mut client, &mut server)?;
+    assert!(rt; right);
+    Ok(())
+}
+
+/// A client that has sent its first message.
+fn started(alloc: Global) -> Result<Box<ScramClient>, Fail> {
+    let mut client = client(alloc)?;
+    client.compute_client_first_message(alloc, &[1; 32])?;
+    Ok(client)
+}
+
+/// A clone of the client that accepts this count and no higher one.
+fn limited(alloc: Global, client: &ScramClient, limit: u32) -> Result<Box<ScramClient>, Fail> {
+    let client = client.clone()?;
+    Ok(Box::new(alloc, client.with_iteration_limit(limit))?)
+}
+
+/// Why the client does not answer, and the HMAC values that it costs.
+fn refusal(alloc: Global, client: &mut ScramClient) -> (Option<ScramErrorKind>, u64) {
+    let mut meter = Meter::new();
+    let answer = client.compute_client_final_message_metered(alloc, SERVER_FIRST, &mut meter);
+    (answer.err(), meter.count())
+}
+
+/// A refusal of the count.
+const TOO_LARGE: (Option<ScramErrorKind>, u64) = (Some(ScramErrorKind::IterationCountTooLarge), 0);
+
+/// Whether the client refuses the count twice.
+fn refuses(alloc: Global, client: &mut ScramClient) -> bool {
+    refusal(alloc, client) == TOO_LARGE && refusal(alloc, client) == TOO_LARGE
+}
+
+/// Whether the client answers the challenge.
+fn answers(alloc: Global, client: &mut ScramClient) -> Result<bool, ScramErrorKind> {
+    let answer = client.compute_client_final_message(alloc, SERVER_FIRST)?;
+    Ok(answer.as_slice() == CLIENT_FINAL.as_bytes())
+}
+
+#[test]
+fn a_client_keeps_its_limit(rt: HostRuntime) -> Result<(), Fail> {
+    let client = started(rt.alloc())?;
+    let mut low = limited(rt.alloc(), &client, 4095)?;
+    let mut same = Box::new(rt.alloc(), ScramClient::clone(&low)?)?;
+    assert!(rt; refuses(rt.alloc(), &mut low) && refuses(rt.alloc(), &mut same));
+    let mut raised = limited(rt.alloc(), &low, 4096)?;
+    assert!(rt; answers(rt.alloc(), &mut raised) == Ok(true));
+    Ok(())
+}
+
+#[test]
+fn a_client_counts_its_answer(rt: HostRuntime) -> Result<(), Fail> {
+    let client = started(rt.alloc())?;
+    let mut low = limited(rt.alloc(), &client, 4095)?;
+    assert!(rt; refusal(rt.alloc(), &mut low) == TOO_LARGE);
+    let mut enough = limited(rt.alloc(), &client, 4096)?;
+    assert!(rt; refusal(rt.alloc(), &mut enough) == (None, 4100));
+    Ok(())
+}
+
+/// Whether the provider has `user`, with the salt and the count of the login, and nobody else.
+fn shows_user(credentials: &SingleScramCredential) -> bool {
+    let Some(stored_password) = credentials.get_stored_password("user") else {
+        return false;
+    };
+    *credentials.scram_version() == ScramVersion::Sha256
+        && credentials.get_stored_password("nobody").is_none()
+        && stored_password.salt == [3; 32].as_slice()
+        && stored_password.iterations == 4096
+}
+
+#[test]
+fn a_server_shows_its_credentials(rt: HostRuntime) -> Result<(), Fail> {
+    let server = ScramAuthenticator::new(credential(rt.alloc())?);
+    assert!(rt; shows_user(server.credentials()));
+    Ok(())
+}
+
+#[test]
+fn a_client_has_its_version(rt: HostRuntime) -> Result<(), Fail> {
+    for version in [
+        ScramVersion::Sha1,
+        ScramVersion::Sha256,
+        ScramVersion::Sha512,
+    ] {
+        let username = "user".to_string(rt.alloc())?;
+        let password = "pencil".to_string(rt.alloc())?;
+        let client = ScramClient::new(username, password, version);
+        assert!(rt; client.version() == version, "{version:?}");
+    }
+    Ok(())
+}

@@ -1,0 +1,20 @@
+//! Tests of the public calls of `fe2o3_sasl_wire`. Expected values come from the standard, from worked
+//! examples, and from other programs.
+#![tactic(auto)]
+
+#[cfg(test)]
+mod amqp_types;
+#[cfg(test)]
+mod bodies;
+#[cfg(test)]
+mod frames;
+#[cfg(test)]
+mod malicious_bytes;
+#[cfg(test)]
+mod printed;
+#[cfg(test)]
+mod protocol_headers;
+#[cfg(test)]
+mod symbols_views;
+#[cfg(test)]
+mod views_and_bodies;

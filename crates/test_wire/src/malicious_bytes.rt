@@ -1,0 +1,76 @@
+//! Bodies that are cut, damaged, or claim more than they hold.
+
+use crate::bodies::*;
+use crate::frames::refuses;
+use fe2o3_sasl_wire::{Error, view_frame};
+use std::process::Abort;
+
+#[test]
+fn refuses_each_beginning(rt: HostRuntime) {
+    for digits in [
+        OUTCOME_OK,
+        OUTCOME_AUTH,
+        INIT_PLAIN,
+        INIT_ANONYMOUS,
+        MECHANISMS_ANONYMOUS,
+        MECHANISM_ANONYMOUS,
+        NO_MECHANISMS,
+        LOGIN[0],
+        LOGIN[1],
+        LOGIN[2],
+        LOGIN[3],
+        LOGIN[4],
+    ] {
+        let body = bytes_of(&rt, digits);
+        for len in 0..body.len() {
+            let beginning = &body[..len];
+            assert!(rt;
+                refuses(&rt, beginning, Error::DecodeError),
+                "{len} bytes of {digits}"
+            );
+        }
+        assert!(rt; view_frame(&body).is_ok(), "{digits}");
+    }
+}
+
+/// Whether the bytes are refused with each other byte at this place, which lies among them.
+fn refuses_each_other_byte<R: Abort + AllocGlobal>(rt: &R, digits: &str, place: usize) {
+    let mut body = bytes_of(rt, digits);
+    let byte = body
+        .get(place)
+        .copied()
+        .expect(rt, "a place within the body");
+    for other in 0..=255u8 {
+        if let Some(changed) = body.get_mut(place) {
+            *changed = other;
+        }
+        let right = other == byte || refuses(rt, &body, Error::DecodeError);
+        assert!(rt; right, "{other} at {place} of {digits}");
+    }
+}
+
+#[test]
+fn refuses_each_other_size_count_and_length(rt: HostRuntime) {
+    for (digits, places) in [
+        (OUTCOME_OK, [8, 9].as_slice()),
+        (INIT_PLAIN, [8, 9, 11, 18].as_slice()),
+        (MECHANISMS_ANONYMOUS, [8, 9, 11, 12, 14].as_slice()),
+    ] {
+        for place in places {
+            refuses_each_other_byte(&rt, digits, *place);
+        }
+    }
+}
+
+#[test]
+fn refuses_huge_counts(rt: HostRuntime) {
+    for digits in [
+        "02010000005340d00000000e00000001f000000005ffffffffa3",
+        "02010000005343d0ffffffffffffffff",
+    ] {
+        assert!(rt;
+            refuses(&rt, &bytes_of(&rt, digits), Error::DecodeError),
+            "{digits}"
+        );
+    }
+}

@@ -1,0 +1,210 @@
+#!/usr/bin/env python3
+"""Refuses a circle among the top-level modules of a library, and a table of modules that is out of order.
+
+    tools/circles.py [FOLDER]       the folder of the repository; without one, that of this script
+
+A module is a file or a folder right below src/; lib.rt is none of them, and what it re-exports counts as a
+use of the module that the name comes from. A module uses another where its code, comments apart, names a
+path of it: crate::MODULE, or super:: where that leads out of the module. A page, which holds nothing but
+`pub use` lines, stands above what it re-exports, and no other module may use it. Calls of methods are not seen:
+what a module adds to a type of another by an impl can be used without a path of its own.
+
+A section of docs/ARCHITECTURE.md headed "`CRATE`, lowest first" has a row for every file of that crate's
+src/, and each row's module uses modules of earlier rows alone.
+"""
+import re
+import sys
+from pathlib import Path
+
+TOP = Path(sys.argv[1]) if len(sys.argv) > 1 else Path(__file__).resolve().parent.parent
+LIBRARIES = ("fe2o3_sasl_wire", "fe2o3_scram", "fe2o3_sasl")
+NO_CODE = re.compile(r"""//[^\n]*|/\*.*?\*/|b?'(?:\\.|[^'\\])'|b?"(?:\\.|[^"\\])*"|#!?\[tactic\(.*?\)\]\n""", re.S)
+PATH = re.compile(r"(?<![\w:])(crate|super)\s*::")
+NAME = re.compile(r"\s*(r#)?(\w+|\*)\s*")
+DECLARED = re.compile(r"^(?:pub(?:\(\w+\))? )?(?:const|enum|fn|macro_rules!|static|struct|trait|type) (\w+)", re.M)
+ROW = re.compile(r"`([\w/]+\.rt)`")
+
+
+class Wrong(Exception):
+    """What the sources do that this script does not read."""
+
+
+def without_comments(text):
+    """The code alone, with as many lines."""
+    return NO_CODE.sub(lambda found: "\n" * found[0].count("\n"), text)
+
+
+def trees(text, at):
+    """The paths that begin at a place, as lists of names: several where there are braces; and what follows them."""
+    if text[at:].lstrip().startswith("{"):
+        at = text.index("{", at) + 1
+        paths = []
+        while not text[at:].lstrip().startswith("}"):
+            inner, at = trees(text, at)
+            paths += inner
+            comma = re.compile(r"\s*,").match(text, at)
+            at = comma.end() if comma else at
+        return paths, text.index("}", at) + 1
+    name = NAME.match(text, at)
+    if not name:
+        return [[]], at
+    at = name.end()
+    if text.startswith("::", at):
+        paths, at = trees(text, at + 2)
+        return [[name[2]] + path for path in paths], at
+    renamed = re.compile(r"as\s+(\w+)\s*").match(text, at)
+    return [[name[2]] + ([f"as {renamed[1]}"] if renamed else [])], renamed.end() if renamed else at
+
+
+def paths_in(text, place):
+    """The paths of this crate that a file names, as lists of names from the crate's root, each with its line."""
+    for found in PATH.finditer(text):
+        up = 1 if found[1] == "super" else 0
+        for path in trees(text, found.end())[0]:
+            leaves = up
+            while path and path[0] == "super":
+                path, leaves = path[1:], leaves + 1
+            start = list(place[: len(place) - leaves]) if leaves else []
+            yield start + path, text.count("\n", 0, found.start()) + 1
+
+
+def names_of_root(text):
+    """The names that lib.rt has: from which module each comes, or None where it is of no module."""
+    names = {}
+    for use in re.finditer(r"^pub(?:\(crate\))? use (.*?);", text, re.M | re.S):
+        for path in trees(use[1], 0)[0]:
+            name = path[-1].removeprefix("as ")
+            if name == "*":
+                raise Wrong(f"lib.rt re-exports all of {'::'.join(path)}: name what it is")
+            names[name] = path[1] if path[0] == "crate" else None
+    return names | {name: None for name in DECLARED.findall(text)}
+
+
+def is_page(texts):
+    """Whether the module holds nothing but `pub use` lines."""
+    return all(not re.sub(r"pub use [^;]*;", "", text).strip() for text in texts)
+
+
+class Crate:
+    """The modules of a crate, which of them each uses, and at which line first."""
+
+    def __init__(self, name):
+        self.name = name
+        self.src = TOP / "crates" / name / "src"
+        self.files = sorted(path for path in self.src.rglob("*.rt") if path != self.src / "lib.rt")
+        texts = {path: without_comments(path.read_text(encoding="utf-8")) for path in self.files}
+        self.uses = {self.module(path): {} for path in self.files}
+        self.pages = {module for module in self.uses
+                      if is_page([texts[path] for path in self.files if self.module(path) == module])}
+        root = names_of_root(without_comments((self.src / "lib.rt").read_text(encoding="utf-8")))
+        for path in self.files:
+            self.read(path, texts[path], root)
+
+    def module(self, path):
+        return path.relative_to(self.src).with_suffix("").parts[0]
+
+    def read(self, path, text, root):
+        """Notes what a file uses."""
+        own = self.module(path)
+        for names, line in paths_in(text, path.relative_to(self.src).with_suffix("").parts):
+            if not names or names[0] in ("proofs", "specs"):
+                continue
+            if names[0] not in self.uses and names[0] not in root:
+                raise Wrong(f"{path.relative_to(TOP)}:{line}: crate::{names[0]} is no module and no name of lib.rt")
+            used = names[0] if names[0] in self.uses else root[names[0]]
+            if used and used != own:
+                self.uses[own].setdefault(used, f"{path.relative_to(TOP)}:{line}")
+
+    def circle(self):
+        """A shortest circle of modules, or None."""
+        found = [circle for module in self.uses if (circle := self.way_back(module))]
+        return min(found, key=len, default=None)
+
+    def way_back(self, module):
+        """A shortest way from a module to itself, or None."""
+        before, reached = {}, [module]
+        for at in reached:
+            for used in self.uses[at]:
+                if used == module:
+                    way = [module, at]
+                    while way[-1] != module:
+                        way.append(before[way[-1]])
+                    return way[::-1]
+                if used not in before:
+                    before[used] = at
+                    reached.append(used)
+        return None
+
+    def chain(self, module):
+        """A longest chain of modules, each of which uses the next; there is no circle."""
+        return max(([module] + self.chain(used) for used in self.uses[module]), key=len, default=[module])
+
+    def faults(self):
+        """What is wrong with the modules."""
+        circle = self.circle()
+        if circle:
+            yield f"{self.name}: modules use each other in a circle: {' -> '.join(circle)}"
+            for user, used in zip(circle, circle[1:]):
+                yield f"    {self.uses[user][used]}: {user} uses {used}"
+        for user, all_used in self.uses.items():
+            for used in sorted(self.pages & all_used.keys()):
+                yield f"{all_used[used]}: {user} uses {used}, a page of re-exports"
+
+    def faults_of_table(self, cells):
+        """What is wrong with the order of a table's rows, of which each cell names files."""
+        rows, folder = {}, ""
+        for row, cell in enumerate(cells):
+            for file in ROW.findall(cell):
+                if not (self.src / file).exists():
+                    file = str(Path(folder, file))
+                folder = str(Path(file).parent)
+                rows.setdefault(file, row)
+        files = {str(path.relative_to(self.src)): self.module(path) for path in self.files}
+        for file in sorted(rows.keys() ^ files.keys()):
+            lacks = "has no row for" if file in files else "has a row for, which is no file of src/,"
+            yield f"docs/ARCHITECTURE.md: the table of {self.name} {lacks} {file}"
+        places = {}
+        for file in rows.keys() & files.keys():
+            places.setdefault(files[file], []).append(rows[file])
+        for user, all_used in self.uses.items():
+            for used in all_used:
+                if user in places and used in places and max(places[used]) >= min(places[user]):
+                    yield (f"docs/ARCHITECTURE.md: in the table of {self.name} a row of {user} stands before one of"
+                           f" {used}, which it uses ({all_used[used]})")
+
+
+def tables():
+    """The first cells of each table that is headed as lowest first, by the name of its crate."""
+    page = (TOP / "docs" / "ARCHITECTURE.md").read_text(encoding="utf-8")
+    for section in re.finditer(r"^## `(\w+)`, lowest first\n+((?:\|.*\n)+)", page, re.M):
+        yield section[1], [line.split("|")[1] for line in section[2].splitlines()[2:]]
+
+
+def main():
+    faults = []
+    crates = {}
+    for name in LIBRARIES:
+        try:
+            crates[name] = Crate(name)
+        except Wrong as wrong:
+            faults.append(f"{name}: {wrong}")
+            continue
+        faults += crates[name].faults()
+    headed = dict(tables())
+    if "fe2o3_scram" not in headed:
+        faults.append("docs/ARCHITECTURE.md: no table of fe2o3_scram, lowest first")
+    for name, cells in headed.items():
+        if name in crates:
+            faults += crates[name].faults_of_table(cells)
+    if faults:
+        print(*(f"circles: {fault}" for fault in faults), sep="\n", file=sys.stderr)
+        return 1
+    for name, crate in crates.items():
+        chain = max((crate.chain(module) for module in crate.uses), key=len)
+        print(f"circles: {name}: {len(crate.uses)} modules, no circle, at most {len(chain)} above one another:"
+              f" {', '.join(reversed(chain))}")
+    return 0
+
+
+if __name__ == "__main__":
+    sys.exit(main())

@@ -1,0 +1,64 @@
+#!/usr/bin/env python3
+"""The two long parts of the gate side by side: `rt ci`, and the wrong bodies that have to be refused.
+
+Prints what `rt ci` says as it says it, behind it what `tools/wrong_bodies.py` says, and last the sum of what
+both counted, `N passed, M failed`. The exit status is 0 only where both ended with 0 and told their count,
+and nothing failed.
+"""
+import os
+import re
+import signal
+import subprocess
+import sys
+import tempfile
+
+COUNT = re.compile(r"(\d+) passed, (\d+) failed")
+
+
+def counted(name, status, last):
+    """What a part counted, passed and failed. One that was killed or tells no count has failed."""
+    found = COUNT.fullmatch(last.strip())
+    if not found:
+        print(f"gate: {name} told no count, and ended with status {status}")
+        return 0, 1
+    passed, failed = int(found[1]), int(found[2])
+    print(f"gate: {name}: {passed} well, {failed} not")
+    if status != 0 and failed == 0:
+        print(f"gate: {name} ended with status {status}")
+        failed = 1
+    return passed, failed + (passed == 0 and failed == 0)
+
+
+def main():
+    # (an end from outside ends both parts: `finally` below)
+    signal.signal(signal.SIGTERM, lambda *_: sys.exit(143))
+    how = {"stdin": subprocess.DEVNULL, "text": True, "errors": "replace"}
+    with tempfile.TemporaryFile("w+", errors="replace") as told:
+        # (each in a group of its own, which can be ended whole)
+        how |= {"stderr": subprocess.STDOUT, "start_new_session": True}
+        bodies = subprocess.Popen([sys.executable, "tools/wrong_bodies.py"], stdout=told, **how)
+        proofs = subprocess.Popen(["rt", "ci"], stdout=subprocess.PIPE, **how)
+        try:
+            last = ""
+            for line in proofs.stdout:
+                if last:
+                    print(last, end="", flush=True)
+                last = line
+            proofs.wait()
+            bodies.wait()
+        finally:
+            for part in (proofs, bodies):
+                if part.poll() is None:
+                    os.killpg(part.pid, signal.SIGTERM)
+                    part.wait()
+        told.seek(0)
+        lines = told.read().splitlines() or [""]
+    print("\n".join(lines[:-1]))
+    sums = [counted("rt ci", proofs.returncode, last), counted("wrong bodies", bodies.returncode, lines[-1])]
+    passed, failed = (sum(it) for it in zip(*sums))
+    print(f"{passed} passed, {failed} failed")
+    return 1 if failed else 0
+
+
+if __name__ == "__main__":
+    sys.exit(main())

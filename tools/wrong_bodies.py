@@ -1,0 +1,461 @@
+#!/usr/bin/env python3
+"""Plants the wrong bodies of the libraries, and demands that the prover refuses each where it stands.
+
+    tools/wrong_bodies.py [--kept] [--lanes N] [--only WORD] [--logs FOLDER] [CRATE..]
+
+A wrong body is a file crates/NAME/wrong-bodies/BODY.edit: a sentence that says what it turns and which
+clause refuses it, and then lines `file:`, `old:` and `new:`, whose old text stands once in that file. A
+line `law: NAME` says that the refusal comes from a law of the impl, `ghost NAME = {`, and not from a clause
+of the function.
+
+Bodies of different functions do not disturb each other, since a caller knows a function by its contract
+alone. So each crate is proved once, from nothing, and then its wrong bodies are planted in rounds, all of a
+round in one check over what that proof kept; no two of a round turn one function. Of each body it is
+demanded that
+
+- the check leaves a goal open inside the function that the body turns, at a clause and not of safety alone, and
+- no other function and no impl falls: the others are proved, or wait for one that is turned.
+
+The work is done in a copy, so the tree and its out/ stay as they are. With --kept the copy starts from what
+earlier checks kept in out/, for who works on an edit; the gate starts from nothing. It prints a line for each
+body, and last `N passed, M failed`. The exit status is 0 where none failed, 1 where one did, and 2 where the
+bodies could not be tried.
+"""
+import argparse
+import os
+import re
+import shutil
+import signal
+import subprocess
+import sys
+import tempfile
+import threading
+import time
+from concurrent.futures import ThreadPoolExecutor
+from dataclasses import dataclass, field
+
+ROOT = os.path.dirname(os.path.dirname(os.path.realpath(__file__)))
+FOLDER = "wrong-bodies"
+
+# What a check says of a goal that is left open, of an error, of a function and of an impl.
+OPEN = re.compile(r"(?:\S+ )?note: (src/\S+?):(\d+):\d+: it is not proved that (.*)")
+# Of these goals those at a clause: of the function, of its loop, or of a call; the others are of safety alone.
+CLAUSE = re.compile(r"what the function ensures|the invariant of the loop|what .* requires")
+ERROR = re.compile(r"(?:\./)?((?:src|specs|proofs)/\S+?):(\d+):\d+: error: (.*)")
+FUNCTION = re.compile(r"fn (\S+?): (no proof|not proved|could not tell)\b:?(.*)")
+IMPL = re.compile(r"impl (\S+?): (not proved|could not tell)\b(.*)")
+# What is said of one that would be proved if those were that it calls.
+WAITS = re.compile(r"it (calls|passes the block|waits for|rests on|has)\b")
+
+HEAD = re.compile(r"^( *)(?:pub(?:\([a-z]+\))? )?(?:const )?(?:unsafe )?fn (\w+)", re.M)
+IMPL_HEAD = re.compile(r"^impl\b[^{]*?(?:\bfor )?(\w+)(?:<[^{]*>)?\s*(?:where[^{]*)?\{", re.M)
+
+
+class BadEdit(Exception):
+    """Why an edit cannot be planted."""
+
+
+@dataclass(frozen=True)
+class Place:
+    """A function or a law: its file, its first and its last line, and its name."""
+
+    path: str
+    first: int
+    last: int
+    name: str
+
+    def holds(self, path, line):
+        return self.path == path and self.first <= line <= self.last
+
+
+@dataclass
+class Body:
+    """A wrong body: the texts that it turns, and where it has to be refused."""
+
+    crate: str
+    name: str
+    pairs: list = field(default_factory=list)
+    law: str = ""
+    places: set = field(default_factory=set)
+
+    def __str__(self):
+        return f"wrong body {self.crate}/{self.name}"
+
+
+def line_of(text, at):
+    return text.count("\n", 0, at) + 1
+
+
+def function_around(path, text, at):
+    """The function whose body has this place, or None where it stands between functions."""
+    heads = [it for it in HEAD.finditer(text) if it.start() <= at]
+    if not heads:
+        return None
+    head = heads[-1]
+    end = re.compile(rf"^{head[1]}\}}$", re.M).search(text, head.end())
+    if not end or at > end.end():
+        return None
+    opening = re.compile(rf"^{head[1]}\{{$", re.M).search(text, head.end(), end.start())
+    opening = opening or re.compile(r"\{$", re.M).search(text, head.end(), end.start())
+    if not opening or at < opening.start():
+        raise BadEdit(f"it turns the head or a clause of {head[2]}, and not its body")
+    lines, first = text.split("\n"), line_of(text, head.start())
+    # (a check tells the place of a function by its first attribute)
+    while first > 1 and not re.search(r"^\s*(///.*)?$|[{};]$", lines[first - 2]):
+        first -= 1
+    return Place(path, first, line_of(text, end.end()), head[2])
+
+
+def law_of(path, text, at, law):
+    """The law of that name of the type in whose impl this place stands."""
+    heads = [it for it in IMPL_HEAD.finditer(text) if it.start() <= at]
+    if not heads:
+        raise BadEdit(f"`law:` beside a text of {path} that stands in no impl")
+    for impl in IMPL_HEAD.finditer(text):
+        end = re.compile(r"^\}$", re.M).search(text, impl.end())
+        found = re.compile(rf"^    ghost {re.escape(law)} = \{{(?:[^\n]*\}};$|.*?^    \}};$)", re.M | re.S)
+        found = found.search(text, impl.end(), end.end()) if end else None
+        if impl[1] == heads[-1][1] and found:
+            return Place(path, line_of(text, found.start()), line_of(text, found.end()), law)
+    raise BadEdit(f"no impl for {heads[-1][1]} in {path} has a law {law}")
+
+
+def read(crate, file):
+    """Reads an edit. Its places are those of the crate as it stands."""
+    body = Body(crate, os.path.basename(file).removesuffix(".edit"))
+    path = old = None
+    with open(file, encoding="utf-8") as lines:
+        for line in map(lambda it: it.rstrip("\n"), lines):
+            if line.startswith("file: "):
+                path = line.removeprefix("file: ").strip()
+            elif line.startswith("law: "):
+                body.law = line.removeprefix("law: ").strip()
+            elif line.startswith("old: "):
+                old = line.removeprefix("old: ")
+            elif line.startswith("new:"):
+                if not path or not old:
+                    raise BadEdit("a `new:` line before any `file:` or `old:` line")
+                if not path.startswith("src/"):
+                    raise BadEdit(f"{path} is no file of src/: only bodies are turned")
+                body.pairs.append((path, old, line.removeprefix("new:").removeprefix(" ")))
+                old = None
+    if not body.pairs:
+        raise BadEdit("it has no `old:` and `new:` pair")
+    with open(file, encoding="utf-8") as it:
+        if it.readline().startswith("file:"):
+            raise BadEdit("its first line is not the sentence that says what it turns")
+    body.places = places_of(body)
+    return body
+
+
+def places_of(body):
+    """The functions that an edit turns, or the law that is to refuse it."""
+    found = set()
+    for path, old, new in body.pairs:
+        text = source(body.crate, path)
+        # (a pair may name what an earlier one made)
+        if text.count(old) > 1 or not text.count(old) and not any(old in it for _, _, it in body.pairs):
+            raise BadEdit(f"an `old:` text is in {path} {text.count(old)} times, and not once")
+        if old == new:
+            raise BadEdit("it changes nothing")
+        at = text.find(old)
+        place = function_around(path, text, at) if at >= 0 else None
+        if place:
+            found.add(law_of(path, text, at, body.law) if body.law else place)
+    if not found:
+        raise BadEdit("it stands in no function")
+    return found
+
+
+def source(crate, path):
+    try:
+        with open(f"{ROOT}/crates/{crate}/{path}", encoding="utf-8") as it:
+            return it.read()
+    except OSError:
+        raise BadEdit(f"there is no file {path}") from None
+
+
+def rounds_of(bodies):
+    """The bodies in rounds, so that no two of a round turn one function, and no edit turns another's text."""
+    found = []
+    for body in bodies:
+        for others in found:
+            try:
+                planted([*others, body])
+            except BadEdit:
+                continue
+            if all(not body.places & it.places for it in others):
+                others.append(body)
+                break
+        else:
+            found.append([body])
+    return found
+
+
+def planted(bodies):
+    """The texts of the files that these edits turn, by their path."""
+    texts = {}
+    for body in bodies:
+        for path, old, new in body.pairs:
+            text = texts.get(path) or source(body.crate, path)
+            if text.count(old) != 1:
+                raise BadEdit(f"an `old:` text of {body.name} is in {path} {text.count(old)} times, and not once")
+            if new.count("\n") != old.count("\n"):
+                raise BadEdit(f"{body.name} changes the number of lines of {path}")
+            texts[path] = text.replace(old, new)
+    return texts
+
+
+@dataclass
+class Said:
+    """What a check said: goals that are left open, errors, and the functions and impls that fell of themselves."""
+
+    goals: list
+    errors: list
+    fallen: list
+    ended: str
+
+
+def understood(log):
+    said, has_goals = Said([], [], [], ""), False
+    for line in log.splitlines():
+        goal, error = OPEN.match(line), ERROR.match(line)
+        function, impl = FUNCTION.match(line), IMPL.match(line)
+        if goal:
+            said.goals.append((goal[1], int(goal[2]), goal[3]))
+            has_goals = True
+        elif error:
+            said.errors.append((error[1], int(error[2]), error[3]))
+        elif function:
+            # (the goals of a function stand right above its line)
+            if not has_goals and not all(WAITS.match(it.strip()) for it in function[3].split(";")):
+                said.fallen.append((function[1], False))
+            has_goals = False
+        elif impl and not WAITS.match(impl[3].lstrip("; ")):
+            said.fallen.append((impl[1], True))
+        if line.startswith(("logic=", "only=", "rattle:")):
+            said.ended = line
+    return said
+
+
+def judge(crate, bodies, log, status):
+    """For each body of a round whether it was refused where it stands, and at what; and what else fell."""
+    said = understood(log)
+    places = [(body, place) for body in bodies for place in body.places]
+    at = {body.name: [] for body in bodies}
+    stray = []
+    for path, line, goal in said.goals:
+        hit = [body for body, place in places if not body.law and place.holds(path, line)]
+        for body in hit if CLAUSE.match(goal) else []:
+            at[body.name].append(f"{path}:{line}: {goal}")
+        stray += [] if hit else [f"{path}:{line}: {goal}"]
+    for path, line, error in said.errors:
+        hit = [body for body, place in places if body.law and place.holds(path, line)]
+        for body in hit:
+            at[body.name].append(f"{path}:{line}: {error}")
+        names = path.split("/")
+        own = any(place.name in names for _, place in places) and names[0] == "proofs"
+        stray += [] if hit or own else [f"{path}:{line}: {error}"]
+    # (of one whose proof file no longer fits no goal is told; its path is that of its type, and not of its file)
+    names = {place.name for body, place in places if not body.law}
+    lawful = any(body.law and at[body.name] for body in bodies)
+    for name, is_impl in said.fallen:
+        if not (lawful if is_impl else name.rpartition("::")[2] in names):
+            stray.append(f"{name} falls")
+    if status != 1 or not said.ended.startswith("logic=not-proved"):
+        stray.append(f"the check ended with status {status}: {said.ended or 'no verdict'}")
+        if not said.ended:
+            # (a text that does not compile, for example)
+            stray += [it for it in log.splitlines() if re.match(r"\S*: ?error|error", it)]
+    return at, stray
+
+
+def bodies_of(crate, word):
+    """The wrong bodies of a crate, and a line for each edit that cannot be planted."""
+    found, bad = [], []
+    folder = f"{ROOT}/crates/{crate}/{FOLDER}"
+    for name in sorted(os.listdir(folder)) if os.path.isdir(folder) else []:
+        if not name.endswith(".edit"):
+            bad.append(f"{crate}/{FOLDER}/{name}: BAD EDIT: a wrong body is a file NAME.edit")
+        elif word in name:
+            try:
+                found.append(read(crate, f"{folder}/{name}"))
+                planted(found[-1:])
+            except BadEdit as why:
+                found = [it for it in found if it.name != name.removesuffix(".edit")]
+                bad.append(f"wrong body {crate}/{name.removesuffix('.edit')}: BAD EDIT: {why}")
+    return found, bad
+
+
+class Copy:
+    """A copy of crates with their lines of crates.txt, in which they are proved or turned."""
+
+    def __init__(self, room, lines, kept):
+        self.room = room
+        os.makedirs(f"{room}/crates")
+        shutil.copy(f"{ROOT}/HANDLES", room)
+        with open(f"{room}/crates.txt", "w", encoding="utf-8") as it:
+            it.writelines(lines.values())
+        for name in lines:
+            for part in ("src", "specs", "proofs", *(["out"] if kept else [])):
+                if os.path.isdir(f"{ROOT}/crates/{name}/{part}"):
+                    shutil.copytree(f"{ROOT}/crates/{name}/{part}", f"{room}/crates/{name}/{part}")
+
+    def folder(self, crate):
+        return f"{self.room}/crates/{crate}"
+
+    def write(self, crate, texts):
+        for path, text in texts.items():
+            with open(f"{self.folder(crate)}/{path}", "w", encoding="utf-8") as it:
+                it.write(text)
+
+
+class Trial:
+    """Proves each crate as it stands, and then plants its wrong bodies in rounds."""
+
+    def __init__(self, room, lines, asked):
+        self.room, self.lines, self.asked = room, lines, asked.crates or [*lines]
+        self.word, self.logs = asked.only, asked.logs
+        self.base = Copy(f"{room}/base", lines, asked.kept)
+        self.lane = threading.Semaphore(asked.lanes)
+        self.proved = {name: threading.Event() for name in lines}
+        self.built = set()
+        self.passed, self.failed = 0, []
+        self.printing = threading.Lock()
+
+    def run(self):
+        with ThreadPoolExecutor(len(self.lines)) as pool:
+            for done in [pool.submit(self.crate, name) for name in self.lines]:
+                done.result()
+        # (once more, so that the end of a long log tells what failed)
+        print("\n".join([*self.failed, f"{self.passed} passed, {len(self.failed)} failed"]), flush=True)
+        return 1 if self.failed or not self.passed else 0
+
+    def below(self, crate):
+        """The crates here that this one uses, lowest first."""
+        used = self.lines[crate].partition(":")[2].split()
+        return [it for it in self.lines if it in used]
+
+    def say(self, failed, *lines):
+        with self.printing:
+            self.passed += len(lines) - len(failed)
+            self.failed += failed
+            print("\n".join(lines), flush=True)
+
+    def fail(self, *lines):
+        self.say([*lines], *lines)
+
+    def crate(self, crate):
+        try:
+            bodies, bad = bodies_of(crate, self.word) if crate in self.asked else ([], [])
+            if bad:
+                self.fail(*bad)
+            for it in self.below(crate):
+                self.proved[it].wait()
+            if not all(it in self.built for it in self.below(crate)):
+                return self.fail(f"wrong bodies of {crate}: not tried, since a library below is not proved")
+            log = self.prove(crate)
+            if log:
+                return self.fail(f"wrong bodies of {crate}: not tried, since it is not proved as it stands:\n{log}")
+        finally:
+            self.proved[crate].set()
+        copy = self.turned(crate) if bodies else None
+        for bodies in rounds_of(bodies):
+            self.round(copy, crate, bodies)
+
+    def prove(self, crate):
+        """Proves the crate as it stands, and builds it for those above. Returns what is wrong, if anything is."""
+        is_used = any(crate in self.below(it) for it in self.lines)
+        with self.lane:
+            status, log = checked(self.base.folder(crate), "lib" if is_used else "check")
+        if status == 0:
+            self.built.add(crate)
+        return "\n".join(log.splitlines()[-12:]) if status else ""
+
+    def turned(self, crate):
+        """A copy in which to turn the crate, with what its proof kept and the libraries below as they were built."""
+        lines = {it: self.lines[it] for it in [*self.all_below(crate), crate]}
+        copy = Copy(f"{self.room}/{crate}", lines, kept=False)
+        os.makedirs(f"{copy.folder(crate)}/out")
+        shutil.move(f"{self.base.folder(crate)}/out/incremental", f"{copy.folder(crate)}/out/incremental")
+        for it in self.all_below(crate):
+            shutil.copytree(f"{self.base.folder(it)}/out/rlib", f"{copy.folder(it)}/out/rlib", copy_function=os.link)
+        return copy
+
+    def all_below(self, crate):
+        return [it for it in self.lines if it in self.below(crate) or any(it in self.below(on) for on in self.below(crate))]
+
+    def round(self, copy, crate, bodies):
+        texts = planted(bodies)
+        copy.write(crate, texts)
+        with self.lane:
+            status, log = checked(copy.folder(crate), "check")
+        copy.write(crate, {path: source(crate, path) for path in texts})
+        if self.logs:
+            os.makedirs(self.logs, exist_ok=True)
+            with open(f"{self.logs}/{crate}-{bodies[0].name}.log", "w", encoding="utf-8") as it:
+                it.write(log)
+        at, stray = judge(crate, bodies, log, status)
+        refused = [f"{it}: refused at {at[it.name][0]}" for it in bodies if at[it.name]]
+        others = [f"{it}: NOT REFUSED where it stands" for it in bodies if not at[it.name]]
+        self.say(others, *refused, *others)
+        if stray:
+            names = ", ".join(it.name for it in bodies)
+            more = [f"    {it[:200]}" for it in stray[:8]]
+            self.fail("\n".join([f"wrong bodies of {crate}: beside {names} there falls what no edit turns:", *more]))
+
+
+def checked(folder, verb):
+    """The status of a check, and what it said. One that ends without a verdict, for want of memory for example, is tried again."""
+    for wait in (20, 60, 0):
+        ran = subprocess.run(
+            ["rt", verb, "--jobs", "1"],
+            cwd=folder,
+            stdin=subprocess.DEVNULL,
+            stdout=subprocess.PIPE,
+            stderr=subprocess.STDOUT,
+            text=True,
+            errors="replace",
+        )
+        # (a text that does not compile has no verdict, and is told at once)
+        if ran.returncode in (0, 1) or not wait:
+            break
+        last = (ran.stdout.splitlines() or [""])[-1]
+        print(f"wrong bodies: rt {verb} of {os.path.basename(folder)} ended with status {ran.returncode}: {last}", flush=True)
+        time.sleep(wait)
+    return ran.returncode, ran.stdout
+
+
+def libraries(names):
+    """The lines of the crates that have wrong bodies, and of those below them, lowest first."""
+    lines = {}
+    with open(f"{ROOT}/crates.txt", encoding="utf-8") as it:
+        for line in it:
+            name = line.partition(":")[0].strip()
+            if name and not name.startswith("#"):
+                lines[name] = line
+    wanted = {it for it in lines if os.path.isdir(f"{ROOT}/crates/{it}/{FOLDER}") and (not names or it in names)}
+    while more := {below for it in wanted for below in lines[it].partition(":")[2].split() if below in lines} - wanted:
+        wanted |= more
+    return {it: lines[it] for it in lines if it in wanted}
+
+
+def main():
+    parser = argparse.ArgumentParser(description=__doc__, formatter_class=argparse.RawDescriptionHelpFormatter)
+    parser.add_argument("crates", metavar="CRATE", nargs="*", help="a crate to try (all that have wrong bodies)")
+    parser.add_argument("--kept", action="store_true", help="start from what earlier checks kept in out/")
+    parser.add_argument("--lanes", type=int, default=2, help="how many checks at a time (2)")
+    parser.add_argument("--only", metavar="WORD", default="", help="only the bodies whose name has this word")
+    parser.add_argument("--logs", metavar="FOLDER", help="write what each round's check said into this folder")
+    asked = parser.parse_args()
+    lines = libraries(asked.crates)
+    if not lines:
+        print("0 passed, 1 failed: no crate has wrong bodies")
+        return 2
+    with tempfile.TemporaryDirectory(prefix="wrong-bodies-") as room:
+        signal.signal(signal.SIGTERM, lambda *_: (shutil.rmtree(room, ignore_errors=True), os._exit(143)))
+        return Trial(room, lines, asked).run()
+
+
+if __name__ == "__main__":
+    sys.exit(main())
