@@ -2,8 +2,9 @@
 """The two long parts of the gate side by side: `rt ci`, and the wrong bodies that have to be refused.
 
 Prints what `rt ci` says as it says it, behind it what `tools/wrong_bodies.py` says, and last the sum of what
-both counted, `N passed, M failed`. The exit status is 0 only where both ended with 0 and told their count,
-and nothing failed.
+both counted, `N passed, M failed`. Where `rt ci` refuses, its last lines, which name what failed, stand once
+more above the sums, since the end of a log is what is read first. The exit status is 0 only where both ended
+with 0 and told their count, and nothing failed.
 """
 import os
 import re
@@ -11,6 +12,7 @@ import signal
 import subprocess
 import sys
 import tempfile
+from collections import deque
 
 COUNT = re.compile(r"(\d+) passed, (\d+) failed")
 
@@ -39,10 +41,11 @@ def main():
         bodies = subprocess.Popen([sys.executable, "tools/wrong_bodies.py"], stdout=told, **how)
         proofs = subprocess.Popen(["rt", "ci"], stdout=subprocess.PIPE, **how)
         try:
-            last = ""
+            last, named = "", deque(maxlen=6)
             for line in proofs.stdout:
                 if last:
                     print(last, end="", flush=True)
+                    named.append(last)
                 last = line
             proofs.wait()
             bodies.wait()
@@ -54,6 +57,8 @@ def main():
         told.seek(0)
         lines = told.read().splitlines() or [""]
     print("\n".join(lines[:-1]))
+    if proofs.returncode:
+        print("gate: the end of what rt ci said:", "".join(named), sep="\n", end="")
     sums = [counted("rt ci", proofs.returncode, last), counted("wrong bodies", bodies.returncode, lines[-1])]
     passed, failed = (sum(it) for it in zip(*sums))
     print(f"{passed} passed, {failed} failed")
