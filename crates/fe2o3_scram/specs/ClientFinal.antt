@@ -1,10 +1,12 @@
 -- The client-final message (RFC 5802, section 7), as the client writes it and as the server reads it.
-use Rattle.std.specs.Prelude.{ℕ, List, [], ◌∷◌, ◌++◌, ◌≡◌, codes, Result, Ok, Err, ◌≢◌, ◌⊎◌, length, Vec}
-use Rattle.std.specs.declared.alloc.Global.{Global}
+use Rattle.std.specs.Prelude.{ℕ, List, [], ◌∷◌, ◌++◌, ◌≡◌, codes, Result, Ok, Err, ◌≢◌, ◌⊎◌, length, Bool, ◌&&◌, if◌then◌else◌, nat_eq}
+use Rattle.std.specs.Cmp.Lexicographic.{pointwise}
+use Rattle.fe2o3_scram.specs.declared.scram_messages.client_final.ClientAnswer.{ClientAnswer}
 use Rattle.fe2o3_scram.specs.declared.hmac.ScramVersion.{ScramVersion}
 use Rattle.fe2o3_scram.specs.Texts.{base64_text, joined, Part, LastPart}
-use Rattle.fe2o3_scram.specs.Keys.{auth_message, client_key, client_proof, server_key, server_signature, recovered_client_key, MeetsStoredKey}
-use Rattle.fe2o3_scram.specs.Pbkdf2Hi.{salted_of}
+use Rattle.fe2o3_scram.specs.Keys.{auth_message, client_proof, server_signature, recovered_client_key, MeetsStoredKey}
+use Rattle.fe2o3_scram.specs.ClientKeys.{ClientKeys, keys_of}
+use Rattle.fe2o3_scram.specs.ClientSecret.{Secret, Password, Keys, Both}
 use Rattle.fe2o3_scram.specs.ServerFirst.{ServerFirst}
 use Rattle.std.specs.Str.{IsUtf8}
 use Rattle.base64.specs.GeneralPurpose.{IsBytes}
@@ -23,22 +25,48 @@ without_proof nonce = joined ((codes "c=" ++ base64_text (codes "n,,")) ∷ (cod
 abbrev pub client_final_of : List ℕ → List ℕ → List ℕ
 client_final_of without proof = joined (without ∷ (codes "p=" ++ base64_text proof) ∷ [])
 
--- an answer of the client (RFC 5802, section 5): the client-final message, and the signature that it waits for
-abbrev pub Answer : Type 0
-Answer = List ℕ × List ℕ
+-- an answer of the client (RFC 5802, section 5): the client-final message, the signature that it waits for, and the
+-- keys that it was made by
+pub record Answer : Type 0 where
+  pub message : List ℕ
+  pub signature : List ℕ
+  pub keys : ClientKeys
 
--- the answer that the code's pair is
-abbrev pub answer_values : Vec ℕ Global × Vec ℕ Global → Answer
-answer_values pair = (pair.0.items, pair.1.items)
+-- the answer that the code's value is
+abbrev pub answer_values : ClientAnswer → Answer
+answer_values answer = record {
+  message = answer.message.items;
+  signature = answer.signature.items;
+  keys = answer.keys;
+}
 
--- the answer to a server-first message that names these values; the messages stand in the proof as they were sent
-abbrev pub answer_of : ScramVersion → List ℕ → List ℕ → List ℕ → ServerFirst → Answer
-answer_of version password bare text first =
-    let salted = salted_of version password first.salt first.count in
-    let auth = auth_message bare text (without_proof first.nonce) in (
-      client_final_of (without_proof first.nonce) (client_proof version (client_key version salted) auth),
-      server_signature version (server_key version salted) auth,
-    )
+-- the answer by these keys (RFC 5802, section 3), from what stands before the proof of it; the messages stand in the
+-- proof as they were sent
+abbrev pub answer_by : ClientKeys → List ℕ → List ℕ → List ℕ → Answer
+answer_by keys bare text without =
+    let auth = auth_message bare text without in
+    record {
+      message = client_final_of without (client_proof keys.version keys.client_key auth);
+      signature = server_signature keys.version keys.server_key auth;
+      keys = keys;
+    }
+
+-- the keys are of the salt and the count that a message names (RFC 5802, section 3)
+abbrev pub fit : ClientKeys → ServerFirst → Bool
+fit keys first = pointwise nat_eq first.salt keys.salt && nat_eq first.count keys.count
+
+-- the keys that a client answers by (RFC 5802, section 3): those of its password with the salt and the count that are
+-- named, or its own
+abbrev pub keys_for : ScramVersion → Secret → ServerFirst → ClientKeys
+keys_for version (Password password) first = keys_of version password first.salt first.count
+keys_for version (Keys keys) first = keys
+keys_for version (Both password keys) first =
+    if fit keys first then keys else keys_of version password first.salt first.count
+
+-- the answer to a server-first message that names these values
+abbrev pub answer_of : ScramVersion → Secret → List ℕ → List ℕ → ServerFirst → Answer
+answer_of version secret bare text first =
+    answer_by (keys_for version secret first) bare text (without_proof first.nonce)
 
 -- what a client-final message names (RFC 5802, section 7): the proof, and what stands before it
 pub record ClientFinal : Type 0 where

@@ -6,6 +6,7 @@ use Rattle.fe2o3_scram.specs.declared.hmac.ScramVersion.{ScramVersion}
 use Rattle.fe2o3_scram.specs.ServerFirst.{client_of, server_first_of, ServerFirst, ReadsServerFirst}
 use Rattle.fe2o3_scram.specs.ClientFinal.{Answer, answer_of, without_proof, Server, server_of, ClientFinal, ReadsClientFinal}
 use Rattle.fe2o3_scram.specs.ClientFirst.{client_first, client_first_bare, ReadsClientFirst}
+use Rattle.fe2o3_scram.specs.ClientSecret.{Password, up_to}
 use Rattle.fe2o3_scram.specs.Credentials.{Record, record_of}
 use Rattle.fe2o3_scram.specs.Keys.{auth_message, client_key, client_proof}
 use Rattle.fe2o3_scram.specs.Pbkdf2Hi.{salted_of}
@@ -60,7 +61,7 @@ named_in x = record { nonce = nonce_in x; salt = x.salt; count = x.count }
 
 -- the client's last message, and the signature that it waits for
 abbrev pub answer_in : Exchange → Answer
-answer_in x = answer_of x.version x.password (bare_in x) (first_in x) (named_in x)
+answer_in x = answer_of x.version (Password x.password) (bare_in x) (first_in x) (named_in x)
 
 -- what the server holds against the client's last message
 abbrev pub server_in : Exchange → Server
@@ -79,6 +80,7 @@ final_in x = record {
 pub record Succeeds (x : Exchange) : Type 0 where
   pub client_first : ReadsClientFirst (client_first x.user x.client_nonce)
       (Ok (record { user = x.user; nonce = x.client_nonce; bare = bare_in x }))
-  pub server_first : ReadsServerFirst (client_of x.client_nonce x.password x.limit) (first_in x) (Ok (named_in x))
-  pub client_final : ReadsClientFinal (server_in x) (answer_in x).0 (Ok (final_in x))
-  pub server_final : ReadsServerFinal (answer_in x).1 (server_final_of (server_in x) (final_in x)) (Ok tt)
+  pub server_first : ReadsServerFirst (client_of x.client_nonce (Password x.password) (up_to x.limit))
+      (first_in x) (Ok (named_in x))
+  pub client_final : ReadsClientFinal (server_in x) (answer_in x).message (Ok (final_in x))
+  pub server_final : ReadsServerFinal (answer_in x).signature (server_final_of (server_in x) (final_in x)) (Ok tt)

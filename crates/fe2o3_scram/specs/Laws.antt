@@ -1,5 +1,5 @@
 -- What holds of the definitions themselves. Each is the contract of a function of `laws`.
-use Rattle.std.specs.Prelude.{ℕ, List, ◌≡◌, ◌≤◌, ◌<◌, ◌^◌, ◌⊎◌, length, Result, Ok, Err}
+use Rattle.std.specs.Prelude.{ℕ, List, ◌≡◌, ◌≤◌, ◌<◌, ◌^◌, ◌⊎◌, ◌≢◌, ◌↔◌, length, Result, Ok, Err}
 use Rattle.base64.specs.Engines.{standard}
 use Rattle.base64.specs.GeneralPurpose.{IsBytes, decode_of}
 use Rattle.fe2o3_scram.specs.declared.hmac.ScramVersion.{ScramVersion}
@@ -7,12 +7,11 @@ use Rattle.fe2o3_scram.specs.declared.scram_messages.error.ScramErrorKind.{Scram
 use Rattle.fe2o3_scram.specs.Texts.{base64_text, IsBase64, NoComma, Parts}
 use Rattle.fe2o3_scram.specs.declared.scram_messages.error.ServerScramErrorKind.{ServerScramErrorKind}
 use Rattle.fe2o3_scram.specs.ClientFirst.{ClientFirst, ReadsClientFirst}
-use Rattle.fe2o3_scram.specs.ClientKeys.{ClientKeys, AnswersWithKeys, keyed_client, keys_of}
-use Rattle.fe2o3_scram.specs.KeyedScramClient.{KeyedSide, KeyedAnswersIn, KeyedBelievesIn, keyed_started, with_password}
+use Rattle.fe2o3_scram.specs.ClientKeys.{ClientKeys, keys_of}
+use Rattle.fe2o3_scram.specs.ClientSecret.{Password, Keys, Both}
 use Rattle.fe2o3_scram.specs.SaslprepAscii.{IsPrintable}
-use Rattle.fe2o3_scram.specs.ScramClient.{AnswersIn, BelievesIn, started}
-use Rattle.fe2o3_scram.specs.declared.scram_messages.error.KeyedClientError.{KeyedClientError}
-use Rattle.fe2o3_scram.specs.declared.scram_messages.error.KeyedClientError.TheVariants.{Scram, OtherKeys}
+use Rattle.fe2o3_scram.specs.declared.client_secret.IterationLimits.{IterationLimits}
+use Rattle.fe2o3_scram.specs.declared.scram_messages.error.ScramErrorKind.TheVariants.{OtherKeys}
 use Rattle.fe2o3_scram.specs.Credentials.{Record, Records, VersionedRecord, record_of}
 use Rattle.fe2o3_scram.specs.Escape.{escaped}
 use Rattle.fe2o3_scram.specs.Exchanges.{Exchange, IsSound, Succeeds}
@@ -145,47 +144,32 @@ abbrev pub MadeRecordsAreReadable : Type 0
 MadeRecordsAreReadable = (version : ScramVersion) (password salt : List ℕ) (count : ℕ) → IsBytes salt → 1 ≤ count
     → count < 2 ^ 32 → IsReadable (record { version = version; stored = record_of version password salt count })
 
--- an answer of a client with a password, as a client with keys gives it
-abbrev pub as_keyed : {A : Type 0} → Result A ScramErrorKind → Result A KeyedClientError
-as_keyed (Ok value) = Ok value
-as_keyed (Err fault) = Err (Scram fault)
-
 -- the keys are those of the password, with their salt and their count
 abbrev pub AreKeysOf : ClientKeys → List ℕ → Type 0
 AreKeysOf keys password = keys ≡ keys_of keys.version password keys.salt keys.count
 
 -- what is answered by the keys of a password is answered by the password
 abbrev pub KeysStandForPassword : Type 0
-KeysStandForPassword = (keys : ClientKeys) (password nonce bare text : List ℕ) (limit : ℕ)
+KeysStandForPassword = (keys : ClientKeys) (password nonce bare text : List ℕ) (limits : IterationLimits)
     (answer : Result Answer ScramErrorKind) → IsPrintable password → AreKeysOf keys password
-    → AnswersWithKeys keys (keyed_client nonce limit) bare text (as_keyed answer)
-    → AnswersServerFirst keys.version (client_of nonce password limit) bare text answer
+    → answer ≢ Err OtherKeys
+    → AnswersServerFirst keys.version (client_of nonce (Keys keys) limits) bare text answer
+    → AnswersServerFirst keys.version (client_of nonce (Password password) limits) bare text answer
 
 -- what is answered by the password is answered by its keys, or else they are of another salt or another count
 abbrev pub KeysAnswerAsPassword : Type 0
-KeysAnswerAsPassword = (keys : ClientKeys) (password nonce bare text : List ℕ) (limit : ℕ)
+KeysAnswerAsPassword = (keys : ClientKeys) (password nonce bare text : List ℕ) (limits : IterationLimits)
     (answer : Result Answer ScramErrorKind) → IsPrintable password → AreKeysOf keys password
-    → AnswersServerFirst keys.version (client_of nonce password limit) bare text answer
-    → AnswersWithKeys keys (keyed_client nonce limit) bare text (as_keyed answer)
-    ⊎ AnswersWithKeys keys (keyed_client nonce limit) bare text (Err OtherKeys)
+    → AnswersServerFirst keys.version (client_of nonce (Password password) limits) bare text answer
+    → AnswersServerFirst keys.version (client_of nonce (Keys keys) limits) bare text answer
+    ⊎ AnswersServerFirst keys.version (client_of nonce (Keys keys) limits) bare text (Err OtherKeys)
 
--- a client with the keys of a password starts as the client with the password does
-abbrev pub KeyedClientStarts : Type 0
-KeyedClientStarts = (side : KeyedSide) (password nonce : List ℕ)
-    → with_password (keyed_started side nonce) password ≡ started (with_password side password) nonce
-
--- in each state it answers as that client does, and is the same client afterwards
-abbrev pub KeyedClientAnswers : Type 0
-KeyedClientAnswers = (side next : KeyedSide) (password text : List ℕ) (answer : Result (List ℕ) ScramErrorKind)
-    → IsPrintable password → AreKeysOf side.keys password
-    → KeyedAnswersIn side.state side text (as_keyed answer) next
-    → AnswersIn side.state (with_password side password) text answer (with_password next password)
-
--- and it believes what that client believes
-abbrev pub KeyedClientBelieves : Type 0
-KeyedClientBelieves = (side next : KeyedSide) (password text : List ℕ) (answer : Result (Unit {0}) ScramErrorKind)
-    → KeyedBelievesIn side.state side text answer next
-    → BelievesIn side.state (with_password side password) text answer (with_password next password)
+-- a client with both answers as the one with the password, where its keys are those of it
+abbrev pub BothAnswerAsPassword : Type 0
+BothAnswerAsPassword = (keys : ClientKeys) (password nonce bare text : List ℕ) (limits : IterationLimits)
+    (answer : Result Answer ScramErrorKind) → IsPrintable password → AreKeysOf keys password
+    → AnswersServerFirst keys.version (client_of nonce (Both password keys) limits) bare text answer
+    ↔ AnswersServerFirst keys.version (client_of nonce (Password password) limits) bare text answer
 
 -- what the code holds of a user: the count has 32 bits, and salt and keys are bytes
 abbrev pub HoldsBytes : List ℕ × Record → Type 0

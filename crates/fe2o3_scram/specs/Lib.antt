@@ -11,13 +11,13 @@ pub mod RecordText
 pub mod RecordLines
 pub mod Error
 pub mod ClientFirst
+pub mod ClientKeys
+pub mod ClientSecret
 pub mod ServerFirst
 pub mod ClientFinal
 pub mod ServerFirstAnswers
-pub mod ClientKeys
 pub mod ServerFinal
 pub mod ScramClient
-pub mod KeyedScramClient
 pub mod ScramServer
 pub mod Exchanges
 pub mod Laws

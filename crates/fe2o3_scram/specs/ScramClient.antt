@@ -1,40 +1,56 @@
 -- A SCRAM client from message to message (RFC 5802, section 5).
-use Rattle.std.specs.Prelude.{ℕ, List, ◌≡◌, Result, Ok, Err}
+use Rattle.std.specs.Prelude.{ℕ, List, Option, Some, None, ◌≡◌, Result, Ok, Err}
+use Rattle.fe2o3_scram.specs.declared.client_secret.IterationLimits.{IterationLimits}
 use Rattle.fe2o3_scram.specs.declared.hmac.ScramVersion.{ScramVersion}
 use Rattle.fe2o3_scram.specs.declared.scram_client.ScramClientState.{ScramClientState}
 use Rattle.fe2o3_scram.specs.declared.scram_client.ScramClientState.TheVariants.{Initial as CodeInitial, ClientFirstSent as CodeClientFirstSent, ClientFinalSent as CodeClientFinalSent, Complete as CodeComplete}
 use Rattle.fe2o3_scram.specs.declared.scram_messages.error.ScramErrorKind.{ScramErrorKind}
 use Rattle.fe2o3_scram.specs.declared.scram_messages.error.ScramErrorKind.TheVariants.{IllegalClientState}
 use Rattle.fe2o3_scram.specs.Texts.{base64_text}
+use Rattle.fe2o3_scram.specs.ClientFinal.{Answer}
+use Rattle.fe2o3_scram.specs.ClientKeys.{ClientKeys}
+use Rattle.fe2o3_scram.specs.ClientSecret.{Secret}
 use Rattle.fe2o3_scram.specs.ServerFirstAnswers.{AnswersServerFirst, AnswerCosts}
 use Rattle.fe2o3_scram.specs.ClientFirst.{client_first_bare}
 use Rattle.fe2o3_scram.specs.ServerFirst.{Client, client_of, ReachesSalt, ReadsServerFirst}
 use Rattle.fe2o3_scram.specs.ServerFinal.{ReachesVerifier, ReadsServerFinal}
 
--- what a client has sent last, and what it waits for (RFC 5802, section 5)
+-- what a client has sent last, and what it waits for (RFC 5802, section 5); the keys are those of its answer, where it
+-- still has them
 pub data ClientState : Type 0 where
   Initial : ClientState
   ClientFirstSent : (nonce : List ℕ) → (bare : List ℕ) → ClientState
-  ClientFinalSent : (signature : List ℕ) → ClientState
-  Complete : ClientState
+  ClientFinalSent : (signature : List ℕ) → (keys : Option ClientKeys) → ClientState
+  Complete : (keys : Option ClientKeys) → ClientState
 
--- a client (RFC 5802, section 5): its user and password, its version, the highest count that it accepts, and its state
+-- a client (RFC 5802, section 5): its user and its secret, its version, the counts that it accepts, and its state
 pub record ClientSide : Type 0 where
   pub user : List ℕ
-  pub password : List ℕ
+  pub secret : Secret
   pub version : ScramVersion
-  pub limit : ℕ
+  pub limits : IterationLimits
   pub state : ClientState
 
 -- the same client in another state
 abbrev pub with_state : ClientSide → ClientState → ClientSide
 with_state side state = record {
   user = side.user;
-  password = side.password;
+  secret = side.secret;
   version = side.version;
-  limit =
-      side.limit;
+  limits =
+      side.limits;
   state = state;
+}
+
+-- the same client with other limits
+abbrev pub with_limits : ClientSide → IterationLimits → ClientSide
+with_limits side limits = record {
+  user = side.user;
+  secret = side.secret;
+  version = side.version;
+  limits =
+      limits;
+  state = side.state;
 }
 
 -- the client after its first message, with this nonce
@@ -44,14 +60,14 @@ started side nonce = with_state side (ClientFirstSent (base64_text nonce)
 
 -- what a client holds against a server-first message
 abbrev pub holding : ClientSide → List ℕ → Client
-holding side nonce = client_of nonce side.password side.limit
+holding side nonce = client_of nonce side.secret side.limits
 
 -- what a client in this state answers to a server-first message (RFC 5802, section 5), and the client after it: one
 -- that has sent its first message answers it, any other refuses it unread, and a refusal changes nothing
 abbrev pub AnswersIn : ClientState → ClientSide → List ℕ → Result (List ℕ) ScramErrorKind → ClientSide → Type 0
 AnswersIn (ClientFirstSent nonce bare) side text (Ok message) next =
-    (signature : List ℕ) × AnswersServerFirst side.version (holding side nonce) bare text (Ok (message, signature))
-    × (next ≡ with_state side (ClientFinalSent signature))
+    (answer : Answer) × AnswersServerFirst side.version (holding side nonce) bare text (Ok answer)
+    × (message ≡ answer.message) × (next ≡ with_state side (ClientFinalSent answer.signature (Some answer.keys)))
 AnswersIn (ClientFirstSent nonce bare) side text (Err fault) next =
     ReadsServerFirst (holding side nonce) text (Err fault) × (next ≡ side)
 AnswersIn state side text (Ok message) next = ⊥
@@ -63,8 +79,8 @@ abbrev pub ReachesSaltIn : ClientState → List ℕ → Type 0
 ReachesSaltIn (ClientFirstSent nonce bare) text = ReachesSalt nonce text
 ReachesSaltIn state text = ⊥
 
--- the HMAC values of that answer (RFC 5802, section 3), as a meter shows them before and after the call: those of the
--- keys where the client has sent its first message, and none in another state
+-- the HMAC values of that answer (RFC 5802, section 3), as a meter shows them before and after the call: those of
+-- its answer where the client has sent its first message, and none in another state
 abbrev pub AnswerCostsIn : {A : Type 0} → ClientState → ClientSide → List ℕ → Result A ScramErrorKind → ℕ → ℕ → Type 0
 AnswerCostsIn (ClientFirstSent nonce bare) side text result before after =
     AnswerCosts (holding side nonce) text result before after
@@ -73,9 +89,9 @@ AnswerCostsIn state side text result before after = after ≡ before
 -- whether a client in this state believes a server-final message (RFC 5802, section 5), and the client after it: one
 -- that has answered tests it, any other refuses it unread, and a refusal changes nothing
 abbrev pub BelievesIn : ClientState → ClientSide → List ℕ → Result (Unit {0}) ScramErrorKind → ClientSide → Type 0
-BelievesIn (ClientFinalSent signature) side text (Ok believed) next =
-    ReadsServerFinal signature text (Ok believed) × (next ≡ with_state side Complete)
-BelievesIn (ClientFinalSent signature) side text (Err fault) next =
+BelievesIn (ClientFinalSent signature keys) side text (Ok believed) next =
+    ReadsServerFinal signature text (Ok believed) × (next ≡ with_state side (Complete keys))
+BelievesIn (ClientFinalSent signature keys) side text (Err fault) next =
     ReadsServerFinal signature text (Err fault) × (next ≡ side)
 BelievesIn state side text (Ok believed) next = ⊥
 BelievesIn state side text (Err fault) next = (fault ≡ IllegalClientState) × (next ≡ side)
@@ -83,12 +99,22 @@ BelievesIn state side text (Err fault) next = (fault ≡ IllegalClientState) × 
 -- a client in this state comes to ask for memory for that (RFC 5802, section 5): one that has answered does where it
 -- comes to the signature, any other never
 abbrev pub ReachesVerifierIn : ClientState → List ℕ → Type 0
-ReachesVerifierIn (ClientFinalSent signature) text = ReachesVerifier text
+ReachesVerifierIn (ClientFinalSent signature keys) text = ReachesVerifier text
 ReachesVerifierIn state text = ⊥
 
 -- the state that the code's state is
 abbrev pub state_of : ScramClientState → ClientState
 state_of CodeInitial = Initial
 state_of (CodeClientFirstSent nonce bare) = ClientFirstSent (base64_text nonce) bare.items
-state_of (CodeClientFinalSent signature) = ClientFinalSent signature.items
-state_of CodeComplete = Complete
+state_of (CodeClientFinalSent signature keys) = ClientFinalSent signature.items keys
+state_of (CodeComplete keys) = Complete keys
+
+-- the keys of a login whose server was believed (RFC 5802, section 5), and of no other
+abbrev pub login_keys : ClientState → Option ClientKeys
+login_keys (Complete keys) = keys
+login_keys state = None
+
+-- the keys of an answer whose server is not believed yet, and of no other
+abbrev pub answer_keys : ClientState → Option ClientKeys
+answer_keys (ClientFinalSent signature keys) = keys
+answer_keys state = None

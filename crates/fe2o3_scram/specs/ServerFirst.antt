@@ -1,7 +1,7 @@
 -- The server-first message (RFC 5802, section 7), as the client reads it and as the server writes it.
 use Rattle.std.specs.Prelude.{ℕ, List, [], ◌∷◌, ◌++◌, ◌<◌, codes, Result, ◌≡◌, ◌⊎◌, Option, Some, None, Ok, Err}
 use Rattle.fe2o3_scram.specs.declared.scram_messages.error.ScramErrorKind.{ScramErrorKind}
-use Rattle.fe2o3_scram.specs.declared.scram_messages.error.ScramErrorKind.TheVariants.{InsufficientParts, ExtensionNotSupported, NonceNotFound, ClientNonceMismatch, SaltNotFound, Base64DecodeError, IterationCountNotFound, IterationCountParseError, IterationCountTooLarge, NormalizeError}
+use Rattle.fe2o3_scram.specs.declared.scram_messages.error.ScramErrorKind.TheVariants.{InsufficientParts, ExtensionNotSupported, NonceNotFound, ClientNonceMismatch, SaltNotFound, Base64DecodeError, IterationCountNotFound, IterationCountParseError, IterationCountTooSmall, IterationCountTooLarge, NormalizeError, OtherKeys}
 use Rattle.fe2o3_scram.specs.declared.scram_messages.server_first.ServerFirstMessage.{ServerFirstMessage}
 use Rattle.fe2o3_scram.specs.declared.scram_messages.server_first_reading.ServerFirst.{ServerFirst as CodeServerFirst}
 use Rattle.std.specs.Cow.{cow_str_bytes}
@@ -13,6 +13,9 @@ use Rattle.std.specs.Fmt.{decimal}
 use Rattle.fe2o3_scram.specs.declared.scram_messages.error.ServerScramErrorKind.{ServerScramErrorKind}
 use Rattle.fe2o3_scram.specs.ClientFirst.{ClientFirst, ReadsClientFirst, HasEscapes}
 use Rattle.fe2o3_scram.specs.Credentials.{Record, Records, record_at}
+use Rattle.fe2o3_scram.specs.declared.client_secret.IterationLimits.{IterationLimits}
+use Rattle.fe2o3_scram.specs.ClientKeys.{ClientKeys}
+use Rattle.fe2o3_scram.specs.ClientSecret.{Secret, Password, Keys, Both}
 
 -- what a server-first message names (RFC 5802, section 7): the nonce of both sides, the salt and the iteration count
 pub record ServerFirst : Type 0 where
@@ -38,20 +41,16 @@ pub record NamesServerFirst (text : List ℕ) (first : ServerFirst) : Type 0 whe
   pub salt : HasSalt text first.salt
   pub count : HasCount text first.count
 
--- what a client holds against a server-first message (RFC 5802, section 5): its nonce, its password, and the highest
--- count that it accepts
+-- what a client holds against a server-first message (RFC 5802, section 5): its nonce, its secret, and the iteration
+-- counts that it accepts
 pub record Client : Type 0 where
   pub nonce : List ℕ
-  pub password : List ℕ
-  pub limit : ℕ
+  pub secret : Secret
+  pub limits : IterationLimits
 
 -- a client that holds these
-abbrev pub client_of : List ℕ → List ℕ → ℕ → Client
-client_of nonce password limit = record { nonce = nonce; password = password; limit = limit }
-
--- the limit of a client that accepts every count: the highest that a message names
-abbrev pub no_limit : ℕ
-no_limit = 4294967295
+abbrev pub client_of : List ℕ → Secret → IterationLimits → Client
+client_of nonce secret limits = record { nonce = nonce; secret = secret; limits = limits }
 
 -- the client's tests of the nonce (RFC 5802, section 5.1), in their order
 abbrev pub nonce_tests : List ℕ → List ℕ → List (ScramErrorKind × Type 0)
@@ -70,21 +69,29 @@ salt_tests text =
     ∷ []
 
 -- its tests of the iteration count (RFC 5802, section 5.1)
-abbrev pub count_tests : ℕ → List ℕ → List (ScramErrorKind × Type 0)
-count_tests limit text =
+abbrev pub count_tests : IterationLimits → List ℕ → List (ScramErrorKind × Type 0)
+count_tests limits text =
     (IterationCountNotFound, (rest : List ℕ) → ¬ Part text 2 (codes "i=" ++ rest))
     ∷ (IterationCountParseError, (count : ℕ) → ¬ HasCount text count)
-    ∷ (IterationCountTooLarge, (count : ℕ) × HasCount text count × (limit < count))
+    ∷ (IterationCountTooSmall, (count : ℕ) × HasCount text count × (count < limits.least))
+    ∷ (IterationCountTooLarge, (count : ℕ) × HasCount text count × (limits.most < count))
     ∷ []
 
--- its test of its own password (RFC 4013, section 2)
-abbrev pub password_tests : List ℕ → List (ScramErrorKind × Type 0)
-password_tests password = (NormalizeError, ¬ IsPrintable password) ∷ []
+-- the message names another salt or another count than the keys are of (RFC 5802, section 5.1)
+abbrev pub NamesOther : ClientKeys → List ℕ → Type 0
+NamesOther keys text = ¬ (HasSalt text keys.salt × HasCount text keys.count)
+
+-- its test of its own secret: a password that is needed can be prepared (RFC 4013, section 2), and keys alone are those
+-- of the salt and the count that are named (RFC 5802, section 3)
+abbrev pub secret_tests : Secret → List ℕ → List (ScramErrorKind × Type 0)
+secret_tests (Password password) text = (NormalizeError, ¬ IsPrintable password) ∷ []
+secret_tests (Keys keys) text = (OtherKeys, NamesOther keys text) ∷ []
+secret_tests (Both password keys) text = (NormalizeError, NamesOther keys text × ¬ IsPrintable password) ∷ []
 
 -- all tests of the client, in their order
 abbrev pub server_first_tests : Client → List ℕ → List (ScramErrorKind × Type 0)
 server_first_tests client text = nonce_tests client.nonce text
-    ++ (salt_tests text ++ (count_tests client.limit text ++ password_tests client.password))
+    ++ (salt_tests text ++ (count_tests client.limits text ++ secret_tests client.secret text))
 
 -- the client comes to the salt, for which it asks for memory: the nonce has passed its tests, and the second part is a
 -- salt (RFC 5802, section 5.1)

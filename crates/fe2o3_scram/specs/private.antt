@@ -2,3 +2,4 @@
 pub mod Answers
 pub mod Hashers
 pub mod Pieces
+pub mod Serving

@@ -2,7 +2,7 @@
 //! statement about every list of bytes, which the check has proved.
 
 ghost use Rattle.std.specs.Prelude.{◌≡◌};
-ghost use Rattle.fe2o3_scram.specs.Laws.{OneVersion, OneFinalText, OneSignature, DigestsAreSized, MacsAreSized, OneBytesOfBase64, Base64IsReadAgain, NoCommaInBase64, PartsExist, OneListOfParts, OneEscapedName, NoCommaInEscapedNames, OneClientFirst, OneServerFirst, OneClientFinal, OneServerFinal, SomeClientFirst, SomeServerFirst, SomeClientFinal, SomeServerFinal, UnalteredExchangesSucceed, MadeRecordsAreReadable, OneRecord, OneSpelling, RecordsAreReadAgain, SomeRecord, OneUsersAnswer, UsersAreReadAgain, KeysStandForPassword, KeysAnswerAsPassword, KeyedClientStarts, KeyedClientAnswers, KeyedClientBelieves};
+ghost use Rattle.fe2o3_scram.specs.Laws.{OneVersion, OneFinalText, OneSignature, DigestsAreSized, MacsAreSized, OneBytesOfBase64, Base64IsReadAgain, NoCommaInBase64, PartsExist, OneListOfParts, OneEscapedName, NoCommaInEscapedNames, OneClientFirst, OneServerFirst, OneClientFinal, OneServerFinal, SomeClientFirst, SomeServerFirst, SomeClientFinal, SomeServerFinal, UnalteredExchangesSucceed, MadeRecordsAreReadable, OneRecord, OneSpelling, RecordsAreReadAgain, SomeRecord, OneUsersAnswer, UsersAreReadAgain, KeysStandForPassword, KeysAnswerAsPassword, BothAnswerAsPassword};
 
 use crate::hmac::ScramVersion;
 
@@ -77,18 +77,12 @@ pub fn record_texts()
     ensures made { MadeRecordsAreReadable }
 {}
 
-/// A client that keeps the keys of its password answers as with the password, or says that the server
-/// names another salt or another iteration count.
+/// A client with the keys of a password answers as with the password, or says that the server names
+/// another salt or another iteration count. One with both answers as with the password.
 pub fn kept_keys()
     ensures stand { KeysStandForPassword }
     ensures answer { KeysAnswerAsPassword }
-{}
-
-/// So does it from message to message: it is the client with the password in each state.
-pub fn keyed_clients()
-    ensures starts { KeyedClientStarts }
-    ensures answers { KeyedClientAnswers }
-    ensures believes { KeyedClientBelieves }
+    ensures both { BothAnswerAsPassword }
 {}
 
 /// Users who can be written are read again from their lines. Each text of lines has at most one

@@ -6,17 +6,17 @@
 //! messages with [`ScramVersion::compute_server_first_message`] and
 //! [`ScramVersion::compute_server_final_message`], from the records of a
 //! [`ScramCredentialProvider`]. [`ScramClient`] and [`ScramAuthenticator`] keep the messages of
-//! one exchange between the calls; [`laws`] says what holds of a whole exchange. [`ScramClientKeys`]
-//! stands in place of the password, and [`KeyedScramClient`] is the client that keeps it.
+//! one exchange between the calls; [`laws`] says what holds of a whole exchange. A client proves who it is
+//! by its password, by [`ScramClientKeys`] that an earlier login handed out, or by both ([`ClientSecret`]).
 //!
 //! [`ClientFirst`], [`ServerFirst`], [`ClientFinal`] and [`ServerFinal`] are what the four messages
 //! name, and each has a `parse`. The keys, the proof and the signature stand in [`keys`].
 #![tactic(auto)]
 
 pub mod client_keys;
+pub mod client_secret;
 pub mod credentials;
 pub mod hmac;
-pub mod keyed_scram_client;
 pub mod keys;
 pub mod laws;
 pub mod pbkdf2_hi;
@@ -28,19 +28,19 @@ pub mod scram_messages;
 pub mod scram_server;
 mod texts;
 
+pub use crate::client_secret::{ClientSecret, IterationLimits};
 pub use crate::credentials::{
     AddRecordError, DEFAULT_SCRAM_ITERATIONS, ReadLinesError, ReadLinesErrorKind, RecordTextError,
     ScramCredentials, ScramRecord, SingleScramCredential, StoredScramCredential, WriteLinesError,
 };
 pub use crate::hmac::{DigestBytes, Meter, ScramVersion, UnknownMechanism, XorLengthMismatch};
-pub use crate::keyed_scram_client::KeyedScramClient;
 pub use crate::keys::{RecordError, ScramClientKeys, auth_message};
 pub use crate::pbkdf2_hi::KeyError;
 pub use crate::provider::{ScramCredentialProvider, StoredPassword};
 pub use crate::saslprep_ascii::{NormalizeError, saslprep};
 pub use crate::scram_client::ScramClient;
 pub use crate::scram_messages::{
-    ClientFinal, ClientFirst, KeyedClientError, ScramErrorKind, ServerFinal, ServerFirst,
+    ClientAnswer, ClientFinal, ClientFirst, ScramErrorKind, ServerFinal, ServerFirst,
     ServerFirstMessage, ServerScramErrorKind, UnescapeError, escape_username, unescape_username,
 };
 pub use crate::scram_server::ScramAuthenticator;

@@ -1,20 +1,19 @@
 //! The SCRAM client as a machine: one message after the other (RFC 5802, section 5).
 
-ghost use Rattle.std.specs.Prelude.{◌≡◌, ◌≤◌, ◌^◌, IfOk, OnOk, OnErr};
+ghost use Rattle.std.specs.Prelude.{◌≡◌, ◌≢◌, ◌≤◌, ◌^◌, ℕ, List, Option, Some, IfOk, OnOk, OnErr, MatchOption};
 ghost use Rattle.std.specs.String.{string_bytes};
 ghost use Rattle.fe2o3_scram.specs.Texts.{base64_text};
 ghost use Rattle.fe2o3_scram.specs.ClientFirst.{client_first};
-ghost use Rattle.fe2o3_scram.specs.KeyedScramClient.{AnswersAndKeepsIn, KeyedAnswersIn, KeyedAnswerCostsIn, sent_values, with_keys};
-ghost use Rattle.fe2o3_scram.specs.ScramClient.{Initial, AnswersIn, AnswerCostsIn, BelievesIn, ReachesSaltIn, ReachesVerifierIn, started, state_of, with_state};
+ghost use Rattle.fe2o3_scram.specs.ClientKeys.{ClientKeys};
+ghost use Rattle.fe2o3_scram.specs.ClientSecret.{Password, Keys, Both, kept_secret, no_limit, up_to};
+ghost use Rattle.fe2o3_scram.specs.ScramClient.{Initial, ClientFirstSent, ClientFinalSent, AnswersIn, AnswerCostsIn, BelievesIn, ReachesSaltIn, ReachesVerifierIn, started, state_of, answer_keys, login_keys, with_state, with_limits};
 ghost use Rattle.fe2o3_scram.specs.Readings.{Gives};
-ghost use Rattle.fe2o3_scram.specs.ServerFirst.{no_limit};
-ghost use Rattle.fe2o3_scram.specs.declared.scram_messages.error.KeyedClientError.TheVariants.{Scram};
-ghost use Rattle.fe2o3_scram.specs.declared.scram_messages.error.ScramErrorKind.TheVariants.{OutOfMemory as NoMemory};
 
 use crate::OutOfMemory;
+use crate::client_secret::{IterationLimits, KeptSecret};
 use crate::hmac::{Meter, ScramVersion};
 use crate::keys::ScramClientKeys;
-use crate::scram_messages::error::{KeyedClientError, ScramErrorKind};
+use crate::scram_messages::error::ScramErrorKind;
 use crate::texts::base64_of_nonce;
 use bytes::Bytes;
 use std::alloc::{AllocError, Global};
@@ -32,13 +31,16 @@ enum ScramClientState {
     },
     ClientFinalSent {
         server_signature: Vec<u8>,
+        keys: Option<ScramClientKeys>,
     },
-    Complete,
+    Complete {
+        keys: Option<ScramClientKeys>,
+    },
 }
 
 impl ScramClientState {
     /// The same state.
-    pub(crate) fn copy(&self) -> Result<ScramClientState, OutOfMemory>
+    fn copy(&self) -> Result<ScramClientState, OutOfMemory>
         ensures { IfOk result (λ copy. state_of copy ≡ state_of self.now) }
     {
         Ok(match self {
@@ -50,12 +52,16 @@ impl ScramClientState {
                 nonce: *nonce,
                 client_first_message_bare: client_first_message_bare.clone()?,
             },
-            ScramClientState::ClientFinalSent { server_signature } => {
-                ScramClientState::ClientFinalSent {
-                    server_signature: server_signature.clone()?,
-                }
-            }
-            ScramClientState::Complete => ScramClientState::Complete,
+            ScramClientState::ClientFinalSent {
+                server_signature,
+                keys,
+            } => ScramClientState::ClientFinalSent {
+                server_signature: server_signature.clone()?,
+                keys: keys.clone()?,
+            },
+            ScramClientState::Complete { keys } => ScramClientState::Complete {
+                keys: keys.clone()?,
+            },
         })
     }
 }
@@ -65,25 +71,25 @@ impl ScramClientState {
 /// time. A call that is refused leaves the client as it was.
 #[derive(Drop)]
 pub struct ScramClient {
-    pub(crate) username: String,
-    password: String,
+    username: String,
+    secret: KeptSecret,
     scram: ScramVersion,
-    pub(crate) iteration_limit: u32,
+    limits: IterationLimits,
     state: ScramClientState,
 }
 
 impl Model for ScramClient {
     ghost use Rattle.std.specs.String.{string_bytes};
+    ghost use Rattle.fe2o3_scram.specs.ClientSecret.{kept_secret};
     ghost use Rattle.fe2o3_scram.specs.ScramClient.{ClientSide, state_of};
 
     ghost Value = { ClientSide };
 
     ghost view = { λ client. record {
       user = string_bytes client.username;
-      password =
-          string_bytes client.password;
+      secret = kept_secret client.secret;
       version = client.scram;
-      limit = client.iteration_limit;
+      limits = client.limits;
       state =
           state_of client.state;
     } };
@@ -95,38 +101,100 @@ impl ScramClient {
     pub fn new(username: String, password: String, scram_version: ScramVersion) -> Self
         ensures { result ≡ record {
           user = string_bytes username;
-          password = string_bytes password;
+          secret = Password (string_bytes password);
           version =
               scram_version;
-          limit = no_limit;
+          limits = up_to no_limit;
+          state = Initial;
+        } }
+    {
+        ScramClient::by(username, KeptSecret::Password(password), scram_version)
+    }
+
+    /// The same by the keys of an earlier login in place of the password (RFC 5802, section 3). Its
+    /// version is theirs. It answers where the server names the salt and the iteration count that they
+    /// are of, and refuses another message by `OtherKeys`.
+    pub fn with_keys(username: String, keys: ScramClientKeys) -> Self
+        ensures { result ≡ record {
+          user = string_bytes username;
+          secret = Keys keys;
+          version = keys.version;
+          limits = up_to no_limit;
+          state = Initial;
+        } }
+    {
+        let scram_version = keys.scram_version();
+        ScramClient::by(username, KeptSecret::Keys(keys), scram_version)
+    }
+
+    /// The same by both: by the keys where the server names the salt and the iteration count that they
+    /// are of, and by the password where it names others.
+    pub fn with_password_and_keys(username: String, password: String, keys: ScramClientKeys) -> Self
+        ensures { result ≡ record {
+          user = string_bytes username;
+          secret = Both (string_bytes password) keys;
+          version =
+              keys.version;
+          limits = up_to no_limit;
+          state = Initial;
+        } }
+    {
+        let scram_version = keys.scram_version();
+        ScramClient::by(username, KeptSecret::Both { password, keys }, scram_version)
+    }
+
+    /// A client by this secret, which has sent nothing and accepts every count.
+    fn by(username: String, secret: KeptSecret, scram: ScramVersion) -> Self
+        ensures { result ≡ record {
+          user = string_bytes username;
+          secret = kept_secret secret;
+          version = scram;
+          limits = up_to no_limit;
           state = Initial;
         } }
     {
         Self {
             username,
-            password,
-            scram: scram_version,
-            iteration_limit: u32::MAX,
+            secret,
+            scram,
+            limits: IterationLimits::none(),
             state: ScramClientState::Initial,
         }
     }
 
     /// The same client in the same state, which refuses an iteration count above the limit.
     pub fn with_iteration_limit(self, limit: u32) -> Self
-        ensures { result ≡ record {
-          user = self.user;
-          password = self.password;
-          version = self.version;
-          limit =
-              limit;
-          state = self.state;
-        } }
+        ensures { result ≡ with_limits self (record { least = self.limits.least; most = limit }) }
+    {
+        let limits = IterationLimits {
+            least: self.limits.least,
+            most: limit,
+        };
+        self.with_limits(limits)
+    }
+
+    /// The same client in the same state, which refuses an iteration count below this one. Without it
+    /// whoever stands between the two sides can have the client show an answer that is made with the count
+    /// 1, from which the password is soon guessed. RFC 7677, section 4, asks for 4096 at least.
+    pub fn with_least_iterations(self, least: u32) -> Self
+        ensures { result ≡ with_limits self (record { least = least; most = self.limits.most }) }
+    {
+        let limits = IterationLimits {
+            least,
+            most: self.limits.most,
+        };
+        self.with_limits(limits)
+    }
+
+    /// The same client with these limits.
+    fn with_limits(self, limits: IterationLimits) -> Self
+        ensures { result ≡ with_limits self limits }
     {
         Self {
             username: self.username,
-            password: self.password,
+            secret: self.secret,
             scram: self.scram,
-            iteration_limit: limit,
+            limits,
             state: self.state,
         }
     }
@@ -166,8 +234,8 @@ impl ScramClient {
     /// Answers the server-first message with the client-final message (RFC 5802, sections 5 and 7).
     ///
     /// Refused are, in this order: `IllegalClientState` where the client-first message is not what
-    /// the client sent last; then what `ServerFirst::parse` refuses, in its order, with the nonce,
-    /// the password and the limit of the client. `OutOfMemory` is answered only where none of those
+    /// the client sent last; then what `ScramVersion::answer_server_first` refuses, in its order, with the
+    /// nonce, the secret and the limits of the client. `OutOfMemory` is answered only where none of those
     /// before `Base64DecodeError` holds.
     pub fn compute_client_final_message(
         &mut self,
@@ -182,8 +250,8 @@ impl ScramClient {
         self.compute_client_final_message_metered(alloc, server_first, &mut Meter::new())
     }
 
-    /// As `compute_client_final_message`. The meter, of at most 2^63, counts the HMAC values, also of
-    /// a refusal.
+    /// As `compute_client_final_message`. The meter, of at most 2^63, counts the HMAC values: two by
+    /// keys, by the password four and those of the iteration count, and none for a refusal.
     pub fn compute_client_final_message_metered(
         &mut self,
         alloc: Global,
@@ -197,30 +265,6 @@ impl ScramClient {
         ensures err { OnErr result (self.new ≡ self.old) }
         ensures cost { AnswerCostsIn self.old.state self.old server_first.now result meter.old meter.new }
     {
-        let (client_final, _keys) = self.compute_client_final_message_and_keys(
-            alloc,
-            server_first,
-            meter,
-        )?;
-        Ok(client_final)
-    }
-
-    /// As `compute_client_final_message_metered`, and hands out the keys that the answer was made by.
-    /// Keep them once `validate_server_final` has believed the server, and not before: until then
-    /// anybody may have named their salt.
-    pub fn compute_client_final_message_and_keys(
-        &mut self,
-        alloc: Global,
-        server_first: &str,
-        meter: &mut Meter,
-    ) -> Result<(Vec<u8>, ScramClientKeys), ScramErrorKind>
-        requires { meter.old ≤ 2 ^ 63 }
-        ensures answer { Gives ScramErrorKind.OutOfMemory (ReachesSaltIn self.old.state server_first.now)
-            sent_values result
-            (λ answer. AnswersAndKeepsIn self.old.state self.old server_first.now answer self.new) }
-        ensures err { OnErr result (self.new ≡ self.old) }
-        ensures cost { AnswerCostsIn self.old.state self.old server_first.now result meter.old meter.new }
-    {
         match &self.state {
             ScramClientState::ClientFirstSent {
                 nonce,
@@ -228,70 +272,22 @@ impl ScramClient {
             } => {
                 let mut room = [0; 44];
                 let client_nonce = base64_of_nonce(nonce, &mut room);
-                let ((client_final, server_signature), keys) = self
-                    .scram
-                    .compute_client_final_message_and_keys(
-                        alloc,
-                        client_nonce,
-                        &self.password,
-                        server_first,
-                        client_first_message_bare,
-                        self.iteration_limit,
-                        meter,
-                    )?;
-                self.state = ScramClientState::ClientFinalSent { server_signature };
-                Ok((client_final, keys))
-            }
-            _ => Err(ScramErrorKind::IllegalClientState),
-        }
-    }
-
-    /// Answers the server-first message by kept keys in place of the password (RFC 5802, sections 3, 5
-    /// and 7). The keys are of the client's user and of its version: neither is compared here, and the
-    /// answer is one of the keys' version. The meter, of at most 2^63, counts the HMAC values: two for an
-    /// answer, and none for a refusal.
-    ///
-    /// Refused are, in this order: `IllegalClientState` where the client-first message is not what
-    /// the client sent last; then what `ScramClientKeys::compute_client_final_message_limited` refuses,
-    /// in its order, with the nonce and the limit of the client. `OutOfMemory` is answered only where
-    /// none of those before `Base64DecodeError` holds. After `OtherKeys` the same message can be answered
-    /// by the password.
-    pub fn compute_client_final_message_by_keys(
-        &mut self,
-        alloc: Global,
-        keys: &ScramClientKeys,
-        server_first: &str,
-        meter: &mut Meter,
-    ) -> Result<Vec<u8>, KeyedClientError>
-        requires { meter.old ≤ 2 ^ 63 }
-        ensures answer { Gives (Scram NoMemory) (ReachesSaltIn self.old.state server_first.now)
-            (λ message. message.items) result
-            (λ answer. KeyedAnswersIn self.old.state (with_keys self.old keys.now) server_first.now answer
-            (with_keys self.new keys.now)) }
-        ensures stays { self.new ≡ with_state self.old self.new.state }
-        ensures err { OnErr result (self.new ≡ self.old) }
-        ensures cost { KeyedAnswerCostsIn self.old.state (with_keys self.old keys.now) server_first.now result
-            meter.old meter.new }
-    {
-        match &self.state {
-            ScramClientState::ClientFirstSent {
-                nonce,
-                client_first_message_bare,
-            } => {
-                let mut room = [0; 44];
-                let client_nonce = base64_of_nonce(nonce, &mut room);
-                let (client_final, server_signature) = keys.compute_client_final_message_limited(
+                let answer = self.scram.answer_server_first(
                     alloc,
                     client_nonce,
+                    self.secret.lent(),
                     server_first,
                     client_first_message_bare,
-                    self.iteration_limit,
+                    self.limits,
                     meter,
                 )?;
-                self.state = ScramClientState::ClientFinalSent { server_signature };
-                Ok(client_final)
+                self.state = ScramClientState::ClientFinalSent {
+                    server_signature: answer.signature,
+                    keys: Some(answer.keys),
+                };
+                Ok(answer.message)
             }
-            _ => Err(KeyedClientError::Scram(ScramErrorKind::IllegalClientState)),
+            _ => Err(ScramErrorKind::IllegalClientState),
         }
     }
 
@@ -311,25 +307,100 @@ impl ScramClient {
             (λ answer. BelievesIn self.old.state self.old server_final.now answer self.new) }
         ensures err { OnErr result (self.new ≡ self.old) }
     {
-        match &self.state {
-            ScramClientState::ClientFinalSent { server_signature } => {
+        match &mut self.state {
+            ScramClientState::ClientFinalSent {
+                server_signature,
+                keys,
+            } => {
                 self.scram
                     .validate_server_final(alloc, server_final, server_signature)?;
-                self.state = ScramClientState::Complete;
+                let keys = keys.take();
+                self.state = ScramClientState::Complete { keys };
                 Ok(())
             }
             _ => Err(ScramErrorKind::IllegalClientState),
         }
     }
+
+    /// The keys of the login, once its server was believed, and `None` before: those that its answer was
+    /// made by. The next login by them takes two HMAC values, as long as the server keeps its salt and its
+    /// iteration count (RFC 5802, section 3).
+    pub fn keys(&self) -> Option<&ScramClientKeys>
+        ensures { MatchOption result (login_keys self.now.state ≡ None)
+            (λ keys. login_keys self.now.state ≡ Some keys.now) }
+    {
+        match &self.state {
+            ScramClientState::Complete { keys } => keys.as_ref(),
+            _ => None,
+        }
+    }
+
+    /// The nonce of the client-first message, where that is what the client sent last. A client that is
+    /// set down here is taken up by `compute_client_first_message` with it.
+    pub fn nonce(&self) -> Option<&[u8; 32]>
+        ensures { MatchOption result ((nonce bare : List ℕ) → self.now.state ≢ ClientFirstSent nonce bare)
+            (λ nonce. (bare : List ℕ) × (self.now.state ≡ ClientFirstSent (base64_text nonce.now) bare)) }
+    {
+        match &self.state {
+            ScramClientState::ClientFirstSent { nonce, .. } => Some(nonce),
+            _ => None,
+        }
+    }
+
+    /// The signature that the client waits for, where it has sent its client-final message last. A client
+    /// that is set down here is taken up by `waiting_for`.
+    pub fn server_signature(&self) -> Option<&[u8]>
+        ensures { MatchOption result
+            ((signature : List ℕ) (keys : Option ClientKeys) → self.now.state ≢ ClientFinalSent signature keys)
+            (λ signature. (keys : Option ClientKeys) × (self.now.state ≡ ClientFinalSent signature.now keys)) }
+    {
+        match &self.state {
+            ScramClientState::ClientFinalSent {
+                server_signature,
+                ..
+            } => Some(server_signature),
+            _ => None,
+        }
+    }
+
+    /// The keys of the answer for which the client waits for a signature. They are for a client that is
+    /// set down: until the server is believed anybody may have named their salt, so do not keep them for
+    /// another login.
+    pub fn answer_keys(&self) -> Option<&ScramClientKeys>
+        ensures { MatchOption result (answer_keys self.now.state ≡ None)
+            (λ keys. answer_keys self.now.state ≡ Some keys.now) }
+    {
+        match &self.state {
+            ScramClientState::ClientFinalSent { keys, .. } => keys.as_ref(),
+            _ => None,
+        }
+    }
+
+    /// The same client, where its client-final message is what it sent last, and it waits for this
+    /// signature. With the keys of that answer it hands them out once the server is believed.
+    pub fn waiting_for(self, server_signature: Vec<u8>, keys: Option<ScramClientKeys>) -> Self
+        ensures { result ≡ with_state self (ClientFinalSent server_signature.items keys) }
+    {
+        Self {
+            username: self.username,
+            secret: self.secret,
+            scram: self.scram,
+            limits: self.limits,
+            state: ScramClientState::ClientFinalSent {
+                server_signature,
+                keys,
+            },
+        }
+    }
 }
 
 impl fmt::Debug for ScramClient {
-    /// The user name, the version and the limit, without the password and the state.
+    /// The user name, the version and the limit, without the secret and the state.
     fn fmt<W: fmt::Write>(&self, f: &mut fmt::Formatter<W>) -> fmt::Result {
         write!(
             f,
             "ScramClient {{ username: {:?}, scram: {:?}, iteration_limit: {}, .. }}",
-            self.username, self.scram, self.iteration_limit
+            self.username, self.scram, self.limits.most
         )
     }
 }
@@ -340,9 +411,9 @@ impl Clone for ScramClient {
     fn clone(&self) -> Result<Self, AllocError> {
         Ok(Self {
             username: self.username.clone()?,
-            password: self.password.clone()?,
+            secret: self.secret.clone()?,
             scram: self.scram,
-            iteration_limit: self.iteration_limit,
+            limits: self.limits,
             state: self.state.copy()?,
         })
     }

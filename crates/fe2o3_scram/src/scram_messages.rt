@@ -7,17 +7,15 @@ mod client_first;
 mod client_first_reading;
 pub mod error;
 pub mod escape;
-mod keyed_client_final;
 mod server_final;
 mod server_final_reading;
 mod server_first;
 mod server_first_reading;
 
+pub use crate::scram_messages::client_final::ClientAnswer;
 pub use crate::scram_messages::client_final_reading::ClientFinal;
 pub use crate::scram_messages::client_first_reading::ClientFirst;
-pub use crate::scram_messages::error::{
-    KeyedClientError, ScramErrorKind, ServerScramErrorKind, XorLengthMismatch,
-};
+pub use crate::scram_messages::error::{ScramErrorKind, ServerScramErrorKind, XorLengthMismatch};
 pub use crate::scram_messages::escape::{UnescapeError, escape_username, unescape_username};
 pub use crate::scram_messages::server_final_reading::ServerFinal;
 pub use crate::scram_messages::server_first::ServerFirstMessage;

@@ -1,8 +1,8 @@
 pub mod AnswerCostLemmas
 pub mod ClientFinalLemmas
 pub mod ClientFirstLemmas
-pub mod ClientKeysLemmas
 pub mod ExchangeLemmas
+pub mod FittingKeyLemmas
 pub mod KeptKeyLemmas
 pub mod OneValueLemmas
 pub mod RecordLawLemmas

@@ -1,6 +1,7 @@
 //! The keys that a client keeps in place of its password (RFC 5802, section 3).
 
-ghost use Rattle.std.specs.Prelude.{◌≡◌, ◌≤◌, ◌+◌, ◌<◌, ◌^◌, MatchResult};
+ghost use Rattle.std.specs.Prelude.{◌≡◌, ◌≤◌, ◌+◌, ◌<◌, ◌^◌, ◌&&◌, nat_eq, MatchResult};
+ghost use Rattle.std.specs.Cmp.Lexicographic.{pointwise};
 ghost use Rattle.fe2o3_scram.specs.ClientKeys.{AreSized, ClientKeys, MakesKeys, keys_of_salted, keys_with};
 ghost use Rattle.fe2o3_scram.specs.Credentials.{MakingCosts, making_tests};
 ghost use Rattle.fe2o3_scram.specs.Hmac.{digest_bytes};
@@ -161,6 +162,26 @@ impl ScramClientKeys {
         ensures { result.now ≡ self.now.server_key }
     {
         self.server_key.as_slice()
+    }
+
+    /// Whether the keys are of this salt and this iteration count.
+    pub(crate) fn are_of(&self, salt: &[u8], iterations: u32) -> bool
+        ensures { result ≡ (pointwise nat_eq salt.now self.now.salt && nat_eq iterations self.now.count) }
+    {
+        salt == self.salt() && iterations == self.iterations()
+    }
+
+    /// The same keys, with their salt in this room of it.
+    pub(crate) fn with_salt(&self, salt: Vec<u8>) -> Self
+        requires { salt.items ≡ self.now.salt }
+        ensures { result ≡ self.now }
+    {
+        Self {
+            salt,
+            iterations: self.iterations,
+            client_key: self.client_key,
+            server_key: self.server_key,
+        }
     }
 
     /// The ClientProof of a message in pieces: one HMAC value.

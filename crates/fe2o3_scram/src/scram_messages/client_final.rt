@@ -1,16 +1,19 @@
 //! The client-final message, which answers a server-first message.
 
-ghost use Rattle.std.specs.Prelude.{◌≡◌, ◌≤◌, ◌+◌, ◌^◌, IfOk, IfErr, OnOk, OnErr, string_bytes};
-ghost use Rattle.fe2o3_scram.specs.ClientFinal.{answer_values, without_proof, client_final_of, answer_of};
-ghost use Rattle.fe2o3_scram.specs.ServerFirstAnswers.{AnswerCosts, AnswersServerFirst};
-ghost use Rattle.fe2o3_scram.specs.ClientKeys.{AnswersAndKeeps, keys_of, kept_values};
+ghost use Rattle.std.specs.Prelude.{◌≡◌, ◌≤◌, ◌<◌, ◌+◌, ◌^◌, IfOk, IfErr, OnOk, OnErr, string_bytes};
+ghost use Rattle.fe2o3_scram.specs.ClientFinal.{answer_by, answer_values, client_final_of, keys_for, without_proof};
+ghost use Rattle.fe2o3_scram.specs.ClientKeys.{keys_of};
+ghost use Rattle.fe2o3_scram.specs.ClientSecret.{Password, no_limit, secret_of, up_to};
 ghost use Rattle.fe2o3_scram.specs.Keys.{auth_message};
 ghost use Rattle.fe2o3_scram.specs.Readings.{Gives};
-ghost use Rattle.fe2o3_scram.specs.ServerFirst.{ReachesSalt, client_of, no_limit, server_first_values};
+ghost use Rattle.fe2o3_scram.specs.ServerFirst.{ReachesSalt, client_of, server_first_values};
+ghost use Rattle.fe2o3_scram.specs.ServerFirstAnswers.{AnswerCosts, AnswersServerFirst, SendsServerFirst, hmac_count, pair_values};
+ghost use Rattle.fe2o3_scram.specs.private.Serving.{Serves};
 
 use crate::OutOfMemory;
+use crate::client_secret::{ClientSecret, IterationLimits};
 use crate::hmac::{Meter, ScramVersion};
-use crate::keys::{ScramClientKeys, auth_message};
+use crate::keys::{ScramClientKeys, auth_message, auth_pieces};
 use crate::scram_messages::attributes::{CHANNEL_BINDING_KEY, GS2_HEADER, NONCE_KEY, PROOF_KEY};
 use crate::scram_messages::error::ScramErrorKind;
 use crate::scram_messages::server_first_reading::ServerFirst;
@@ -19,6 +22,21 @@ use std::alloc::Global;
 
 /// What `c=biws,r=,p=` takes, that is, all but the nonce and the proof.
 const FIXED_LEN: usize = 12;
+
+/// An answer of a client to a server-first message (RFC 5802, sections 3 and 5).
+#[derive(Drop)]
+pub struct ClientAnswer {
+    /// The client-final message.
+    pub message: Vec<u8>,
+
+    /// The signature that the server-final message has to show.
+    pub signature: Vec<u8>,
+
+    /// The keys that the answer was made by, with the salt and the iteration count that the server
+    /// named. Keep them once the server has shown the signature, and not before: until then anybody may
+    /// have named that salt.
+    pub keys: ScramClientKeys,
+}
 
 impl ScramVersion {
     /// Answers a server-first message (RFC 5802, sections 3 and 5): the client-final message, and
@@ -39,9 +57,8 @@ impl ScramVersion {
         server_first: &str,
         client_first_message_bare: &[u8],
     ) -> Result<(Vec<u8>, Vec<u8>), ScramErrorKind>
-        ensures { Gives ScramErrorKind.OutOfMemory (ReachesSalt client_nonce.now server_first.now)
-            answer_values result
-            (AnswersServerFirst self.now (client_of client_nonce.now password.now no_limit)
+        ensures { Gives ScramErrorKind.OutOfMemory (ReachesSalt client_nonce.now server_first.now) pair_values result
+            (SendsServerFirst self.now (client_of client_nonce.now (Password password.now) (up_to no_limit))
             client_first_message_bare.now server_first.now) }
     {
         self.compute_client_final_message_metered(
@@ -67,10 +84,10 @@ impl ScramVersion {
     ) -> Result<(Vec<u8>, Vec<u8>), ScramErrorKind>
         requires { meter.old ≤ 2 ^ 63 }
         ensures answer { Gives ScramErrorKind.OutOfMemory (ReachesSalt client_nonce.now server_first.now)
-            answer_values result
-            (AnswersServerFirst self.now (client_of client_nonce.now password.now no_limit)
+            pair_values result
+            (SendsServerFirst self.now (client_of client_nonce.now (Password password.now) (up_to no_limit))
             client_first_message_bare.now server_first.now) }
-        ensures cost { AnswerCosts (client_of client_nonce.now password.now no_limit)
+        ensures cost { AnswerCosts (client_of client_nonce.now (Password password.now) (up_to no_limit))
             server_first.now result meter.old meter.new }
     {
         self.compute_client_final_message_limited(
@@ -98,93 +115,57 @@ impl ScramVersion {
     ) -> Result<(Vec<u8>, Vec<u8>), ScramErrorKind>
         requires { meter.old ≤ 2 ^ 63 }
         ensures answer { Gives ScramErrorKind.OutOfMemory (ReachesSalt client_nonce.now server_first.now)
-            answer_values result
-            (AnswersServerFirst self.now (client_of client_nonce.now password.now limit)
+            pair_values result
+            (SendsServerFirst self.now (client_of client_nonce.now (Password password.now) (up_to limit))
             client_first_message_bare.now server_first.now) }
-        ensures cost { AnswerCosts (client_of client_nonce.now password.now limit)
+        ensures cost { AnswerCosts (client_of client_nonce.now (Password password.now) (up_to limit))
             server_first.now result meter.old meter.new }
     {
-        let (answer, _keys) = self.compute_client_final_message_and_keys(
+        let answer = self.answer_server_first(
             alloc,
             client_nonce,
-            password,
+            ClientSecret::Password(password),
             server_first,
             client_first_message_bare,
-            limit,
+            IterationLimits::up_to(limit),
             meter,
         )?;
-        Ok(answer)
+        Ok((answer.message, answer.signature))
     }
 
-    /// As `compute_client_final_message_limited`, and hands out the keys that the answer was made by,
-    /// with the salt and the iteration count that the message names. Keep them once the server has
-    /// shown the signature, and not before: until then anybody may have named that salt.
-    pub fn compute_client_final_message_and_keys(
+    /// Answers a server-first message by a secret, where its iteration count is within the limits. The
+    /// other arguments are those of `compute_client_final_message`. The version is that of an answer by
+    /// the password; one by keys is of theirs.
+    ///
+    /// Refused are, in this order: what `ServerFirst::parse` refuses up to `IterationCountParseError`;
+    /// `IterationCountTooSmall` and `IterationCountTooLarge`; and of the secret `NormalizeError`, where its
+    /// password is needed and is not printable ASCII, or `OtherKeys`, where there are keys alone and the
+    /// message names another salt or another count than they are of. `OutOfMemory` is answered only where
+    /// none of those before `Base64DecodeError` holds.
+    ///
+    /// The meter, of at most 2^63, counts the HMAC values: two by keys, by the password four and those of
+    /// the count, and none for a refusal.
+    pub fn answer_server_first(
         &self,
         alloc: Global,
         client_nonce: &str,
-        password: &str,
+        secret: ClientSecret<'_>,
         server_first: &str,
         client_first_message_bare: &[u8],
-        limit: u32,
+        limits: IterationLimits,
         meter: &mut Meter,
-    ) -> Result<((Vec<u8>, Vec<u8>), ScramClientKeys), ScramErrorKind>
+    ) -> Result<ClientAnswer, ScramErrorKind>
         requires { meter.old ≤ 2 ^ 63 }
         ensures answer { Gives ScramErrorKind.OutOfMemory (ReachesSalt client_nonce.now server_first.now)
-            kept_values result
-            (AnswersAndKeeps self.now (client_of client_nonce.now password.now limit)
+            answer_values result
+            (AnswersServerFirst self.now (client_of client_nonce.now (secret_of secret.entry) limits)
             client_first_message_bare.now server_first.now) }
-        ensures cost { AnswerCosts (client_of client_nonce.now password.now limit)
+        ensures cost { AnswerCosts (client_of client_nonce.now (secret_of secret.entry) limits)
             server_first.now result meter.old meter.new }
     {
-        let first = ServerFirst::parse(alloc, client_nonce, password, limit, server_first)?;
-        let kept = self.answer(
-            alloc,
-            password,
-            client_first_message_bare,
-            server_first,
-            first,
-            meter,
-        )?;
-        Ok(kept)
-    }
-
-    /// The answer to a server-first message that was read, and the keys that it was made by.
-    fn answer(
-        &self,
-        alloc: Global,
-        password: &str,
-        client_first_message_bare: &[u8],
-        server_first: &str,
-        first: ServerFirst<'_>,
-        meter: &mut Meter,
-    ) -> Result<((Vec<u8>, Vec<u8>), ScramClientKeys), ScramErrorKind>
-        requires some { 1 ≤ first.iterations }
-        requires meter { meter.old ≤ 2 ^ 63 }
-        ensures answer { IfOk result (λ kept. answer_values kept.0
-            ≡ answer_of self.now password.now client_first_message_bare.now server_first.now
-            (server_first_values first.entry)) }
-        ensures keys { IfOk result (λ kept. kept.1
-            ≡ keys_of self.now password.now first.entry.salt.items first.entry.iterations) }
-        ensures counted { OnOk result (meter.new ≡ meter.old + (first.entry.iterations + 4)) }
-        ensures memory { IfErr result (λ kind. kind ≡ ScramErrorKind.OutOfMemory) }
-        ensures at_most { OnErr result (meter.new ≤ meter.old + (first.entry.iterations + 4)) }
-        ensures never_falls { meter.old ≤ meter.new }
-    {
+        let first = ServerFirst::read(alloc, client_nonce, secret, limits, server_first)?;
         let message = without_proof(alloc, first.nonce, self.digest_len())?;
-        let salted_password = self.salted_password(
-            password.as_bytes(),
-            &first.salt,
-            first.iterations,
-            meter,
-        );
-        let keys = ScramClientKeys::from_salted_password(
-            *self,
-            first.salt,
-            first.iterations,
-            salted_password.as_slice(),
-            meter,
-        );
+        let keys = self.keys_for(secret, first, meter);
         let answer = keys.answer(
             alloc,
             message,
@@ -192,7 +173,91 @@ impl ScramVersion {
             server_first,
             meter,
         )?;
-        Ok((answer, keys))
+        Ok(answer)
+    }
+
+    /// The keys that a message is answered by, where the secret serves for it.
+    fn keys_for(
+        &self,
+        secret: ClientSecret<'_>,
+        first: ServerFirst<'_>,
+        meter: &mut Meter,
+    ) -> ScramClientKeys
+        requires some { 1 ≤ first.iterations }
+        requires serves { Serves (secret_of secret) (server_first_values first) }
+        requires meter { meter.old ≤ 2 ^ 63 }
+        ensures keys { result ≡ keys_for self.now (secret_of secret.entry) (server_first_values first.entry) }
+        ensures counted { meter.new + 2 ≡ meter.old + hmac_count (secret_of secret.entry) (server_first_values first.entry) }
+    {
+        match secret {
+            ClientSecret::Password(password) => self.keys_of(password, first, meter),
+            ClientSecret::Keys(keys) => keys.with_salt(first.salt),
+            ClientSecret::Both { password, keys } => {
+                if keys.are_of(&first.salt, first.iterations) {
+                    keys.with_salt(first.salt)
+                } else {
+                    self.keys_of(password, first, meter)
+                }
+            }
+        }
+    }
+
+    /// The keys of a password with the salt and the count that a message names.
+    fn keys_of(&self, password: &str, first: ServerFirst<'_>, meter: &mut Meter) -> ScramClientKeys
+        requires some { 1 ≤ first.iterations }
+        requires meter { meter.old ≤ 2 ^ 63 }
+        ensures keys { result ≡ keys_of self.now password.now first.entry.salt.items first.entry.iterations }
+        ensures counted { meter.new ≡ meter.old + (first.entry.iterations + 2) }
+    {
+        let salted_password = self.salted_password(
+            password.as_bytes(),
+            &first.salt,
+            first.iterations,
+            meter,
+        );
+        ScramClientKeys::from_salted_password(
+            *self,
+            first.salt,
+            first.iterations,
+            salted_password.as_slice(),
+            meter,
+        )
+    }
+}
+
+impl ScramClientKeys {
+    /// The answer by the keys (RFC 5802, section 3), of what stands before the proof: two HMAC values.
+    fn answer(
+        self,
+        alloc: Global,
+        mut message: String,
+        client_first_message_bare: &[u8],
+        server_first: &str,
+        meter: &mut Meter,
+    ) -> Result<ClientAnswer, ScramErrorKind>
+        requires { meter.old + 2 < 2 ^ 64 }
+        ensures answer { IfOk result (λ answer. answer_values answer
+            ≡ answer_by self client_first_message_bare.now server_first.now (string_bytes message)) }
+        ensures counted { OnOk result (meter.new ≡ meter.old + 2) }
+        ensures memory { IfErr result (λ kind. kind ≡ ScramErrorKind.OutOfMemory) }
+        ensures at_most { OnErr result (meter.new ≤ meter.old + 2) }
+        ensures never_falls { meter.old ≤ meter.new }
+    {
+        let auth_message = auth_pieces(
+            client_first_message_bare,
+            server_first.as_bytes(),
+            message.as_bytes(),
+        );
+        let proof = self.client_proof(&auth_message, meter);
+        let signature = self
+            .scram_version()
+            .server_signature_over(self.server_key(), &auth_message, meter);
+        push_proof(&mut message, proof.as_slice())?;
+        Ok(ClientAnswer {
+            message: message.into_bytes(),
+            signature: signature.as_slice().to_vec(alloc)?,
+            keys: self,
+        })
     }
 }
 
@@ -223,7 +288,7 @@ impl ServerFirst<'_> {
 
 /// What stands before the proof: the GS2 header in base64, and the nonce of both sides. There is room for a proof of
 /// this length behind it.
-pub(super) fn without_proof(
+fn without_proof(
     alloc: Global,
     client_server_nonce: &str,
     proof_len: usize,
@@ -243,7 +308,7 @@ pub(super) fn without_proof(
 }
 
 /// Makes the client-final message of what stands before the proof.
-pub(super) fn push_proof(text: &mut String, client_proof: &[u8]) -> Result<(), OutOfMemory>
+fn push_proof(text: &mut String, client_proof: &[u8]) -> Result<(), OutOfMemory>
     ensures { OnOk result (string_bytes text.new ≡ client_final_of (string_bytes text.old) client_proof.now) }
 {
     text.push_str(",")?;

@@ -1,7 +1,6 @@
 //! Why a SCRAM message is refused. Kinds and texts are those of `fe2o3-amqp` 0.18.4.
 
 ghost use Rattle.std.specs.Prelude.{◌≡◌};
-ghost use Rattle.fe2o3_scram.specs.declared.scram_messages.error.KeyedClientError.TheVariants.{Scram};
 ghost use Rattle.fe2o3_scram.specs.declared.scram_messages.error.ScramErrorKind.TheVariants.{OutOfMemory as ClientOutOfMemory, XorLengthMismatch as ClientXorLengthMismatch};
 ghost use Rattle.fe2o3_scram.specs.declared.scram_messages.error.ServerScramErrorKind.TheVariants.{OutOfMemory as ServerOutOfMemory, XorLengthMismatch as ServerXorLengthMismatch};
 ghost use Rattle.fe2o3_scram.specs.Error.{key_fault};
@@ -50,6 +49,10 @@ pub enum ScramErrorKind {
     #[error("Cannot parse iteration count")]
     IterationCountParseError,
 
+    /// The iteration count is below the least that the client accepts.
+    #[error("Iteration count too small")]
+    IterationCountTooSmall,
+
     /// The iteration count is above the client's limit.
     #[error("Iteration count too large")]
     IterationCountTooLarge,
@@ -57,6 +60,11 @@ pub enum ScramErrorKind {
     /// The password is not printable ASCII.
     #[error("Error normalizing password")]
     NormalizeError,
+
+    /// The message names another salt or another iteration count than the client's keys are of, and the
+    /// client has no password.
+    #[error("The keys are of another salt or iteration count")]
+    OtherKeys,
 
     /// Never answered, since HMAC takes keys of every length.
     #[error("Invalid length")]
@@ -92,35 +100,6 @@ impl From<XorLengthMismatch> for ScramErrorKind {
 
     fn from(_error: XorLengthMismatch) -> Self {
         ScramErrorKind::XorLengthMismatch
-    }
-}
-
-/// Why a client that keeps its keys does not answer.
-#[derive(Debug, Clone, Copy, PartialEq, Eq, Error)]
-pub enum KeyedClientError {
-    /// The message is refused, as a client with the password refuses it.
-    #[error("Scram")]
-    Scram(ScramErrorKind),
-
-    /// The server-first message names another salt or another iteration count than the keys are of.
-    /// The password is needed.
-    #[error("The keys are of another salt or iteration count")]
-    OtherKeys,
-}
-
-impl From<ScramErrorKind> for KeyedClientError {
-    ghost from_gives = { λ kind error. error ≡ Scram kind };
-
-    fn from(kind: ScramErrorKind) -> Self {
-        KeyedClientError::Scram(kind)
-    }
-}
-
-impl From<AllocError> for KeyedClientError {
-    ghost from_gives = { λ _ error. error ≡ Scram ClientOutOfMemory };
-
-    fn from(_error: AllocError) -> Self {
-        KeyedClientError::Scram(ScramErrorKind::OutOfMemory)
     }
 }
 

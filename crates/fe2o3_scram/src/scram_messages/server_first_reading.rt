@@ -1,10 +1,14 @@
 //! The server-first message, as the client reads it.
 
-ghost use Rattle.std.specs.Prelude.{◌≡◌, ◌≢◌, ◌≤◌, ◌++◌, ℕ, List, IfOk, IfErr, codes};
+ghost use Rattle.std.specs.Prelude.{◌≡◌, ◌≢◌, ◌≤◌, ◌++◌, ℕ, List, IfOk, IfErr, MatchResult, codes};
 ghost use Rattle.fe2o3_scram.specs.Readings.{Gives, IsFirst, NoneHolds};
 ghost use Rattle.fe2o3_scram.specs.ServerFirst.{ReachesSalt, ReadsServerFirst, client_of, server_first_values, HasSalt, HasCount, nonce_tests, salt_tests, count_tests};
+ghost use Rattle.fe2o3_scram.specs.ClientSecret.{Password, secret_of, up_to};
+ghost use Rattle.fe2o3_scram.specs.SaslprepAscii.{IsPrintable};
 ghost use Rattle.fe2o3_scram.specs.Texts.{Part};
+ghost use Rattle.fe2o3_scram.specs.private.Serving.{Serves, ServesNot};
 
+use crate::client_secret::{ClientSecret, IterationLimits};
 use crate::saslprep_ascii::saslprep;
 use crate::scram_messages::attributes::{ITERATION_COUNT_KEY, NONCE_KEY, RESERVED_MEXT, SALT_KEY};
 use crate::scram_messages::error::ScramErrorKind;
@@ -43,20 +47,50 @@ impl<'a> ServerFirst<'a> {
     ) -> Result<Self, ScramErrorKind>
         ensures reads { Gives ScramErrorKind.OutOfMemory (ReachesSalt client_nonce.now text.now)
             server_first_values result
-            (ReadsServerFirst (client_of client_nonce.now password.now limit) text.now) }
+            (ReadsServerFirst (client_of client_nonce.now (Password password.now) (up_to limit)) text.now) }
         ensures count { IfOk result (λ first. (1 ≤ first.iterations) × (first.iterations ≤ limit)) }
+    {
+        let limits = IterationLimits::up_to(limit);
+        let first = ServerFirst::read(
+            alloc,
+            client_nonce,
+            ClientSecret::Password(password),
+            limits,
+            text,
+        )?;
+        Ok(first)
+    }
+
+    /// Reads a server-first message as `parse` does, for a client with this secret, which accepts the
+    /// counts within these limits.
+    ///
+    /// Refused are, in this order: what `parse` refuses up to `IterationCountParseError`;
+    /// `IterationCountTooSmall` and `IterationCountTooLarge`; and of the secret `NormalizeError` where its
+    /// password is needed and is not printable ASCII, or `OtherKeys` where there are keys alone and the
+    /// message names another salt or another count than they are of.
+    pub(super) fn read(
+        alloc: Global,
+        client_nonce: &str,
+        secret: ClientSecret<'_>,
+        limits: IterationLimits,
+        text: &'a str,
+    ) -> Result<Self, ScramErrorKind>
+        ensures reads { Gives ScramErrorKind.OutOfMemory (ReachesSalt client_nonce.now text.now)
+            server_first_values result
+            (ReadsServerFirst (client_of client_nonce.now (secret_of secret.entry) limits) text.now) }
+        ensures count { IfOk result (λ first. (1 ≤ first.iterations) × (first.iterations ≤ limits.most)) }
+        ensures serves { IfOk result (λ first. Serves (secret_of secret.entry) (server_first_values first)) }
     {
         let nonce = read_nonce(client_nonce, text)?;
         let salt = read_salt(alloc, text)?;
-        let iterations = read_count(limit, text)?;
-        if saslprep(password).is_err() {
-            return Err(ScramErrorKind::NormalizeError);
-        }
-        Ok(ServerFirst {
+        let iterations = read_count(limits, text)?;
+        let first = ServerFirst {
             nonce,
             salt,
             iterations,
-        })
+        };
+        test_secret(secret, &first)?;
+        Ok(first)
     }
 }
 
@@ -101,13 +135,13 @@ fn read_salt(alloc: Global, server_first: &str) -> Result<Vec<u8>, ScramErrorKin
     Ok(salt)
 }
 
-/// The iteration count, from 1 to the limit.
+/// The iteration count, from 1 on and within the limits.
 #[tactic(auto, using(crate::proofs::lemmas::messages::ServerFirstLemmas::counts))]
-fn read_count(limit: u32, server_first: &str) -> Result<u32, ScramErrorKind>
-    ensures tested { IfOk result (λ _. NoneHolds (count_tests limit server_first.now)) }
+fn read_count(limits: IterationLimits, server_first: &str) -> Result<u32, ScramErrorKind>
+    ensures tested { IfOk result (λ _. NoneHolds (count_tests limits server_first.now)) }
     ensures named { IfOk result (HasCount server_first.now) }
-    ensures within { IfOk result (λ count. (1 ≤ count) × (count ≤ limit)) }
-    ensures err { IfErr result (IsFirst (count_tests limit server_first.now)) }
+    ensures within { IfOk result (λ count. (1 ≤ count) × (count ≤ limits.most)) }
+    ensures err { IfErr result (IsFirst (count_tests limits server_first.now)) }
 {
     let Some(iter_count_str) = attribute(server_first, 2, ITERATION_COUNT_KEY) else {
         return Err(ScramErrorKind::IterationCountNotFound);
@@ -115,8 +149,46 @@ fn read_count(limit: u32, server_first: &str) -> Result<u32, ScramErrorKind>
     let Some(iterations) = count_of(iter_count_str) else {
         return Err(ScramErrorKind::IterationCountParseError);
     };
-    if iterations > limit {
+    if iterations < limits.least {
+        return Err(ScramErrorKind::IterationCountTooSmall);
+    }
+    if iterations > limits.most {
         return Err(ScramErrorKind::IterationCountTooLarge);
     }
     Ok(iterations)
+}
+
+/// Tests the secret for what the message names: a password that is needed, and keys alone.
+fn test_secret(secret: ClientSecret<'_>, first: &ServerFirst<'_>) -> Result<(), ScramErrorKind>
+    ensures { MatchResult result (λ _. Serves (secret_of secret.entry) (server_first_values first.now))
+        (ServesNot (secret_of secret.entry) (server_first_values first.now)) }
+{
+    match secret {
+        ClientSecret::Password(password) => test_password(password),
+        ClientSecret::Keys(keys) => {
+            if keys.are_of(&first.salt, first.iterations) {
+                Ok(())
+            } else {
+                Err(ScramErrorKind::OtherKeys)
+            }
+        }
+        ClientSecret::Both { password, keys } => {
+            if keys.are_of(&first.salt, first.iterations) {
+                Ok(())
+            } else {
+                test_password(password)
+            }
+        }
+    }
+}
+
+/// Tests a password that is needed (RFC 4013, section 2).
+fn test_password(password: &str) -> Result<(), ScramErrorKind>
+    ensures { MatchResult result (λ _. IsPrintable password.now)
+        (λ kind. ¬ IsPrintable password.now × (kind ≡ ScramErrorKind.NormalizeError)) }
+{
+    if saslprep(password).is_err() {
+        return Err(ScramErrorKind::NormalizeError);
+    }
+    Ok(())
 }

@@ -30,7 +30,7 @@ use Rattle.fe2o3_scram.proofs.lemmas.hashes.DigestLemmas.{IsBytes-nil, IsBytes-c
 use Rattle.fe2o3_scram.proofs.lemmas.texts.EscapingLemmas.{no_comma-escaped}
 use Rattle.fe2o3_scram.proofs.lemmas.texts.PartsLemmas.{one_part}
 use Rattle.fe2o3_scram.proofs.lemmas.messages.ServerFinalLemmas.{same_signature, signature_read}
-use Rattle.fe2o3_scram.proofs.lemmas.messages.ServerFirstLemmas.{values_read, same_nonce, not_too_large}
+use Rattle.fe2o3_scram.proofs.lemmas.messages.ServerFirstLemmas.{values_read, same_nonce, not_too_small, not_too_large}
 
 -- exclusive ors
 
@@ -135,7 +135,7 @@ not_extended text nonce is has =
     omega (arith, letter)
 
 reads_server_first : (x : Exchange) → IsSound x → ReadsServerFirst
-    (client_of x.client_nonce x.password x.limit) (first_in x) (Ok (named_in x))
+    (client_of x.client_nonce (Password x.password) (up_to x.limit)) (first_in x) (Ok (named_in x))
 reads_server_first x sound =
     let wide : x.count < 2 ^ 64 = omega (arith, sound.within, sound.limit) in
     let small : x.count < 2 ^ 32 = omega (arith, sound.within, sound.limit) in
@@ -148,7 +148,7 @@ reads_server_first x sound =
     let salt : HasSalt (first_in x) x.salt = (sound.salt, (_, parts, refl)) in
     let digits : Part (first_in x) 2 (codes "i=" ++ decimal x.count) = (_, parts, refl) in
     let count : HasCount (first_in x) x.count = (decimal x.count, digits, IsCount-decimal x.count sound.some small) in
-    values_read (client_of x.client_nonce x.password x.limit) (first_in x) (named_in x) (
+    values_read (client_of x.client_nonce (Password x.password) (up_to x.limit)) (first_in x) (named_in x) (
       λ few. few (codes "i=" ++ decimal x.count) digits,
       (
         not_extended (first_in x) (nonce_in x) nonce,
@@ -162,10 +162,13 @@ reads_server_first x sound =
       λ none. none (decimal x.count) digits,
       (
         λ none. none x.count count,
-        (not_too_large (first_in x) x.limit x.count count sound.within, tt),
+        (
+          not_too_small (first_in x) 1 x.count count sound.some,
+          (not_too_large (first_in x) x.limit x.count count sound.within, tt),
+        ),
       ),
     )
-    sound.printable nonce salt count
+    (λ un. un sound.printable, tt) (record { nonce = nonce; salt = salt; count = count })
 
 -- client-final
 

@@ -1,11 +1,17 @@
 -- The reading of a server-first message.
-use Rattle.std.proofs.Common.{◌≡◌, ℕ, ◌<◌, ◌≤◌, List, ◌++◌, Result, Ok, Err, refl, subst, codes, inl, arith}
+use Rattle.std.proofs.Common.{◌≡◌, ℕ, ◌<◌, ◌≤◌, List, ◌++◌, Result, Ok, Err, refl, subst, codes, inl, inr, arith}
+use Rattle.std.specs.Prelude.{T}
+use Rattle.fe2o3_scram.specs.declared.client_secret.IterationLimits.{IterationLimits}
+use Rattle.fe2o3_scram.specs.ClientKeys.{ClientKeys}
+use Rattle.fe2o3_scram.specs.ClientFinal.{fit}
+use Rattle.fe2o3_scram.specs.ClientSecret.{Secret, Password, Keys, Both}
+use Rattle.fe2o3_scram.specs.private.Serving.{Serves, ServesNot}
+use Rattle.fe2o3_scram.proofs.lemmas.messages.FittingKeyLemmas.{fit_is, is_fit}
 use Rattle.fe2o3_scram.specs.declared.scram_messages.error.ScramErrorKind.{ScramErrorKind}
-use Rattle.fe2o3_scram.specs.declared.scram_messages.error.ScramErrorKind.TheVariants.{NormalizeError, OutOfMemory}
+use Rattle.fe2o3_scram.specs.declared.scram_messages.error.ScramErrorKind.TheVariants.{OutOfMemory}
 use Rattle.fe2o3_scram.specs.Texts.{base64_text, IsBase64, IsCount, Part, Begins}
 use Rattle.fe2o3_scram.specs.Readings.{IsFirst, NoneHolds}
-use Rattle.fe2o3_scram.specs.SaslprepAscii.{IsPrintable}
-use Rattle.fe2o3_scram.specs.ServerFirst.{Client, ServerFirst, HasSalt, HasCount, NamesServerFirst, ReachesSalt, ReadsServerFirst, nonce_tests, salt_tests, count_tests, password_tests}
+use Rattle.fe2o3_scram.specs.ServerFirst.{Client, ServerFirst, HasSalt, HasCount, NamesServerFirst, ReachesSalt, ReadsServerFirst, nonce_tests, salt_tests, count_tests, secret_tests, NamesOther}
 use Rattle.fe2o3_scram.proofs.lemmas.texts.Base64Lemmas.{one_spelled}
 use Rattle.fe2o3_scram.proofs.lemmas.texts.CountLemmas.{one_count}
 use Rattle.fe2o3_scram.proofs.lemmas.texts.PartsLemmas.{one_part}
@@ -19,9 +25,11 @@ not_the_nonces client_nonce text = not_first (nonce_tests client_nonce text) Out
   (λ wrong. absurd (cc), (λ wrong. absurd (cc), (λ wrong. absurd (cc), tt))),
 )
 
-pub not_the_count : (limit : ℕ) (text : List ℕ) → ¬ IsFirst (count_tests limit text) OutOfMemory
-not_the_count limit text = not_first (count_tests limit text) OutOfMemory
-    (λ wrong. absurd (cc), (λ wrong. absurd (cc), (λ wrong. absurd (cc), tt)))
+pub not_the_count : (limits : IterationLimits) (text : List ℕ) → ¬ IsFirst (count_tests limits text) OutOfMemory
+not_the_count limits text = not_first (count_tests limits text) OutOfMemory (
+  λ wrong. absurd (cc),
+  (λ wrong. absurd (cc), (λ wrong. absurd (cc), (λ wrong. absurd (cc), tt))),
+)
 
 -- the nonce does not go on from the client's
 pub other_nonce : (text client_nonce nonce : List ℕ) → Part text 0 (codes "r=" ++ nonce) → ¬ Begins nonce client_nonce
@@ -73,7 +81,12 @@ pub not_too_large : (text : List ℕ) (limit count : ℕ) → HasCount text coun
 not_too_large text limit count has within large = let same = one_has_count text count large.0 has large.1 in
     absurd (omega (arith, same, within, large.2))
 
-pub ruleset counts = (no_count, not_too_large)
+pub not_too_small : (text : List ℕ) (least count : ℕ) → HasCount text count → least ≤ count
+    → ¬ ((count : ℕ) × HasCount text count × (count < least))
+not_too_small text least count has within small = let same = one_has_count text count small.0 has small.1 in
+    absurd (omega (arith, same, within, small.2))
+
+pub ruleset counts = (no_count, not_too_small, not_too_large)
 
 -- the parts of the reading make the whole
 
@@ -81,49 +94,86 @@ pub nonce_refused : (client : Client) (text : List ℕ) (fault : ScramErrorKind)
     → IsFirst (nonce_tests client.nonce text) fault → ReadsServerFirst client text (Err fault)
 unfolding ReadsServerFirst
 nonce_refused client text fault first = IsFirst-front (nonce_tests client.nonce text)
-    (salt_tests text ++ (count_tests client.limit text ++ password_tests client.password)) fault first
+    (salt_tests text ++ (count_tests client.limits text ++ secret_tests client.secret text)) fault first
 
 pub salt_refused : (client : Client) (text : List ℕ) (fault : ScramErrorKind)
     → NoneHolds (nonce_tests client.nonce text) → IsFirst (salt_tests text) fault
     → ReadsServerFirst client text (Err fault)
 unfolding ReadsServerFirst
 salt_refused client text fault nonce first =
-    let rest = count_tests client.limit text ++ password_tests client.password in
+    let rest = count_tests client.limits text ++ secret_tests client.secret text in
     IsFirst-back (nonce_tests client.nonce text) (salt_tests text ++ rest) fault nonce
     (IsFirst-front (salt_tests text) rest fault first)
 
 pub count_refused : (client : Client) (text : List ℕ) (fault : ScramErrorKind)
     → NoneHolds (nonce_tests client.nonce text) → NoneHolds (salt_tests text)
-    → IsFirst (count_tests client.limit text) fault → ReadsServerFirst client text (Err fault)
+    → IsFirst (count_tests client.limits text) fault → ReadsServerFirst client text (Err fault)
 unfolding ReadsServerFirst
 count_refused client text fault nonce salt first =
-    let rest = count_tests client.limit text ++ password_tests client.password in
+    let rest = count_tests client.limits text ++ secret_tests client.secret text in
     IsFirst-back (nonce_tests client.nonce text) (salt_tests text ++ rest) fault nonce
-    (IsFirst-back (salt_tests text) rest fault salt (IsFirst-front (count_tests client.limit text)
-    (password_tests client.password) fault first))
+    (IsFirst-back (salt_tests text) rest fault salt (IsFirst-front (count_tests client.limits text)
+    (secret_tests client.secret text) fault first))
 
-pub password_refused : (client : Client) (text : List ℕ) → NoneHolds (nonce_tests client.nonce text)
-    → NoneHolds (salt_tests text) → NoneHolds (count_tests client.limit text) → ¬ IsPrintable client.password
-    → ReadsServerFirst client text (Err NormalizeError)
+-- a message has one salt
+one_has_salt : (text salt other : List ℕ) → HasSalt text salt → HasSalt text other → salt ≡ other
+one_has_salt text salt other has too =
+    let same : codes "s=" ++ base64_text salt ≡ codes "s=" ++ base64_text other =
+    one_part text 1 (codes "s=" ++ base64_text salt) (codes "s=" ++ base64_text other) has.1 too.1 in
+    let spelling : base64_text salt ≡ base64_text other = cc in
+    one_spelled (base64_text salt) salt other (has.0, refl) (too.0, spelling)
+
+-- keys that fit what is named are of no other salt or count, and the other way round
+pub not_other : (keys : ClientKeys) (text : List ℕ) (first : ServerFirst) → NamesServerFirst text first
+    → T (fit keys first) → ¬ NamesOther keys text
+not_other keys text first names fits other = let same = fit_is keys first fits in
+    other (rw same.0 at names.salt, rw same.1 at names.count)
+
+pub other_named : (keys : ClientKeys) (text : List ℕ) (first : ServerFirst) → NamesServerFirst text first
+    → ¬ T (fit keys first) → NamesOther keys text
+other_named keys text first names unfit has =
+    unfit (is_fit keys first (one_has_salt text first.salt keys.salt names.salt has.0)
+    (one_has_count text first.count keys.count names.count has.1))
+
+-- the test of a secret that serves, and of one that does not
+pub secret_holds : (secret : Secret) (text : List ℕ) (first : ServerFirst) → NamesServerFirst text first
+    → Serves secret first → NoneHolds (secret_tests secret text)
+secret_holds (Password password) text first names printable = (λ un. un printable, tt)
+secret_holds (Keys keys) text first names fits = (not_other keys text first names fits, tt)
+secret_holds (Both password keys) text first names (inl fits) =
+    (λ test. not_other keys text first names fits test.0, tt)
+secret_holds (Both password keys) text first names (inr printable) = (λ test. test.1 printable, tt)
+
+pub secret_first : (secret : Secret) (text : List ℕ) (first : ServerFirst) (fault : ScramErrorKind)
+    → NamesServerFirst text first → ServesNot secret first fault → IsFirst (secret_tests secret text) fault
+secret_first (Password password) text first fault names (unprintable, is) = inl (unprintable, is)
+secret_first (Keys keys) text first fault names (unfit, is) =
+    inl (other_named keys text first names unfit, is)
+secret_first (Both password keys) text first fault names (unfit, unprintable, is) =
+    inl ((other_named keys text first names unfit, unprintable), is)
+
+pub secret_refused : (client : Client) (text : List ℕ) (fault : ScramErrorKind)
+    → NoneHolds (nonce_tests client.nonce text) → NoneHolds (salt_tests text)
+    → NoneHolds (count_tests client.limits text) → IsFirst (secret_tests client.secret text) fault
+    → ReadsServerFirst client text (Err fault)
 unfolding ReadsServerFirst
-password_refused client text nonce salt count unprintable =
-    let rest = count_tests client.limit text ++ password_tests client.password in
-    IsFirst-back (nonce_tests client.nonce text) (salt_tests text ++ rest) NormalizeError nonce
-    (IsFirst-back (salt_tests text) rest NormalizeError salt
-    (IsFirst-back (count_tests client.limit text) (password_tests client.password) NormalizeError count
-    (inl (unprintable, refl))))
+secret_refused client text fault nonce salt count first =
+    let rest = count_tests client.limits text ++ secret_tests client.secret text in
+    IsFirst-back (nonce_tests client.nonce text) (salt_tests text ++ rest) fault nonce
+    (IsFirst-back (salt_tests text) rest fault salt
+    (IsFirst-back (count_tests client.limits text) (secret_tests client.secret text) fault count first))
 
 pub values_read : (client : Client) (text : List ℕ) (first : ServerFirst) → NoneHolds (nonce_tests client.nonce text)
-    → NoneHolds (salt_tests text) → NoneHolds (count_tests client.limit text) → IsPrintable client.password
-    → Part text 0 (codes "r=" ++ first.nonce) → HasSalt text first.salt → HasCount text first.count
+    → NoneHolds (salt_tests text) → NoneHolds (count_tests client.limits text)
+    → NoneHolds (secret_tests client.secret text) → NamesServerFirst text first
     → ReadsServerFirst client text (Ok first)
 unfolding ReadsServerFirst
-values_read client text first nonce salt count printable has_nonce has_its_salt has_its_count =
-    let rest = count_tests client.limit text ++ password_tests client.password in (
+values_read client text first nonce salt count secret names =
+    let rest = count_tests client.limits text ++ secret_tests client.secret text in (
       NoneHolds-append (nonce_tests client.nonce text) (salt_tests text ++ rest) nonce
-          (NoneHolds-append (salt_tests text) rest salt (NoneHolds-append (count_tests client.limit text)
-          (password_tests client.password) count (λ un. un printable, tt))),
-      record { nonce = has_nonce; salt = has_its_salt; count = has_its_count },
+          (NoneHolds-append (salt_tests text) rest salt (NoneHolds-append (count_tests client.limits text)
+          (secret_tests client.secret text) count secret)),
+      names,
     )
 
 -- a message has one reading
@@ -136,12 +186,8 @@ one_values : (text : List ℕ) (first other : ServerFirst) → NamesServerFirst 
 one_values text first other names too =
     let nonces : codes "r=" ++ first.nonce ≡ codes "r=" ++ other.nonce =
     one_part text 0 (codes "r=" ++ first.nonce) (codes "r=" ++ other.nonce) names.nonce too.nonce in
-    let salts : codes "s=" ++ base64_text first.salt ≡ codes "s=" ++ base64_text other.salt =
-    one_part text 1 (codes "s=" ++ base64_text first.salt)
-    (codes "s=" ++ base64_text other.salt) names.salt.1 too.salt.1 in
     let nonce : first.nonce ≡ other.nonce = cc in
-    let spelling : base64_text first.salt ≡ base64_text other.salt = cc in
-    let salt = one_spelled (base64_text first.salt) first.salt other.salt (names.salt.0, refl) (too.salt.0, spelling) in
+    let salt = one_has_salt text first.salt other.salt names.salt too.salt in
     let count = one_has_count text first.count other.count names.count too.count in
     λ i. made (nonce i) (salt i) (count i)
 
@@ -150,7 +196,7 @@ pub one_server_first : (client : Client) (text : List ℕ) (answer other : Resul
 unfolding ReadsServerFirst
 one_server_first client text answer other reads too =
     one_reading (nonce_tests client.nonce text ++ (salt_tests text
-    ++ (count_tests client.limit text ++ password_tests client.password))) (NamesServerFirst text)
+    ++ (count_tests client.limits text ++ secret_tests client.secret text))) (NamesServerFirst text)
     (one_values text) answer other reads too
 
 -- who reads a message came to its salt

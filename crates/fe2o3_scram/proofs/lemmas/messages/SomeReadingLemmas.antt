@@ -13,7 +13,10 @@ use Rattle.fe2o3_scram.specs.Hmac.{digest, digest_len}
 use Rattle.fe2o3_scram.specs.Readings.{IsFirst, NoneHolds, Reads}
 use Rattle.fe2o3_scram.specs.ServerFinal.{HasSignature, ReadsSignature, ReadsServerFinal, server_final_tests}
 use Rattle.fe2o3_scram.specs.ServerFirst as server_first
-use Rattle.fe2o3_scram.specs.ServerFirst.{Client, ServerFirst, HasSalt, HasCount, NamesServerFirst, ReadsServerFirst, server_first_tests, salt_tests, count_tests, password_tests}
+use Rattle.fe2o3_scram.specs.ServerFirst.{Client, ServerFirst, HasSalt, HasCount, NamesServerFirst, ReadsServerFirst, server_first_tests, salt_tests, count_tests, secret_tests, NamesOther}
+use Rattle.fe2o3_scram.specs.declared.client_secret.IterationLimits.{IterationLimits}
+use Rattle.fe2o3_scram.specs.ClientKeys.{ClientKeys}
+use Rattle.fe2o3_scram.specs.ClientSecret.{Secret, Password, Keys, Both}
 use Rattle.fe2o3_scram.specs.Texts.{base64_text, IsBase64, IsCount, Part, LastPart}
 use Rattle.base64.specs.GeneralPurpose.{IsBytes}
 use Rattle.fe2o3_scram.proofs.lemmas.messages.ClientFinalLemmas.{no_proof, has_proof, proof_part, unread_proof}
@@ -138,6 +141,42 @@ too_large_or text limit = go (has_count_or text)
     go (inl (count, has)) = larger count has (less_or limit count)
     go (inr none) = inr (λ large. none large.0 large.1)
 
+too_small_or : (text : List ℕ) (least : ℕ) → Decided ((count : ℕ) × HasCount text count × (count < least))
+too_small_or text least = go (has_count_or text)
+  where
+    smaller : (count : ℕ) → HasCount text count → Decided (count < least)
+        → Decided ((count : ℕ) × HasCount text count × (count < least))
+    smaller count has (inl less) = inl (count, has, less)
+    smaller count has (inr within) = inr (λ small. within
+        (subst (λ (other : ℕ). other < least) (one_has_count text small.0 count small.1 has) small.2))
+
+    go : Found (HasCount text) → Decided ((count : ℕ) × HasCount text count × (count < least))
+    go (inl (count, has)) = smaller count has (less_or count least)
+    go (inr none) = inr (λ small. none small.0 small.1)
+
+-- whether a message names this count, and other values than these keys are of
+this_count_or : (text : List ℕ) (count : ℕ) → Decided (HasCount text count)
+this_count_or text count = go (has_count_or text)
+  where
+    same : (other : ℕ) → HasCount text other → Decided (other ≡ count) → Decided (HasCount text count)
+    same other has (inl is) = inl (subst (HasCount text) is has)
+    same other has (inr differs) = inr (λ too. differs (one_has_count text other count has too))
+
+    go : Found (HasCount text) → Decided (HasCount text count)
+    go (inl (other, has)) = same other has (same_number_or other count)
+    go (inr none) = inr (none count)
+
+names_other_or : (keys : ClientKeys) (text : List ℕ) → Decided (NamesOther keys text)
+names_other_or keys text = not_or (both_or
+    (both_or (bytes_or keys.salt) (part_is_or text 1 (codes "s=" ++ base64_text keys.salt)))
+    (this_count_or text keys.count))
+
+secret_decided : (secret : Secret) (text : List ℕ) → AllDecided (secret_tests secret text)
+secret_decided (Password password) text = (not_or (printable_or password), tt)
+secret_decided (Keys keys) text = (names_other_or keys text, tt)
+secret_decided (Both password keys) text =
+    (both_or (names_other_or keys text) (not_or (printable_or password)), tt)
+
 nonce_decided : (client_nonce text : List ℕ) → AllDecided (server_first.nonce_tests client_nonce text)
 nonce_decided client_nonce text = (
   none_or (part_or text 2),
@@ -153,28 +192,28 @@ nonce_decided client_nonce text = (
 salt_decided : (text : List ℕ) → AllDecided (salt_tests text)
 salt_decided text = (none_or (attribute_text_or text 1 (codes "s=")), (none_or (salt_or text), tt))
 
-count_decided : (limit : ℕ) (text : List ℕ) → AllDecided (count_tests limit text)
-count_decided limit text = (
+count_decided : (limits : IterationLimits) (text : List ℕ) → AllDecided (count_tests limits text)
+count_decided limits text = (
   none_or (attribute_text_or text 2 (codes "i=")),
-  (none_or (has_count_or text), (too_large_or text limit, tt)),
+  (none_or (has_count_or text), (too_small_or text limits.least, (too_large_or text limits.most, tt))),
 )
 
 pub some_server_first : (client : Client) (text : List ℕ)
     → (answer : Result ServerFirst ScramErrorKind) × ReadsServerFirst client text answer
 unfolding ReadsServerFirst
 some_server_first client text =
-    let password = password_tests client.password in
-    let count = count_tests client.limit text ++ password in
+    let secret = secret_tests client.secret text in
+    let count = count_tests client.limits text ++ secret in
     let salt = salt_tests text ++ count in
     some_reading (server_first_tests client text) (NamesServerFirst text)
     (decided-append (server_first.nonce_tests client.nonce text) salt (nonce_decided client.nonce text)
     (decided-append (salt_tests text) count (salt_decided text)
-    (decided-append (count_tests client.limit text) password (count_decided client.limit text)
-    (not_or (printable_or client.password), tt))))
+    (decided-append (count_tests client.limits text) secret (count_decided client.limits text)
+    (secret_decided client.secret text))))
     (λ none.
     let nonce_parts = none-split (server_first.nonce_tests client.nonce text) salt none in
     let salt_parts = none-split (salt_tests text) count nonce_parts.1 in
-    let count_parts = none-split (count_tests client.limit text) password salt_parts.1 in
+    let count_parts = none-split (count_tests client.limits text) secret salt_parts.1 in
     let named_nonce = found_one (attribute_text_or text 0 (codes "r=")) nonce_parts.0.1.1.0 in
     let named_salt = found_one (salt_or text) salt_parts.0.1.0 in
     let named_count = found_one (has_count_or text) count_parts.0.1.0 in (

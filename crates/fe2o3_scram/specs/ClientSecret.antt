@@ -1,0 +1,36 @@
+-- By what a client proves who it is (RFC 5802, section 3), and the iteration counts that it accepts.
+use Rattle.std.specs.Prelude.{ℕ, List}
+use Rattle.std.specs.String.{string_bytes}
+use Rattle.fe2o3_scram.specs.declared.client_secret.ClientSecret.{ClientSecret}
+use Rattle.fe2o3_scram.specs.declared.client_secret.ClientSecret.TheVariants as code
+use Rattle.fe2o3_scram.specs.declared.client_secret.IterationLimits.{IterationLimits}
+use Rattle.fe2o3_scram.specs.declared.client_secret.KeptSecret.{KeptSecret}
+use Rattle.fe2o3_scram.specs.declared.client_secret.KeptSecret.TheVariants as kept
+use Rattle.fe2o3_scram.specs.ClientKeys.{ClientKeys}
+
+-- a client has its password, or the keys of one login (RFC 5802, section 3), or both: then it answers by the keys
+-- where they are of the salt and the count that the server names, and by the password where they are not
+pub data Secret : Type 0 where
+  Password : (password : List ℕ) → Secret
+  Keys : (keys : ClientKeys) → Secret
+  Both : (password : List ℕ) → (keys : ClientKeys) → Secret
+
+-- the secret that the code's value is
+abbrev pub secret_of : ClientSecret → Secret
+secret_of (code.Password password) = Password password.now
+secret_of (code.Keys keys) = Keys keys.now
+secret_of (code.Both password keys) = Both password.now keys.now
+
+-- the secret that a client keeps
+abbrev pub kept_secret : KeptSecret → Secret
+kept_secret (kept.Password password) = Password (string_bytes password)
+kept_secret (kept.Keys keys) = Keys keys
+kept_secret (kept.Both password keys) = Both (string_bytes password) keys
+
+-- every count up to this one (RFC 5802, section 7: a count is at least 1)
+abbrev pub up_to : ℕ → IterationLimits
+up_to limit = record { least = 1; most = limit }
+
+-- the limit of a client that accepts every count: the highest that a message names
+abbrev pub no_limit : ℕ
+no_limit = 4294967295

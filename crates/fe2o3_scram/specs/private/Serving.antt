@@ -1,0 +1,20 @@
+-- Whether a client's secret serves for a message that was read. No public clause cites this file.
+use Rattle.std.specs.Prelude.{◌≡◌, ◌⊎◌, T}
+use Rattle.fe2o3_scram.specs.declared.scram_messages.error.ScramErrorKind.{ScramErrorKind}
+use Rattle.fe2o3_scram.specs.declared.scram_messages.error.ScramErrorKind.TheVariants.{NormalizeError, OtherKeys}
+use Rattle.fe2o3_scram.specs.ClientFinal.{fit}
+use Rattle.fe2o3_scram.specs.ClientSecret.{Secret, Password, Keys, Both}
+use Rattle.fe2o3_scram.specs.SaslprepAscii.{IsPrintable}
+use Rattle.fe2o3_scram.specs.ServerFirst.{ServerFirst}
+
+-- it does, where the message names these values
+abbrev pub Serves : Secret → ServerFirst → Type 0
+Serves (Password password) first = IsPrintable password
+Serves (Keys keys) first = T (fit keys first)
+Serves (Both password keys) first = T (fit keys first) ⊎ IsPrintable password
+
+-- it does not, with this fault
+abbrev pub ServesNot : Secret → ServerFirst → ScramErrorKind → Type 0
+ServesNot (Password password) first fault = ¬ IsPrintable password × (fault ≡ NormalizeError)
+ServesNot (Keys keys) first fault = ¬ T (fit keys first) × (fault ≡ OtherKeys)
+ServesNot (Both password keys) first fault = ¬ T (fit keys first) × ¬ IsPrintable password × (fault ≡ NormalizeError)
