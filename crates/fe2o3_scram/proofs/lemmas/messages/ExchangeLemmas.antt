@@ -148,9 +148,11 @@ opened : (version : ScramVersion) (secret : Secret) (password salt : List ℕ) (
     × Serves secret (record { nonce = nonce; salt = salt; count = count })
 opened version (Password own) password salt count nonce (same, printable) =
     (ap (λ (word : List ℕ). keys_of version word salt count) same, printable)
-opened version (Keys keys) password salt count nonce is =
-    (is, is_fit keys (record { nonce = nonce; salt = salt; count = count })
-    (sym (ap (λ (made : ClientKeys). made.salt) is)) (sym (ap (λ (made : ClientKeys). made.count) is)))
+opened version (Keys keys) password salt count nonce is = (
+  is,
+  is_fit keys (record { nonce = nonce; salt = salt; count = count })
+      (sym (ap (λ (made : ClientKeys). made.salt) is)) (sym (ap (λ (made : ClientKeys). made.count) is)),
+)
 opened version (Both own keys) password salt count nonce opens = go (fit keys first) refl opens
   where
     first : ServerFirst
