@@ -102,7 +102,8 @@ fn answer(
 /// Whether the answer has this message, which was computed with Python's `hashlib` and `hmac`. Its type is
 /// named by its module.
 fn is_answer(answer: &ClientAnswer) -> bool {
-    answer.message.as_slice() == b"c=biws,r=ab,p=W2Ew4GyipCofHQxrwv+CQYwFhPYga0tGr8uJJpp+p/U="
+    let wanted = "c=biws,r=ab,p=W2Ew4GyipCofHQxrwv+CQYwFhPYga0tGr8uJJpp+p/U=";
+    answer.message.as_slice() == wanted.as_bytes()
 }
 
 #[test]
