@@ -141,16 +141,18 @@ not_extended text nonce is has =
     omega (arith, letter)
 
 -- a secret that opens a record answers by the keys of it, and serves for its salt and count
-opened : (version : ScramVersion) (secret : Secret) (password salt : List ℕ) (count : ℕ) (nonce : List ℕ)
+pub opened : (version : ScramVersion) (secret : Secret) (password salt : List ℕ) (count : ℕ) (nonce : List ℕ)
     → Opens version secret password salt count
     → (keys_for version secret (record { nonce = nonce; salt = salt; count = count })
     ≡ keys_of version password salt count)
     × Serves secret (record { nonce = nonce; salt = salt; count = count })
 opened version (Password own) password salt count nonce (same, printable) =
     (ap (λ (word : List ℕ). keys_of version word salt count) same, printable)
-opened version (Keys keys) password salt count nonce is =
-    (is, is_fit keys (record { nonce = nonce; salt = salt; count = count })
-    (sym (ap (λ (made : ClientKeys). made.salt) is)) (sym (ap (λ (made : ClientKeys). made.count) is)))
+opened version (Keys keys) password salt count nonce is = (
+  is,
+  is_fit keys (record { nonce = nonce; salt = salt; count = count })
+      (sym (ap (λ (made : ClientKeys). made.salt) is)) (sym (ap (λ (made : ClientKeys). made.count) is)),
+)
 opened version (Both own keys) password salt count nonce opens = go (fit keys first) refl opens
   where
     first : ServerFirst
