@@ -116,6 +116,19 @@ fn check_side(alloc: Global, run: &Run<'_>) -> Result<(), Unconfirmed> {
             let mut profile = profiles::of_keys(text_of(alloc, user)?, keys, limit)?;
             profiles::check(alloc, &mut profile, run, "none")
         }
+        ["both", words @ ..] => check_both(alloc, run, words),
         _ => Err(Unconfirmed::Malformed),
     }
+}
+
+/// Checks a profile with a password and with keys, of the words behind `both`.
+fn check_both(alloc: Global, run: &Run<'_>, words: &[&str]) -> Result<(), Unconfirmed> {
+    let [version, user, password, kept, salt, count, least, limit] = words else {
+        return Err(Unconfirmed::Malformed);
+    };
+    let (least, limit) = (number_of(least)?, number_of(limit)?);
+    let keys = profiles::keys(alloc, version, kept, salt, number_of(count)?)?;
+    let (user, password) = (text_of(alloc, user)?, text_of(alloc, password)?);
+    let mut profile = profiles::of_both(user, password, keys, least, limit)?;
+    profiles::check(alloc, &mut profile, run, "none")
 }

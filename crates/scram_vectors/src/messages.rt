@@ -3,6 +3,7 @@
 use crate::rows::{Unconfirmed, base64_of, bytes_of, message_text, number_of, text_of, version_of};
 use base64::engine::general_purpose::STANDARD;
 use fe2o3_scram::client_keys::ScramClientKeys;
+use fe2o3_scram::client_secret::{ClientSecret, IterationLimits};
 use fe2o3_scram::credentials::{ScramCredentials, StoredPassword};
 use fe2o3_scram::hmac::{Meter, ScramVersion};
 use fe2o3_scram::scram_messages::ServerFirstMessage;
@@ -74,55 +75,83 @@ pub fn server_first(alloc: Global, words: &[&str]) -> Result<String, Unconfirmed
     }
 }
 
-/// What a client of `user` says that has kept keys:
-/// `VERSION NONCE CLIENT-KEY SERVER-KEY SALT COUNT LIMIT MESSAGE`.
-pub fn kept_keys(alloc: Global, words: &[&str]) -> Result<String, Unconfirmed> {
-    let [
-        version,
-        nonce,
-        client_key,
-        server_key,
-        salt,
-        count,
-        limit,
-        message,
-    ] = words
-    else {
+/// What a client of `user` says by a secret: `VERSION NONCE MESSAGE LEAST MOST SECRET`.
+pub fn client_secret(alloc: Global, words: &[&str]) -> Result<String, Unconfirmed> {
+    let [version, nonce, message, least, most, secret @ ..] = words else {
         return Err(Unconfirmed::Malformed);
     };
-    let bare = format!(in alloc; "n=user,r={nonce}")?;
-    let keys = keys_of(
-        alloc,
-        version_of(version)?,
-        [salt, count, client_key, server_key],
-    )?;
-    let mut meter = Meter::new();
-    let answer = keys.compute_client_final_message_limited(
-        alloc,
+    let asked = Asked {
+        version: version_of(version)?,
         nonce,
         message,
-        bare.as_bytes(),
-        number_of(limit)?,
-        &mut meter,
-    );
-    match answer {
-        Ok((client_final, signature)) => answer_words(
-            alloc,
-            &client_final,
-            &signature,
-            meter.count(),
-        ),
-        Err(error) => Ok(format!(in alloc; "{error:?} {}", meter.count())?),
+        limits: IterationLimits {
+            least: number_of(least)?,
+            most: number_of(most)?,
+        },
+    };
+    match secret {
+        ["password", password] => {
+            let password = text_of(alloc, password)?;
+            asked.answer(alloc, ClientSecret::Password(&password))
+        }
+        ["keys", keys @ ..] => {
+            let keys = keys_of(alloc, keys)?;
+            asked.answer(alloc, ClientSecret::Keys(&keys))
+        }
+        ["both", password, keys @ ..] => {
+            let password = text_of(alloc, password)?;
+            let keys = keys_of(alloc, keys)?;
+            let both = ClientSecret::Both {
+                password: &password,
+                keys: &keys,
+            };
+            asked.answer(alloc, both)
+        }
+        _ => Err(Unconfirmed::Malformed),
     }
 }
 
-/// Kept keys of a salt, a count, and two keys in base64.
-fn keys_of(
-    alloc: Global,
+/// A server-first message that a client has to answer, and the counts that it accepts.
+#[derive(Clone, Copy)]
+struct Asked<'a> {
     version: ScramVersion,
-    words: [&str; 4],
-) -> Result<ScramClientKeys, Unconfirmed> {
-    let [salt, count, client_key, server_key] = words;
+    nonce: &'a str,
+    message: &'a str,
+    limits: IterationLimits,
+}
+
+impl Asked<'_> {
+    /// What the client says by this secret, and the HMAC values that it costs.
+    fn answer(&self, alloc: Global, secret: ClientSecret<'_>) -> Result<String, Unconfirmed> {
+        let bare = format!(in alloc; "n=user,r={}", self.nonce)?;
+        let mut meter = Meter::new();
+        let answer = self.version.answer_server_first(
+            alloc,
+            self.nonce,
+            secret,
+            self.message,
+            bare.as_bytes(),
+            self.limits,
+            &mut meter,
+        );
+        match answer {
+            Ok(answer) => {
+                let (message, signature) = (&answer.message, &answer.signature);
+                let words = answer_words(alloc, message, signature, meter.count())?;
+                let keys = keys_words(alloc, &answer.keys)?;
+                Ok(format!(in alloc; "{words} {keys}")?)
+            }
+            Err(kind) => Ok(format!(in alloc; "{kind:?} {}", meter.count())?),
+        }
+    }
+}
+
+/// Kept keys: `VERSION SALT COUNT CLIENT-KEY SERVER-KEY`.
+fn keys_of(alloc: Global, words: &[&str]) -> Result<ScramClientKeys, Unconfirmed> {
+    let [version, salt, count, client_key, server_key] = words else {
+        return Err(Unconfirmed::Malformed);
+    };
+    let version = version_of(version)?;
     let salt = base64_of(alloc, salt)?;
     let client_key = base64_of(alloc, client_key)?;
     let server_key = base64_of(alloc, server_key)?;
@@ -130,6 +159,16 @@ fn keys_of(
         Ok(keys) => Ok(keys),
         Err(_) => Err(Unconfirmed::Malformed),
     }
+}
+
+/// The words of kept keys.
+fn keys_words(alloc: Global, keys: &ScramClientKeys) -> Result<String, Unconfirmed> {
+    let version = keys.scram_version().mechanism();
+    let count = keys.iterations();
+    let salt = STANDARD.encode(alloc, keys.salt())?;
+    let client_key = STANDARD.encode(alloc, keys.client_key())?;
+    let server_key = STANDARD.encode(alloc, keys.server_key())?;
+    Ok(format!(in alloc; "{version} {salt} {count} {client_key} {server_key}")?)
 }
 
 /// What a server says, and the HMAC values that it costs:

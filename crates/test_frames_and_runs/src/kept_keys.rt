@@ -12,22 +12,31 @@ fn keys(alloc: Global, version: ScramVersion) -> Result<ScramClientKeys, Fail> {
     Ok(ScramClientKeys::from_password(alloc, version, "pencil", &[3; 32], 1, &mut meter)?)
 }
 
-/// Whether there is a profile of SCRAM-SHA-1 with these keys.
-fn is_of_sha1(alloc: Global, keys: &ScramClientKeys) -> Result<bool, Fail> {
-    let scram = SaslScramSha1::with_keys("user".to_string(alloc)?, keys.clone()?);
-    Ok(scram.is_some())
+/// Whether there is a profile of SCRAM-SHA-1 with these keys, and one with a password beside them.
+fn is_of_sha1(alloc: Global, keys: &ScramClientKeys) -> Result<(bool, bool), Fail> {
+    let keyed = SaslScramSha1::with_keys("user".to_string(alloc)?, keys.clone()?).is_some();
+    let username = "user".to_string(alloc)?;
+    let password = "pencil".to_string(alloc)?;
+    let both = SaslScramSha1::with_password_and_keys(username, password, keys.clone()?);
+    Ok((keyed, both.is_some()))
 }
 
-/// Whether there is one of SCRAM-SHA-256.
-fn is_of_sha256(alloc: Global, keys: &ScramClientKeys) -> Result<bool, Fail> {
-    let scram = SaslScramSha256::with_keys("user".to_string(alloc)?, keys.clone()?);
-    Ok(scram.is_some())
+/// Whether there are those of SCRAM-SHA-256.
+fn is_of_sha256(alloc: Global, keys: &ScramClientKeys) -> Result<(bool, bool), Fail> {
+    let keyed = SaslScramSha256::with_keys("user".to_string(alloc)?, keys.clone()?).is_some();
+    let username = "user".to_string(alloc)?;
+    let password = "pencil".to_string(alloc)?;
+    let both = SaslScramSha256::with_password_and_keys(username, password, keys.clone()?);
+    Ok((keyed, both.is_some()))
 }
 
-/// Whether there is one of SCRAM-SHA-512.
-fn is_of_sha512(alloc: Global, keys: &ScramClientKeys) -> Result<bool, Fail> {
-    let scram = SaslScramSha512::with_keys("user".to_string(alloc)?, keys.clone()?);
-    Ok(scram.is_some())
+/// Whether there are those of SCRAM-SHA-512.
+fn is_of_sha512(alloc: Global, keys: &ScramClientKeys) -> Result<(bool, bool), Fail> {
+    let keyed = SaslScramSha512::with_keys("user".to_string(alloc)?, keys.clone()?).is_some();
+    let username = "user".to_string(alloc)?;
+    let password = "pencil".to_string(alloc)?;
+    let both = SaslScramSha512::with_password_and_keys(username, password, keys.clone()?);
+    Ok((keyed, both.is_some()))
 }
 
 /// The version of keys, and whether there is a profile of each version with them.
@@ -47,7 +56,9 @@ fn keys_of_another_version_give_no_profile(rt: HostRuntime) -> Result<(), Fail> 
             is_of_sha256(alloc, &keys)?,
             is_of_sha512(alloc, &keys)?,
         ];
-        assert!(rt; made == *wanted, "{version:?}");
+        for (made, wanted) in made.iter().zip(wanted) {
+            assert!(rt; *made == (*wanted, *wanted), "{version:?}");
+        }
     }
     Ok(())
 }

@@ -20,6 +20,8 @@ mod faults;
 #[cfg(test)]
 mod kept_keys;
 #[cfg(test)]
+mod kept_logins;
+#[cfg(test)]
 mod own_acceptor;
 #[cfg(test)]
 mod profiles;

@@ -3,6 +3,7 @@
 use crate::scram_machines::is_early;
 use crate::scram_values::*;
 use crate::users::{record, stored, two_names, two_of};
+use fe2o3_scram::client_keys::ScramClientKeys;
 use fe2o3_scram::credentials::{
     RecordError, RecordTextError, ScramCredentialProvider, ScramCredentials, ScramRecord,
     StoredScramCredential,
@@ -243,6 +244,9 @@ fn refusals_before_memory_take_none(rt: HostRuntime) -> Result<(), Fail> {
 #[derive(Debug, Clone, Copy)]
 enum Making {
     Client,
+    ClientWithKeys,
+    ClientWithBoth,
+    ClientTakenUp,
     Record,
     Stored,
     Many,
@@ -284,6 +288,45 @@ fn client_is_made(alloc: Global, parts: &mut Parts) -> bool {
     };
     let mut client = ScramClient::new(user, password, VERSION).with_iteration_limit(1);
     is_early(alloc, &mut client) && client.version() == VERSION
+}
+
+/// The keys of a client, made of the salt.
+fn kept_keys(parts: &mut Parts) -> Option<ScramClientKeys> {
+    let salt = parts.keys.pop()?;
+    ScramClientKeys::from_parts(VERSION, salt, 1, &CLIENT_KEY, &SERVER_KEY).ok()
+}
+
+fn client_with_keys_is_made(alloc: Global, parts: &mut Parts) -> bool {
+    let (Some(user), Some(keys)) = (parts.names.pop(), kept_keys(parts)) else {
+        return false;
+    };
+    let mut client = ScramClient::with_keys(user, keys).with_least_iterations(1);
+    is_early(alloc, &mut client) && client.version() == VERSION && client.keys().is_none()
+}
+
+fn client_with_both_is_made(alloc: Global, parts: &mut Parts) -> bool {
+    let (Some((user, password)), Some(keys)) = (two_of(&mut parts.names), kept_keys(parts)) else {
+        return false;
+    };
+    let client = ScramClient::with_password_and_keys(user, password, keys);
+    let mut client = client.with_least_iterations(1).with_iteration_limit(1);
+    is_early(alloc, &mut client) && client.version() == VERSION && client.nonce().is_none()
+}
+
+/// Whether the client waits for the stored key, in place of a signature.
+fn client_is_taken_up(parts: &mut Parts) -> bool {
+    let (Some((user, password)), Some(keys), Some(signature)) = (
+        two_of(&mut parts.names),
+        kept_keys(parts),
+        parts.keys.pop(),
+    ) else {
+        return false;
+    };
+    let client = ScramClient::new(user, password, VERSION).waiting_for(signature, Some(keys));
+    client.server_signature() == Some(STORED_KEY.as_slice())
+        && client.answer_keys().is_some()
+        && client.nonce().is_none()
+        && client.keys().is_none()
 }
 
 fn record_is_made(parts: &mut Parts) -> bool {
@@ -341,6 +384,9 @@ impl Call for Making {
     fn answer(&self, alloc: Global, parts: &mut Parts) -> Answer {
         right(match self {
             Making::Client => client_is_made(alloc, parts),
+            Making::ClientWithKeys => client_with_keys_is_made(alloc, parts),
+            Making::ClientWithBoth => client_with_both_is_made(alloc, parts),
+            Making::ClientTakenUp => client_is_taken_up(parts),
             Making::Record => record_is_made(parts),
             Making::Stored => credential_is_made(parts),
             Making::Many => store_is_made(alloc),
@@ -349,8 +395,11 @@ impl Call for Making {
     }
 }
 
-static MAKINGS: [Making; 5] = [
+static MAKINGS: [Making; 8] = [
     Making::Client,
+    Making::ClientWithKeys,
+    Making::ClientWithBoth,
+    Making::ClientTakenUp,
     Making::Record,
     Making::Stored,
     Making::Many,

@@ -1,20 +1,17 @@
-//! Kept keys and the machine over them where memory is wanting.
+//! Kept keys, and the clients that keep them, where memory is wanting.
 
-use crate::scram_machines;
+use crate::scram_machines::is_early;
 use crate::scram_values::*;
 use fe2o3_scram::OutOfMemory;
-use fe2o3_scram::client_keys::{KeyedClientError, ScramClientKeys};
+use fe2o3_scram::client_keys::ScramClientKeys;
+use fe2o3_scram::client_secret::{ClientSecret, IterationLimits};
 use fe2o3_scram::credentials::RecordError;
 use fe2o3_scram::hmac::{Meter, ScramVersion};
-use fe2o3_scram::keyed_scram_client::KeyedScramClient;
 use fe2o3_scram::scram_client::ScramClient;
 use fe2o3_scram::scram_messages::ScramErrorKind;
 use help_memory::{Answer, Call, right, stand, told};
 use std::alloc::Global;
 use std::test::Fail;
-
-/// The call's own want of memory.
-const WANT: KeyedClientError = KeyedClientError::Scram(ScramErrorKind::OutOfMemory);
 
 /// Whether these are the keys of the password.
 fn are_kept(keys: &ScramClientKeys) -> bool {
@@ -36,6 +33,8 @@ enum OfKeys {
     FromPassword,
     Clone,
     Respond,
+    RespondByBoth,
+    RespondByPassword,
 }
 
 fn from_password(alloc: Global) -> Result<bool, RecordError> {
@@ -46,16 +45,23 @@ fn copied(keys: &ScramClientKeys) -> Result<bool, OutOfMemory> {
     Ok(are_kept(&keys.clone()?))
 }
 
-fn answered(alloc: Global, keys: &ScramClientKeys) -> Result<bool, KeyedClientError> {
-    let (message, signature) = keys.compute_client_final_message(
+/// Whether the answer by this secret is right, hands out the keys, and has this cost.
+fn answered(alloc: Global, secret: ClientSecret<'_>, cost: u64) -> Result<bool, ScramErrorKind> {
+    let mut meter = Meter::new();
+    let answer = ScramVersion::Sha256.answer_server_first(
         alloc,
         CLIENT_NONCE,
+        secret,
         SERVER_FIRST,
         CLIENT_FIRST_BARE.as_bytes(),
+        IterationLimits::none(),
+        &mut meter,
     )?;
     Ok(
-        message.as_slice() == CLIENT_FINAL.as_bytes()
-            && signature.as_slice() == SIGNATURE.as_slice(),
+        answer.message.as_slice() == CLIENT_FINAL.as_bytes()
+            && answer.signature.as_slice() == SIGNATURE.as_slice()
+            && are_kept(&answer.keys)
+            && meter.count() == cost,
     )
 }
 
@@ -67,10 +73,22 @@ impl Call for OfKeys {
     }
 
     fn answer(&self, alloc: Global, keys: &mut ScramClientKeys) -> Answer {
+        let keys: &ScramClientKeys = keys;
+        let want = ScramErrorKind::OutOfMemory;
         match self {
             OfKeys::FromPassword => told(from_password(alloc), RecordError::OutOfMemory),
             OfKeys::Clone => told(copied(keys), OutOfMemory),
-            OfKeys::Respond => told(answered(alloc, keys), WANT),
+            OfKeys::Respond => told(answered(alloc, ClientSecret::Keys(keys), 2), want),
+            OfKeys::RespondByBoth => {
+                let both = ClientSecret::Both {
+                    password: PASSWORD,
+                    keys,
+                };
+                told(answered(alloc, both, 2), want)
+            }
+            OfKeys::RespondByPassword => {
+                told(answered(alloc, ClientSecret::Password(PASSWORD), 5), want)
+            }
         }
     }
 
@@ -79,17 +97,30 @@ impl Call for OfKeys {
     }
 }
 
+static OF_KEYS: [OfKeys; 5] = [
+    OfKeys::FromPassword,
+    OfKeys::Clone,
+    OfKeys::Respond,
+    OfKeys::RespondByBoth,
+    OfKeys::RespondByPassword,
+];
+
 #[test]
 fn kept_keys_want_memory(rt: HostRuntime) -> Result<(), Fail> {
-    stand(
-        rt.alloc(),
-        &[OfKeys::FromPassword, OfKeys::Clone, OfKeys::Respond],
-    )
+    stand(rt.alloc(), &OF_KEYS)
 }
 
-/// A call of a client with keys.
+/// By what a client proves who it is.
 #[derive(Debug, Clone, Copy)]
-enum OfKeyedClient {
+enum Secret {
+    Password,
+    Keys,
+    Both,
+}
+
+/// What a client does.
+#[derive(Debug, Clone, Copy)]
+enum Does {
     /// The first message.
     Start,
 
@@ -104,172 +135,180 @@ enum OfKeyedClient {
 
     /// A copy of a client that waits for the server-final message, which believes it.
     CloneLater,
+
+    /// A copy of a client that has believed the server, which has its keys.
+    CloneLast,
+}
+
+/// A call of a client.
+#[derive(Debug, Clone, Copy)]
+struct OfClient {
+    by: Secret,
+    does: Does,
+}
+
+/// The HMAC values of an answer.
+fn cost(by: Secret) -> u64 {
+    match by {
+        Secret::Password => 5,
+        Secret::Keys | Secret::Both => 2,
+    }
 }
 
 /// A client that has sent nothing.
-fn client(alloc: Global) -> Result<KeyedScramClient, Fail> {
-    Ok(KeyedScramClient::new(USER.to_string(alloc)?, keys(alloc)?))
+fn client(alloc: Global, by: Secret) -> Result<ScramClient, Fail> {
+    let username = USER.to_string(alloc)?;
+    let password = PASSWORD.to_string(alloc)?;
+    let keys = keys(alloc)?;
+    Ok(match by {
+        Secret::Password => ScramClient::new(username, password, ScramVersion::Sha256),
+        Secret::Keys => ScramClient::with_keys(username, keys),
+        Secret::Both => ScramClient::with_password_and_keys(username, password, keys),
+    })
 }
 
 /// A client that has sent its first message.
-fn started(alloc: Global) -> Result<KeyedScramClient, Fail> {
-    let mut client = client(alloc)?;
+fn started(alloc: Global, by: Secret) -> Result<ScramClient, Fail> {
+    let mut client = client(alloc, by)?;
     client.compute_client_first_message(alloc, &[1; 32])?;
     Ok(client)
 }
 
 /// A client that has answered the server-first message.
-fn responded(alloc: Global) -> Result<KeyedScramClient, Fail> {
-    let mut client = started(alloc)?;
-    let mut meter = Meter::new();
-    client.compute_client_final_message(alloc, SERVER_FIRST, &mut meter)?;
+fn responded(alloc: Global, by: Secret) -> Result<ScramClient, Fail> {
+    let mut client = started(alloc, by)?;
+    client.compute_client_final_message(alloc, SERVER_FIRST)?;
     Ok(client)
 }
 
-fn start(alloc: Global, client: &mut KeyedScramClient) -> Result<bool, OutOfMemory> {
-    let message = client.compute_client_first_message(alloc, &[1; 32])?;
-    Ok(message.as_slice() == CLIENT_FIRST.as_bytes())
-}
-
-fn respond(alloc: Global, client: &mut KeyedScramClient) -> Result<bool, KeyedClientError> {
-    let mut meter = Meter::new();
-    let message = client.compute_client_final_message(alloc, SERVER_FIRST, &mut meter)?;
-    Ok(message.as_slice() == CLIENT_FINAL.as_bytes() && meter.count() == 2)
-}
-
-fn believe(alloc: Global, client: &mut KeyedScramClient) -> Result<bool, ScramErrorKind> {
+/// A client that has believed the server.
+fn believed(alloc: Global, by: Secret) -> Result<ScramClient, Fail> {
+    let mut client = responded(alloc, by)?;
     client.validate_server_final(alloc, SERVER_FINAL.as_bytes())?;
-    Ok(true)
+    Ok(client)
 }
 
-fn copy_responds(alloc: Global, client: &KeyedScramClient) -> Result<bool, KeyedClientError> {
+/// Whether the client waits for the server-first message.
+fn waits_for_challenge(client: &ScramClient) -> bool {
+    match client.nonce() {
+        Some(nonce) => *nonce == [1; 32],
+        None => false,
+    }
+}
+
+/// Whether the client waits for the signature, with the keys of its answer.
+fn waits_for_signature(client: &ScramClient) -> bool {
+    match (client.server_signature(), client.answer_keys()) {
+        (Some(signature), Some(keys)) => signature == SIGNATURE.as_slice() && are_kept(keys),
+        _ => false,
+    }
+}
+
+/// Whether the client has the keys of its login.
+fn has_keys(client: &ScramClient) -> bool {
+    match client.keys() {
+        Some(keys) => are_kept(keys),
+        None => false,
+    }
+}
+
+fn start(alloc: Global, client: &mut ScramClient) -> Result<bool, OutOfMemory> {
+    let message = client.compute_client_first_message(alloc, &[1; 32])?;
+    Ok(message.as_slice() == CLIENT_FIRST.as_bytes() && waits_for_challenge(client))
+}
+
+fn respond(alloc: Global, client: &mut ScramClient, cost: u64) -> Result<bool, ScramErrorKind> {
+    let mut meter = Meter::new();
+    let message = client.compute_client_final_message_metered(alloc, SERVER_FIRST, &mut meter)?;
+    Ok(
+        message.as_slice() == CLIENT_FINAL.as_bytes()
+            && meter.count() == cost
+            && waits_for_signature(client),
+    )
+}
+
+fn believe(alloc: Global, client: &mut ScramClient) -> Result<bool, ScramErrorKind> {
+    client.validate_server_final(alloc, SERVER_FINAL.as_bytes())?;
+    Ok(has_keys(client))
+}
+
+fn copy_responds(alloc: Global, client: &ScramClient, cost: u64) -> Result<bool, ScramErrorKind> {
     let mut copy = client.clone()?;
-    respond(alloc, &mut copy)
+    respond(alloc, &mut copy, cost)
 }
 
-fn copy_believes(alloc: Global, client: &KeyedScramClient) -> Result<bool, ScramErrorKind> {
+fn copy_believes(alloc: Global, client: &ScramClient) -> Result<bool, ScramErrorKind> {
     let mut copy = client.clone()?;
     believe(alloc, &mut copy)
 }
 
-impl Call for OfKeyedClient {
-    type Subject = KeyedScramClient;
+fn copy_has_keys(client: &ScramClient) -> Result<bool, OutOfMemory> {
+    Ok(has_keys(&client.clone()?))
+}
 
-    fn subject(&self, alloc: Global) -> Result<KeyedScramClient, Fail> {
-        match self {
-            OfKeyedClient::Start => client(alloc),
-            OfKeyedClient::Respond => started(alloc),
-            OfKeyedClient::Believe => responded(alloc),
-            OfKeyedClient::Clone => started(alloc),
-            OfKeyedClient::CloneLater => responded(alloc),
+impl Call for OfClient {
+    type Subject = ScramClient;
+
+    fn subject(&self, alloc: Global) -> Result<ScramClient, Fail> {
+        match self.does {
+            Does::Start => client(alloc, self.by),
+            Does::Respond | Does::Clone => started(alloc, self.by),
+            Does::Believe | Does::CloneLater => responded(alloc, self.by),
+            Does::CloneLast => believed(alloc, self.by),
         }
     }
 
-    fn answer(&self, alloc: Global, client: &mut KeyedScramClient) -> Answer {
-        match self {
-            OfKeyedClient::Start => told(start(alloc, client), OutOfMemory),
-            OfKeyedClient::Respond => told(respond(alloc, client), WANT),
-            OfKeyedClient::Believe => told(believe(alloc, client), ScramErrorKind::OutOfMemory),
-            OfKeyedClient::Clone => told(copy_responds(alloc, client), WANT),
-            OfKeyedClient::CloneLater => told(
-                copy_believes(alloc, client),
-                ScramErrorKind::OutOfMemory,
-            ),
+    fn answer(&self, alloc: Global, client: &mut ScramClient) -> Answer {
+        let (cost, want) = (cost(self.by), ScramErrorKind::OutOfMemory);
+        match self.does {
+            Does::Start => told(start(alloc, client), OutOfMemory),
+            Does::Respond => told(respond(alloc, client, cost), want),
+            Does::Believe => told(believe(alloc, client), want),
+            Does::Clone => told(copy_responds(alloc, client, cost), want),
+            Does::CloneLater => told(copy_believes(alloc, client), want),
+            Does::CloneLast => told(copy_has_keys(client), OutOfMemory),
         }
     }
 
-    fn stays(&self, _alloc: Global, client: &mut KeyedScramClient) -> Answer {
-        right(are_kept(client.keys()))
+    fn stays(&self, alloc: Global, client: &mut ScramClient) -> Answer {
+        right(match self.does {
+            Does::Start => is_early(alloc, client),
+            Does::Respond | Does::Clone => waits_for_challenge(client),
+            Does::Believe | Does::CloneLater => waits_for_signature(client),
+            Does::CloneLast => has_keys(client),
+        })
     }
+}
+
+/// What each client does.
+static DOES: [Does; 6] = [
+    Does::Start,
+    Does::Respond,
+    Does::Believe,
+    Does::Clone,
+    Does::CloneLater,
+    Does::CloneLast,
+];
+
+/// Each call of a client with this secret wants memory.
+fn client_wants_memory(alloc: Global, by: Secret) -> Result<(), Fail> {
+    for does in DOES {
+        stand(alloc, &[OfClient { by, does }])?;
+    }
+    Ok(())
+}
+
+#[test]
+fn a_client_with_a_password_wants_memory_for_its_keys(rt: HostRuntime) -> Result<(), Fail> {
+    client_wants_memory(rt.alloc(), Secret::Password)
 }
 
 #[test]
 fn a_client_with_keys_wants_memory(rt: HostRuntime) -> Result<(), Fail> {
-    stand(
-        rt.alloc(),
-        &[
-            OfKeyedClient::Start,
-            OfKeyedClient::Respond,
-            OfKeyedClient::Believe,
-            OfKeyedClient::Clone,
-            OfKeyedClient::CloneLater,
-        ],
-    )
-}
-
-/// The answer by the password that hands its keys out.
-#[derive(Debug, Clone, Copy)]
-struct HandsOut;
-
-fn handed_out(alloc: Global, client: &mut ScramClient) -> Result<bool, ScramErrorKind> {
-    let mut meter = Meter::new();
-    let (message, keys) = client.compute_client_final_message_and_keys(
-        alloc,
-        SERVER_FIRST,
-        &mut meter,
-    )?;
-    Ok(message.as_slice() == CLIENT_FINAL.as_bytes() && are_kept(&keys) && meter.count() == 5)
-}
-
-impl Call for HandsOut {
-    type Subject = ScramClient;
-
-    fn subject(&self, alloc: Global) -> Result<ScramClient, Fail> {
-        scram_machines::started(alloc)
-    }
-
-    fn answer(&self, alloc: Global, client: &mut ScramClient) -> Answer {
-        told(handed_out(alloc, client), ScramErrorKind::OutOfMemory)
-    }
-
-    fn stays(&self, _alloc: Global, client: &mut ScramClient) -> Answer {
-        right(client.version() == ScramVersion::Sha256)
-    }
+    client_wants_memory(rt.alloc(), Secret::Keys)
 }
 
 #[test]
-fn an_answer_with_its_keys_wants_memory(rt: HostRuntime) -> Result<(), Fail> {
-    stand(rt.alloc(), &[HandsOut])
-}
-
-/// The answer by kept keys of a client that has the password.
-#[derive(Debug, Clone, Copy)]
-struct ByKeys;
-
-/// A client that has sent its first message, and the keys of its password.
-#[derive(Drop)]
-struct Both {
-    client: ScramClient,
-    keys: ScramClientKeys,
-}
-
-fn answered_by_keys(alloc: Global, both: &mut Both) -> Result<bool, KeyedClientError> {
-    let mut meter = Meter::new();
-    let message = both
-        .client
-        .compute_client_final_message_by_keys(alloc, &both.keys, SERVER_FIRST, &mut meter)?;
-    Ok(message.as_slice() == CLIENT_FINAL.as_bytes() && meter.count() == 2)
-}
-
-impl Call for ByKeys {
-    type Subject = Both;
-
-    fn subject(&self, alloc: Global) -> Result<Both, Fail> {
-        let keys = keys(alloc)?;
-        let client = scram_machines::started(alloc)?;
-        Ok(Both { client, keys })
-    }
-
-    fn answer(&self, alloc: Global, both: &mut Both) -> Answer {
-        told(answered_by_keys(alloc, both), WANT)
-    }
-
-    fn stays(&self, _alloc: Global, both: &mut Both) -> Answer {
-        right(are_kept(&both.keys))
-    }
-}
-
-#[test]
-fn an_answer_by_keys_in_place_of_the_password_wants_memory(rt: HostRuntime) -> Result<(), Fail> {
-    stand(rt.alloc(), &[ByKeys])
+fn a_client_with_both_wants_memory(rt: HostRuntime) -> Result<(), Fail> {
+    client_wants_memory(rt.alloc(), Secret::Both)
 }

@@ -45,7 +45,7 @@ fn client(alloc: Global) -> Result<ScramClient, Fail> {
 }
 
 /// A client that has sent its first message.
-pub fn started(alloc: Global) -> Result<ScramClient, Fail> {
+fn started(alloc: Global) -> Result<ScramClient, Fail> {
     let mut client = client(alloc)?;
     client.compute_client_first_message(alloc, &[1; 32])?;
     Ok(client)

@@ -1,12 +1,14 @@
 //! What the library re-exports, by its modules' paths and at its root.
 
+use fe2o3_sasl::client_keys::ScramClientKeys;
+use fe2o3_sasl::client_secret::{ClientSecret, IterationLimits};
 use fe2o3_sasl::credentials::{DEFAULT_SCRAM_ITERATIONS, SingleScramCredential};
 use fe2o3_sasl::hmac::{Meter, ScramVersion};
 use fe2o3_sasl::pbkdf2_hi::KeyError;
 use fe2o3_sasl::saslprep_ascii::{NormalizeError, saslprep};
 use fe2o3_sasl::scram_messages::{
-    ScramErrorKind, ServerFirstMessage, ServerScramErrorKind, UnescapeError, XorLengthMismatch,
-    escape_username, unescape_username,
+    ClientAnswer, ScramErrorKind, ServerFirstMessage, ServerScramErrorKind, UnescapeError,
+    XorLengthMismatch, escape_username, unescape_username,
 };
 use std::alloc::Global;
 use std::test::Fail;
@@ -77,5 +79,44 @@ fn functions_are_found_by_both_names(rt: HostRuntime) -> Result<(), Fail> {
     let mut meter: fe2o3_sasl::Meter = Meter::new();
     ScramVersion::Sha256.h_i_metered(alloc, b"password", b"salt", 2, &mut meter)?;
     assert!(rt; meter.count() == 2);
+    Ok(())
+}
+
+/// The answer to a challenge by a secret. Types are named at the root.
+fn answer(
+    alloc: Global,
+    secret: fe2o3_sasl::ClientSecret<'_>,
+    limits: fe2o3_sasl::IterationLimits,
+) -> Result<fe2o3_sasl::ClientAnswer, fe2o3_sasl::ScramErrorKind> {
+    ScramVersion::Sha256.answer_server_first(
+        alloc,
+        "a",
+        secret,
+        "r=ab,s=AwMDAwMDAwMDAwMDAwMDAwMDAwMDAwMDAwMDAwMDAwM=,i=1",
+        b"n=user,r=a",
+        limits,
+        &mut Meter::new(),
+    )
+}
+
+/// Whether the answer has this message, which was computed with Python's `hashlib` and `hmac`. Its type is
+/// named by its module.
+fn is_answer(answer: &ClientAnswer) -> bool {
+    let wanted = "c=biws,r=ab,p=W2Ew4GyipCofHQxrwv+CQYwFhPYga0tGr8uJJpp+p/U=";
+    answer.message.as_slice() == wanted.as_bytes()
+}
+
+#[test]
+fn a_secret_has_one_type_by_both_names(rt: HostRuntime) -> Result<(), Fail> {
+    let password = ClientSecret::Password("pencil");
+    let by_password = answer(rt.alloc(), password, IterationLimits::none())?;
+    assert!(rt; is_answer(&by_password));
+    let keys: &ScramClientKeys = &by_password.keys;
+    let by_keys = answer(
+        rt.alloc(),
+        ClientSecret::Keys(keys),
+        IterationLimits::up_to(1),
+    )?;
+    assert!(rt; is_answer(&by_keys));
     Ok(())
 }

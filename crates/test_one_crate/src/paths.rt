@@ -3,6 +3,8 @@
 
 /// The items by their modules.
 pub mod by_module {
+    pub use fe2o3_sasl::client_keys::ScramClientKeys;
+    pub use fe2o3_sasl::client_secret::{ClientSecret, IterationLimits};
     pub use fe2o3_sasl::credentials::{
         AddRecordError, DEFAULT_SCRAM_ITERATIONS, ReadLinesError, ReadLinesErrorKind, RecordError,
         RecordTextError, ScramCredentialProvider, ScramCredentials, ScramRecord,
@@ -28,8 +30,9 @@ pub mod by_module {
     pub use fe2o3_sasl::saslprep_ascii::{NormalizeError, saslprep};
     pub use fe2o3_sasl::scram_client::ScramClient;
     pub use fe2o3_sasl::scram_messages::{
-        ClientFinal, ClientFirst, ScramErrorKind, ServerFinal, ServerFirst, ServerFirstMessage,
-        ServerScramErrorKind, UnescapeError, XorLengthMismatch, escape_username, unescape_username,
+        ClientAnswer, ClientFinal, ClientFirst, ScramErrorKind, ServerFinal, ServerFirst,
+        ServerFirstMessage, ServerScramErrorKind, UnescapeError, XorLengthMismatch,
+        escape_username, unescape_username,
     };
     pub use fe2o3_sasl::scram_server::ScramAuthenticator;
 }
@@ -44,17 +47,18 @@ pub mod by_audit {
 /// The items at the root.
 pub mod at_root {
     pub use fe2o3_sasl::{
-        AddRecordError, AuditError, ClientFinal, ClientFirst, ClientReply,
-        DEFAULT_SCRAM_ITERATIONS, DigestBytes, Event, EventError, Finding, FindingKind, KeyError,
-        Meter, Negotiation, NormalizeError, OutOfMemory, Parameters, ProfileError, ReadLinesError,
-        ReadLinesErrorKind, RecordError, RecordTextError, SaslAcceptor, SaslAcceptorExt,
-        SaslAnonymousMechanism, SaslPlainMechanism, SaslProfile, SaslScramSha1, SaslScramSha256,
-        SaslScramSha512, SaslServerFrame, ScramAuthenticator, ScramClient, ScramCredentialProvider,
-        ScramCredentials, ScramErrorKind, ScramRecord, ScramVersion, ServerFinal, ServerFirst,
-        ServerFirstMessage, ServerReply, ServerScramErrorKind, SingleScramCredential,
-        StoredPassword, StoredScramCredential, UnescapeError, UnknownMechanism, UrlError, Verdict,
-        WriteLinesError, XorLengthMismatch, acceptor_step, audit_limited, auth_message,
-        escape_username, profile_step, run_acceptor, run_profile, saslprep, scram_client_run,
-        scram_client_run_limited, scram_server_run, unescape_username,
+        AddRecordError, AuditError, ClientAnswer, ClientFinal, ClientFirst, ClientReply,
+        ClientSecret, DEFAULT_SCRAM_ITERATIONS, DigestBytes, Event, EventError, Finding,
+        FindingKind, IterationLimits, KeyError, Meter, Negotiation, NormalizeError, OutOfMemory,
+        Parameters, ProfileError, ReadLinesError, ReadLinesErrorKind, RecordError, RecordTextError,
+        SaslAcceptor, SaslAcceptorExt, SaslAnonymousMechanism, SaslPlainMechanism, SaslProfile,
+        SaslScramSha1, SaslScramSha256, SaslScramSha512, SaslServerFrame, ScramAuthenticator,
+        ScramClient, ScramClientKeys, ScramCredentialProvider, ScramCredentials, ScramErrorKind,
+        ScramRecord, ScramVersion, ServerFinal, ServerFirst, ServerFirstMessage, ServerReply,
+        ServerScramErrorKind, SingleScramCredential, StoredPassword, StoredScramCredential,
+        UnescapeError, UnknownMechanism, UrlError, Verdict, WriteLinesError, XorLengthMismatch,
+        acceptor_step, audit_limited, auth_message, escape_username, profile_step, run_acceptor,
+        run_profile, saslprep, scram_client_run, scram_client_run_limited, scram_server_run,
+        unescape_username,
     };
 }

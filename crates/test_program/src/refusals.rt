@@ -14,7 +14,7 @@ fn is_told(alloc: Global, stop: Stop, wanted: &str) -> bool {
 }
 
 /// Each refusal of a SCRAM message, with the last line.
-static MESSAGES: [(ScramErrorKind, &str); 16] = [
+static MESSAGES: [(ScramErrorKind, &str); 18] = [
     (ScramErrorKind::Utf8Error, "refused Utf8Error\n"),
     (
         ScramErrorKind::InsufficientParts,
@@ -43,10 +43,15 @@ static MESSAGES: [(ScramErrorKind, &str); 16] = [
         "refused IterationCountParseError\n",
     ),
     (
+        ScramErrorKind::IterationCountTooSmall,
+        "refused IterationCountTooSmall\n",
+    ),
+    (
         ScramErrorKind::IterationCountTooLarge,
         "refused IterationCountTooLarge\n",
     ),
     (ScramErrorKind::NormalizeError, "refused NormalizeError\n"),
+    (ScramErrorKind::OtherKeys, "refused OtherKeys\n"),
     (
         ScramErrorKind::HmacErrorInvalidLength,
         "refused HmacErrorInvalidLength\n",

@@ -3,7 +3,6 @@
 use crate::kept_keys::KEPT;
 use fe2o3_scram::credentials::{ScramCredentialProvider, SingleScramCredential};
 use fe2o3_scram::hmac::ScramVersion;
-use fe2o3_scram::keyed_scram_client::KeyedScramClient;
 use fe2o3_scram::scram_client::ScramClient;
 use fe2o3_scram::scram_server::ScramAuthenticator;
 use std::alloc::Global;
@@ -59,9 +58,21 @@ fn the_keys_are_not_shown(rt: HostRuntime) -> Result<(), Fail> {
     let keys = KEPT[1].keys(rt.alloc())?;
     let wanted = "ScramClientKeys { scram_version: Sha256, iterations: 4096, .. }";
     assert!(rt; shows(rt.alloc(), &keys, wanted)?);
-    let client = KeyedScramClient::new("user".to_string(rt.alloc())?, keys);
+    let client = ScramClient::with_keys("user".to_string(rt.alloc())?, keys);
     let wanted =
-        "KeyedScramClient { username: \"user\", scram: Sha256, iteration_limit: 4294967295, .. }";
+        "ScramClient { username: \"user\", scram: Sha256, iteration_limit: 4294967295, .. }";
+    assert!(rt; shows(rt.alloc(), &client, wanted)?);
+    Ok(())
+}
+
+#[test]
+fn neither_the_password_nor_the_keys_are_shown(rt: HostRuntime) -> Result<(), Fail> {
+    let keys = KEPT[1].keys(rt.alloc())?;
+    let username = "user".to_string(rt.alloc())?;
+    let password = "pencil".to_string(rt.alloc())?;
+    let client = ScramClient::with_password_and_keys(username, password, keys);
+    let wanted =
+        "ScramClient { username: \"user\", scram: Sha256, iteration_limit: 4294967295, .. }";
     assert!(rt; shows(rt.alloc(), &client, wanted)?);
     Ok(())
 }

@@ -10,7 +10,7 @@ use std::alloc::Global;
 use std::fmt::Display;
 use std::test::Fail;
 
-static SCRAM_ERROR_KINDS: [(ScramErrorKind, &str); 16] = [
+static SCRAM_ERROR_KINDS: [(ScramErrorKind, &str); 18] = [
     (ScramErrorKind::Utf8Error, "Invalid UTF-8"),
     (ScramErrorKind::InsufficientParts, "InsufficientParts"),
     (
@@ -39,10 +39,18 @@ static SCRAM_ERROR_KINDS: [(ScramErrorKind, &str); 16] = [
         "Cannot parse iteration count",
     ),
     (
+        ScramErrorKind::IterationCountTooSmall,
+        "Iteration count too small",
+    ),
+    (
         ScramErrorKind::IterationCountTooLarge,
         "Iteration count too large",
     ),
     (ScramErrorKind::NormalizeError, "Error normalizing password"),
+    (
+        ScramErrorKind::OtherKeys,
+        "The keys are of another salt or iteration count",
+    ),
     (ScramErrorKind::HmacErrorInvalidLength, "Invalid length"),
     (
         ScramErrorKind::XorLengthMismatch,

@@ -3,8 +3,9 @@
 use crate::published::{Exchange, SHA_1, SHA_256, SHA_512};
 use base64::engine::general_purpose::STANDARD;
 use fe2o3_scram::client_keys::ScramClientKeys;
+use fe2o3_scram::client_secret::{ClientSecret, IterationLimits};
 use fe2o3_scram::hmac::{Meter, ScramVersion};
-use fe2o3_scram::scram_messages::XorLengthMismatch;
+use fe2o3_scram::scram_messages::{ClientAnswer, XorLengthMismatch};
 use std::alloc::Global;
 use std::test::Fail;
 
@@ -76,31 +77,54 @@ impl Kept {
         )
     }
 
-    /// Whether the keys give the answer of the exchange and its signature by both calls, at the cost
-    /// of two HMAC values.
-    fn answer_exchange(&self, alloc: Global, keys: &ScramClientKeys) -> Result<bool, Fail> {
+    /// The answer to the challenge of the exchange by a secret, and the HMAC values that it costs.
+    fn answer(
+        &self,
+        alloc: Global,
+        secret: ClientSecret<'_>,
+        limits: IterationLimits,
+    ) -> Result<(ClientAnswer, u64), Fail> {
         let exchange = &self.exchange;
-        let bare = exchange.client_first_bare.as_bytes();
         let mut meter = Meter::new();
-        let limited = keys.compute_client_final_message_limited(
+        let answer = exchange.version.answer_server_first(
             alloc,
             exchange.client_nonce,
+            secret,
             exchange.server_first,
-            bare,
-            4096,
+            exchange.client_first_bare.as_bytes(),
+            limits,
             &mut meter,
         )?;
-        let (nonce, server_first) = (exchange.client_nonce, exchange.server_first);
-        let plain = keys.compute_client_final_message(alloc, nonce, server_first, bare)?;
+        Ok((answer, meter.count()))
+    }
+
+    /// Whether this is the answer of the exchange with its signature, and hands out the keys.
+    fn is_answer(&self, alloc: Global, answer: &ClientAnswer) -> Result<bool, Fail> {
+        let exchange = &self.exchange;
         let server_final = exchange.server_final.as_bytes();
         exchange
             .version
-            .validate_server_final(alloc, server_final, &plain.1)?;
+            .validate_server_final(alloc, server_final, &answer.signature)?;
         Ok(
-            plain.0.as_slice() == exchange.client_final.as_bytes()
-                && plain == limited
-                && meter.count() == 2,
+            answer.message.as_slice() == exchange.client_final.as_bytes()
+                && self.are(alloc, &answer.keys)?,
         )
+    }
+
+    /// Whether the keys give the answer of the exchange with no limit and with the least room for its
+    /// count, at the cost of two HMAC values.
+    fn answer_exchange(&self, alloc: Global, keys: &ScramClientKeys) -> Result<bool, Fail> {
+        let least = IterationLimits {
+            least: 4096,
+            most: 4096,
+        };
+        for limits in [IterationLimits::none(), IterationLimits::up_to(4096), least] {
+            let (answer, cost) = self.answer(alloc, ClientSecret::Keys(keys), limits)?;
+            if cost != 2 || !self.is_answer(alloc, &answer)? {
+                return Ok(false);
+            }
+        }
+        Ok(true)
     }
 
     /// Whether the keys of the password are these.
@@ -131,23 +155,9 @@ impl Kept {
 
     /// Whether the answer by the password hands out these keys.
     fn are_handed_out(&self, alloc: Global) -> Result<bool, Fail> {
-        let exchange = &self.exchange;
-        let mut meter = Meter::new();
-        let (answer, keys) = exchange.version.compute_client_final_message_and_keys(
-            alloc,
-            exchange.client_nonce,
-            "pencil",
-            exchange.server_first,
-            exchange.client_first_bare.as_bytes(),
-            4096,
-            &mut meter,
-        )?;
-        let (client_final, _) = answer;
-        Ok(
-            client_final.as_slice() == exchange.client_final.as_bytes()
-                && meter.count() == 4100
-                && self.are(alloc, &keys)?,
-        )
+        let password = ClientSecret::Password("pencil");
+        let (answer, cost) = self.answer(alloc, password, IterationLimits::up_to(4096))?;
+        Ok(cost == 4100 && self.is_answer(alloc, &answer)?)
     }
 }
 

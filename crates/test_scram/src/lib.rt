@@ -12,6 +12,8 @@ mod fault_texts;
 #[cfg(test)]
 mod kept_keys;
 #[cfg(test)]
+mod kept_logins;
+#[cfg(test)]
 mod keyed_clients;
 #[cfg(test)]
 mod machines;

@@ -66,9 +66,9 @@ fn refusal(alloc: Global, client: &mut ScramClient) -> (Option<ScramErrorKind>, 
 /// A refusal of the count.
 const TOO_LARGE: (Option<ScramErrorKind>, u64) = (Some(ScramErrorKind::IterationCountTooLarge), 0);
 
-/// Whether the client refuses the count twice.
-fn refuses(alloc: Global, client: &mut ScramClient) -> bool {
-    refusal(alloc, client) == TOO_LARGE && refusal(alloc, client) == TOO_LARGE
+/// Whether the client refuses the count so, and does so twice.
+fn refuses(alloc: Global, client: &mut ScramClient, wanted: (Option<ScramErrorKind>, u64)) -> bool {
+    refusal(alloc, client) == wanted && refusal(alloc, client) == wanted
 }
 
 /// Whether the client answers the challenge.
@@ -82,9 +82,45 @@ fn a_client_keeps_its_limit(rt: HostRuntime) -> Result<(), Fail> {
     let client = started(rt.alloc())?;
     let mut low = limited(rt.alloc(), &client, 4095)?;
     let mut same = Box::new(rt.alloc(), ScramClient::clone(&low)?)?;
-    assert!(rt; refuses(rt.alloc(), &mut low) && refuses(rt.alloc(), &mut same));
+    assert!(rt; refuses(rt.alloc(), &mut low, TOO_LARGE));
+    assert!(rt; refuses(rt.alloc(), &mut same, TOO_LARGE));
     let mut raised = limited(rt.alloc(), &low, 4096)?;
     assert!(rt; answers(rt.alloc(), &mut raised) == Ok(true));
+    Ok(())
+}
+
+/// A clone of the client that accepts this count and no lower one.
+fn floored(alloc: Global, client: &ScramClient, least: u32) -> Result<Box<ScramClient>, Fail> {
+    let client = client.clone()?;
+    Ok(Box::new(alloc, client.with_least_iterations(least))?)
+}
+
+/// A refusal of a count below the least.
+const TOO_SMALL: (Option<ScramErrorKind>, u64) = (Some(ScramErrorKind::IterationCountTooSmall), 0);
+
+#[test]
+fn a_client_keeps_its_least_count(rt: HostRuntime) -> Result<(), Fail> {
+    let client = started(rt.alloc())?;
+    let mut high = floored(rt.alloc(), &client, 4097)?;
+    let mut same = Box::new(rt.alloc(), ScramClient::clone(&high)?)?;
+    assert!(rt; refuses(rt.alloc(), &mut high, TOO_SMALL));
+    assert!(rt; refuses(rt.alloc(), &mut same, TOO_SMALL));
+    let mut lowered = floored(rt.alloc(), &high, 4096)?;
+    assert!(rt; answers(rt.alloc(), &mut lowered) == Ok(true));
+    Ok(())
+}
+
+#[test]
+fn a_client_keeps_both_limits(rt: HostRuntime) -> Result<(), Fail> {
+    let client = started(rt.alloc())?;
+    let low = limited(rt.alloc(), &client, 4095)?;
+    let high = floored(rt.alloc(), &client, 4097)?;
+    let mut low_then_high = floored(rt.alloc(), &low, 4097)?;
+    let mut high_then_low = limited(rt.alloc(), &high, 4095)?;
+    assert!(rt; refusal(rt.alloc(), &mut low_then_high) == TOO_SMALL);
+    assert!(rt; refusal(rt.alloc(), &mut high_then_low) == TOO_SMALL);
+    let mut low_from_1 = floored(rt.alloc(), &low_then_high, 1)?;
+    assert!(rt; refusal(rt.alloc(), &mut low_from_1) == TOO_LARGE);
     Ok(())
 }
 

@@ -90,6 +90,47 @@ pub fn of_keys(
     profile.ok_or(Unconfirmed::Malformed)
 }
 
+/// The profile of a user with a password and with these keys, which accepts counts from the least to the
+/// limit.
+pub fn of_both(
+    user: String,
+    password: String,
+    keys: ScramClientKeys,
+    least: u32,
+    limit: u32,
+) -> Result<SaslProfile, Unconfirmed> {
+    let profile = match keys.scram_version() {
+        ScramVersion::Sha1 => {
+            SaslScramSha1::with_password_and_keys(user, password, keys).map(
+                |scram| SaslProfile::from(
+                    scram
+                        .with_least_iterations(least)
+                        .with_iteration_limit(limit),
+                ),
+            )
+        }
+        ScramVersion::Sha256 => {
+            SaslScramSha256::with_password_and_keys(user, password, keys).map(
+                |scram| SaslProfile::from(
+                    scram
+                        .with_least_iterations(least)
+                        .with_iteration_limit(limit),
+                ),
+            )
+        }
+        ScramVersion::Sha512 => {
+            SaslScramSha512::with_password_and_keys(user, password, keys).map(
+                |scram| SaslProfile::from(
+                    scram
+                        .with_least_iterations(least)
+                        .with_iteration_limit(limit),
+                ),
+            )
+        }
+    };
+    profile.ok_or(Unconfirmed::Malformed)
+}
+
 /// Checks a profile: a copy in runs, and itself and copies of it step by step.
 pub fn check(
     alloc: Global,
