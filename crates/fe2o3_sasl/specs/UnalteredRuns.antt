@@ -8,6 +8,7 @@ use Rattle.fe2o3_scram.specs.Texts.{base64_text}
 use Rattle.fe2o3_sasl.specs.ClientHistory.{ClientHistory}
 use Rattle.fe2o3_scram.specs.Credentials.{Provider, record_at, record_of}
 use Rattle.fe2o3_sasl.specs.Events.{Given, Login, IsLogin, ServerSays, Challenged, Concluded, Failed, ClientSays, Started, Answered, Reported, Refused, Frame}
+use Rattle.fe2o3_scram.specs.ClientSecret.{Password}
 use Rattle.fe2o3_scram.specs.Hmac.{mechanism_name}
 use Rattle.fe2o3_scram.specs.SaslprepAscii.{IsPrintable}
 use Rattle.fe2o3_sasl.specs.ServerHistory.{ServerHistory}
@@ -57,14 +58,16 @@ pub record Suffices (sides : Sides) : Type 0 where
 
 -- the provider holds the record of the login's own password, with this salt and this count, and the client can
 -- use them
-pub record HoldsLogin (sides : Sides) (salt : List ℕ) (count : ℕ) : Type 0 where
+pub record HoldsLogin (sides : Sides) (password salt : List ℕ) (count : ℕ) : Type 0 where
   pub version : sides.provider.version ≡ sides.login.version
+  pub secret : sides.login.secret ≡ Password password
   pub stored : record_at sides.provider.records sides.login.user
-      ≡ Some (record_of sides.login.version sides.login.password salt count)
+      ≡ Some (record_of sides.login.version password salt count)
   pub bytes : IsBytes salt
-  pub printable : IsPrintable sides.login.password
+  pub printable : IsPrintable password
   pub some : 1 ≤ count
-  pub within : count ≤ sides.login.limit
+  pub least : sides.login.limits.least ≤ count
+  pub most : count ≤ sides.login.limits.most
 
 -- the values on which both sides agree
 abbrev pub agreed : {sides : Sides} → UnalteredRun sides → List ℕ → ℕ → Verdict
@@ -92,8 +95,8 @@ pub record LogsIn {sides : Sides} (run : UnalteredRun sides) (salt : List ℕ) (
 -- an unaltered run against the record of the login's own password, which the client can use, logs in, whatever
 -- the nonces, where memory suffices and nothing is too large
 abbrev pub LogsInUnaltered : Sides → Type 0
-LogsInUnaltered sides = (salt : List ℕ) (count : ℕ) (run : UnalteredRun sides) → HoldsLogin sides salt count
-    → Suffices sides → LogsIn run salt count
+LogsInUnaltered sides = (password salt : List ℕ) (count : ℕ) (run : UnalteredRun sides)
+    → HoldsLogin sides password salt count → Suffices sides → LogsIn run salt count
 
 -- what that gives a client's history: it logs in with every server
 abbrev pub ClientLogsIn : Login → List Given → List ClientSays → Type 0
