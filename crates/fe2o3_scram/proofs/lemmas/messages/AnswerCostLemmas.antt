@@ -26,6 +26,16 @@ within_count (Both password keys) first = go (fit keys first)
     go true = omega (arith)
     go false = omega (arith)
 
+-- each takes two at least
+pub two_at_least : (secret : Secret) (first : ServerFirst) → 2 ≤ hmac_count secret first
+two_at_least (Password password) first = omega (arith)
+two_at_least (Keys keys) first = omega (arith)
+two_at_least (Both password keys) first = go (fit keys first)
+  where
+    go : (fits : Bool) → 2 ≤ (if fits then 2 else (first.count + 4))
+    go true = omega (arith)
+    go false = omega (arith)
+
 pub costs_of_answer : {A : Type 0} (client : Client) (text : List ℕ) (result : Result A ScramErrorKind)
     (first : ServerFirst) (before after : ℕ) → ReadsServerFirst client text (Ok first)
     → first.count ≤ client.limits.most → OnOk result (after ≡ before + hmac_count client.secret first)

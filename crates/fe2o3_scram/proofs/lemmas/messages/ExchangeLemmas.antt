@@ -21,6 +21,7 @@ use Rattle.fe2o3_scram.specs.Hmac.{digest, digest_len, exclusive_or}
 use Rattle.fe2o3_scram.specs.Keys.{auth_message, client_key, client_signature, stored_key, client_proof}
 use Rattle.fe2o3_scram.specs.Pbkdf2Hi.{salted_of}
 use Rattle.fe2o3_scram.specs.ServerFinal.{server_final_of, ReadsServerFinal}
+use Rattle.fe2o3_scram.specs.ClientSecret.{Password, up_to}
 use Rattle.fe2o3_scram.specs.ServerFirst.{client_of, HasSalt, HasCount, ReadsServerFirst}
 use Rattle.fe2o3_scram.proofs.lemmas.texts.AsciiLemmas.{IsUtf8-base64_text, IsUtf8-literal, IsUtf8-escaped}
 use Rattle.fe2o3_scram.proofs.lemmas.texts.Base64Lemmas.{no_comma-append, no_comma-test, no_comma-base64_text}
@@ -231,7 +232,7 @@ reads_final server proof plain utf8 bytes sized meets =
       meets = meets;
     })
 
-reads_client_final : (x : Exchange) → IsSound x → ReadsClientFinal (server_in x) (answer_in x).0 (Ok (final_in x))
+reads_client_final : (x : Exchange) → IsSound x → ReadsClientFinal (server_in x) (answer_in x).message (Ok (final_in x))
 reads_client_final x sound =
     let v = x.version in
     let salted = salted_of v x.password x.salt x.count in
@@ -258,9 +259,9 @@ reads_signature signature bytes =
     same_signature signature text signature (signature_read text utf8 (base64_text signature) signature
     (_, only_part text plain, refl) (bytes, refl)) refl
 
-reads_server_final : (x : Exchange) → ReadsServerFinal (answer_in x).1 (server_final_of (server_in x) (final_in x))
+reads_server_final : (x : Exchange) → ReadsServerFinal (answer_in x).signature (server_final_of (server_in x) (final_in x))
     (Ok tt)
-reads_server_final x = reads_signature (answer_in x).1 (IsBytes-hmac_of x.version _ _)
+reads_server_final x = reads_signature (answer_in x).signature (IsBytes-hmac_of x.version _ _)
 
 pub succeeds : (x : Exchange) → IsSound x → Succeeds x
 succeeds x sound = record {

@@ -1,24 +1,24 @@
 -- A client with the keys of a password answers as with the password.
 use Rattle.std.proofs.Common.{◌≡◌, ◌≢◌, ◌⊎◌, ◌↔◌, ℕ, List, [], ◌∷◌, ◌++◌, Bool, true, false, Result, Ok, Err, refl, sym, ◌∙◌, ap, subst, inl, inr}
-use Rattle.std.specs.Prelude.{T, if◌then◌else◌}
+use Rattle.std.specs.Prelude.{T, is_ok, if◌then◌else◌}
 use Rattle.fe2o3_scram.specs.declared.client_secret.IterationLimits.{IterationLimits}
 use Rattle.fe2o3_scram.specs.declared.scram_messages.error.ScramErrorKind.{ScramErrorKind}
-use Rattle.fe2o3_scram.specs.declared.scram_messages.error.ScramErrorKind.TheVariants.{OtherKeys}
+use Rattle.fe2o3_scram.specs.declared.scram_messages.error.ScramErrorKind.TheVariants.{NormalizeError, OtherKeys}
 use Rattle.fe2o3_scram.specs.ClientFinal.{Answer, answer_by, answer_of, fit, keys_for, without_proof}
 use Rattle.fe2o3_scram.specs.ClientKeys.{ClientKeys, keys_of}
 use Rattle.fe2o3_scram.specs.ClientSecret.{Secret, Password, Keys, Both}
 use Rattle.fe2o3_scram.specs.Laws.{AreKeysOf}
-use Rattle.fe2o3_scram.specs.Readings.{IsFirst, NoneHolds}
+use Rattle.fe2o3_scram.specs.Readings.{IsFirst, NoneHolds, Reads}
 use Rattle.fe2o3_scram.specs.SaslprepAscii.{IsPrintable}
-use Rattle.fe2o3_scram.specs.ServerFirst.{ServerFirst, NamesOther, ReadsServerFirst, client_of, nonce_tests, salt_tests, count_tests, secret_tests}
+use Rattle.fe2o3_scram.specs.ServerFirst.{ServerFirst, HasSalt, HasCount, NamesOther, NamesServerFirst, ReadsServerFirst, client_of, nonce_tests, salt_tests, count_tests, secret_tests}
 use Rattle.fe2o3_scram.specs.ServerFirstAnswers.{AnswersServerFirst}
 use Rattle.fe2o3_scram.proofs.lemmas.messages.FittingKeyLemmas.{fit_is, is_fit}
 use Rattle.fe2o3_scram.proofs.lemmas.messages.OneValueLemmas.{names_server_first}
 use Rattle.fe2o3_scram.proofs.lemmas.messages.ServerFirstLemmas.{fitting_named}
-use Rattle.fe2o3_scram.proofs.lemmas.messages.SomeReadingLemmas.{names_other_or}
+use Rattle.fe2o3_scram.proofs.lemmas.messages.SomeReadingLemmas.{names_values_or, none-split}
 use Rattle.fe2o3_scram.proofs.lemmas.texts.DecisionLemmas.{Decided}
 
--- the last test does not hold, and another one that does not hold stands in its place
+-- a list of tests with one more behind it
 
 abbrev last : {F : Type 0} → F → Type 0 → List (F × Type 0)
 last fault A = (fault, A) ∷ []
@@ -29,7 +29,7 @@ none_but_last [] fault other A B fails none = (fails, tt)
 none_but_last (test ∷ tests) fault other A B fails none = (none.0, none_but_last tests fault other A B fails none.1)
 
 first_but_last : {F : Type 0} (tests : List (F × Type 0)) (fault other : F) (A B : Type 0) (first : F)
-    → (A → first ≡ fault → ⊥) → IsFirst (tests ++ last fault A) first → IsFirst (tests ++ last other B) first
+    → (A → first ≢ fault) → IsFirst (tests ++ last fault A) first → IsFirst (tests ++ last other B) first
 first_but_last [] fault other A B first fails (inl found) = absurd (fails found.0 found.1)
 first_but_last [] fault other A B first fails (inr found) = absurd found.1
 first_but_last (test ∷ tests) fault other A B first fails (inl found) = inl found
@@ -41,3 +41,158 @@ last_holds : {F : Type 0} (tests : List (F × Type 0)) (fault other : F) (A B : 
     → NoneHolds (tests ++ last fault A) → IsFirst (tests ++ last other B) other
 last_holds [] fault other A B holds none = inl (holds, refl)
 last_holds (test ∷ tests) fault other A B holds none = inr (none.0, last_holds tests fault other A B holds none.1)
+
+-- the tests before that of the secret
+abbrev before : List ℕ → IterationLimits → List ℕ → List (ScramErrorKind × Type 0)
+before nonce limits text = nonce_tests nonce text ++ (salt_tests text ++ count_tests limits text)
+
+-- a reading goes over to a client whose last test is another: one that does not hold where a value is read, while
+-- what is refused is not refused by the first client's last test
+goes_over : (nonce text : List ℕ) (limits : IterationLimits) (fault other : ScramErrorKind) (A B : Type 0)
+    (answer : Result ServerFirst ScramErrorKind) → (is_ok answer ≡ true → ¬ B) → (A → answer ≢ Err fault)
+    → Reads (before nonce limits text ++ last fault A) (NamesServerFirst text) answer
+    → Reads (before nonce limits text ++ last other B) (NamesServerFirst text) answer
+goes_over nonce text limits fault other A B (Ok first) passes fails reads =
+    (none_but_last (before nonce limits text) fault other A B (passes refl) reads.0, reads.1)
+goes_over nonce text limits fault other A B (Err kind) passes fails reads =
+    first_but_last (before nonce limits text) fault other A B kind (λ holds is. fails holds (ap Err is)) reads
+
+-- keys that read a message fit it
+fitting : (keys : ClientKeys) (nonce text : List ℕ) (limits : IterationLimits) (first : ServerFirst)
+    → ReadsServerFirst (client_of nonce (Keys keys) limits) text (Ok first) → T (fit keys first)
+unfolding ReadsServerFirst
+fitting keys nonce text limits first reads = go (names_values_or keys text)
+  where
+    go : Decided (HasSalt text keys.salt × HasCount text keys.count) → T (fit keys first)
+    go (inl has) = fitting_named keys text first reads.1 has
+    go (inr other) =
+        absurd ((none-split (before nonce limits text) (last OtherKeys (NamesOther keys text)) reads.0).1.0 other)
+
+-- a message that keys do not refuse is read by a printable password as by them
+by_password : (keys : ClientKeys) (password nonce text : List ℕ) (limits : IterationLimits)
+    (answer : Result ServerFirst ScramErrorKind) → IsPrintable password → answer ≢ Err OtherKeys
+    → ReadsServerFirst (client_of nonce (Keys keys) limits) text answer
+    → ReadsServerFirst (client_of nonce (Password password) limits) text answer
+unfolding ReadsServerFirst
+by_password keys password nonce text limits answer printable other =
+    goes_over nonce text limits OtherKeys NormalizeError (NamesOther keys text) (¬ IsPrintable password) answer
+    (λ _ un. un printable) (λ _. other)
+
+-- keys of a password are those of the salt and the count that they fit
+same_keys : (keys : ClientKeys) (password : List ℕ) (first : ServerFirst) → AreKeysOf keys password
+    → T (fit keys first) → keys ≡ keys_of keys.version password first.salt first.count
+same_keys keys password first are fits =
+    let same = fit_is keys first fits in
+    are ∙ ap (λ salt. keys_of keys.version password salt keys.count) (sym same.0)
+    ∙ ap (λ count. keys_of keys.version password first.salt count) (sym same.1)
+
+-- and so is the answer by them
+same_answer : (keys : ClientKeys) (password bare text : List ℕ) (first : ServerFirst) → AreKeysOf keys password
+    → T (fit keys first)
+    → answer_of keys.version (Keys keys) bare text first ≡ answer_of keys.version (Password password) bare text first
+same_answer keys password bare text first are fits =
+    ap (λ (made : ClientKeys). answer_by made bare text (without_proof first.nonce))
+    (same_keys keys password first are fits)
+
+pub keys_stand : (keys : ClientKeys) (password nonce bare text : List ℕ) (limits : IterationLimits)
+    (answer : Result Answer ScramErrorKind) → IsPrintable password → AreKeysOf keys password → answer ≢ Err OtherKeys
+    → AnswersServerFirst keys.version (client_of nonce (Keys keys) limits) bare text answer
+    → AnswersServerFirst keys.version (client_of nonce (Password password) limits) bare text answer
+keys_stand keys password nonce bare text limits (Ok answer) printable are other (first, reads, is) = (
+  first,
+  by_password keys password nonce text limits (Ok first) printable (λ wrong. absurd (cc)) reads,
+  is ∙ same_answer keys password bare text first are (fitting keys nonce text limits first reads),
+)
+keys_stand keys password nonce bare text limits (Err fault) printable are other reads =
+    by_password keys password nonce text limits (Err fault) printable
+    (λ is. other (same_fault fault OtherKeys is)) reads
+  where
+    same_fault : (fault other : ScramErrorKind) → ◌≡◌ {A = Result ServerFirst ScramErrorKind} (Err fault) (Err other)
+        → ◌≡◌ {A = Result Answer ScramErrorKind} (Err fault) (Err other)
+    same_fault fault other is = let same : fault ≡ other = cc in ap (λ (kind : ScramErrorKind). Err kind) same
+
+-- the keys read what the password reads, or they are of another salt or another count
+by_keys : (keys : ClientKeys) (password nonce text : List ℕ) (limits : IterationLimits)
+    (answer : Result ServerFirst ScramErrorKind) → IsPrintable password
+    → ReadsServerFirst (client_of nonce (Password password) limits) text answer
+    → ReadsServerFirst (client_of nonce (Keys keys) limits) text answer
+    ⊎ ReadsServerFirst (client_of nonce (Keys keys) limits) text (Err OtherKeys)
+unfolding ReadsServerFirst
+by_keys keys password nonce text limits (Err fault) printable reads =
+    inl (goes_over nonce text limits NormalizeError OtherKeys (¬ IsPrintable password) (NamesOther keys text)
+    (Err fault) (λ wrong. absurd (cc)) (λ un. absurd (un printable)) reads)
+by_keys keys password nonce text limits (Ok first) printable reads = go (names_values_or keys text)
+  where
+    go : Decided (HasSalt text keys.salt × HasCount text keys.count)
+        → ReadsServerFirst (client_of nonce (Keys keys) limits) text (Ok first)
+        ⊎ ReadsServerFirst (client_of nonce (Keys keys) limits) text (Err OtherKeys)
+    go (inl has) = inl (goes_over nonce text limits NormalizeError OtherKeys (¬ IsPrintable password)
+        (NamesOther keys text) (Ok first) (λ _ other. other has) (λ un. absurd (un printable)) reads)
+    go (inr other) = inr (last_holds (before nonce limits text) NormalizeError OtherKeys (¬ IsPrintable password)
+        (NamesOther keys text) other reads.0)
+
+pub keys_answer : (keys : ClientKeys) (password nonce bare text : List ℕ) (limits : IterationLimits)
+    (answer : Result Answer ScramErrorKind) → IsPrintable password → AreKeysOf keys password
+    → AnswersServerFirst keys.version (client_of nonce (Password password) limits) bare text answer
+    → AnswersServerFirst keys.version (client_of nonce (Keys keys) limits) bare text answer
+    ⊎ AnswersServerFirst keys.version (client_of nonce (Keys keys) limits) bare text (Err OtherKeys)
+keys_answer keys password nonce bare text limits (Ok answer) printable are (first, reads, is) =
+    go (by_keys keys password nonce text limits (Ok first) printable reads)
+  where
+    go : ReadsServerFirst (client_of nonce (Keys keys) limits) text (Ok first)
+        ⊎ ReadsServerFirst (client_of nonce (Keys keys) limits) text (Err OtherKeys)
+        → AnswersServerFirst keys.version (client_of nonce (Keys keys) limits) bare text (Ok answer)
+        ⊎ AnswersServerFirst keys.version (client_of nonce (Keys keys) limits) bare text (Err OtherKeys)
+    go (inl fits) = inl (
+      first,
+      fits,
+      is ∙ sym (same_answer keys password bare text first are (fitting keys nonce text limits first fits)),
+    )
+    go (inr other) = inr other
+keys_answer keys password nonce bare text limits (Err fault) printable are reads =
+    by_keys keys password nonce text limits (Err fault) printable reads
+
+-- a client with both reads what a printable password reads
+read_by_both : (keys : ClientKeys) (password nonce text : List ℕ) (limits : IterationLimits)
+    (answer : Result ServerFirst ScramErrorKind) → IsPrintable password
+    → ReadsServerFirst (client_of nonce (Both password keys) limits) text answer
+    ↔ ReadsServerFirst (client_of nonce (Password password) limits) text answer
+unfolding ReadsServerFirst
+read_by_both keys password nonce text limits answer printable = (
+  goes_over nonce text limits NormalizeError NormalizeError (NamesOther keys text × ¬ IsPrintable password)
+      (¬ IsPrintable password) answer (λ _ un. un printable) (λ both. absurd (both.1 printable)),
+  goes_over nonce text limits NormalizeError NormalizeError (¬ IsPrintable password)
+      (NamesOther keys text × ¬ IsPrintable password) answer (λ _ both. both.1 printable) (λ un. absurd (un printable)),
+)
+
+-- and answers by the keys of that password
+answer_by_both : (keys : ClientKeys) (password bare text : List ℕ) (first : ServerFirst) → AreKeysOf keys password
+    → answer_of keys.version (Both password keys) bare text first
+    ≡ answer_of keys.version (Password password) bare text first
+answer_by_both keys password bare text first are =
+    ap (λ (made : ClientKeys). answer_by made bare text (without_proof first.nonce)) (go (fit keys first) refl)
+  where
+    go : (fits : Bool) → fits ≡ fit keys first
+        → (if fits then keys else keys_of keys.version password first.salt first.count)
+        ≡ keys_of keys.version password first.salt first.count
+    go true is = same_keys keys password first are (subst T is tt)
+    go false is = refl
+
+pub both_answer : (keys : ClientKeys) (password nonce bare text : List ℕ) (limits : IterationLimits)
+    (answer : Result Answer ScramErrorKind) → IsPrintable password → AreKeysOf keys password
+    → AnswersServerFirst keys.version (client_of nonce (Both password keys) limits) bare text answer
+    ↔ AnswersServerFirst keys.version (client_of nonce (Password password) limits) bare text answer
+both_answer keys password nonce bare text limits (Ok answer) printable are = (
+  λ answers. (
+    answers.0,
+    (read_by_both keys password nonce text limits (Ok answers.0) printable).0 answers.1,
+    answers.2 ∙ answer_by_both keys password bare text answers.0 are,
+  ),
+  λ answers. (
+    answers.0,
+    (read_by_both keys password nonce text limits (Ok answers.0) printable).1 answers.1,
+    answers.2 ∙ sym (answer_by_both keys password bare text answers.0 are),
+  ),
+)
+both_answer keys password nonce bare text limits (Err fault) printable are =
+    read_by_both keys password nonce text limits (Err fault) printable

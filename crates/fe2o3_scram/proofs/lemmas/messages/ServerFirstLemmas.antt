@@ -31,6 +31,11 @@ not_the_count limits text = not_first (count_tests limits text) OutOfMemory (
   (λ wrong. absurd (cc), (λ wrong. absurd (cc), (λ wrong. absurd (cc), tt))),
 )
 
+pub not_the_secret : (secret : Secret) (first : ServerFirst) → ¬ ServesNot secret first OutOfMemory
+not_the_secret (Password password) first (unprintable, wrong) = absurd (cc)
+not_the_secret (Keys keys) first (unfit, wrong) = absurd (cc)
+not_the_secret (Both password keys) first (unfit, unprintable, wrong) = absurd (cc)
+
 -- the nonce does not go on from the client's
 pub other_nonce : (text client_nonce nonce : List ℕ) → Part text 0 (codes "r=" ++ nonce) → ¬ Begins nonce client_nonce
     → (rest : List ℕ) → ¬ Part text 0 (codes "r=" ++ (client_nonce ++ rest))
@@ -123,6 +128,13 @@ one_has_salt text salt other has too =
     let spelling : base64_text salt ≡ base64_text other = cc in
     one_spelled (base64_text salt) salt other (has.0, refl) (too.0, spelling)
 
+-- keys of no other salt and count than are named fit what is named
+pub fitting_named : (keys : ClientKeys) (text : List ℕ) (first : ServerFirst) → NamesServerFirst text first
+    → HasSalt text keys.salt × HasCount text keys.count → T (fit keys first)
+fitting_named keys text first names has =
+    is_fit keys first (one_has_salt text first.salt keys.salt names.salt has.0)
+    (one_has_count text first.count keys.count names.count has.1)
+
 -- keys that fit what is named are of no other salt or count, and the other way round
 pub not_other : (keys : ClientKeys) (text : List ℕ) (first : ServerFirst) → NamesServerFirst text first
     → T (fit keys first) → ¬ NamesOther keys text
@@ -131,9 +143,7 @@ not_other keys text first names fits other = let same = fit_is keys first fits i
 
 pub other_named : (keys : ClientKeys) (text : List ℕ) (first : ServerFirst) → NamesServerFirst text first
     → ¬ T (fit keys first) → NamesOther keys text
-other_named keys text first names unfit has =
-    unfit (is_fit keys first (one_has_salt text first.salt keys.salt names.salt has.0)
-    (one_has_count text first.count keys.count names.count has.1))
+other_named keys text first names unfit has = unfit (fitting_named keys text first names has)
 
 -- the test of a secret that serves, and of one that does not
 pub secret_holds : (secret : Secret) (text : List ℕ) (first : ServerFirst) → NamesServerFirst text first

@@ -13,7 +13,7 @@ use Rattle.fe2o3_scram.specs.Hmac.{digest, digest_len}
 use Rattle.fe2o3_scram.specs.Readings.{IsFirst, NoneHolds, Reads}
 use Rattle.fe2o3_scram.specs.ServerFinal.{HasSignature, ReadsSignature, ReadsServerFinal, server_final_tests}
 use Rattle.fe2o3_scram.specs.ServerFirst as server_first
-use Rattle.fe2o3_scram.specs.ServerFirst.{Client, ServerFirst, HasSalt, HasCount, NamesServerFirst, ReadsServerFirst, server_first_tests, salt_tests, count_tests, secret_tests, NamesOther}
+use Rattle.fe2o3_scram.specs.ServerFirst.{Client, ServerFirst, HasSalt, HasCount, NamesServerFirst, ReadsServerFirst, server_first_tests, salt_tests, count_tests, secret_tests}
 use Rattle.fe2o3_scram.specs.declared.client_secret.IterationLimits.{IterationLimits}
 use Rattle.fe2o3_scram.specs.ClientKeys.{ClientKeys}
 use Rattle.fe2o3_scram.specs.ClientSecret.{Secret, Password, Keys, Both}
@@ -35,7 +35,7 @@ decided-append : {F : Type 0} (tests more : List (F × Type 0)) → AllDecided t
 decided-append [] more decided too = too
 decided-append (test ∷ tests) more decided too = (decided.0, decided-append tests more decided.1 too)
 
-none-split : {F : Type 0} (tests more : List (F × Type 0)) → NoneHolds (tests ++ more)
+pub none-split : {F : Type 0} (tests more : List (F × Type 0)) → NoneHolds (tests ++ more)
     → NoneHolds tests × NoneHolds more
 none-split [] more none = (tt, none)
 none-split (test ∷ tests) more none = let rest = none-split tests more none.1 in ((none.0, rest.0), rest.1)
@@ -154,7 +154,7 @@ too_small_or text least = go (has_count_or text)
     go (inl (count, has)) = smaller count has (less_or count least)
     go (inr none) = inr (λ small. none small.0 small.1)
 
--- whether a message names this count, and other values than these keys are of
+-- whether a message names this count, and the values that these keys are of
 this_count_or : (text : List ℕ) (count : ℕ) → Decided (HasCount text count)
 this_count_or text count = go (has_count_or text)
   where
@@ -166,16 +166,16 @@ this_count_or text count = go (has_count_or text)
     go (inl (other, has)) = same other has (same_number_or other count)
     go (inr none) = inr (none count)
 
-names_other_or : (keys : ClientKeys) (text : List ℕ) → Decided (NamesOther keys text)
-names_other_or keys text = not_or (both_or
+pub names_values_or : (keys : ClientKeys) (text : List ℕ) → Decided (HasSalt text keys.salt × HasCount text keys.count)
+names_values_or keys text = both_or
     (both_or (bytes_or keys.salt) (part_is_or text 1 (codes "s=" ++ base64_text keys.salt)))
-    (this_count_or text keys.count))
+    (this_count_or text keys.count)
 
 secret_decided : (secret : Secret) (text : List ℕ) → AllDecided (secret_tests secret text)
 secret_decided (Password password) text = (not_or (printable_or password), tt)
-secret_decided (Keys keys) text = (names_other_or keys text, tt)
+secret_decided (Keys keys) text = (not_or (names_values_or keys text), tt)
 secret_decided (Both password keys) text =
-    (both_or (names_other_or keys text) (not_or (printable_or password)), tt)
+    (both_or (not_or (names_values_or keys text)) (not_or (printable_or password)), tt)
 
 nonce_decided : (client_nonce text : List ℕ) → AllDecided (server_first.nonce_tests client_nonce text)
 nonce_decided client_nonce text = (

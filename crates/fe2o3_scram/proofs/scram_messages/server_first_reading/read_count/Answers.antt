@@ -1,6 +1,6 @@
-use Rattle.std.proofs.Common.{refl, inl, inr}
+use Rattle.std.proofs.Common.{refl, inl, inr, rules}
 use Rattle.fe2o3_scram.specs.ServerFirst.{HasCount}
-use Rattle.fe2o3_scram.proofs.lemmas.messages.ServerFirstLemmas.{no_count, not_too_large}
+use Rattle.fe2o3_scram.proofs.lemmas.messages.ServerFirstLemmas.{no_count, not_too_small, not_too_large}
 use Rattle.fe2o3_scram.proofs.scram_messages.server_first_reading.read_count.Goals as goal
 
 pub returns-in_default-count_of-clause-err : goal.returns-in_default-count_of-clause-err
@@ -11,8 +11,8 @@ returns-in_default-count_of-clause-err c =
       inl (no_count c.args.server_first.now digits c.in-Some.ensures c.in_default-count_of.ensures, refl),
     )
 
-pub returns-then-iterations-limit-clause-err : goal.returns-then-iterations-limit-clause-err
-returns-then-iterations-limit-clause-err c =
+pub returns-then-iterations-limits-clause-err : goal.returns-then-iterations-limits-clause-err
+returns-then-iterations-limits-clause-err c =
     let digits = c.in-Some.iter_count_str.now in
     let count = c.in-Some-count_of.iterations in
     let has : HasCount c.args.server_first.now count = (digits, c.in-Some.ensures, c.in-Some-count_of.ensures) in
@@ -20,18 +20,39 @@ returns-then-iterations-limit-clause-err c =
       λ none. none digits c.in-Some.ensures,
       inr (
         λ none. none count has,
-        inl ((count, has, c.if-iterations-limit.true), refl),
+        inl ((count, has, c.if-iterations-limits.true), refl),
+      ),
+    )
+
+pub returns-then-iterations-limits-2-clause-err : goal.returns-then-iterations-limits-2-clause-err
+returns-then-iterations-limits-2-clause-err c =
+    let text = c.args.server_first.now in
+    let digits = c.in-Some.iter_count_str.now in
+    let count = c.in-Some-count_of.iterations in
+    let has : HasCount text count = (digits, c.in-Some.ensures, c.in-Some-count_of.ensures) in
+    inr (
+      λ none. none digits c.in-Some.ensures,
+      inr (
+        λ none. none count has,
+        inr (
+          not_too_small text c.args.limits.least count has c.if-iterations-limits.false,
+          inl ((count, has, c.if-iterations-limits-2.true), refl),
+        ),
       ),
     )
 
 pub returns-clause-tested : goal.returns-clause-tested
 returns-clause-tested c =
+    let text = c.args.server_first.now in
     let digits = c.in-Some.iter_count_str.now in
     let count = c.in-Some-count_of.iterations in
-    let has : HasCount c.args.server_first.now count = (digits, c.in-Some.ensures, c.in-Some-count_of.ensures) in (
+    let has : HasCount text count = (digits, c.in-Some.ensures, c.in-Some-count_of.ensures) in (
       λ none. none digits c.in-Some.ensures,
       (
         λ none. none count has,
-        (not_too_large c.args.server_first.now c.args.limit count has c.if-iterations-limit.false, tt),
+        (
+          not_too_small text c.args.limits.least count has (search rules),
+          (not_too_large text c.args.limits.most count has (search rules), tt),
+        ),
       ),
     )
