@@ -56,14 +56,16 @@ run = record {
   concluded = refl;
 }
 
-holds : HoldsLogin (sides_with unaltered) salt 4096
+holds : HoldsLogin (sides_with unaltered) (codes "pencil") salt 4096
 holds = record {
   version = refl;
+  secret = refl;
   stored = refl;
   bytes = IsBytes-replicate 32 3 (omega arith);
   printable = password_printable;
   some = omega arith;
-  within = omega arith;
+  least = omega arith;
+  most = omega arith;
 }
 
 -- no reply is a fault

@@ -15,6 +15,10 @@ use Rattle.fe2o3_scram.specs.declared.hmac.ScramVersion.{ScramVersion}
 use Rattle.fe2o3_scram.specs.Texts.{base64_text}
 use Rattle.fe2o3_scram.specs.ClientFirst.{client_first}
 use Rattle.fe2o3_sasl.specs.ClientHistory.{Answering, AnswersAt, ReadsChallenge, IsDue, NonceAt, OpenAnswer, is_start, is_answer, ends_answer}
+use Rattle.fe2o3_scram.specs.declared.client_secret.IterationLimits.{IterationLimits}
+use Rattle.fe2o3_scram.specs.ClientSecret.{Secret, Password, up_to}
+use Rattle.fe2o3_scram.specs.ServerFirst.{ServerFirst, ReadsServerFirst, client_of}
+use Rattle.fe2o3_scram.proofs.lemmas.messages.ServerFirstLemmas.{not_too_small}
 use Rattle.fe2o3_scram.specs.Escape.{escaped}
 use Rattle.fe2o3_sasl.specs.Events.{Given, Login, IsLogin, ServerSays, Challenged, Concluded, ClientSays, Started, Answered, Reported}
 use Rattle.fe2o3_scram.specs.Exchanges.{Exchange, IsSound, Succeeds, nonce_in, bare_in, record_in, first_in, named_in, answer_in, final_in}
@@ -27,7 +31,7 @@ use Rattle.fe2o3_scram.specs.SaslprepAscii.{IsPrintable}
 use Rattle.fe2o3_sasl.specs.Bodies.{SpellsBody}
 use Rattle.fe2o3_sasl.specs.ServerHistory.{Challenging, Accepted, FitsAsInit, FitsAsResponse, FitsAt, Open, final_message, is_challenge, is_ok}
 use Rattle.fe2o3_sasl.specs.TwoSides.{Sides, sides_of, Histories, IsPlainInit, OkAt, Takes, Shows}
-use Rattle.fe2o3_sasl.specs.UnalteredRuns.{UnalteredRun, Suffices, HoldsLogin, LogsIn, agreed_findings}
+use Rattle.fe2o3_sasl.specs.UnalteredRuns.{UnalteredRun, Suffices, HoldsLogin, LogsIn, LogsInUnaltered, agreed_findings}
 use Rattle.fe2o3_sasl.specs.Audit.{AreAgreed, Lists, Audits}
 use Rattle.fe2o3_scram.proofs.lemmas.texts.AsciiLemmas.{IsUtf8-base64_text, IsUtf8-literal}
 use Rattle.fe2o3_scram.proofs.lemmas.texts.Base64Lemmas.{no_comma-base64_text}
@@ -40,23 +44,24 @@ use Rattle.fe2o3_sasl.proofs.lemmas.unaltered.UnalteredReplyLemmas.{one_answerin
 
 -- ---- the exchange of a run
 
--- a login with the salt and the count of a record, and with the nonces of both sides
-abbrev exchange_of : Login → List ℕ → ℕ → List ℕ → List ℕ → Exchange
-exchange_of login salt count mine theirs =
+-- a login and its password, with the salt and the count of a record, and with the nonces of both sides
+abbrev exchange_of : Login → List ℕ → List ℕ → ℕ → List ℕ → List ℕ → Exchange
+exchange_of login password salt count mine theirs =
     record {
       version = login.version;
       user = login.user;
-      password = login.password;
+      password = password;
       salt = salt;
       count = count;
-      limit = login.limit;
+      limit = login.limits.most;
       client_nonce = base64_text mine;
       server_nonce = base64_text theirs;
     }
 
-sound_exchange : (login : Login) (salt : List ℕ) (count : ℕ) (mine theirs : List ℕ) → IsLogin login → IsBytes salt
-    → IsPrintable login.password → 1 ≤ count → count ≤ login.limit → IsSound (exchange_of login salt count mine theirs)
-sound_exchange login salt count mine theirs is bytes printable some within = record {
+sound_exchange : (login : Login) (password salt : List ℕ) (count : ℕ) (mine theirs : List ℕ) → IsLogin login
+    → IsBytes salt → IsPrintable password → 1 ≤ count → count ≤ login.limits.most
+    → IsSound (exchange_of login password salt count mine theirs)
+sound_exchange login password salt count mine theirs is bytes printable some within = record {
   printable = printable;
   some = some;
   within = within;
@@ -86,6 +91,38 @@ accepted_in x = record { challenge = challenge_in x; final = final_in x }
 -- its init, with this hostname
 abbrev init_in : Option (List ℕ) → Exchange → SaslFrame
 init_in hostname x = frames.Init (mechanism_name x.version) (Some (client_first x.user x.client_nonce)) hostname
+
+-- a message that is read up to a limit is read within any limits up to it that its count keeps
+read_within : (nonce password text : List ℕ) (limits : IterationLimits) (first : ServerFirst)
+    → limits.least ≤ first.count
+    → ReadsServerFirst (client_of nonce (Password password) (up_to limits.most)) text (Ok first)
+    → ReadsServerFirst (client_of nonce (Password password) limits) text (Ok first)
+unfolding ReadsServerFirst
+read_within nonce password text limits first least is =
+    let none = is.0 in
+    let small = not_too_small text limits.least first.count is.1.count least in (
+      (
+        none.0, none.1, none.2, none.3, none.4, none.5, none.6, none.7, small, none.9, none.10, tt
+      ),
+      is.1,
+    )
+
+-- the two sides, where the client has this secret
+abbrev having : Sides → Secret → Sides
+having sides secret = record {
+  login = record {
+    user = sides.login.user;
+    secret = secret;
+    version = sides.login.version;
+    limits = sides.login.limits;
+    hostname = sides.login.hostname;
+  };
+  client_events = sides.client_events;
+  client_replies = sides.client_replies;
+  provider = sides.provider;
+  server_events = sides.server_events;
+  server_replies = sides.server_replies;
+}
 
 -- the server-first message is UTF-8
 first_text : (x : Exchange) → IsSound x → IsUtf8 (first_in x)
@@ -162,17 +199,22 @@ one_pair R i j is only = record {
 
 -- ---- the run, event by event
 
-module _ (sides : Sides) (salt : List ℕ) (count : ℕ) (run : UnalteredRun sides) (histories : Histories sides)
-    (login : IsLogin sides.login) (holds : HoldsLogin sides salt count) (fits : Suffices sides) where
+module _ (own : Sides) (password salt : List ℕ) (count : ℕ) (run : UnalteredRun (having own (Password password)))
+    (histories : Histories (having own (Password password))) (login : IsLogin own.login)
+    (holds : HoldsLogin (having own (Password password)) password salt count)
+    (fits : Suffices (having own (Password password))) where
+  abbrev sides : Sides
+  sides = having own (Password password)
+
   abbrev exchange : Exchange
-  exchange = exchange_of sides.login salt count run.offer.nonce run.init.nonce
+  exchange = exchange_of sides.login password salt count run.offer.nonce run.init.nonce
 
   abbrev final_sent : List ℕ
   final_sent = final_message sides.provider (accepted_in exchange)
 
   sound : IsSound exchange
-  sound = sound_exchange sides.login salt count run.offer.nonce run.init.nonce login holds.bytes holds.printable
-      holds.some holds.within
+  sound = sound_exchange sides.login password salt count run.offer.nonce run.init.nonce login holds.bytes
+      holds.printable holds.some holds.most
 
   meets : Succeeds exchange
   meets = succeeds exchange sound
@@ -235,16 +277,22 @@ module _ (sides : Sides) (salt : List ℕ) (count : ℕ) (run : UnalteredRun sid
 
   challenge_read : ReadsChallenge sides.login (IsDue sides.client_events sides.client_replies 1) (first_in exchange)
       (Ok (answering_in exchange))
-  challenge_read = (first_text exchange sound, refl, due, meets.server_first)
+  challenge_read = (
+    first_text exchange sound,
+    refl,
+    due,
+    read_within exchange.client_nonce password (first_in exchange) sides.login.limits (named_in exchange) holds.least
+        meets.server_first,
+  )
 
   answers : (slice_get sides.client_replies 1 ≡ Some (Answered run.response.body))
-      × (canonical (frames.Response (answer_in exchange).0) ≡ Some run.response.body)
+      × (canonical (frames.Response (answer_in exchange).message) ≡ Some run.response.body)
   answers = client_answers sides.login sides.client_events sides.client_replies 1 run.challenge (first_in exchange)
       (answering_in exchange) run.response.body histories.client challenge_at challenge_spelled one_due challenge_read
       fits.client fits.client_small run.answered
 
-  response_spelled : SpellsBody run.response.body (Ok (frames.Response (answer_in exchange).0))
-  response_spelled = spells_response (answer_in exchange).0 run.response.body answers.1
+  response_spelled : SpellsBody run.response.body (Ok (frames.Response (answer_in exchange).message))
+  response_spelled = spells_response (answer_in exchange).message run.response.body answers.1
 
   -- the server accepts
   challenged_open : IsLastOpen is_challenge is_ok sides.server_replies 1 0
@@ -270,17 +318,17 @@ module _ (sides : Sides) (salt : List ℕ) (count : ℕ) (run : UnalteredRun sid
       same_frame frame other e = cc
 
   response_fits : FitsAsResponse sides.provider (Open sides.provider sides.server_events sides.server_replies 1)
-      (frames.Response (answer_in exchange).0) (accepted_in exchange)
+      (frames.Response (answer_in exchange).message) (accepted_in exchange)
   response_fits = (
     is_open,
     subst (λ (version : ScramVersion). ReadsClientFinal
         (server_of version (bare_in exchange) (first_in exchange) (nonce_in exchange) (record_in exchange))
-        (answer_in exchange).0 (Ok (final_in exchange))) (sym holds.version) meets.client_final,
+        (answer_in exchange).message (Ok (final_in exchange))) (sym holds.version) meets.client_final,
   )
 
   accepts : (slice_get sides.server_replies 1 ≡ Some (Concluded outcomes.Ok run.outcome.body))
       × (canonical (frames.Outcome outcomes.Ok (Some final_sent)) ≡ Some run.outcome.body)
-  accepts = server_accepts sides.provider sides.server_events sides.server_replies 1 run.response (answer_in exchange).0
+  accepts = server_accepts sides.provider sides.server_events sides.server_replies 1 run.response (answer_in exchange).message
       (accepted_in exchange) run.outcome.body histories.server response_at response_spelled one_open_challenge
       response_fits fits.server fits.server_small run.concluded
 
@@ -315,8 +363,8 @@ module _ (sides : Sides) (salt : List ℕ) (count : ℕ) (run : UnalteredRun sid
           (Ok (frames.Challenge other)) → text ≡ other
       same_text text other e = cc
 
-  verifier_read : ReadsServerFinal (answer_in exchange).1 final_sent (Ok tt)
-  verifier_read = subst (λ (version : ScramVersion). ReadsServerFinal (answer_in exchange).1
+  verifier_read : ReadsServerFinal (answer_in exchange).signature final_sent (Ok tt)
+  verifier_read = subst (λ (version : ScramVersion). ReadsServerFinal (answer_in exchange).signature
       (server_final_of (server_of version (bare_in exchange) (first_in exchange) (nonce_in exchange)
       (record_in exchange)) (final_in exchange)) (Ok tt)) (sym holds.version) meets.server_final
 
@@ -342,7 +390,7 @@ module _ (sides : Sides) (salt : List ℕ) (count : ℕ) (run : UnalteredRun sid
   ok_at = record {
     body = run.outcome.body;
     says = accepts.0;
-    accepts = (run.response, frames.Response (answer_in exchange).0, response_at, response_spelled, response_fits);
+    accepts = (run.response, frames.Response (answer_in exchange).message, response_at, response_spelled, response_fits);
   }
 
   takes : Takes sides 2 1 (accepted_in exchange)
@@ -416,12 +464,21 @@ module _ (sides : Sides) (salt : List ℕ) (count : ℕ) (run : UnalteredRun sid
     audit = audit;
   }
 
+-- whatever secret is the password
+logs_in_by : (sides : Sides) → Histories sides → IsLogin sides.login → LogsInUnaltered sides
+logs_in_by sides histories login password salt count run holds fits = subst
+    (λ (secret : Secret). (run : UnalteredRun (having sides secret)) → Histories (having sides secret)
+    → HoldsLogin (having sides secret) password salt count → Suffices (having sides secret) → LogsIn run salt count)
+    (sym holds.secret)
+    (λ run histories holds fits. logs_in sides password salt count run histories login holds fits)
+    run histories holds fits
+
 pub clients_log_in : ClientsLogIn
-clients_log_in login events replies history is provider server_events server_replies server salt count run holds fits =
-    logs_in (sides_of login events replies provider server_events server_replies) salt count run
-    (record { client = history; server = server }) is holds fits
+clients_log_in login events replies history is provider server_events server_replies server =
+    logs_in_by (sides_of login events replies provider server_events server_replies)
+    (record { client = history; server = server }) is
 
 pub servers_log_in : ServersLogIn
-servers_log_in provider events replies history login client_events client_replies is client salt count run holds fits =
-    logs_in (sides_of login client_events client_replies provider events replies) salt count run
-    (record { client = client; server = history }) is holds fits
+servers_log_in provider events replies history login client_events client_replies is client =
+    logs_in_by (sides_of login client_events client_replies provider events replies)
+    (record { client = client; server = history }) is
