@@ -193,7 +193,7 @@ module _ (user : List ℕ) (limits : IterationLimits) (keys : ClientKeys) (passw
       let step = step_alike state hostname event says run.1 run.3.0 here run.3.1 run.3.2 in
       let rest = runs_alike step.0 hostname events others last
       (subst (λ (p : Profile). Runs (ProfileSteps hostname) p events others last) step.1 run.5) there in
-      (rest.0, (says, twin step.0, others, (run.3.0, run.3.1, run.3.2), run.4, rest.1))
+      (rest.0, (says, twin step.0, others, step.2, run.4, rest.1))
 
 -- the profile of a login with another version and another secret
 abbrev profile_by : Login → ScramVersion → Secret → Profile

@@ -102,7 +102,14 @@ read_within nonce password text limits first least is =
     let none = is.0 in
     let small = not_too_small text limits.least first.count is.1.count least in (
       (
-        none.0, none.1, none.2, none.3, none.4, none.5, none.6, none.7, small, none.9, none.10, tt
+        none.0,
+        (
+          none.1,
+          (
+            none.2,
+            (none.3, (none.4, (none.5, (none.6, (none.7, (small, (none.9, (none.10, tt))))))))),
+          ),
+        ),
       ),
       is.1,
     )
@@ -200,7 +207,8 @@ one_pair R i j is only = record {
 -- ---- the run, event by event
 
 module _ (own : Sides) (password salt : List ℕ) (count : ℕ) (run : UnalteredRun (having own (Password password)))
-    (histories : Histories (having own (Password password))) (login : IsLogin own.login)
+    (histories : Histories (having own (Password password))) 
+    (login : IsLogin (having own (Password password)).login)
     (holds : HoldsLogin (having own (Password password)) password salt count)
     (fits : Suffices (having own (Password password))) where
   abbrev sides : Sides
@@ -468,10 +476,9 @@ module _ (own : Sides) (password salt : List ℕ) (count : ℕ) (run : Unaltered
 logs_in_by : (sides : Sides) → Histories sides → IsLogin sides.login → LogsInUnaltered sides
 logs_in_by sides histories login password salt count run holds fits = subst
     (λ (secret : Secret). (run : UnalteredRun (having sides secret)) → Histories (having sides secret)
-    → HoldsLogin (having sides secret) password salt count → Suffices (having sides secret) → LogsIn run salt count)
-    (sym holds.secret)
-    (λ run histories holds fits. logs_in sides password salt count run histories login holds fits)
-    run histories holds fits
+    → IsLogin (having sides secret).login → HoldsLogin (having sides secret) password salt count
+    → Suffices (having sides secret) → LogsIn run salt count)
+    (sym holds.secret) (logs_in sides password salt count) run histories login holds fits
 
 pub clients_log_in : ClientsLogIn
 clients_log_in login events replies history is provider server_events server_replies server =
