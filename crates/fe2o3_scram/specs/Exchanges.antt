@@ -1,12 +1,14 @@
 -- An exchange of the four messages (RFC 5802, section 5) in which each arrives as it was sent.
-use Rattle.std.specs.Prelude.{ℕ, List, ◌++◌, ◌≤◌, ◌<◌, ◌^◌, Ok}
+use Rattle.std.specs.Prelude.{ℕ, List, ◌++◌, ◌≡◌, ◌≢◌, ◌⊎◌, ◌≤◌, ◌<◌, ◌^◌, Ok}
 use Rattle.std.specs.Str.{IsUtf8}
 use Rattle.base64.specs.GeneralPurpose.{IsBytes}
 use Rattle.fe2o3_scram.specs.declared.hmac.ScramVersion.{ScramVersion}
 use Rattle.fe2o3_scram.specs.ServerFirst.{client_of, server_first_of, ServerFirst, ReadsServerFirst}
 use Rattle.fe2o3_scram.specs.ClientFinal.{Answer, answer_of, without_proof, Server, server_of, ClientFinal, ReadsClientFinal}
 use Rattle.fe2o3_scram.specs.ClientFirst.{client_first, client_first_bare, ReadsClientFirst}
-use Rattle.fe2o3_scram.specs.ClientSecret.{Password, up_to}
+use Rattle.fe2o3_scram.specs.ClientKeys.{keys_of}
+use Rattle.fe2o3_scram.specs.ClientSecret.{Secret, Password, Keys, Both}
+use Rattle.fe2o3_scram.specs.declared.client_secret.IterationLimits.{IterationLimits}
 use Rattle.fe2o3_scram.specs.Credentials.{Record, record_of}
 use Rattle.fe2o3_scram.specs.Keys.{auth_message, client_key, client_proof}
 use Rattle.fe2o3_scram.specs.Pbkdf2Hi.{salted_of}
@@ -14,24 +16,36 @@ use Rattle.fe2o3_scram.specs.ServerFinal.{server_final_of, ReadsServerFinal}
 use Rattle.fe2o3_scram.specs.SaslprepAscii.{IsPrintable}
 use Rattle.fe2o3_scram.specs.Texts.{NoComma}
 
--- what an exchange starts from (RFC 5802, section 5): the user's name and password, the salt and the count of the
--- record, the client's limit, and the nonces
+-- a client's secret opens the record of a password with this salt and this count (RFC 5802, section 3): it is that
+-- password, which can be prepared, or its keys with that salt and that count; where it is both, the password is what
+-- opens a record of another salt or another count than the keys are of
+abbrev pub Opens : ScramVersion → Secret → List ℕ → List ℕ → ℕ → Type 0
+Opens version (Password own) password salt count = (own ≡ password) × IsPrintable own
+Opens version (Keys keys) password salt count = keys ≡ keys_of version password salt count
+Opens version (Both own keys) password salt count =
+    (keys ≡ keys_of version password salt count)
+    ⊎ (((salt ≢ keys.salt) ⊎ (count ≢ keys.count)) × (own ≡ password) × IsPrintable own)
+
+-- what an exchange starts from (RFC 5802, section 5): the client's user, secret and limits, the password, the salt and
+-- the count of the record, and the nonces
 pub record Exchange : Type 0 where
   pub version : ScramVersion
   pub user : List ℕ
+  pub secret : Secret
+  pub limits : IterationLimits
   pub password : List ℕ
   pub salt : List ℕ
   pub count : ℕ
-  pub limit : ℕ
   pub client_nonce : List ℕ
   pub server_nonce : List ℕ
 
--- the password can be used, the client accepts the count, and names, nonces and salts are what the code holds
+-- the secret opens the record, the client accepts the count, and names, nonces and salts are what the code holds
 pub record IsSound (x : Exchange) : Type 0 where
-  pub printable : IsPrintable x.password
+  pub opens : Opens x.version x.secret x.password x.salt x.count
   pub some : 1 ≤ x.count
-  pub within : x.count ≤ x.limit
-  pub limit : x.limit < 2 ^ 32
+  pub least : x.limits.least ≤ x.count
+  pub within : x.count ≤ x.limits.most
+  pub limit : x.limits.most < 2 ^ 32
   pub salt : IsBytes x.salt
   pub user : IsUtf8 x.user
   pub client_text : IsUtf8 x.client_nonce
@@ -47,7 +61,7 @@ nonce_in x = x.client_nonce ++ x.server_nonce
 abbrev pub bare_in : Exchange → List ℕ
 bare_in x = client_first_bare x.user x.client_nonce
 
--- the record that the server keeps, made of the same password
+-- the record that the server keeps
 abbrev pub record_in : Exchange → Record
 record_in x = record_of x.version x.password x.salt x.count
 
@@ -61,7 +75,7 @@ named_in x = record { nonce = nonce_in x; salt = x.salt; count = x.count }
 
 -- the client's last message, and the signature that it waits for
 abbrev pub answer_in : Exchange → Answer
-answer_in x = answer_of x.version (Password x.password) (bare_in x) (first_in x) (named_in x)
+answer_in x = answer_of x.version x.secret (bare_in x) (first_in x) (named_in x)
 
 -- what the server holds against the client's last message
 abbrev pub server_in : Exchange → Server
@@ -80,7 +94,6 @@ final_in x = record {
 pub record Succeeds (x : Exchange) : Type 0 where
   pub client_first : ReadsClientFirst (client_first x.user x.client_nonce)
       (Ok (record { user = x.user; nonce = x.client_nonce; bare = bare_in x }))
-  pub server_first : ReadsServerFirst (client_of x.client_nonce (Password x.password) (up_to x.limit))
-      (first_in x) (Ok (named_in x))
+  pub server_first : ReadsServerFirst (client_of x.client_nonce x.secret x.limits) (first_in x) (Ok (named_in x))
   pub client_final : ReadsClientFinal (server_in x) (answer_in x).message (Ok (final_in x))
   pub server_final : ReadsServerFinal (answer_in x).signature (server_final_of (server_in x) (final_in x)) (Ok tt)

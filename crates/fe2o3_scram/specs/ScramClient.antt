@@ -102,12 +102,12 @@ abbrev pub ReachesVerifierIn : ClientState → List ℕ → Type 0
 ReachesVerifierIn (ClientFinalSent signature keys) text = ReachesVerifier text
 ReachesVerifierIn state text = ⊥
 
--- the state that the code's state is
-abbrev pub state_of : ScramClientState → ClientState
-state_of CodeInitial = Initial
-state_of (CodeClientFirstSent nonce bare) = ClientFirstSent (base64_text nonce) bare.items
-state_of (CodeClientFinalSent signature keys) = ClientFinalSent signature.items keys
-state_of (CodeComplete keys) = Complete keys
+-- the state that the code's state and keys are
+abbrev pub state_of : ScramClientState → Option ClientKeys → ClientState
+state_of CodeInitial keys = Initial
+state_of (CodeClientFirstSent nonce bare) keys = ClientFirstSent (base64_text nonce) bare.items
+state_of (CodeClientFinalSent signature) keys = ClientFinalSent signature.items keys
+state_of CodeComplete keys = Complete keys
 
 -- the keys of a login whose server was believed (RFC 5802, section 5), and of no other
 abbrev pub login_keys : ClientState → Option ClientKeys

@@ -31,17 +31,14 @@ enum ScramClientState {
     },
     ClientFinalSent {
         server_signature: Vec<u8>,
-        keys: Option<ScramClientKeys>,
     },
-    Complete {
-        keys: Option<ScramClientKeys>,
-    },
+    Complete,
 }
 
 impl ScramClientState {
     /// The same state.
     fn copy(&self) -> Result<ScramClientState, OutOfMemory>
-        ensures { IfOk result (λ copy. state_of copy ≡ state_of self.now) }
+        ensures { IfOk result (λ copy. (keys : Option ClientKeys) → state_of copy keys ≡ state_of self.now keys) }
     {
         Ok(match self {
             ScramClientState::Initial => ScramClientState::Initial,
@@ -52,16 +49,12 @@ impl ScramClientState {
                 nonce: *nonce,
                 client_first_message_bare: client_first_message_bare.clone()?,
             },
-            ScramClientState::ClientFinalSent {
-                server_signature,
-                keys,
-            } => ScramClientState::ClientFinalSent {
-                server_signature: server_signature.clone()?,
-                keys: keys.clone()?,
-            },
-            ScramClientState::Complete { keys } => ScramClientState::Complete {
-                keys: keys.clone()?,
-            },
+            ScramClientState::ClientFinalSent { server_signature } => {
+                ScramClientState::ClientFinalSent {
+                    server_signature: server_signature.clone()?,
+                }
+            }
+            ScramClientState::Complete => ScramClientState::Complete,
         })
     }
 }
@@ -76,6 +69,9 @@ pub struct ScramClient {
     scram: ScramVersion,
     limits: IterationLimits,
     state: ScramClientState,
+
+    /// Those of its answer, where that stands.
+    keys: Option<ScramClientKeys>,
 }
 
 impl Model for ScramClient {
@@ -91,7 +87,7 @@ impl Model for ScramClient {
       version = client.scram;
       limits = client.limits;
       state =
-          state_of client.state;
+          state_of client.state client.keys;
     } };
 }
 
@@ -159,6 +155,7 @@ impl ScramClient {
             scram,
             limits: IterationLimits::none(),
             state: ScramClientState::Initial,
+            keys: None,
         }
     }
 
@@ -196,6 +193,7 @@ impl ScramClient {
             scram: self.scram,
             limits,
             state: self.state,
+            keys: self.keys,
         }
     }
 
@@ -228,6 +226,7 @@ impl ScramClient {
             nonce: *nonce,
             client_first_message_bare: client_first_message_bare.to_vec(alloc)?,
         };
+        self.keys = None;
         Ok(client_first_message)
     }
 
@@ -283,8 +282,8 @@ impl ScramClient {
                 )?;
                 self.state = ScramClientState::ClientFinalSent {
                     server_signature: answer.signature,
-                    keys: Some(answer.keys),
                 };
+                self.keys = Some(answer.keys);
                 Ok(answer.message)
             }
             _ => Err(ScramErrorKind::IllegalClientState),
@@ -307,15 +306,11 @@ impl ScramClient {
             (λ answer. BelievesIn self.old.state self.old server_final.now answer self.new) }
         ensures err { OnErr result (self.new ≡ self.old) }
     {
-        match &mut self.state {
-            ScramClientState::ClientFinalSent {
-                server_signature,
-                keys,
-            } => {
+        match &self.state {
+            ScramClientState::ClientFinalSent { server_signature } => {
                 self.scram
                     .validate_server_final(alloc, server_final, server_signature)?;
-                let keys = keys.take();
-                self.state = ScramClientState::Complete { keys };
+                self.state = ScramClientState::Complete;
                 Ok(())
             }
             _ => Err(ScramErrorKind::IllegalClientState),
@@ -330,7 +325,7 @@ impl ScramClient {
             (λ keys. login_keys self.now.state ≡ Some keys.now) }
     {
         match &self.state {
-            ScramClientState::Complete { keys } => keys.as_ref(),
+            ScramClientState::Complete => self.keys.as_ref(),
             _ => None,
         }
     }
@@ -371,7 +366,7 @@ impl ScramClient {
             (λ keys. answer_keys self.now.state ≡ Some keys.now) }
     {
         match &self.state {
-            ScramClientState::ClientFinalSent { keys, .. } => keys.as_ref(),
+            ScramClientState::ClientFinalSent { .. } => self.keys.as_ref(),
             _ => None,
         }
     }
@@ -386,10 +381,8 @@ impl ScramClient {
             secret: self.secret,
             scram: self.scram,
             limits: self.limits,
-            state: ScramClientState::ClientFinalSent {
-                server_signature,
-                keys,
-            },
+            state: ScramClientState::ClientFinalSent { server_signature },
+            keys,
         }
     }
 }
@@ -415,6 +408,7 @@ impl Clone for ScramClient {
             scram: self.scram,
             limits: self.limits,
             state: self.state.copy()?,
+            keys: self.keys.clone()?,
         })
     }
 }

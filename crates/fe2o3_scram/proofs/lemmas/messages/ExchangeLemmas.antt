@@ -1,6 +1,6 @@
 -- What each side of an exchange writes, the other reads.
-use Rattle.std.proofs.Common.{◌≡◌, ◌<◌, ◌≤◌, ◌^◌, ℕ, suc, true, List, [], ◌∷◌, ◌++◌, length, get_or, refl, arith, ◌∙◌, sym, ap, codes, not, eqb, inl, Ok, append_assoc}
-use Rattle.std.specs.Prelude.{bit_xor, nat_lt}
+use Rattle.std.proofs.Common.{◌≡◌, ◌<◌, ◌≤◌, ◌^◌, ℕ, suc, List, [], ◌∷◌, ◌++◌, length, get_or, refl, arith, ◌∙◌, sym, ap, codes, not, eqb, inl, inr, subst, Bool, true, false, Ok, ◌≢◌, ◌⊎◌, append_assoc}
+use Rattle.std.specs.Prelude.{bit_xor, nat_lt, T, if◌then◌else◌}
 use Rattle.std.specs.List.{list_all}
 use Rattle.std.specs.Fmt.{decimal}
 use Rattle.std.specs.Str.{IsUtf8}
@@ -13,16 +13,21 @@ use Rattle.std.proofs.lemmas.Str.{IsUtf8-append}
 use Rattle.std.proofs.lemmas.Str.Parse.{digit_from_value}
 use Rattle.base64.specs.GeneralPurpose.{IsBytes}
 use Rattle.fe2o3_scram.specs.Texts.{base64_text, IsCount, NoComma, Parts, Part, joined}
-use Rattle.fe2o3_scram.specs.ClientFinal.{without_proof, client_final_of, Server, ClientFinal, Meets, ReadsClientFinal}
+use Rattle.fe2o3_scram.specs.ClientFinal.{Answer, answer_by, fit, keys_for, without_proof, client_final_of, Server, ClientFinal, Meets, ReadsClientFinal}
 use Rattle.fe2o3_scram.specs.ClientFirst.{client_first, client_first_bare, ReadsClientFirst}
 use Rattle.fe2o3_scram.specs.Escape.{escaped}
-use Rattle.fe2o3_scram.specs.Exchanges.{Exchange, IsSound, Succeeds, nonce_in, bare_in, first_in, named_in, server_in, final_in, answer_in}
+use Rattle.fe2o3_scram.specs.Exchanges.{Exchange, IsSound, Opens, Succeeds, nonce_in, bare_in, first_in, named_in, server_in, final_in, answer_in}
 use Rattle.fe2o3_scram.specs.Hmac.{digest, digest_len, exclusive_or}
 use Rattle.fe2o3_scram.specs.Keys.{auth_message, client_key, client_signature, stored_key, client_proof}
 use Rattle.fe2o3_scram.specs.Pbkdf2Hi.{salted_of}
 use Rattle.fe2o3_scram.specs.ServerFinal.{server_final_of, ReadsServerFinal}
-use Rattle.fe2o3_scram.specs.ClientSecret.{Password, up_to}
-use Rattle.fe2o3_scram.specs.ServerFirst.{client_of, HasSalt, HasCount, ReadsServerFirst}
+use Rattle.fe2o3_scram.specs.declared.hmac.ScramVersion.{ScramVersion}
+use Rattle.fe2o3_scram.specs.ClientKeys.{ClientKeys, keys_of}
+use Rattle.fe2o3_scram.specs.ClientSecret.{Secret, Password, Keys, Both}
+use Rattle.fe2o3_scram.specs.SaslprepAscii.{IsPrintable}
+use Rattle.fe2o3_scram.specs.private.Serving.{Serves}
+use Rattle.fe2o3_scram.proofs.lemmas.messages.FittingKeyLemmas.{fit_is, is_fit}
+use Rattle.fe2o3_scram.specs.ServerFirst.{ServerFirst, client_of, HasSalt, HasCount, NamesServerFirst, ReadsServerFirst}
 use Rattle.fe2o3_scram.proofs.lemmas.texts.AsciiLemmas.{IsUtf8-base64_text, IsUtf8-literal, IsUtf8-escaped}
 use Rattle.fe2o3_scram.proofs.lemmas.texts.Base64Lemmas.{no_comma-append, no_comma-test, no_comma-base64_text}
 use Rattle.fe2o3_scram.proofs.lemmas.messages.ClientFinalLemmas.{NamesAcceptedFinal, text_read}
@@ -31,7 +36,7 @@ use Rattle.fe2o3_scram.proofs.lemmas.hashes.DigestLemmas.{IsBytes-nil, IsBytes-c
 use Rattle.fe2o3_scram.proofs.lemmas.texts.EscapingLemmas.{no_comma-escaped}
 use Rattle.fe2o3_scram.proofs.lemmas.texts.PartsLemmas.{one_part}
 use Rattle.fe2o3_scram.proofs.lemmas.messages.ServerFinalLemmas.{same_signature, signature_read}
-use Rattle.fe2o3_scram.proofs.lemmas.messages.ServerFirstLemmas.{values_read, same_nonce, not_too_small, not_too_large}
+use Rattle.fe2o3_scram.proofs.lemmas.messages.ServerFirstLemmas.{values_read, same_nonce, not_too_small, not_too_large, secret_holds}
 
 -- exclusive ors
 
@@ -135,8 +140,52 @@ not_extended text nonce is has =
     let letter : ◌≡◌ {A = ℕ} 114 109 = ap (λ bytes. get_or bytes 0 0) same in
     omega (arith, letter)
 
-reads_server_first : (x : Exchange) → IsSound x → ReadsServerFirst
-    (client_of x.client_nonce (Password x.password) (up_to x.limit)) (first_in x) (Ok (named_in x))
+-- a secret that opens a record answers by the keys of it, and serves for its salt and count
+opened : (version : ScramVersion) (secret : Secret) (password salt : List ℕ) (count : ℕ) (nonce : List ℕ)
+    → Opens version secret password salt count
+    → (keys_for version secret (record { nonce = nonce; salt = salt; count = count })
+    ≡ keys_of version password salt count)
+    × Serves secret (record { nonce = nonce; salt = salt; count = count })
+opened version (Password own) password salt count nonce (same, printable) =
+    (ap (λ (word : List ℕ). keys_of version word salt count) same, printable)
+opened version (Keys keys) password salt count nonce is = (
+  is,
+  is_fit keys (record { nonce = nonce; salt = salt; count = count })
+      (sym (ap (λ (made : ClientKeys). made.salt) is)) (sym (ap (λ (made : ClientKeys). made.count) is)),
+)
+opened version (Both own keys) password salt count nonce opens = go (fit keys first) refl opens
+  where
+    first : ServerFirst
+    first = record { nonce = nonce; salt = salt; count = count }
+
+    fits : keys ≡ keys_of version password salt count → T (fit keys first)
+    fits is = is_fit keys first (sym (ap (λ (made : ClientKeys). made.salt) is))
+        (sym (ap (λ (made : ClientKeys). made.count) is))
+
+    other : (salt ≢ keys.salt) ⊎ (count ≢ keys.count) → T (fit keys first) → ⊥
+    other (inl differs) holds = differs (fit_is keys first holds).0
+    other (inr differs) holds = differs (fit_is keys first holds).1
+
+    go : (fitting : Bool) → fitting ≡ fit keys first → Opens version (Both own keys) password salt count
+        → ((if fitting then keys else keys_of version own salt count) ≡ keys_of version password salt count)
+        × (T fitting ⊎ IsPrintable own)
+    go true is (inl same) = (same, inl tt)
+    go false is (inl same) = absurd (subst T (sym is) (fits same))
+    go true is (inr (differs, same, printable)) = absurd (other differs (subst T is tt))
+    go false is (inr (differs, same, printable)) =
+        (ap (λ (word : List ℕ). keys_of version word salt count) same, inr printable)
+
+-- so the answer is by the keys of the record
+abbrev made_in : Exchange → Answer
+made_in x = answer_by (keys_of x.version x.password x.salt x.count) (bare_in x) (first_in x) (without_proof (nonce_in x))
+
+pub answered : (x : Exchange) → IsSound x → answer_in x ≡ made_in x
+answered x sound =
+    ap (λ (keys : ClientKeys). answer_by keys (bare_in x) (first_in x) (without_proof (nonce_in x)))
+    (opened x.version x.secret x.password x.salt x.count (nonce_in x) sound.opens).0
+
+reads_server_first : (x : Exchange) → IsSound x
+    → ReadsServerFirst (client_of x.client_nonce x.secret x.limits) (first_in x) (Ok (named_in x))
 reads_server_first x sound =
     let wide : x.count < 2 ^ 64 = omega (arith, sound.within, sound.limit) in
     let small : x.count < 2 ^ 32 = omega (arith, sound.within, sound.limit) in
@@ -149,7 +198,8 @@ reads_server_first x sound =
     let salt : HasSalt (first_in x) x.salt = (sound.salt, (_, parts, refl)) in
     let digits : Part (first_in x) 2 (codes "i=" ++ decimal x.count) = (_, parts, refl) in
     let count : HasCount (first_in x) x.count = (decimal x.count, digits, IsCount-decimal x.count sound.some small) in
-    values_read (client_of x.client_nonce (Password x.password) (up_to x.limit)) (first_in x) (named_in x) (
+    let names : NamesServerFirst (first_in x) (named_in x) = record { nonce = nonce; salt = salt; count = count } in
+    values_read (client_of x.client_nonce x.secret x.limits) (first_in x) (named_in x) (
       λ few. few (codes "i=" ++ decimal x.count) digits,
       (
         not_extended (first_in x) (nonce_in x) nonce,
@@ -164,12 +214,13 @@ reads_server_first x sound =
       (
         λ none. none x.count count,
         (
-          not_too_small (first_in x) 1 x.count count sound.some,
-          (not_too_large (first_in x) x.limit x.count count sound.within, tt),
+          not_too_small (first_in x) x.limits.least x.count count sound.least,
+          (not_too_large (first_in x) x.limits.most x.count count sound.within, tt),
         ),
       ),
     )
-    (λ un. un sound.printable, tt) (record { nonce = nonce; salt = salt; count = count })
+    (secret_holds x.secret (first_in x) (named_in x) names
+    (opened x.version x.secret x.password x.salt x.count (nonce_in x) sound.opens).1) names
 
 -- client-final
 
@@ -232,7 +283,7 @@ reads_final server proof plain utf8 bytes sized meets =
       meets = meets;
     })
 
-reads_client_final : (x : Exchange) → IsSound x → ReadsClientFinal (server_in x) (answer_in x).message (Ok (final_in x))
+reads_client_final : (x : Exchange) → IsSound x → ReadsClientFinal (server_in x) (made_in x).message (Ok (final_in x))
 reads_client_final x sound =
     let v = x.version in
     let salted = salted_of v x.password x.salt x.count in
@@ -259,14 +310,16 @@ reads_signature signature bytes =
     same_signature signature text signature (signature_read text utf8 (base64_text signature) signature
     (_, only_part text plain, refl) (bytes, refl)) refl
 
-reads_server_final : (x : Exchange) → ReadsServerFinal (answer_in x).signature (server_final_of (server_in x) (final_in x))
+reads_server_final : (x : Exchange) → ReadsServerFinal (made_in x).signature (server_final_of (server_in x) (final_in x))
     (Ok tt)
-reads_server_final x = reads_signature (answer_in x).signature (IsBytes-hmac_of x.version _ _)
+reads_server_final x = reads_signature (made_in x).signature (IsBytes-hmac_of x.version _ _)
 
 pub succeeds : (x : Exchange) → IsSound x → Succeeds x
 succeeds x sound = record {
   client_first = reads_client_first x sound;
   server_first = reads_server_first x sound;
-  client_final = reads_client_final x sound;
-  server_final = reads_server_final x;
+  client_final = subst (λ (answer : Answer). ReadsClientFinal (server_in x) answer.message (Ok (final_in x)))
+      (sym (answered x sound)) (reads_client_final x sound);
+  server_final = subst (λ (answer : Answer). ReadsServerFinal answer.signature
+      (server_final_of (server_in x) (final_in x)) (Ok tt)) (sym (answered x sound)) (reads_server_final x);
 }
