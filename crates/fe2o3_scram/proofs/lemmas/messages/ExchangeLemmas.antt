@@ -141,7 +141,7 @@ not_extended text nonce is has =
     omega (arith, letter)
 
 -- a secret that opens a record answers by the keys of it, and serves for its salt and count
-opened : (version : ScramVersion) (secret : Secret) (password salt : List ℕ) (count : ℕ) (nonce : List ℕ)
+pub opened : (version : ScramVersion) (secret : Secret) (password salt : List ℕ) (count : ℕ) (nonce : List ℕ)
     → Opens version secret password salt count
     → (keys_for version secret (record { nonce = nonce; salt = salt; count = count })
     ≡ keys_of version password salt count)
