@@ -59,13 +59,12 @@ run = record {
 holds : HoldsLogin (sides_with unaltered) (codes "pencil") salt 4096
 holds = record {
   version = refl;
-  secret = refl;
   stored = refl;
   bytes = IsBytes-replicate 32 3 (omega arith);
-  printable = password_printable;
+  opens = (refl, password_printable);
   some = omega arith;
   least = omega arith;
-  most = omega arith;
+  within = omega arith;
 }
 
 -- no reply is a fault

@@ -6,7 +6,6 @@ use Rattle.std.specs.Str.{IsUtf8}
 use Rattle.std.proofs.lemmas.Fmt.{IsAscii-decimal}
 use Rattle.std.proofs.lemmas.Option.{same_Some}
 use Rattle.std.proofs.lemmas.Str.{IsUtf8-append, IsUtf8-from_ascii}
-use Rattle.base64.specs.GeneralPurpose.{IsBytes}
 use Rattle.fe2o3_sasl_wire.specs.declared.amqp_types.SaslCode.TheVariants as outcomes
 use Rattle.fe2o3_sasl_wire.specs.declared.sasl_frames.error.Error.{Error}
 use Rattle.fe2o3_sasl_wire.specs.SaslFrames.{canonical, SaslFrame}
@@ -15,10 +14,8 @@ use Rattle.fe2o3_scram.specs.declared.hmac.ScramVersion.{ScramVersion}
 use Rattle.fe2o3_scram.specs.Texts.{base64_text}
 use Rattle.fe2o3_scram.specs.ClientFirst.{client_first}
 use Rattle.fe2o3_sasl.specs.ClientHistory.{Answering, AnswersAt, ReadsChallenge, IsDue, NonceAt, OpenAnswer, is_start, is_answer, ends_answer}
-use Rattle.fe2o3_scram.specs.declared.client_secret.IterationLimits.{IterationLimits}
-use Rattle.fe2o3_scram.specs.ClientSecret.{Secret, Password, up_to}
-use Rattle.fe2o3_scram.specs.ServerFirst.{ServerFirst, ReadsServerFirst, client_of}
-use Rattle.fe2o3_scram.proofs.lemmas.messages.ServerFirstLemmas.{not_too_small}
+use Rattle.fe2o3_scram.specs.ClientKeys.{ClientKeys, keys_of}
+use Rattle.fe2o3_scram.specs.Keys.{client_proof}
 use Rattle.fe2o3_scram.specs.Escape.{escaped}
 use Rattle.fe2o3_sasl.specs.Events.{Given, Login, IsLogin, ServerSays, Challenged, Concluded, ClientSays, Started, Answered, Reported}
 use Rattle.fe2o3_scram.specs.Exchanges.{Exchange, IsSound, Succeeds, nonce_in, bare_in, record_in, first_in, named_in, answer_in, final_in}
@@ -27,16 +24,15 @@ use Rattle.fe2o3_sasl.specs.Laws.{ClientsLogIn, ServersLogIn}
 use Rattle.fe2o3_sasl.specs.Positions.{test_at, IsLastOpen}
 use Rattle.fe2o3_scram.specs.ClientFinal.{ReadsClientFinal, server_of}
 use Rattle.fe2o3_scram.specs.ServerFinal.{server_final_of, ReadsServerFinal}
-use Rattle.fe2o3_scram.specs.SaslprepAscii.{IsPrintable}
 use Rattle.fe2o3_sasl.specs.Bodies.{SpellsBody}
 use Rattle.fe2o3_sasl.specs.ServerHistory.{Challenging, Accepted, FitsAsInit, FitsAsResponse, FitsAt, Open, final_message, is_challenge, is_ok}
-use Rattle.fe2o3_sasl.specs.TwoSides.{Sides, sides_of, Histories, IsPlainInit, OkAt, Takes, Shows}
+use Rattle.fe2o3_sasl.specs.TwoSides.{Sides, sides_of, Histories, IsPlainInit, OkAt, Takes, Shows, client_message, keys_at}
 use Rattle.fe2o3_sasl.specs.UnalteredRuns.{UnalteredRun, Suffices, HoldsLogin, LogsIn, LogsInUnaltered, agreed_findings}
 use Rattle.fe2o3_sasl.specs.Audit.{AreAgreed, Lists, Audits}
 use Rattle.fe2o3_scram.proofs.lemmas.texts.AsciiLemmas.{IsUtf8-base64_text, IsUtf8-literal}
 use Rattle.fe2o3_scram.proofs.lemmas.texts.Base64Lemmas.{no_comma-base64_text}
 use Rattle.fe2o3_scram.proofs.lemmas.texts.EscapingLemmas.{no_comma-escaped}
-use Rattle.fe2o3_scram.proofs.lemmas.messages.ExchangeLemmas.{succeeds, two_parts, part_of, only_part, nonce_text}
+use Rattle.fe2o3_scram.proofs.lemmas.messages.ExchangeLemmas.{succeeds, opened, two_parts, part_of, only_part, nonce_text}
 use Rattle.fe2o3_sasl.proofs.lemmas.positions.PositionLemmas.{opens_here}
 use Rattle.fe2o3_sasl.proofs.lemmas.histories.OneServerHistoryLemmas.{one_fits}
 use Rattle.fe2o3_sasl.proofs.lemmas.frames.SpellingLemmas.{one_spelling, spells_mechanisms, spells_init, spells_challenge, spells_response, spells_outcome}
@@ -44,29 +40,30 @@ use Rattle.fe2o3_sasl.proofs.lemmas.unaltered.UnalteredReplyLemmas.{one_answerin
 
 -- ---- the exchange of a run
 
--- a login and its password, with the salt and the count of a record, and with the nonces of both sides
+-- a login with the password, the salt and the count of a record, and with the nonces of both sides
 abbrev exchange_of : Login → List ℕ → List ℕ → ℕ → List ℕ → List ℕ → Exchange
 exchange_of login password salt count mine theirs =
     record {
       version = login.version;
       user = login.user;
+      secret = login.secret;
+      limits = login.limits;
       password = password;
       salt = salt;
       count = count;
-      limit = login.limits.most;
       client_nonce = base64_text mine;
       server_nonce = base64_text theirs;
     }
 
-sound_exchange : (login : Login) (password salt : List ℕ) (count : ℕ) (mine theirs : List ℕ) → IsLogin login
-    → IsBytes salt → IsPrintable password → 1 ≤ count → count ≤ login.limits.most
-    → IsSound (exchange_of login password salt count mine theirs)
-sound_exchange login password salt count mine theirs is bytes printable some within = record {
-  printable = printable;
-  some = some;
-  within = within;
+sound_exchange : (sides : Sides) (password salt : List ℕ) (count : ℕ) (mine theirs : List ℕ) → IsLogin sides.login
+    → HoldsLogin sides password salt count → IsSound (exchange_of sides.login password salt count mine theirs)
+sound_exchange sides password salt count mine theirs is holds = record {
+  opens = holds.opens;
+  some = holds.some;
+  least = holds.least;
+  within = holds.within;
   limit = is.limit;
-  salt = bytes;
+  salt = holds.bytes;
   user = is.user;
   client_text = IsUtf8-base64_text mine;
   server_text = IsUtf8-base64_text theirs;
@@ -91,45 +88,6 @@ accepted_in x = record { challenge = challenge_in x; final = final_in x }
 -- its init, with this hostname
 abbrev init_in : Option (List ℕ) → Exchange → SaslFrame
 init_in hostname x = frames.Init (mechanism_name x.version) (Some (client_first x.user x.client_nonce)) hostname
-
--- a message that is read up to a limit is read within any limits up to it that its count keeps
-read_within : (nonce password text : List ℕ) (limits : IterationLimits) (first : ServerFirst)
-    → limits.least ≤ first.count
-    → ReadsServerFirst (client_of nonce (Password password) (up_to limits.most)) text (Ok first)
-    → ReadsServerFirst (client_of nonce (Password password) limits) text (Ok first)
-unfolding ReadsServerFirst
-read_within nonce password text limits first least is =
-    let none = is.0 in
-    let small = not_too_small text limits.least first.count is.1.count least in (
-      (
-        none.0,
-        (
-          none.1,
-          (
-            none.2,
-            (none.3, (none.4, (none.5, (none.6, (none.7, (small, (none.9, (none.10, tt))))))))),
-          ),
-        ),
-      ),
-      is.1,
-    )
-
--- the two sides, where the client has this secret
-abbrev having : Sides → Secret → Sides
-having sides secret = record {
-  login = record {
-    user = sides.login.user;
-    secret = secret;
-    version = sides.login.version;
-    limits = sides.login.limits;
-    hostname = sides.login.hostname;
-  };
-  client_events = sides.client_events;
-  client_replies = sides.client_replies;
-  provider = sides.provider;
-  server_events = sides.server_events;
-  server_replies = sides.server_replies;
-}
 
 -- the server-first message is UTF-8
 first_text : (x : Exchange) → IsSound x → IsUtf8 (first_in x)
@@ -206,14 +164,8 @@ one_pair R i j is only = record {
 
 -- ---- the run, event by event
 
-module _ (own : Sides) (password salt : List ℕ) (count : ℕ) (run : UnalteredRun (having own (Password password)))
-    (histories : Histories (having own (Password password))) 
-    (login : IsLogin (having own (Password password)).login)
-    (holds : HoldsLogin (having own (Password password)) password salt count)
-    (fits : Suffices (having own (Password password))) where
-  abbrev sides : Sides
-  sides = having own (Password password)
-
+module _ (sides : Sides) (password salt : List ℕ) (count : ℕ) (run : UnalteredRun sides) (histories : Histories sides)
+    (login : IsLogin sides.login) (holds : HoldsLogin sides password salt count) (fits : Suffices sides) where
   abbrev exchange : Exchange
   exchange = exchange_of sides.login password salt count run.offer.nonce run.init.nonce
 
@@ -221,8 +173,11 @@ module _ (own : Sides) (password salt : List ℕ) (count : ℕ) (run : Unaltered
   final_sent = final_message sides.provider (accepted_in exchange)
 
   sound : IsSound exchange
-  sound = sound_exchange sides.login password salt count run.offer.nonce run.init.nonce login holds.bytes
-      holds.printable holds.some holds.most
+  sound = sound_exchange sides password salt count run.offer.nonce run.init.nonce login holds
+
+  -- the client answers by the keys of the record
+  by_keys : keys_at sides.login (answering_in exchange) ≡ keys_of sides.login.version password salt count
+  by_keys = (opened sides.login.version sides.login.secret password salt count (nonce_in exchange) holds.opens).0
 
   meets : Succeeds exchange
   meets = succeeds exchange sound
@@ -289,8 +244,7 @@ module _ (own : Sides) (password salt : List ℕ) (count : ℕ) (run : Unaltered
     first_text exchange sound,
     refl,
     due,
-    read_within exchange.client_nonce password (first_in exchange) sides.login.limits (named_in exchange) holds.least
-        meets.server_first,
+    meets.server_first,
   )
 
   answers : (slice_get sides.client_replies 1 ≡ Some (Answered run.response.body))
@@ -410,7 +364,14 @@ module _ (own : Sides) (password salt : List ℕ) (count : ℕ) (run : Unaltered
   }
 
   shows : Shows sides 1 1 (answering_in exchange) (accepted_in exchange)
-  shows = record { body = run.response.body; answered = answers.0; answers = answers_at; ok = ok_at; one = refl }
+  shows = record {
+    body = run.response.body;
+    answered = answers.0;
+    answers = answers_at;
+    ok = ok_at;
+    one = ap (λ (keys : ClientKeys). client_proof keys.version keys.client_key
+        (client_message sides.login (answering_in exchange))) by_keys;
+  }
 
   ok_place : (n : ℕ) (accepted : Accepted) → OkAt sides n accepted → n ≡ 1
   ok_place n accepted ok = only_ok run.challenge.body run.outcome.body ok.body n
@@ -436,7 +397,7 @@ module _ (own : Sides) (password salt : List ℕ) (count : ℕ) (run : Unaltered
   are_agreed = (
     refl,
     record {
-      version = sym holds.version;
+      version = ap (λ (keys : ClientKeys). keys.version) by_keys ∙ sym holds.version;
       user = refl;
       nonce = refl;
       full_nonce = λ plain. refl;
@@ -472,13 +433,9 @@ module _ (own : Sides) (password salt : List ℕ) (count : ℕ) (run : Unaltered
     audit = audit;
   }
 
--- whatever secret is the password
 logs_in_by : (sides : Sides) → Histories sides → IsLogin sides.login → LogsInUnaltered sides
-logs_in_by sides histories login password salt count run holds fits = subst
-    (λ (secret : Secret). (run : UnalteredRun (having sides secret)) → Histories (having sides secret)
-    → IsLogin (having sides secret).login → HoldsLogin (having sides secret) password salt count
-    → Suffices (having sides secret) → LogsIn run salt count)
-    (sym holds.secret) (logs_in sides password salt count) run histories login holds fits
+logs_in_by sides histories login password salt count run holds fits =
+    logs_in sides password salt count run histories login holds fits
 
 pub clients_log_in : ClientsLogIn
 clients_log_in login events replies history is provider server_events server_replies server =
