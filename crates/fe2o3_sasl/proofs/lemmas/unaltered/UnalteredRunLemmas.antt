@@ -98,21 +98,9 @@ read_within : (nonce password text : List ℕ) (limits : IterationLimits) (first
     → ReadsServerFirst (client_of nonce (Password password) (up_to limits.most)) text (Ok first)
     → ReadsServerFirst (client_of nonce (Password password) limits) text (Ok first)
 unfolding ReadsServerFirst
-read_within nonce password text limits first least is =
-    let none = is.0 in
-    let small = not_too_small text limits.least first.count is.1.count least in (
-      (
-        none.0,
-        (
-          none.1,
-          (
-            none.2,
-            (none.3, (none.4, (none.5, (none.6, (none.7, (small, (none.9, (none.10, tt))))))))),
-          ),
-        ),
-      ),
-      is.1,
-    )
+read_within nonce password text limits first least ((a, (b, (c, (d, (e, (f, (g, (h, (i, rest))))))))), names) =
+    let small = not_too_small text limits.least first.count names.count least in
+    ((a, (b, (c, (d, (e, (f, (g, (h, (small, rest))))))))), names)
 
 -- the two sides, where the client has this secret
 abbrev having : Sides → Secret → Sides
