@@ -195,7 +195,7 @@ one_pair R i j is only = record {
 -- ---- the run, event by event
 
 module _ (own : Sides) (password salt : List ℕ) (count : ℕ) (run : UnalteredRun (having own (Password password)))
-    (histories : Histories (having own (Password password))) 
+    (histories : Histories (having own (Password password)))
     (login : IsLogin (having own (Password password)).login)
     (holds : HoldsLogin (having own (Password password)) password salt count)
     (fits : Suffices (having own (Password password))) where
