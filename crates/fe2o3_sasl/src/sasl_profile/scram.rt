@@ -148,9 +148,7 @@ impl<V: OfVersion> SaslScram<V> {
         if keys.scram_version() != V::version() {
             return None;
         }
-        Some(Self::of(ScramClient::with_password_and_keys(
-            username, password, keys,
-        )))
+        Some(Self::of(ScramClient::with_password_and_keys(username, password, keys)))
     }
 
     /// The same client, which refuses an iteration count above the limit.

@@ -45,10 +45,12 @@ pub(super) fn answer(
     let Ok(server_first) = str::from_utf8(challenge) else {
         return Err(ProfileError::Scram(ScramErrorKind::Utf8Error));
     };
-    let client_final = client.compute_client_final_message(alloc, server_first)?;
-    Ok(SaslResponse {
-        response: Binary(client_final),
-    })
+    match client.compute_client_final_message(alloc, server_first) {
+        Ok(client_final) => Ok(SaslResponse {
+            response: Binary(client_final),
+        }),
+        Err(kind) => Err(ProfileError::from(kind)),
+    }
 }
 
 /// Whether an outcome is believed. One of code Ok is tested for data before the client's state and
