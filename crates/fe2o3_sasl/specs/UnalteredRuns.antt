@@ -8,7 +8,9 @@ use Rattle.fe2o3_scram.specs.Texts.{base64_text}
 use Rattle.fe2o3_sasl.specs.ClientHistory.{ClientHistory}
 use Rattle.fe2o3_scram.specs.Credentials.{Provider, record_at, record_of}
 use Rattle.fe2o3_sasl.specs.Events.{Given, Login, IsLogin, ServerSays, Challenged, Concluded, Failed, ClientSays, Started, Answered, Reported, Refused, Frame}
-use Rattle.fe2o3_scram.specs.ClientSecret.{Password}
+use Rattle.fe2o3_scram.specs.declared.hmac.ScramVersion.{ScramVersion}
+use Rattle.fe2o3_scram.specs.ClientKeys.{keys_of}
+use Rattle.fe2o3_scram.specs.ClientSecret.{Secret, Password, Keys, Both}
 use Rattle.fe2o3_scram.specs.Hmac.{mechanism_name}
 use Rattle.fe2o3_scram.specs.SaslprepAscii.{IsPrintable}
 use Rattle.fe2o3_sasl.specs.ServerHistory.{ServerHistory}
@@ -56,11 +58,18 @@ pub record Suffices (sides : Sides) : Type 0 where
   pub client_small : (k : ℕ) → slice_get sides.client_replies k ≢ Some (Refused (Frame faults.TooLarge))
   pub server_small : (k : ℕ) → slice_get sides.server_replies k ≢ Some (Failed faults.TooLarge)
 
+-- the secret is this password, or its keys with this salt and this count, or it with keys of it (RFC 5802, section 3)
+abbrev pub IsOf : ScramVersion → Secret → List ℕ → List ℕ → ℕ → Type 0
+IsOf version (Password own) password salt count = own ≡ password
+IsOf version (Keys keys) password salt count = keys ≡ keys_of version password salt count
+IsOf version (Both own keys) password salt count =
+    (own ≡ password) × (keys ≡ keys_of version password keys.salt keys.count)
+
 -- the provider holds the record of the login's own password, with this salt and this count, and the client can
 -- use them
 pub record HoldsLogin (sides : Sides) (password salt : List ℕ) (count : ℕ) : Type 0 where
   pub version : sides.provider.version ≡ sides.login.version
-  pub secret : sides.login.secret ≡ Password password
+  pub secret : IsOf sides.login.version sides.login.secret password salt count
   pub stored : record_at sides.provider.records sides.login.user
       ≡ Some (record_of sides.login.version password salt count)
   pub bytes : IsBytes salt

@@ -99,10 +99,10 @@ pub fn repeated_findings()
     ensures server { RepeatedServerFindings }
 {}
 
-/// A client with a password logs in where no body is altered on the way, the server holds the record of
-/// that password, the password is printable ASCII, the count is from 1 on and within the client's limits,
-/// memory suffices on both sides, and no frame is too large; an audit of it has exactly two findings, and
-/// in both the sides agree.
+/// A client logs in where no body is altered on the way, the server holds the record of the client's
+/// password (or of the password whose keys it has, with the salt and the count of the record), that password
+/// is printable ASCII, the count is from 1 on and within the client's limits, memory suffices on both sides,
+/// and no frame is too large; an audit of it has exactly two findings, and in both the sides agree.
 pub fn unaltered_runs()
     ensures client { ClientsLogIn }
     ensures server { ServersLogIn }

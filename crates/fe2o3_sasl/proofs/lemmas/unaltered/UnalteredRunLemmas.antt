@@ -1,6 +1,6 @@
 -- An unaltered run logs in.
-use Rattle.std.proofs.Common.{◌≡◌, ◌≤◌, ◌<◌, ◌^◌, ℕ, zero, suc, Option, List, [], ◌∷◌, ◌++◌, codes, Some, None, length, refl, sym, ap, ◌∙◌, subst, arith, Result, Ok}
-use Rattle.std.specs.Prelude.{slice_get}
+use Rattle.std.proofs.Common.{◌≡◌, ◌≤◌, ◌<◌, ◌^◌, ℕ, zero, suc, Bool, true, false, Option, List, [], ◌∷◌, ◌++◌, codes, Some, length, refl, sym, ap, ◌∙◌, subst, arith, inr, Result, Ok}
+use Rattle.std.specs.Prelude.{slice_get, T, if◌then◌else◌}
 use Rattle.std.specs.Fmt.{decimal}
 use Rattle.std.specs.Str.{IsUtf8}
 use Rattle.std.proofs.lemmas.Fmt.{IsAscii-decimal}
@@ -14,25 +14,29 @@ use Rattle.fe2o3_sasl_wire.specs.SaslFrames as frames
 use Rattle.fe2o3_scram.specs.declared.hmac.ScramVersion.{ScramVersion}
 use Rattle.fe2o3_scram.specs.Texts.{base64_text}
 use Rattle.fe2o3_scram.specs.ClientFirst.{client_first}
-use Rattle.fe2o3_sasl.specs.ClientHistory.{Answering, AnswersAt, ReadsChallenge, IsDue, NonceAt, OpenAnswer, is_start, is_answer, ends_answer}
+use Rattle.fe2o3_sasl.specs.ClientHistory.{Answering, answer_at, AnswersAt, ReadsChallenge, IsDue, NonceAt, OpenAnswer, is_start, is_answer, ends_answer}
 use Rattle.fe2o3_scram.specs.declared.client_secret.IterationLimits.{IterationLimits}
-use Rattle.fe2o3_scram.specs.ClientSecret.{Secret, Password, up_to}
+use Rattle.fe2o3_scram.specs.ClientSecret.{Secret, Password, Keys, Both, up_to}
 use Rattle.fe2o3_scram.specs.ServerFirst.{ServerFirst, ReadsServerFirst, client_of}
-use Rattle.fe2o3_scram.proofs.lemmas.messages.ServerFirstLemmas.{not_too_small}
+use Rattle.fe2o3_scram.proofs.lemmas.messages.ServerFirstLemmas.{not_too_small, secret_holds}
+use Rattle.fe2o3_scram.proofs.lemmas.messages.FittingKeyLemmas.{fit_is, is_fit}
+use Rattle.fe2o3_scram.specs.ClientKeys.{ClientKeys, keys_of}
+use Rattle.fe2o3_scram.specs.Keys.{auth_message, client_proof}
+use Rattle.fe2o3_scram.specs.private.Serving.{Serves}
 use Rattle.fe2o3_scram.specs.Escape.{escaped}
 use Rattle.fe2o3_sasl.specs.Events.{Given, Login, IsLogin, ServerSays, Challenged, Concluded, ClientSays, Started, Answered, Reported}
-use Rattle.fe2o3_scram.specs.Exchanges.{Exchange, IsSound, Succeeds, nonce_in, bare_in, record_in, first_in, named_in, answer_in, final_in}
-use Rattle.fe2o3_scram.specs.Hmac.{mechanism_name}
+use Rattle.fe2o3_scram.specs.Exchanges.{Exchange, IsSound, Succeeds, nonce_in, bare_in, record_in, first_in, named_in, answer_in, server_in, final_in}
+use Rattle.fe2o3_scram.specs.Hmac.{digest, mechanism_name}
 use Rattle.fe2o3_sasl.specs.Laws.{ClientsLogIn, ServersLogIn}
 use Rattle.fe2o3_sasl.specs.Positions.{test_at, IsLastOpen}
-use Rattle.fe2o3_scram.specs.ClientFinal.{ReadsClientFinal, server_of}
+use Rattle.fe2o3_scram.specs.ClientFinal.{Answer, ReadsClientFinal, answer_by, fit, keys_for, server_of, without_proof}
 use Rattle.fe2o3_scram.specs.ServerFinal.{server_final_of, ReadsServerFinal}
 use Rattle.fe2o3_scram.specs.SaslprepAscii.{IsPrintable}
 use Rattle.fe2o3_sasl.specs.Bodies.{SpellsBody}
 use Rattle.fe2o3_sasl.specs.ServerHistory.{Challenging, Accepted, FitsAsInit, FitsAsResponse, FitsAt, Open, final_message, is_challenge, is_ok}
-use Rattle.fe2o3_sasl.specs.TwoSides.{Sides, sides_of, Histories, IsPlainInit, OkAt, Takes, Shows}
-use Rattle.fe2o3_sasl.specs.UnalteredRuns.{UnalteredRun, Suffices, HoldsLogin, LogsIn, LogsInUnaltered, agreed_findings}
-use Rattle.fe2o3_sasl.specs.Audit.{AreAgreed, Lists, Audits}
+use Rattle.fe2o3_sasl.specs.TwoSides.{Sides, sides_of, Histories, IsPlainInit, OkAt, Takes, Shows, keys_at}
+use Rattle.fe2o3_sasl.specs.UnalteredRuns.{UnalteredRun, Suffices, HoldsLogin, IsOf, LogsIn, agreed_findings}
+use Rattle.fe2o3_sasl.specs.Audit.{AreAgreed, IsStoredKey, Lists, Audits}
 use Rattle.fe2o3_scram.proofs.lemmas.texts.AsciiLemmas.{IsUtf8-base64_text, IsUtf8-literal}
 use Rattle.fe2o3_scram.proofs.lemmas.texts.Base64Lemmas.{no_comma-base64_text}
 use Rattle.fe2o3_scram.proofs.lemmas.texts.EscapingLemmas.{no_comma-escaped}
@@ -92,32 +96,38 @@ accepted_in x = record { challenge = challenge_in x; final = final_in x }
 abbrev init_in : Option (List ℕ) → Exchange → SaslFrame
 init_in hostname x = frames.Init (mechanism_name x.version) (Some (client_first x.user x.client_nonce)) hostname
 
--- a message that is read up to a limit is read within any limits up to it that its count keeps
-read_within : (nonce password text : List ℕ) (limits : IterationLimits) (first : ServerFirst)
-    → limits.least ≤ first.count
-    → ReadsServerFirst (client_of nonce (Password password) (up_to limits.most)) text (Ok first)
-    → ReadsServerFirst (client_of nonce (Password password) limits) text (Ok first)
-unfolding ReadsServerFirst
-read_within nonce password text limits first least ((a, (b, (c, (d, (e, (f, (g, (h, (i, rest))))))))), names) =
-    let small = not_too_small text limits.least first.count names.count least in
-    ((a, (b, (c, (d, (e, (f, (g, (h, (small, rest))))))))), names)
+-- the keys that a client answers by are those of the password, and its secret serves
+module _ (version : ScramVersion) (password : List ℕ) (first : ServerFirst) where
+  own_keys : (secret : Secret) → IsOf version secret password first.salt first.count
+      → keys_for version secret first ≡ keys_of version password first.salt first.count
+  own_keys (Password own) is = ap (λ (p : List ℕ). keys_of version p first.salt first.count) is
+  own_keys (Keys keys) is = is
+  own_keys (Both own keys) is = either (fit keys first) (fit_is keys first)
+    where
+      either : (fits : Bool) → (T fits → (first.salt ≡ keys.salt) × (first.count ≡ keys.count))
+          → (if fits then keys else keys_of version own first.salt first.count)
+          ≡ keys_of version password first.salt first.count
+      either true same = is.1 ∙ (λ i. keys_of version password ((sym (same tt).0) i) ((sym (same tt).1) i))
+      either false same = ap (λ (p : List ℕ). keys_of version p first.salt first.count) is.0
 
--- the two sides, where the client has this secret
-abbrev having : Sides → Secret → Sides
-having sides secret = record {
-  login = record {
-    user = sides.login.user;
-    secret = secret;
-    version = sides.login.version;
-    limits = sides.login.limits;
-    hostname = sides.login.hostname;
-  };
-  client_events = sides.client_events;
-  client_replies = sides.client_replies;
-  provider = sides.provider;
-  server_events = sides.server_events;
-  server_replies = sides.server_replies;
-}
+  own_serves : (secret : Secret) → IsOf version secret password first.salt first.count → IsPrintable password
+      → Serves secret first
+  own_serves (Password own) is printable = subst IsPrintable (sym is) printable
+  own_serves (Keys keys) is printable =
+      is_fit keys first (ap (λ (k : ClientKeys). k.salt) (sym is)) (ap (λ (k : ClientKeys). k.count) (sym is))
+  own_serves (Both own keys) is printable = inr (subst IsPrintable (sym is.0) printable)
+
+-- a message that is read by a password up to a limit is read by a secret that serves, within limits that it keeps
+read_within : (nonce password text : List ℕ) (secret : Secret) (limits : IterationLimits) (first : ServerFirst)
+    → limits.least ≤ first.count → Serves secret first
+    → ReadsServerFirst (client_of nonce (Password password) (up_to limits.most)) text (Ok first)
+    → ReadsServerFirst (client_of nonce secret limits) text (Ok first)
+unfolding ReadsServerFirst
+read_within nonce password text secret limits first least serves
+    ((a, (b, (c, (d, (e, (f, (g, (h, (i, (j, own)))))))))), names) =
+    let small = not_too_small text limits.least first.count names.count least in
+    let last = secret_holds secret text first names serves in
+    ((a, (b, (c, (d, (e, (f, (g, (h, (small, (j, last)))))))))), names)
 
 -- the server-first message is UTF-8
 first_text : (x : Exchange) → IsSound x → IsUtf8 (first_in x)
@@ -194,19 +204,25 @@ one_pair R i j is only = record {
 
 -- ---- the run, event by event
 
-module _ (own : Sides) (password salt : List ℕ) (count : ℕ) (run : UnalteredRun (having own (Password password)))
-    (histories : Histories (having own (Password password)))
-    (login : IsLogin (having own (Password password)).login)
-    (holds : HoldsLogin (having own (Password password)) password salt count)
-    (fits : Suffices (having own (Password password))) where
-  abbrev sides : Sides
-  sides = having own (Password password)
-
+module _ (sides : Sides) (password salt : List ℕ) (count : ℕ) (run : UnalteredRun sides)
+    (histories : Histories sides) (login : IsLogin sides.login) (holds : HoldsLogin sides password salt count)
+    (fits : Suffices sides) where
   abbrev exchange : Exchange
   exchange = exchange_of sides.login password salt count run.offer.nonce run.init.nonce
 
   abbrev final_sent : List ℕ
   final_sent = final_message sides.provider (accepted_in exchange)
+
+  -- the client's answer is that of the exchange
+  abbrev answer : Answer
+  answer = answer_at sides.login (answering_in exchange)
+
+  by_keys : keys_at sides.login (answering_in exchange) ≡ keys_of sides.login.version password salt count
+  by_keys = own_keys sides.login.version password (named_in exchange) sides.login.secret holds.secret
+
+  same_answer : answer ≡ answer_in exchange
+  same_answer = ap (λ (keys : ClientKeys). answer_by keys (bare_in exchange) (first_in exchange)
+      (without_proof (nonce_in exchange))) by_keys
 
   sound : IsSound exchange
   sound = sound_exchange sides.login password salt count run.offer.nonce run.init.nonce login holds.bytes
@@ -273,22 +289,23 @@ module _ (own : Sides) (password salt : List ℕ) (count : ℕ) (run : Unaltered
 
   challenge_read : ReadsChallenge sides.login (IsDue sides.client_events sides.client_replies 1) (first_in exchange)
       (Ok (answering_in exchange))
-  challenge_read = (
-    first_text exchange sound,
-    refl,
-    due,
-    read_within exchange.client_nonce password (first_in exchange) sides.login.limits (named_in exchange) holds.least
-        meets.server_first,
-  )
+  challenge_read = let own = own_serves sides.login.version password (named_in exchange) sides.login.secret
+      holds.secret holds.printable in (
+        first_text exchange sound,
+        refl,
+        due,
+        read_within exchange.client_nonce password (first_in exchange) sides.login.secret sides.login.limits
+            (named_in exchange) holds.least own meets.server_first,
+      )
 
   answers : (slice_get sides.client_replies 1 ≡ Some (Answered run.response.body))
-      × (canonical (frames.Response (answer_in exchange).message) ≡ Some run.response.body)
+      × (canonical (frames.Response answer.message) ≡ Some run.response.body)
   answers = client_answers sides.login sides.client_events sides.client_replies 1 run.challenge (first_in exchange)
       (answering_in exchange) run.response.body histories.client challenge_at challenge_spelled one_due challenge_read
       fits.client fits.client_small run.answered
 
-  response_spelled : SpellsBody run.response.body (Ok (frames.Response (answer_in exchange).message))
-  response_spelled = spells_response (answer_in exchange).message run.response.body answers.1
+  response_spelled : SpellsBody run.response.body (Ok (frames.Response answer.message))
+  response_spelled = spells_response answer.message run.response.body answers.1
 
   -- the server accepts
   challenged_open : IsLastOpen is_challenge is_ok sides.server_replies 1 0
@@ -314,17 +331,19 @@ module _ (own : Sides) (password salt : List ℕ) (count : ℕ) (run : Unaltered
       same_frame frame other e = cc
 
   response_fits : FitsAsResponse sides.provider (Open sides.provider sides.server_events sides.server_replies 1)
-      (frames.Response (answer_in exchange).message) (accepted_in exchange)
+      (frames.Response answer.message) (accepted_in exchange)
   response_fits = (
     is_open,
     subst (λ (version : ScramVersion). ReadsClientFinal
         (server_of version (bare_in exchange) (first_in exchange) (nonce_in exchange) (record_in exchange))
-        (answer_in exchange).message (Ok (final_in exchange))) (sym holds.version) meets.client_final,
+        answer.message (Ok (final_in exchange))) (sym holds.version)
+        (subst (λ (sent : Answer). ReadsClientFinal (server_in exchange) sent.message (Ok (final_in exchange)))
+        (sym same_answer) meets.client_final),
   )
 
   accepts : (slice_get sides.server_replies 1 ≡ Some (Concluded outcomes.Ok run.outcome.body))
       × (canonical (frames.Outcome outcomes.Ok (Some final_sent)) ≡ Some run.outcome.body)
-  accepts = server_accepts sides.provider sides.server_events sides.server_replies 1 run.response (answer_in exchange).message
+  accepts = server_accepts sides.provider sides.server_events sides.server_replies 1 run.response answer.message
       (accepted_in exchange) run.outcome.body histories.server response_at response_spelled one_open_challenge
       response_fits fits.server fits.server_small run.concluded
 
@@ -359,10 +378,12 @@ module _ (own : Sides) (password salt : List ℕ) (count : ℕ) (run : Unaltered
           (Ok (frames.Challenge other)) → text ≡ other
       same_text text other e = cc
 
-  verifier_read : ReadsServerFinal (answer_in exchange).signature final_sent (Ok tt)
-  verifier_read = subst (λ (version : ScramVersion). ReadsServerFinal (answer_in exchange).signature
+  verifier_read : ReadsServerFinal answer.signature final_sent (Ok tt)
+  verifier_read = subst (λ (version : ScramVersion). ReadsServerFinal answer.signature
       (server_final_of (server_of version (bare_in exchange) (first_in exchange) (nonce_in exchange)
-      (record_in exchange)) (final_in exchange)) (Ok tt)) (sym holds.version) meets.server_final
+      (record_in exchange)) (final_in exchange)) (Ok tt)) (sym holds.version)
+      (subst (λ (sent : Answer). ReadsServerFinal sent.signature (server_final_of (server_in exchange)
+      (final_in exchange)) (Ok tt)) (sym same_answer) meets.server_final)
 
   reports : slice_get sides.client_replies 2 ≡ Some (Reported outcomes.Ok (Some final_sent))
   reports = client_reports sides.login sides.client_events sides.client_replies 2 run.outcome final_sent
@@ -386,7 +407,7 @@ module _ (own : Sides) (password salt : List ℕ) (count : ℕ) (run : Unaltered
   ok_at = record {
     body = run.outcome.body;
     says = accepts.0;
-    accepts = (run.response, frames.Response (answer_in exchange).message, response_at, response_spelled, response_fits);
+    accepts = (run.response, frames.Response answer.message, response_at, response_spelled, response_fits);
   }
 
   takes : Takes sides 2 1 (accepted_in exchange)
@@ -398,7 +419,14 @@ module _ (own : Sides) (password salt : List ℕ) (count : ℕ) (run : Unaltered
   }
 
   shows : Shows sides 1 1 (answering_in exchange) (accepted_in exchange)
-  shows = record { body = run.response.body; answered = answers.0; answers = answers_at; ok = ok_at; one = refl }
+  shows = record {
+    body = run.response.body;
+    answered = answers.0;
+    answers = answers_at;
+    ok = ok_at;
+    one = ap (λ (keys : ClientKeys). client_proof keys.version keys.client_key
+        (auth_message (bare_in exchange) (first_in exchange) (without_proof (nonce_in exchange)))) by_keys;
+  }
 
   ok_place : (n : ℕ) (accepted : Accepted) → OkAt sides n accepted → n ≡ 1
   ok_place n accepted ok = only_ok run.challenge.body run.outcome.body ok.body n
@@ -424,7 +452,7 @@ module _ (own : Sides) (password salt : List ℕ) (count : ℕ) (run : Unaltered
   are_agreed = (
     refl,
     record {
-      version = sym holds.version;
+      version = ap (λ (keys : ClientKeys). keys.version) by_keys ∙ sym holds.version;
       user = refl;
       nonce = refl;
       full_nonce = λ plain. refl;
@@ -435,6 +463,9 @@ module _ (own : Sides) (password salt : List ℕ) (count : ℕ) (run : Unaltered
     refl,
     (plain_in exchange sound, refl, refl, refl),
   )
+
+  stored : IsStoredKey sides (answering_in exchange) (accepted_in exchange)
+  stored = ap (λ (keys : ClientKeys). digest keys.version keys.client_key) by_keys
 
   audit : Audits sides (agreed_findings run salt count)
   audit = record {
@@ -449,7 +480,7 @@ module _ (own : Sides) (password salt : List ℕ) (count : ℕ) (run : Unaltered
     shows = one_pair (λ k n. (answer : Answering) × (accepted : Accepted) × Shows sides k n answer accepted) 1 1
         (answering_in exchange, accepted_in exchange, shows) one_shown;
     verifier_verdicts = ((refl, (answering_in exchange, accepted_in exchange, takes, open_answer, are_agreed)), tt);
-    proof_verdicts = ((refl, (answering_in exchange, accepted_in exchange, shows, (refl, are_agreed))), tt);
+    proof_verdicts = ((refl, (answering_in exchange, accepted_in exchange, shows, (stored, are_agreed))), tt);
   }
 
   logs_in : LogsIn run salt count
@@ -460,20 +491,14 @@ module _ (own : Sides) (password salt : List ℕ) (count : ℕ) (run : Unaltered
     audit = audit;
   }
 
--- whatever secret is the password
-logs_in_by : (sides : Sides) → Histories sides → IsLogin sides.login → LogsInUnaltered sides
-logs_in_by sides histories login password salt count run holds fits = subst
-    (λ (secret : Secret). (run : UnalteredRun (having sides secret)) → Histories (having sides secret)
-    → IsLogin (having sides secret).login → HoldsLogin (having sides secret) password salt count
-    → Suffices (having sides secret) → LogsIn run salt count)
-    (sym holds.secret) (logs_in sides password salt count) run histories login holds fits
-
 pub clients_log_in : ClientsLogIn
-clients_log_in login events replies history is provider server_events server_replies server =
-    logs_in_by (sides_of login events replies provider server_events server_replies)
-    (record { client = history; server = server }) is
+clients_log_in login events replies history is provider server_events server_replies server password salt count run
+    holds fits =
+    logs_in (sides_of login events replies provider server_events server_replies) password salt count run
+    (record { client = history; server = server }) is holds fits
 
 pub servers_log_in : ServersLogIn
-servers_log_in provider events replies history login client_events client_replies is client =
-    logs_in_by (sides_of login client_events client_replies provider events replies)
-    (record { client = client; server = history }) is
+servers_log_in provider events replies history login client_events client_replies is client password salt count run
+    holds fits =
+    logs_in (sides_of login client_events client_replies provider events replies) password salt count run
+    (record { client = client; server = history }) is holds fits
