@@ -85,7 +85,8 @@ JudgesProof sides answer accepted (SameHash client_key recovered) =
     × HashCollision (keys_at sides.login answer).version client_key recovered
 JudgesProof sides answer accepted (SameMac client_key client_text server_key server_text) =
     IsStoredKey sides answer accepted
-    × ((keys_at sides.login answer).client_key ≡ recovered_at sides.provider accepted) × (client_key ≡ accepted.challenge.stored.stored_key) × (client_text ≡ client_message sides.login answer)
+    × ((keys_at sides.login answer).client_key ≡ recovered_at sides.provider accepted)
+    × (client_key ≡ accepted.challenge.stored.stored_key) × (client_text ≡ client_message sides.login answer)
     × (server_key ≡ accepted.challenge.stored.stored_key) × (server_text ≡ server_message accepted)
     × MessagesCollide sides answer accepted client_key server_key
 

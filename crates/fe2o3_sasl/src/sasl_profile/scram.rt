@@ -92,6 +92,17 @@ impl<V: OfVersion> SaslScram<V> {
         }
     }
 
+    /// The profile of a client of this version.
+    fn of_version(client: ScramClient) -> Option<Self>
+        ensures { MatchOption result (client.version ≢ V.version)
+            (λ scram. (client.version ≡ V.version) × (scram ≡ client)) }
+    {
+        if client.version() != V::version() {
+            return None;
+        }
+        Some(Self::of(client))
+    }
+
     /// A client of this user with this password, which accepts every iteration count from 1 on.
     pub fn new(username: String, password: String) -> Self
         ensures { ScramProfile result ≡ scram_profile (login_of V.version (string_bytes username)
@@ -118,10 +129,7 @@ impl<V: OfVersion> SaslScram<V> {
                   Initial;
             })) }
     {
-        if keys.scram_version() != V::version() {
-            return None;
-        }
-        Some(Self::of(ScramClient::with_keys(username, keys)))
+        Self::of_version(ScramClient::with_keys(username, keys))
     }
 
     /// A client of this user with this password and these keys (RFC 5802, section 3), which accepts every
@@ -145,10 +153,7 @@ impl<V: OfVersion> SaslScram<V> {
                   Initial;
             })) }
     {
-        if keys.scram_version() != V::version() {
-            return None;
-        }
-        Some(Self::of(ScramClient::with_password_and_keys(username, password, keys)))
+        Self::of_version(ScramClient::with_password_and_keys(username, password, keys))
     }
 
     /// The same client, which refuses an iteration count above the limit.

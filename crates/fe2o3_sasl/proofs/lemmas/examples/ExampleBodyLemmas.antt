@@ -100,7 +100,8 @@ short_response without proof short long =
     omega (arith, short, length-append without (44 ∷ (codes "p=" ++ base64_text proof)), length-base64_text proof long)
 
 pub short_ok : (answer : Answering) → length (codes "v=" ++ base64_text (answer_at login answer).signature) < 2 ^ 16
-short_ok answer = omega (arith, length-base64_text (answer_at login answer).signature (length-hmac_of login.version _ _))
+short_ok answer =
+    omega (arith, length-base64_text (answer_at login answer).signature (length-hmac_of login.version _ _))
 
 pub response_sent : (without proof : List ℕ) → length without < 2 ^ 15 → length proof ≡ 32
     → canonical (sends_response without proof) ≡ Some (body_of (sends_response without proof))

@@ -130,10 +130,12 @@ one_reading_of_outcome login IsOpen one (Some text) answer other h k = go answer
   where
     -- against one signature
     reads : (waits again : Answering) (first second : Result (Unit {0}) ScramErrorKind) → IsOpen waits → IsOpen again
-        → ReadsServerFinal (answer_at login waits).signature text first → ReadsServerFinal (answer_at login again).signature text second
+        → ReadsServerFinal (answer_at login waits).signature text first
+        → ReadsServerFinal (answer_at login again).signature text second
         → first ≡ second
     reads waits again first second opened too h k = one_server_final (answer_at login again).signature text first second
-        (subst (λ (x : Answering). ReadsServerFinal (answer_at login x).signature text first) (one waits again opened too) h) k
+        (subst (λ (x : Answering). ReadsServerFinal (answer_at login x).signature text first)
+        (one waits again opened too) h) k
 
     go : (a b : Result (Unit {0}) ScramErrorKind) → ReadsOutcome login IsOpen (Some text) a
         → ReadsOutcome login IsOpen (Some text) b → a ≡ b

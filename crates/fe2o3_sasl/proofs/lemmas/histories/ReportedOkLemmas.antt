@@ -64,7 +64,8 @@ module _ (login : Login) (Due : List ℕ → Type 0) (IsOpen : Answering → Typ
 -- a reported Ok stands on the signature of the open answer
 pub signature_of_ok : (login : Login) (events : List Given) (replies : List ClientSays) (m : ℕ) (text : List ℕ)
     → ClientHistory login events replies → slice_get replies m ≡ Some (Reported outcomes.Ok (Some text))
-    → (answer : Answering) × OpenAnswer login events replies m answer × HasSignature text (answer_at login answer).signature
+    → (answer : Answering) × OpenAnswer login events replies m answer
+    × HasSignature text (answer_at login answer).signature
 signature_of_ok login events replies m text history at =
     let event = some_at events m (omega (
       arith,

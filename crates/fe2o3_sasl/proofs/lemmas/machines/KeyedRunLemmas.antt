@@ -1,8 +1,7 @@
 -- A run of a SCRAM profile with the keys of a password, in which they are always of the salt and the count that the
 -- server names, is a run of the profile with that password.
-use Rattle.std.proofs.Common.{◌≡◌, ◌≢◌, ℕ, suc, Option, Some, None, List, [], ◌∷◌, refl, sym, ap, ◌∙◌, subst, inl, inr, Result, Ok, Err}
+use Rattle.std.proofs.Common.{◌≡◌, ◌≢◌, ℕ, suc, Option, Some, None, List, [], ◌∷◌, refl, ap, ◌∙◌, subst, inl, inr, Result, Ok, Err}
 use Rattle.std.specs.Prelude.{slice_get}
-use Rattle.std.specs.Str.{IsUtf8}
 use Rattle.fe2o3_sasl_wire.specs.declared.amqp_types.SaslCode.TheVariants as outcomes
 use Rattle.fe2o3_sasl_wire.specs.declared.sasl_frames.error.Error.{Error}
 use Rattle.fe2o3_sasl_wire.specs.SaslFrames.{canonical, SaslFrame}

@@ -219,7 +219,8 @@ one_answer client_states.Initial side text (Err fault) (Ok message) next last is
 one_answer client_states.Initial side text (Err fault) (Err kind) next last is too =
     λ i. (Err ((is.0 ∙ sym too.0) i), (is.1 ∙ sym too.1) i)
 one_answer (client_states.ClientFinalSent signature keys) side text (Ok message) other next last is too = absurd is
-one_answer (client_states.ClientFinalSent signature keys) side text (Err fault) (Ok message) next last is too = absurd too
+one_answer (client_states.ClientFinalSent signature keys) side text (Err fault) (Ok message) next last is too =
+    absurd too
 one_answer (client_states.ClientFinalSent signature keys) side text (Err fault) (Err kind) next last is too =
     λ i. (Err ((is.0 ∙ sym too.0) i), (is.1 ∙ sym too.1) i)
 one_answer (client_states.Complete keys) side text (Ok message) other next last is too = absurd is

@@ -1,5 +1,5 @@
 -- Each finding has one verdict.
-use Rattle.std.proofs.Common.{◌≡◌, ◌≢◌, ◌⊎◌, ℕ, Option, Some, None, List, [], ◌∷◌, length, refl, sym, ap, ◌∙◌, arith, codes, inl, inr}
+use Rattle.std.proofs.Common.{◌≡◌, ◌≢◌, ◌⊎◌, ℕ, Option, Some, None, List, [], ◌∷◌, length, refl, sym, ap, ◌∙◌, arith, inl, inr}
 use Rattle.fe2o3_sasl.specs.ClientHistory.{Answering}
 use Rattle.fe2o3_scram.specs.ClientKeys.{AreSized}
 use Rattle.fe2o3_scram.specs.Hmac.{digest, digest_len, hmac_of, exclusive_or}
@@ -102,7 +102,8 @@ record Shown (sides : Sides) (answer : Answering) (accepted : Accepted) : Type 0
 -- with the stored key, and where the client's key comes back out of the proof, the two HMAC values are one
 one_mac : (sides : Sides) (answer : Answering) (accepted : Accepted) → Shown sides answer accepted
     → IsStoredKey sides answer accepted → (keys_at sides.login answer).client_key ≡ recovered_at sides.provider accepted
-    → hmac_of (keys_at sides.login answer).version accepted.challenge.stored.stored_key (client_message sides.login answer)
+    → hmac_of (keys_at sides.login answer).version accepted.challenge.stored.stored_key
+    (client_message sides.login answer)
     ≡ hmac_of (keys_at sides.login answer).version accepted.challenge.stored.stored_key (server_message accepted)
 one_mac sides answer accepted shown stored recovers =
     let version = (keys_at sides.login answer).version in

@@ -3,7 +3,8 @@ use Rattle.std.specs.declared.alloc.Global.{Global}
 use Rattle.fe2o3_sasl.proofs.lemmas.steps.ProfileReplyLemmas.{challenge_refused}
 use Rattle.fe2o3_sasl.proofs.sasl_profile.scram_frames.answer.Goals as goal
 
-pub returns-in-Ok-compute_client_final_message-clause-answer : goal.returns-in-Ok-compute_client_final_message-clause-answer
+pub returns-in-Ok-compute_client_final_message-clause-answer
+    : goal.returns-in-Ok-compute_client_final_message-clause-answer
 returns-in-Ok-compute_client_final_message-clause-answer c = λ hostname nonce.
     inr (
       c.in-Ok.ensures.cases.1,
