@@ -19,7 +19,7 @@ use Rattle.fe2o3_scram.specs.Keys.{client_proof}
 use Rattle.fe2o3_scram.specs.Escape.{escaped}
 use Rattle.fe2o3_sasl.specs.Events.{Given, Login, IsLogin, ServerSays, Challenged, Concluded, ClientSays, Started, Answered, Reported}
 use Rattle.fe2o3_scram.specs.Exchanges.{Exchange, IsSound, Succeeds, nonce_in, bare_in, record_in, first_in, named_in, answer_in, final_in}
-use Rattle.fe2o3_scram.specs.Hmac.{mechanism_name}
+use Rattle.fe2o3_scram.specs.Hmac.{digest, mechanism_name}
 use Rattle.fe2o3_sasl.specs.Laws.{ClientsLogIn, ServersLogIn}
 use Rattle.fe2o3_sasl.specs.Positions.{test_at, IsLastOpen}
 use Rattle.fe2o3_scram.specs.ClientFinal.{ReadsClientFinal, server_of}
@@ -422,7 +422,18 @@ module _ (sides : Sides) (password salt : List ℕ) (count : ℕ) (run : Unalter
     shows = one_pair (λ k n. (answer : Answering) × (accepted : Accepted) × Shows sides k n answer accepted) 1 1
         (answering_in exchange, accepted_in exchange, shows) one_shown;
     verifier_verdicts = ((refl, (answering_in exchange, accepted_in exchange, takes, open_answer, are_agreed)), tt);
-    proof_verdicts = ((refl, (answering_in exchange, accepted_in exchange, shows, (refl, are_agreed))), tt);
+    proof_verdicts = (
+      (
+        refl,
+        (
+          answering_in exchange,
+          accepted_in exchange,
+          shows,
+          (ap (λ (keys : ClientKeys). digest keys.version keys.client_key) by_keys, are_agreed),
+        ),
+      ),
+      tt,
+    );
   }
 
   logs_in : LogsIn run salt count
