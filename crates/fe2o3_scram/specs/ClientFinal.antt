@@ -40,8 +40,7 @@ answer_values answer = record {
   keys = answer.keys;
 }
 
--- the answer by these keys (RFC 5802, section 3), from what stands before the proof of it; the messages stand in the
--- proof as they were sent
+-- the answer by these keys (RFC 5802, section 3); the messages stand in the proof as they were sent
 abbrev pub answer_by : ClientKeys → List ℕ → List ℕ → List ℕ → Answer
 answer_by keys bare text without =
     let auth = auth_message bare text without in
@@ -55,8 +54,7 @@ answer_by keys bare text without =
 abbrev pub fit : ClientKeys → ServerFirst → Bool
 fit keys first = pointwise nat_eq first.salt keys.salt && nat_eq first.count keys.count
 
--- the keys that a client answers by (RFC 5802, section 3): those of its password with the salt and the count that are
--- named, or its own
+-- the keys that a client answers by (RFC 5802, section 3)
 abbrev pub keys_for : ScramVersion → Secret → ServerFirst → ClientKeys
 keys_for version (Password password) first = keys_of version password first.salt first.count
 keys_for version (Keys keys) first = keys

@@ -19,13 +19,8 @@ pub record ClientKeys : Type 0 where
 
 -- these values
 abbrev pub keys_with : ScramVersion → List ℕ → ℕ → List ℕ → List ℕ → ClientKeys
-keys_with version salt count client server = record {
-  version = version;
-  salt = salt;
-  count = count;
-  client_key = client;
-  server_key = server;
-}
+keys_with version salt count client server =
+    record { version = version; salt = salt; count = count; client_key = client; server_key = server }
 
 -- the keys of a salted password (RFC 5802, section 3), which is of this salt and this count
 abbrev pub keys_of_salted : ScramVersion → List ℕ → ℕ → List ℕ → ClientKeys

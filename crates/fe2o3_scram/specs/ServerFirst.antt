@@ -41,8 +41,7 @@ pub record NamesServerFirst (text : List ℕ) (first : ServerFirst) : Type 0 whe
   pub salt : HasSalt text first.salt
   pub count : HasCount text first.count
 
--- what a client holds against a server-first message (RFC 5802, section 5): its nonce, its secret, and the iteration
--- counts that it accepts
+-- what a client holds against a server-first message (RFC 5802, section 5)
 pub record Client : Type 0 where
   pub nonce : List ℕ
   pub secret : Secret
@@ -81,8 +80,7 @@ count_tests limits text =
 abbrev pub NamesOther : ClientKeys → List ℕ → Type 0
 NamesOther keys text = ¬ (HasSalt text keys.salt × HasCount text keys.count)
 
--- its test of its own secret: a password that is needed can be prepared (RFC 4013, section 2), and keys alone are those
--- of the salt and the count that are named (RFC 5802, section 3)
+-- its test of its secret: a password that is needed (RFC 4013, section 2), and keys alone (RFC 5802, section 3)
 abbrev pub secret_tests : Secret → List ℕ → List (ScramErrorKind × Type 0)
 secret_tests (Password password) text = (NormalizeError, ¬ IsPrintable password) ∷ []
 secret_tests (Keys keys) text = (OtherKeys, NamesOther keys text) ∷ []

@@ -16,25 +16,16 @@ one_count_read client text first other reads too =
     let values : first ≡ other = cc in
     ap (λ (values : ServerFirst). hmac_count client.secret values) values
 
--- no answer costs more than four and the count that it names
-within_count : (secret : Secret) (first : ServerFirst) → hmac_count secret first ≤ first.count + 4
-within_count (Password password) first = omega (arith)
-within_count (Keys keys) first = omega (arith)
-within_count (Both password keys) first = go (fit keys first)
+-- each costs two at least, and at most four and the count that it names
+pub cost_within : (secret : Secret) (first : ServerFirst)
+    → (2 ≤ hmac_count secret first) × (hmac_count secret first ≤ first.count + 4)
+cost_within (Password password) first = (omega (arith), omega (arith))
+cost_within (Keys keys) first = (omega (arith), omega (arith))
+cost_within (Both password keys) first = go (fit keys first)
   where
-    go : (fits : Bool) → (if fits then 2 else (first.count + 4)) ≤ first.count + 4
-    go true = omega (arith)
-    go false = omega (arith)
-
--- each takes two at least
-pub two_at_least : (secret : Secret) (first : ServerFirst) → 2 ≤ hmac_count secret first
-two_at_least (Password password) first = omega (arith)
-two_at_least (Keys keys) first = omega (arith)
-two_at_least (Both password keys) first = go (fit keys first)
-  where
-    go : (fits : Bool) → 2 ≤ (if fits then 2 else (first.count + 4))
-    go true = omega (arith)
-    go false = omega (arith)
+    go : (fits : Bool) → let cost = if fits then 2 else (first.count + 4) in (2 ≤ cost) × (cost ≤ first.count + 4)
+    go true = (omega (arith), omega (arith))
+    go false = (omega (arith), omega (arith))
 
 pub costs_of_answer : {A : Type 0} (client : Client) (text : List ℕ) (result : Result A ScramErrorKind)
     (first : ServerFirst) (before after : ℕ) → ReadsServerFirst client text (Ok first)
@@ -45,6 +36,6 @@ costs_of_answer client text result first before after reads within answered most
       absurd (cc);
   answered = λ other too. let same = one_count_read client text first other reads too in rw same at answered;
   at_most = λ other too. let same = one_count_read client text first other reads too in rw same at most;
-  limited = let up_to = within_count client.secret first in omega (arith, within, most, up_to);
+  limited = let up_to = cost_within client.secret first in omega (arith, within, most, up_to.1);
   never_falls = rises;
 }

@@ -128,43 +128,28 @@ has_count_or text = found_with (attribute_text_or text 2 (codes "i=")) counted (
         go (inl (count, has)) = inl (count, (digits, is, has))
         go (inr none) = inr (no_count text digits is none)
 
-too_large_or : (text : List ℕ) (limit : ℕ) → Decided ((count : ℕ) × HasCount text count × (limit < count))
-too_large_or text limit = go (has_count_or text)
+-- whether a message names a count that passes this test
+some_count_or : (text : List ℕ) (Test : ℕ → Type 0) → ((count : ℕ) → Decided (Test count))
+    → Decided ((count : ℕ) × HasCount text count × Test count)
+some_count_or text Test test = go (has_count_or text)
   where
-    larger : (count : ℕ) → HasCount text count → Decided (limit < count)
-        → Decided ((count : ℕ) × HasCount text count × (limit < count))
-    larger count has (inl less) = inl (count, has, less)
-    larger count has (inr within) = inr (λ large. within
-        (subst (λ (other : ℕ). limit < other) (one_has_count text large.0 count large.1 has) large.2))
+    tested : (count : ℕ) → HasCount text count → Decided (Test count)
+        → Decided ((count : ℕ) × HasCount text count × Test count)
+    tested count has (inl holds) = inl (count, has, holds)
+    tested count has (inr fails) =
+        inr (λ some. fails (subst Test (one_has_count text some.0 count some.1 has) some.2))
 
-    go : Found (HasCount text) → Decided ((count : ℕ) × HasCount text count × (limit < count))
-    go (inl (count, has)) = larger count has (less_or limit count)
-    go (inr none) = inr (λ large. none large.0 large.1)
-
-too_small_or : (text : List ℕ) (least : ℕ) → Decided ((count : ℕ) × HasCount text count × (count < least))
-too_small_or text least = go (has_count_or text)
-  where
-    smaller : (count : ℕ) → HasCount text count → Decided (count < least)
-        → Decided ((count : ℕ) × HasCount text count × (count < least))
-    smaller count has (inl less) = inl (count, has, less)
-    smaller count has (inr within) = inr (λ small. within
-        (subst (λ (other : ℕ). other < least) (one_has_count text small.0 count small.1 has) small.2))
-
-    go : Found (HasCount text) → Decided ((count : ℕ) × HasCount text count × (count < least))
-    go (inl (count, has)) = smaller count has (less_or count least)
-    go (inr none) = inr (λ small. none small.0 small.1)
+    go : Found (HasCount text) → Decided ((count : ℕ) × HasCount text count × Test count)
+    go (inl (count, has)) = tested count has (test count)
+    go (inr none) = inr (λ some. none some.0 some.1)
 
 -- whether a message names this count, and the values that these keys are of
 this_count_or : (text : List ℕ) (count : ℕ) → Decided (HasCount text count)
-this_count_or text count = go (has_count_or text)
+this_count_or text count = go (some_count_or text (λ other. other ≡ count) (λ other. same_number_or other count))
   where
-    same : (other : ℕ) → HasCount text other → Decided (other ≡ count) → Decided (HasCount text count)
-    same other has (inl is) = inl (subst (HasCount text) is has)
-    same other has (inr differs) = inr (λ too. differs (one_has_count text other count has too))
-
-    go : Found (HasCount text) → Decided (HasCount text count)
-    go (inl (other, has)) = same other has (same_number_or other count)
-    go (inr none) = inr (none count)
+    go : Decided ((other : ℕ) × HasCount text other × (other ≡ count)) → Decided (HasCount text count)
+    go (inl (other, has, is)) = inl (subst (HasCount text) is has)
+    go (inr none) = inr (λ has. none (count, has, refl))
 
 pub names_values_or : (keys : ClientKeys) (text : List ℕ) → Decided (HasSalt text keys.salt × HasCount text keys.count)
 names_values_or keys text = both_or
@@ -195,7 +180,10 @@ salt_decided text = (none_or (attribute_text_or text 1 (codes "s=")), (none_or (
 count_decided : (limits : IterationLimits) (text : List ℕ) → AllDecided (count_tests limits text)
 count_decided limits text = (
   none_or (attribute_text_or text 2 (codes "i=")),
-  (none_or (has_count_or text), (too_small_or text limits.least, (too_large_or text limits.most, tt))),
+  (none_or (has_count_or text), (
+      some_count_or text (λ count. count < limits.least) (λ count. less_or count limits.least),
+      (some_count_or text (λ count. limits.most < count) (less_or limits.most), tt),
+    )),
 )
 
 pub some_server_first : (client : Client) (text : List ℕ)
