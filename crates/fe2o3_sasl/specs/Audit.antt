@@ -8,7 +8,6 @@ use Rattle.fe2o3_scram.specs.Credentials.{Provider}
 use Rattle.fe2o3_scram.specs.declared.hmac.ScramVersion.{ScramVersion}
 use Rattle.fe2o3_scram.specs.ClientFinal.{recovered_key}
 use Rattle.fe2o3_scram.specs.Hmac.{digest}
-use Rattle.fe2o3_scram.specs.Keys.{client_key}
 use Rattle.fe2o3_sasl.specs.Complete.{ServerComplete, ClientComplete}
 use Rattle.fe2o3_sasl.specs.declared.audit.Finding as code_finding
 use Rattle.fe2o3_sasl.specs.declared.audit.FindingKind as code_kind
@@ -17,7 +16,7 @@ use Rattle.fe2o3_sasl.specs.declared.audit.Parameters as code_parameters
 use Rattle.fe2o3_sasl.specs.declared.audit.Verdict as code_verdict
 use Rattle.fe2o3_sasl.specs.declared.audit.Verdict.TheVariants as verdicts
 use Rattle.fe2o3_sasl.specs.ServerHistory.{Accepted, full_nonce, server_at}
-use Rattle.fe2o3_sasl.specs.TwoSides.{Sides, sides_of, Histories, Takes, Shows, Agree, IsPlainInit, MessagesCollide, client_message, server_message, salted_at, server_key_at}
+use Rattle.fe2o3_sasl.specs.TwoSides.{Sides, sides_of, Histories, Takes, Shows, Agree, IsPlainInit, MessagesCollide, client_message, server_message, keys_at}
 
 -- the nonce of both sides, the salt and the iteration count
 pub record Parameters : Type 0 where
@@ -53,14 +52,10 @@ abbrev pub JudgesVerifier : Sides → Answering → Accepted → Verdict → Typ
 JudgesVerifier sides answer accepted (Agreed user nonce parameters) =
     AreAgreed sides answer accepted user nonce parameters
 JudgesVerifier sides answer accepted (SameMac client_key client_text server_key server_text) =
-    (client_key ≡ server_key_at sides.login answer) × (client_text ≡ client_message sides.login answer)
+    (client_key ≡ (keys_at sides.login answer).server_key) × (client_text ≡ client_message sides.login answer)
     × (server_key ≡ accepted.challenge.stored.server_key) × (server_text ≡ server_message accepted)
     × MessagesCollide sides answer accepted client_key server_key
 JudgesVerifier sides answer accepted verdict = ⊥
-
--- the client's ClientKey
-abbrev pub client_key_at : Login → Answering → List ℕ
-client_key_at login answer = client_key login.version (salted_at login answer)
 
 -- the key that the server recovered from the proof
 abbrev pub recovered_at : Provider → Accepted → List ℕ
@@ -73,8 +68,9 @@ pub record HashCollision (version : ScramVersion) (key other_key : List ℕ) : T
 
 -- the client's key is the one whose digest the server stores
 abbrev pub IsStoredKey : Sides → Answering → Accepted → Type 0
-IsStoredKey sides answer accepted = digest sides.login.version (client_key_at sides.login answer)
-    ≡ accepted.challenge.stored.stored_key
+IsStoredKey sides answer accepted =
+    let keys = keys_at sides.login answer in
+    digest keys.version keys.client_key ≡ accepted.challenge.stored.stored_key
 
 -- the verdict on a proof that the server accepted: the key was another; or both agree; or the client's key and
 -- the recovered one collide; or the AuthMessages do under the stored key
@@ -84,10 +80,12 @@ JudgesProof sides answer accepted (Agreed user nonce parameters) =
     IsStoredKey sides answer accepted × AreAgreed sides answer accepted user nonce parameters
 JudgesProof sides answer accepted (SameHash client_key recovered) =
     IsStoredKey sides answer accepted × (client_message sides.login answer ≢ server_message accepted)
-    × (client_key ≡ client_key_at sides.login answer) × (recovered ≡ recovered_at sides.provider accepted)
-    × (sides.login.version ≡ sides.provider.version) × HashCollision sides.login.version client_key recovered
+    × (client_key ≡ (keys_at sides.login answer).client_key) × (recovered ≡ recovered_at sides.provider accepted)
+    × ((keys_at sides.login answer).version ≡ sides.provider.version)
+    × HashCollision (keys_at sides.login answer).version client_key recovered
 JudgesProof sides answer accepted (SameMac client_key client_text server_key server_text) =
-    IsStoredKey sides answer accepted × (client_key_at sides.login answer ≡ recovered_at sides.provider accepted)
+    IsStoredKey sides answer accepted
+    × ((keys_at sides.login answer).client_key ≡ recovered_at sides.provider accepted)
     × (client_key ≡ accepted.challenge.stored.stored_key) × (client_text ≡ client_message sides.login answer)
     × (server_key ≡ accepted.challenge.stored.stored_key) × (server_text ≡ server_message accepted)
     × MessagesCollide sides answer accepted client_key server_key

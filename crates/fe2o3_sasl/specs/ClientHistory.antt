@@ -11,9 +11,9 @@ use Rattle.fe2o3_sasl_wire.specs.SaslFrames as frames
 use Rattle.fe2o3_scram.specs.declared.scram_messages.error.ScramErrorKind.{ScramErrorKind}
 use Rattle.fe2o3_scram.specs.declared.scram_messages.error.ScramErrorKind.TheVariants.{Utf8Error, IllegalClientState, ServerSignatureMismatch}
 use Rattle.fe2o3_scram.specs.Texts.{base64_text}
-use Rattle.fe2o3_scram.specs.ClientFinal.{answer_of}
+use Rattle.fe2o3_scram.specs.ClientFinal.{Answer, answer_of}
 use Rattle.fe2o3_scram.specs.ClientFirst.{client_first, client_first_bare}
-use Rattle.fe2o3_sasl.specs.Events.{Given, Login, ClientSays, Started, Answered, Reported, Refused, NotImplemented, Scram, Frame, OutOfMemory}
+use Rattle.fe2o3_sasl.specs.Events.{Given, Login, ClientSays, Started, Answered, Reported, Refused, NotImplemented, Frame, OutOfMemory, scram_fault}
 use Rattle.fe2o3_scram.specs.Hmac.{mechanism_name}
 use Rattle.fe2o3_sasl.specs.Positions.{OpenBy}
 use Rattle.fe2o3_scram.specs.ServerFinal.{ReadsServerFinal}
@@ -28,11 +28,11 @@ pub record Answering : Type 0 where
 
 -- what the client holds against a server-first message
 abbrev pub client_at : Login → List ℕ → Client
-client_at login nonce = client_of nonce login.password login.limit
+client_at login nonce = client_of nonce login.secret login.limits
 
--- its client-final message, and the signature that it waits for
-abbrev pub answer_at : Login → Answering → List ℕ × List ℕ
-answer_at login answer = answer_of login.version login.password
+-- its answer
+abbrev pub answer_at : Login → Answering → Answer
+answer_at login answer = answer_of login.version login.secret
     (client_first_bare login.user answer.nonce) answer.text answer.first
 
 -- the reply of a start: an init with the client-first message (AMQP 1.0, part 5, section 5.3.3.2)
@@ -45,7 +45,7 @@ says_start login event =
 -- the reply of an answer: a response with the client-final message
 abbrev pub says_answer : Login → Answering → ClientSays
 says_answer login answer = carried (Refused (Frame faults.TooLarge)) (λ body. Answered body)
-    (canonical (frames.Response (answer_at login answer).0))
+    (canonical (frames.Response (answer_at login answer).message))
 
 -- a challenge is read in this order: it is UTF-8, a challenge is due, and then every test of a server-first message
 abbrev pub ReadsChallenge : Login → (List ℕ → Type 0) → List ℕ → Result Answering ScramErrorKind → Type 0
@@ -62,10 +62,10 @@ abbrev pub ReadsOutcome : Login → (Answering → Type 0) → Option (List ℕ)
 ReadsOutcome login IsOpen None (Ok believed) = ⊥
 ReadsOutcome login IsOpen None (Err kind) = kind ≡ ServerSignatureMismatch
 ReadsOutcome login IsOpen (Some text) (Ok believed) = (answer : Answering) × IsOpen answer
-    × ReadsServerFinal (answer_at login answer).1 text (Ok believed)
+    × ReadsServerFinal (answer_at login answer).signature text (Ok believed)
 ReadsOutcome login IsOpen (Some text) (Err kind) =
     (((answer : Answering) → ¬ IsOpen answer) × (kind ≡ IllegalClientState))
-    ⊎ ((answer : Answering) × IsOpen answer × ReadsServerFinal (answer_at login answer).1 text (Err kind))
+    ⊎ ((answer : Answering) × IsOpen answer × ReadsServerFinal (answer_at login answer).signature text (Err kind))
 
 -- the reply to a body that spells this, where a challenge is due for these nonces and these answers are open
 abbrev pub ClientAnswers : Login → (List ℕ → Type 0) → (Answering → Type 0) → Given → Result SaslFrame Error
@@ -76,10 +76,10 @@ ClientAnswers login Due IsOpen event (Ok (frames.Mechanisms names)) says =
     ⊎ (¬ Contains names (mechanism_name login.version) × (says ≡ Refused NotImplemented))
 ClientAnswers login Due IsOpen event (Ok (frames.Challenge text)) says =
     ((answer : Answering) × ReadsChallenge login Due text (Ok answer) × (says ≡ says_answer login answer))
-    ⊎ ((kind : ScramErrorKind) × ReadsChallenge login Due text (Err kind) × (says ≡ Refused (Scram kind)))
+    ⊎ ((kind : ScramErrorKind) × ReadsChallenge login Due text (Err kind) × (says ≡ Refused (scram_fault kind)))
 ClientAnswers login Due IsOpen event (Ok (frames.Outcome outcomes.Ok more)) says =
     (ReadsOutcome login IsOpen more (Ok tt) × (says ≡ Reported outcomes.Ok more))
-    ⊎ ((kind : ScramErrorKind) × ReadsOutcome login IsOpen more (Err kind) × (says ≡ Refused (Scram kind)))
+    ⊎ ((kind : ScramErrorKind) × ReadsOutcome login IsOpen more (Err kind) × (says ≡ Refused (scram_fault kind)))
 ClientAnswers login Due IsOpen event (Ok (frames.Outcome code more)) says = says ≡ Reported code more
 ClientAnswers login Due IsOpen event (Ok frame) says = says ≡ Refused NotImplemented
 

@@ -7,6 +7,10 @@ use Rattle.fe2o3_sasl_wire.specs.declared.amqp_types.SaslCode.{SaslCode}
 use Rattle.fe2o3_sasl_wire.specs.declared.sasl_frames.error.Error.{Error}
 use Rattle.fe2o3_scram.specs.declared.hmac.ScramVersion.{ScramVersion}
 use Rattle.fe2o3_scram.specs.declared.scram_messages.error.ScramErrorKind.{ScramErrorKind}
+use Rattle.fe2o3_scram.specs.declared.scram_messages.error.ScramErrorKind.TheVariants as kinds
+use Rattle.fe2o3_scram.specs.declared.client_secret.IterationLimits.{IterationLimits}
+use Rattle.fe2o3_scram.specs.ClientKeys.{AreSized}
+use Rattle.fe2o3_scram.specs.ClientSecret.{Secret, Password, Keys, Both}
 use Rattle.fe2o3_scram.specs.Credentials.{Record}
 
 -- an event: the body of a frame as it came, and the 32 bytes that the answer takes where it takes a nonce
@@ -14,13 +18,13 @@ pub record Given : Type 0 where
   pub body : List ℕ
   pub nonce : List ℕ
 
--- what a client logs in with: version, user name and password, the highest iteration count that it accepts, and the
--- hostname that its init carries, if any (AMQP 1.0, part 5, section 5.3.3.2)
+-- what a client logs in with: user name, secret and version, the iteration counts that it accepts, and the hostname
+-- that its init carries, if any (AMQP 1.0, part 5, section 5.3.3.2)
 pub record Login : Type 0 where
-  pub version : ScramVersion
   pub user : List ℕ
-  pub password : List ℕ
-  pub limit : ℕ
+  pub secret : Secret
+  pub version : ScramVersion
+  pub limits : IterationLimits
   pub hostname : Option (List ℕ)
 
 -- a reply of a server: the body of a challenge, the code and the body of an outcome, or a fault
@@ -37,6 +41,11 @@ pub data ClientFault : Type 0 where
   OtherKeys : ClientFault
   Frame : (fault : Error) → ClientFault
   OutOfMemory : ClientFault
+
+-- the fault for a refusal of a SCRAM client
+abbrev pub scram_fault : ScramErrorKind → ClientFault
+scram_fault kinds.OtherKeys = OtherKeys
+scram_fault kind = Scram kind
 
 -- a reply of a client: the body of an init, the body of a response, an outcome that it reports, or a fault
 pub data ClientSays : Type 0 where
@@ -58,9 +67,14 @@ AreGiven events = (k : ℕ) (event : Given) → slice_get events k ≡ Some even
 -- what the code holds of a login: texts in UTF-8, and a limit of 32 bits
 pub record IsLogin (login : Login) : Type 0 where
   pub user : IsUtf8 login.user
-  pub password : IsUtf8 login.password
-  pub limit : login.limit < 2 ^ 32
+  pub limit : login.limits.most < 2 ^ 32
   pub hostname : (text : List ℕ) → login.hostname ≡ Some text → IsUtf8 text
+
+-- what the code holds of a secret: its keys are as long as a digest (RFC 5802, section 3)
+abbrev pub IsSecret : Secret → Type 0
+IsSecret (Password password) = Unit {0}
+IsSecret (Keys keys) = AreSized keys
+IsSecret (Both password keys) = AreSized keys
 
 -- what the code holds of a record: bytes, and a count of 32 bits
 pub record IsRecord (stored : Record) : Type 0 where

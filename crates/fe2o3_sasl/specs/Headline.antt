@@ -11,7 +11,7 @@ use Rattle.fe2o3_sasl.specs.Positions.{IsLastOpen}
 use Rattle.fe2o3_scram.specs.ServerFinal.{ReadsServerFinal}
 use Rattle.fe2o3_sasl.specs.Bodies.{SpellsBody}
 use Rattle.fe2o3_sasl.specs.ServerHistory.{Accepted, AcceptsAt, ServerHistory, is_challenge, is_ok, says_ok}
-use Rattle.fe2o3_sasl.specs.TwoSides.{Sides, sides_of, Takes, Agree, MessagesCollide, client_message, server_message, server_key_at}
+use Rattle.fe2o3_sasl.specs.TwoSides.{Sides, sides_of, Takes, Agree, MessagesCollide, client_message, server_message, keys_at}
 
 -- what a server answers Ok to, exactly
 pub record AnswersOkExactly (provider : Provider) (events : List Given) (replies : List ServerSays) : Type 0 where
@@ -30,7 +30,7 @@ pub record AnswersOkExactly (provider : Provider) (events : List Given) (replies
 abbrev pub SignedAt : Login → List Given → List ClientSays → ℕ → List ℕ → Type 0
 SignedAt login events replies m text = (event : Given) × (answer : Answering) × (slice_get events m ≡ Some event)
     × SpellsBody event.body (Ok (frames.Outcome outcomes.Ok (Some text)))
-    × OpenAnswer login events replies m answer × ReadsServerFinal (answer_at login answer).1 text (Ok tt)
+    × OpenAnswer login events replies m answer × ReadsServerFinal (answer_at login answer).signature text (Ok tt)
 
 -- what a client reports Ok on, exactly
 pub record ReportsOkExactly (login : Login) (events : List Given) (replies : List ClientSays) : Type 0 where
@@ -49,7 +49,7 @@ pub record VerifierAgrees (sides : Sides) (m : ℕ) (accepted : Accepted) : Type
   pub agrees : client_message sides.login answer ≡ server_message accepted
       → Agree sides.login sides.provider answer accepted
   pub collides : client_message sides.login answer ≢ server_message accepted → MessagesCollide sides answer accepted
-      (server_key_at sides.login answer) accepted.challenge.stored.server_key
+      (keys_at sides.login answer).server_key accepted.challenge.stored.server_key
 
 -- of the verifiers that the client took: each that a server issued, of whatever provider and history
 abbrev pub TakenVerifiersAgree : Login → List Given → List ClientSays → Type 0

@@ -1,5 +1,5 @@
 -- What holds of every history, and of every two. Each is the contract of a function of `laws`.
-use Rattle.std.specs.Prelude.{◌≡◌, ◌≢◌, ◌⊎◌, ℕ, suc, ◌<◌, ◌≤◌, Bool, true, false, Option, Some, None, List, length, take, slice_get, Ok}
+use Rattle.std.specs.Prelude.{◌≡◌, ◌≢◌, ◌⊎◌, ℕ, suc, ◌<◌, ◌≤◌, Bool, true, false, Option, Some, List, length, take, slice_get, Ok}
 use Rattle.std.specs.List.{Contains, filter}
 use Rattle.fe2o3_sasl_wire.specs.declared.amqp_types.SaslCode.{SaslCode}
 use Rattle.fe2o3_sasl_wire.specs.declared.amqp_types.SaslCode.TheVariants as outcomes
@@ -7,13 +7,16 @@ use Rattle.fe2o3_sasl_wire.specs.declared.sasl_frames.error.Error.TheVariants as
 use Rattle.fe2o3_sasl_wire.specs.SaslFrames.{IsBytes, SaslFrame}
 use Rattle.fe2o3_sasl_wire.specs.SaslFrames as frames
 use Rattle.fe2o3_sasl.specs.ClientHistory.{Answering, AnswersAt, OpenAnswer, ClientHistory, is_start, is_answer, ends_answer}
-use Rattle.fe2o3_scram.specs.ClientKeys.{keys_of}
+use Rattle.fe2o3_scram.specs.ClientKeys.{ClientKeys}
+use Rattle.fe2o3_scram.specs.ClientSecret.{Password, Keys}
+use Rattle.fe2o3_scram.specs.Laws.{AreKeysOf}
+use Rattle.fe2o3_scram.specs.ScramClient.{ClientSide}
 use Rattle.fe2o3_scram.specs.SaslprepAscii.{IsPrintable}
 use Rattle.fe2o3_scram.specs.Credentials.{Provider, Record, record_at}
-use Rattle.fe2o3_sasl.specs.Events.{Given, AreGiven, Login, IsLogin, IsRecord, ServerSays, Concluded, Failed, ClientSays, Refused, OtherKeys, OutOfMemory}
+use Rattle.fe2o3_sasl.specs.Events.{Given, AreGiven, Login, IsLogin, IsRecord, IsSecret, ServerSays, Concluded, Failed, ClientSays, Refused, OtherKeys, OutOfMemory}
 use Rattle.fe2o3_sasl.specs.Runs.{Runs, AcceptorSteps, ProfileReplies, ProfileSteps}
 use Rattle.fe2o3_sasl.specs.SaslAcceptor.{acceptor_machine, Acceptor, ScramAcceptor}
-use Rattle.fe2o3_sasl.specs.Profiles.{keyed_profile, scram_profile, profile_name, EitherSide, Profile, ScramProfile}
+use Rattle.fe2o3_sasl.specs.Profiles.{scram_profile, profile_name, Profile, ScramProfile}
 use Rattle.fe2o3_sasl.specs.Positions.{test_at, IsLastOpen}
 use Rattle.fe2o3_sasl.specs.Bodies.{SpellsBody}
 use Rattle.fe2o3_sasl.specs.ServerHistory.{Challenging, Accepted, AcceptsAt, Open, ServerHistory, is_challenge, is_ok, full_nonce, says_auth}
@@ -51,22 +54,25 @@ ProfileRunsAreHistories = (login : Login) (events : List Given) (replies : List 
 abbrev pub KeysFit : List ClientSays → Type 0
 KeysFit replies = (k : ℕ) → slice_get replies k ≢ Some (Refused OtherKeys)
 
--- where they are never, a run of a SCRAM profile with the keys that a login's password has with some salt and count is
--- a run of the login's profile (RFC 5802, section 3)
+-- where they are never, a run of a SCRAM profile with the keys of a password is a run of the profile with the password
+-- (RFC 5802, section 3)
 abbrev pub KeyedRunsAreRuns : Type 0
-KeyedRunsAreRuns = (login : Login) (salt : List ℕ) (count : ℕ) (events : List Given) (replies : List ClientSays)
-    (last : Profile) → IsPrintable login.password
-    → let keys = keys_of login.version login.password salt count in
-    Runs (ProfileSteps login.hostname) (keyed_profile login.user keys login.limit) events replies last → KeysFit replies
-    → (after : Profile) × Runs (ProfileSteps login.hostname) (scram_profile login) events replies after
+KeyedRunsAreRuns = (login : Login) (keys : ClientKeys) (password : List ℕ) (events : List Given)
+    (replies : List ClientSays) (last : Profile) → keys.version ≡ login.version → IsPrintable password
+    → AreKeysOf keys password
+    → Runs (ProfileSteps login.hostname) (scram_profile (record login { secret = Keys keys })) events replies last
+    → KeysFit replies
+    → (after : Profile)
+    × Runs (ProfileSteps login.hostname) (scram_profile (record login { secret = Password password })) events replies
+    after
 
--- and so (RFC 5802, section 3) a client history, of which all that is said of these holds
+-- and so (RFC 5802, section 3) a client history of the login with the password
 abbrev pub KeyedRunsAreHistories : Type 0
-KeyedRunsAreHistories = (login : Login) (salt : List ℕ) (count : ℕ) (events : List Given) (replies : List ClientSays)
-    (last : Profile) → IsPrintable login.password
-    → let keys = keys_of login.version login.password salt count in
-    Runs (ProfileSteps login.hostname) (keyed_profile login.user keys login.limit) events replies last → KeysFit replies
-    → ClientHistory login events replies
+KeyedRunsAreHistories = (login : Login) (keys : ClientKeys) (password : List ℕ) (events : List Given)
+    (replies : List ClientSays) (last : Profile) → keys.version ≡ login.version → IsPrintable password
+    → AreKeysOf keys password
+    → Runs (ProfileSteps login.hostname) (scram_profile (record login { secret = Keys keys })) events replies last
+    → KeysFit replies → ClientHistory (record login { secret = Password password }) events replies
 
 -- up to each position the outcomes Ok are no more than the challenges
 abbrev pub OksWithinChallenges : Type 0
@@ -116,9 +122,10 @@ AreMatched sides answer accepted =
     ((m n : ℕ) × Takes sides m n accepted × OpenAnswer sides.login sides.client_events sides.client_replies m answer)
     ⊎ ((k n : ℕ) × Shows sides k n answer accepted)
 
--- two histories that are so matched, over a record that the code holds, with equal AuthMessages
+-- two histories that are so matched, over a secret and a record that the code holds, with equal AuthMessages
 pub record MatchEqually (sides : Sides) (answer : Answering) (accepted : Accepted) : Type 0 where
   pub histories : Histories sides
+  pub secret : IsSecret sides.login.secret
   pub held : IsRecord accepted.challenge.stored
   pub matched : AreMatched sides answer accepted
   pub same : client_message sides.login answer ≡ server_message accepted
@@ -143,7 +150,7 @@ TakenVerifiersAreJudged = (sides : Sides) (m n : ℕ) (accepted : Accepted) → 
 -- each proof that the client showed and the server accepted has its verdict
 abbrev pub ShownProofsAreJudged : Type 0
 ShownProofsAreJudged = (sides : Sides) (k n : ℕ) (answer : Answering) (accepted : Accepted) → Histories sides
-    → IsRecord accepted.challenge.stored
+    → IsSecret sides.login.secret → IsRecord accepted.challenge.stored
     → Shows sides k n answer accepted → (verdict : Verdict) × JudgesProof sides answer accepted verdict
 
 -- and no other verdict
@@ -289,7 +296,7 @@ ServersWantMemory = (provider : Provider) (events : List Given) (replies : List 
 abbrev pub WantsAtProfile : Profile → SaslFrame → Type 0
 WantsAtProfile profile frame =
     ((names : List (List ℕ)) × Contains names (profile_name profile) × (frame ≡ frames.Mechanisms names))
-    ⊎ (((client : EitherSide) × (text : List ℕ) × (profile ≡ ScramProfile client) × (frame ≡ frames.Challenge text))
+    ⊎ (((client : ClientSide) × (text : List ℕ) × (profile ≡ ScramProfile client) × (frame ≡ frames.Challenge text))
     ⊎ ((code : SaslCode) × (text : List ℕ) × (frame ≡ frames.Outcome code (Some text))))
 
 -- likewise of a client's history

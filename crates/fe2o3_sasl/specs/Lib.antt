@@ -36,7 +36,7 @@ pub use Rattle.fe2o3_scram.specs.ClientFinal
 pub use Rattle.fe2o3_scram.specs.ServerFirstAnswers
 pub use Rattle.fe2o3_scram.specs.ServerFinal
 pub use Rattle.fe2o3_scram.specs.ClientKeys
+pub use Rattle.fe2o3_scram.specs.ClientSecret
 pub use Rattle.fe2o3_scram.specs.ScramClient
-pub use Rattle.fe2o3_scram.specs.KeyedScramClient
 pub use Rattle.fe2o3_scram.specs.ScramServer
 pub use Rattle.fe2o3_scram.specs.Exchanges

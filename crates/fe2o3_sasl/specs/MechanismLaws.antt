@@ -9,7 +9,7 @@ use Rattle.fe2o3_sasl_wire.specs.SaslFrames.{SaslFrame}
 use Rattle.fe2o3_scram.specs.declared.hmac.ScramVersion.TheVariants.{Sha1, Sha256, Sha512}
 use Rattle.fe2o3_sasl.specs.Events.{Login, ClientFault}
 use Rattle.fe2o3_sasl.specs.SaslAcceptor.{Acceptor, ScramAcceptor, PlainAcceptor, AnonymousAcceptor, acceptor_machine, acceptor_names, offered, ends_with, NoZero}
-use Rattle.fe2o3_sasl.specs.Profiles.{Profile, ScramProfile, ByPassword, ByKeys, PlainProfile, AnonymousProfile, ExternalProfile, profile_machine, profile_name, scram_profile}
+use Rattle.fe2o3_sasl.specs.Profiles.{Profile, ScramProfile, PlainProfile, AnonymousProfile, ExternalProfile, profile_machine, profile_name, scram_profile}
 
 -- an acceptor has one reply to each frame, and one acceptor after it
 abbrev pub OneAcceptorReply : Type 0
@@ -50,8 +50,7 @@ AnonymousLetsIn = EndsWith AnonymousAcceptor AnonymousProfile outcomes.Ok
 
 -- both are of one mechanism; EXTERNAL has no acceptor
 abbrev pub AreOfOneMechanism : Acceptor → Profile → Type 0
-AreOfOneMechanism (ScramAcceptor provider state) (ScramProfile (ByPassword client)) = client.version ≡ provider.version
-AreOfOneMechanism (ScramAcceptor provider state) (ScramProfile (ByKeys client)) = client.keys.version ≡ provider.version
+AreOfOneMechanism (ScramAcceptor provider state) (ScramProfile client) = client.version ≡ provider.version
 AreOfOneMechanism (PlainAcceptor user password) (PlainProfile other secret) = Unit {0}
 AreOfOneMechanism AnonymousAcceptor AnonymousProfile = Unit {0}
 AreOfOneMechanism acceptor profile = ⊥
@@ -71,12 +70,12 @@ abbrev pub Differ : List (List ℕ) → Type 0
 Differ [] = Unit {0}
 Differ (name ∷ names) = AllByRecursion (λ other. name ≢ other) names × Differ names
 
--- the profiles of the six mechanisms for one login
-abbrev pub six_profiles : Login → List Profile
-six_profiles login =
+-- the profiles of the six mechanisms for one login, and for this password
+abbrev pub six_profiles : Login → List ℕ → List Profile
+six_profiles login password =
     map (λ version. scram_profile (record login { version = version })) (Sha1 ∷ Sha256 ∷ Sha512 ∷ [])
-    ++ PlainProfile login.user login.password ∷ AnonymousProfile ∷ ExternalProfile ∷ []
+    ++ PlainProfile login.user password ∷ AnonymousProfile ∷ ExternalProfile ∷ []
 
 -- their names are six
 abbrev pub NamesDiffer : Type 0
-NamesDiffer = (login : Login) → Differ (map profile_name (six_profiles login))
+NamesDiffer = (login : Login) (password : List ℕ) → Differ (map profile_name (six_profiles login password))

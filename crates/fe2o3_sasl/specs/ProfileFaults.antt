@@ -5,8 +5,6 @@ use Rattle.fe2o3_sasl_wire.specs.declared.sasl_frames.error.Error.TheVariants as
 use Rattle.fe2o3_sasl_wire.specs.SaslFrames.{SaslFrame}
 use Rattle.fe2o3_scram.specs.declared.scram_messages.error.ScramErrorKind.{ScramErrorKind}
 use Rattle.fe2o3_scram.specs.declared.scram_messages.error.ScramErrorKind.TheVariants as kinds
-use Rattle.fe2o3_scram.specs.declared.scram_messages.error.KeyedClientError.{KeyedClientError}
-use Rattle.fe2o3_scram.specs.declared.scram_messages.error.KeyedClientError.TheVariants as keyed_faults
 use Rattle.fe2o3_sasl.specs.Events.{ClientFault, NotImplemented, Scram, OtherKeys, Frame, OutOfMemory}
 use Rattle.fe2o3_sasl.specs.declared.sasl_profile.error.ProfileError.{ProfileError}
 use Rattle.fe2o3_sasl.specs.declared.sasl_profile.error.ProfileError.TheVariants as faults
@@ -24,15 +22,11 @@ abbrev pub answered : {A : Type 0} → (A → SaslFrame) → Result A ProfileErr
 answered frame (Ok value) = Ok (frame value)
 answered frame (Err fault) = Err (client_fault fault)
 
--- the fault for a refusal of SCRAM: want of memory is not inside another fault
+-- the fault for a refusal of SCRAM: neither want of memory nor other keys are inside another fault
 abbrev pub fault_of_kind : ScramErrorKind → ProfileError
 fault_of_kind kinds.OutOfMemory = faults.OutOfMemory
+fault_of_kind kinds.OtherKeys = faults.OtherKeys
 fault_of_kind kind = faults.Scram kind
-
--- likewise for a refusal of a client with kept keys
-abbrev pub fault_of_keyed : KeyedClientError → ProfileError
-fault_of_keyed (keyed_faults.Scram kind) = fault_of_kind kind
-fault_of_keyed keyed_faults.OtherKeys = faults.OtherKeys
 
 -- likewise for a frame that is not read or not written
 abbrev pub fault_of_frame : Error → ProfileError

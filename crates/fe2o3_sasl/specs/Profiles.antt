@@ -10,57 +10,39 @@ use Rattle.fe2o3_scram.specs.declared.scram_messages.error.ScramErrorKind.TheVar
 use Rattle.fe2o3_scram.specs.Texts.{base64_text}
 use Rattle.fe2o3_scram.specs.ClientFirst.{client_first}
 use Rattle.fe2o3_scram.specs.ScramClient as client_states
-use Rattle.fe2o3_scram.specs.ScramClient.{ClientSide, started, AnswersIn, BelievesIn}
-use Rattle.fe2o3_scram.specs.declared.scram_messages.error.KeyedClientError.{KeyedClientError}
-use Rattle.fe2o3_scram.specs.declared.scram_messages.error.KeyedClientError.TheVariants as keyed_faults
-use Rattle.fe2o3_scram.specs.ClientKeys.{ClientKeys}
-use Rattle.fe2o3_scram.specs.KeyedScramClient.{KeyedSide, KeyedAnswersIn, KeyedBelievesIn, keyed_started, with_keys}
+use Rattle.fe2o3_scram.specs.ScramClient.{ClientSide, ClientState, started, AnswersIn, BelievesIn, with_state}
 use Rattle.fe2o3_scram.specs.Hmac.{mechanism_name}
-use Rattle.fe2o3_sasl.specs.Events.{Login, ClientFault, NotImplemented, Scram, OtherKeys, OutOfMemory}
-
--- a SCRAM client (RFC 5802, section 5), which answers by its password or by kept keys (section 3)
-pub data EitherSide : Type 0 where
-  ByPassword : (client : ClientSide) → EitherSide
-  ByKeys : (client : KeyedSide) → EitherSide
+use Rattle.fe2o3_sasl.specs.Events.{Login, ClientFault, NotImplemented, Scram, OutOfMemory, scram_fault}
 
 -- the profiles: SCRAM of the three versions, PLAIN, ANONYMOUS and EXTERNAL
 pub data Profile : Type 0 where
-  ScramProfile : (client : EitherSide) → Profile
+  ScramProfile : (client : ClientSide) → Profile
   PlainProfile : (user password : List ℕ) → Profile
   AnonymousProfile : Profile
   ExternalProfile : Profile
 
 -- the name of its mechanism
 abbrev pub profile_name : Profile → List ℕ
-profile_name (ScramProfile (ByPassword client)) = mechanism_name client.version
-profile_name (ScramProfile (ByKeys client)) = mechanism_name client.keys.version
+profile_name (ScramProfile client) = mechanism_name client.version
 profile_name (PlainProfile user password) = codes "PLAIN"
 profile_name AnonymousProfile = codes "ANONYMOUS"
 profile_name ExternalProfile = codes "EXTERNAL"
 
 -- its initial response, with this nonce
 abbrev pub initial_response : Profile → List ℕ → Option (List ℕ)
-initial_response (ScramProfile (ByPassword client)) nonce = Some (client_first client.user (base64_text nonce))
-initial_response (ScramProfile (ByKeys client)) nonce = Some (client_first client.user (base64_text nonce))
+initial_response (ScramProfile client) nonce = Some (client_first client.user (base64_text nonce))
 initial_response (PlainProfile user password) nonce = Some (0 ∷ user ++ 0 ∷ password)
 initial_response profile nonce = None
 
 -- the profile after its init
 abbrev pub after_init : Profile → List ℕ → Profile
-after_init (ScramProfile (ByPassword client)) nonce = ScramProfile (ByPassword (started client nonce))
-after_init (ScramProfile (ByKeys client)) nonce = ScramProfile (ByKeys (keyed_started client nonce))
+after_init (ScramProfile client) nonce = ScramProfile (started client nonce)
 after_init profile nonce = profile
 
 -- the frame of what a SCRAM client answers, or its refusal
 abbrev pub client_frame : {A : Type 0} → (A → SaslFrame) → Result A ScramErrorKind → Result SaslFrame ClientFault
 client_frame frame (Ok answer) = Ok (frame answer)
-client_frame frame (Err kind) = Err (Scram kind)
-
--- likewise of a client with kept keys (RFC 5802, section 3)
-abbrev pub keyed_frame : {A : Type 0} → (A → SaslFrame) → Result A KeyedClientError → Result SaslFrame ClientFault
-keyed_frame frame (Ok answer) = Ok (frame answer)
-keyed_frame frame (Err (keyed_faults.Scram kind)) = Err (Scram kind)
-keyed_frame frame (Err keyed_faults.OtherKeys) = Err OtherKeys
+client_frame frame (Err kind) = Err (scram_fault kind)
 
 -- the machine of a profile: from the profile, a hostname, a nonce and a frame to a reply and the profile after it
 abbrev pub profile_machine : Profile → Option (List ℕ) → List ℕ → SaslFrame → Result SaslFrame ClientFault → Profile
@@ -70,28 +52,18 @@ profile_machine profile hostname nonce (frames.Mechanisms names) reply next =
     × (reply ≡ Ok (frames.Init (profile_name profile) (initial_response profile nonce) hostname))
     × (next ≡ after_init profile nonce))
     ⊎ (¬ Contains names (profile_name profile) × (reply ≡ Err NotImplemented) × (next ≡ profile))
-profile_machine (ScramProfile (ByPassword client)) hostname nonce (frames.Challenge text) reply next =
-    (¬ IsUtf8 text × (reply ≡ Err (Scram Utf8Error)) × (next ≡ ScramProfile (ByPassword client)))
+profile_machine (ScramProfile client) hostname nonce (frames.Challenge text) reply next =
+    (¬ IsUtf8 text × (reply ≡ Err (Scram Utf8Error)) × (next ≡ ScramProfile client))
     ⊎ (IsUtf8 text × ((answer : Result (List ℕ) ScramErrorKind) × (after : ClientSide)
     × AnswersIn client.state client text answer after
-    × (reply ≡ client_frame (λ message. frames.Response message) answer) × (next ≡ ScramProfile (ByPassword after))))
-profile_machine (ScramProfile (ByKeys client)) hostname nonce (frames.Challenge text) reply next =
-    (¬ IsUtf8 text × (reply ≡ Err (Scram Utf8Error)) × (next ≡ ScramProfile (ByKeys client)))
-    ⊎ (IsUtf8 text × ((answer : Result (List ℕ) KeyedClientError) × (after : KeyedSide)
-    × KeyedAnswersIn client.state client text answer after
-    × (reply ≡ keyed_frame (λ message. frames.Response message) answer) × (next ≡ ScramProfile (ByKeys after))))
+    × (reply ≡ client_frame (λ message. frames.Response message) answer) × (next ≡ ScramProfile after)))
 profile_machine (ScramProfile client) hostname nonce (frames.Outcome outcomes.Ok None) reply next =
     (reply ≡ Err (Scram ServerSignatureMismatch)) × (next ≡ ScramProfile client)
-profile_machine (ScramProfile (ByPassword client)) hostname nonce (frames.Outcome outcomes.Ok (Some text)) reply next =
+profile_machine (ScramProfile client) hostname nonce (frames.Outcome outcomes.Ok (Some text)) reply next =
     (answer : Result (Unit {0}) ScramErrorKind) × (after : ClientSide)
     × BelievesIn client.state client text answer after
     × (reply ≡ client_frame (λ believed. frames.Outcome outcomes.Ok (Some text)) answer)
-    × (next ≡ ScramProfile (ByPassword after))
-profile_machine (ScramProfile (ByKeys client)) hostname nonce (frames.Outcome outcomes.Ok (Some text)) reply next =
-    (answer : Result (Unit {0}) ScramErrorKind) × (after : KeyedSide)
-    × KeyedBelievesIn client.state client text answer after
-    × (reply ≡ client_frame (λ believed. frames.Outcome outcomes.Ok (Some text)) answer)
-    × (next ≡ ScramProfile (ByKeys after))
+    × (next ≡ ScramProfile after)
 profile_machine profile hostname nonce (frames.Outcome code more) reply next =
     (reply ≡ Ok (frames.Outcome code more)) × (next ≡ profile)
 profile_machine profile hostname nonce frame reply next = (reply ≡ Err NotImplemented) × (next ≡ profile)
@@ -106,32 +78,26 @@ ProfileAllocates profile frame = ⊥
 
 -- a SCRAM profile before its first message
 abbrev pub scram_profile : Login → Profile
-scram_profile login = ScramProfile (ByPassword (record {
+scram_profile login = ScramProfile (record {
   user = login.user;
-  password = login.password;
-  version =
-      login.version;
-  limit = login.limit;
+  secret = login.secret;
+  version = login.version;
+  limits = login.limits;
   state = client_states.Initial;
-}))
+})
 
--- likewise one with these keys (RFC 5802, section 3), for this user, which refuses an iteration count above this limit
-abbrev pub keyed_profile : List ℕ → ClientKeys → ℕ → Profile
-keyed_profile user keys limit =
-    ScramProfile (ByKeys (record { user = user; keys = keys; limit = limit; state = client_states.Initial }))
+-- the state of its client; a profile that is not of SCRAM has sent no message of SCRAM
+abbrev pub profile_state : Profile → ClientState
+profile_state (ScramProfile client) = client.state
+profile_state profile = client_states.Initial
 
--- the same client, which refuses an iteration count above this limit
-abbrev pub with_limit : EitherSide → ℕ → EitherSide
-with_limit (ByPassword client) limit = ByPassword (record client { limit = limit })
-with_limit (ByKeys client) limit = ByKeys (record client { limit = limit })
+-- the same profile with its client in this state; one that is not of SCRAM stays as it is
+abbrev pub in_state : Profile → ClientState → Profile
+in_state (ScramProfile client) state = ScramProfile (with_state client state)
+in_state profile state = profile
 
 -- what a profile answers to a frame: what its machine replies, or want of memory, where the profile stays
 abbrev pub ProfileAnswers : Profile → Option (List ℕ) → List ℕ → SaslFrame → Result SaslFrame ClientFault → Profile
     → Type 0
 ProfileAnswers profile hostname nonce frame (Err OutOfMemory) next = ProfileAllocates profile frame × (next ≡ profile)
 ProfileAnswers profile hostname nonce frame answer next = profile_machine profile hostname nonce frame answer next
-
--- the client that answers by these keys (RFC 5802, section 3), or by its password where there are none
-abbrev pub either_side : ClientSide → Option ClientKeys → EitherSide
-either_side client None = ByPassword client
-either_side client (Some keys) = ByKeys (with_keys client keys)

@@ -6,6 +6,7 @@ use Rattle.fe2o3_sasl_wire.specs.AmqpTypes.{binary_bytes}
 use Rattle.fe2o3_sasl_wire.specs.SaslFrames.{canonical, SaslFrame}
 use Rattle.fe2o3_sasl_wire.specs.SaslFrames as frames
 use Rattle.fe2o3_scram.specs.declared.hmac.ScramVersion.{ScramVersion}
+use Rattle.fe2o3_scram.specs.ClientSecret.{Password, up_to}
 use Rattle.fe2o3_sasl.specs.Events.{Given, Login, ServerSays, Challenged, Concluded, Failed, ClientSays, Started, Answered, Reported, Refused, ClientFault, Frame, OutOfMemory}
 use Rattle.fe2o3_sasl.specs.Bodies.{SpellsBody, carried}
 use Rattle.fe2o3_sasl.specs.Profiles.{Profile, profile_machine, scram_profile, ProfileAllocates}
@@ -134,4 +135,4 @@ client_answer (Err fault) = Refused (client_fault fault)
 -- the login of these words, without a hostname
 abbrev pub login_of : ScramVersion → List ℕ → List ℕ → ℕ → Login
 login_of version user password limit =
-    record { version = version; user = user; password = password; limit = limit; hostname = None }
+    record { user = user; secret = Password password; version = version; limits = up_to limit; hostname = None }

@@ -3,14 +3,14 @@
 use Rattle.std.specs.Prelude.{◌≡◌, ◌≢◌, ℕ, Some, List, length, slice_get}
 use Rattle.fe2o3_sasl_wire.specs.declared.amqp_types.SaslCode.TheVariants as outcomes
 use Rattle.fe2o3_scram.specs.declared.hmac.ScramVersion.{ScramVersion}
-use Rattle.fe2o3_scram.specs.ClientFinal.{without_proof}
+use Rattle.fe2o3_scram.specs.ClientFinal.{keys_for, without_proof}
 use Rattle.fe2o3_scram.specs.ClientFirst.{client_first_bare}
 use Rattle.fe2o3_sasl.specs.ClientHistory.{Answering, AnswersAt, ClientHistory}
 use Rattle.fe2o3_scram.specs.Credentials.{Provider}
 use Rattle.fe2o3_sasl.specs.Events.{Given, Login, ServerSays, Concluded, ClientSays, Answered, Reported}
 use Rattle.fe2o3_scram.specs.Hmac.{hmac_of}
-use Rattle.fe2o3_scram.specs.Keys.{auth_message, client_proof, server_key, client_key}
-use Rattle.fe2o3_scram.specs.Pbkdf2Hi.{salted_of}
+use Rattle.fe2o3_scram.specs.ClientKeys.{ClientKeys}
+use Rattle.fe2o3_scram.specs.Keys.{auth_message, client_proof}
 use Rattle.fe2o3_sasl.specs.ServerHistory.{Accepted, AcceptsAt, ServerHistory, first_message, full_nonce, final_message}
 use Rattle.fe2o3_scram.specs.Texts.{Part, Parts}
 
@@ -24,18 +24,15 @@ abbrev pub server_message : Accepted → List ℕ
 server_message accepted = auth_message accepted.challenge.client.bare
     (first_message accepted.challenge) accepted.final.without
 
--- the client's SaltedPassword, from the salt and the count that the server-first message names
-abbrev pub salted_at : Login → Answering → List ℕ
-salted_at login answer = salted_of login.version login.password answer.first.salt answer.first.count
-
--- its ServerKey
-abbrev pub server_key_at : Login → Answering → List ℕ
-server_key_at login answer = server_key login.version (salted_at login answer)
+-- the keys that the client answers by: those of its password with the salt and the count that the server-first message
+-- names, or its own
+abbrev pub keys_at : Login → Answering → ClientKeys
+keys_at login answer = keys_for login.version login.secret answer.first
 
 -- its ClientProof
 abbrev pub proof_at : Login → Answering → List ℕ
-proof_at login answer = client_proof login.version (client_key login.version (salted_at login answer))
-    (client_message login answer)
+proof_at login answer =
+    client_proof (keys_at login answer).version (keys_at login answer).client_key (client_message login answer)
 
 -- a login, what a client was given and said, a provider, and what a server was given and said
 pub record Sides : Type 0 where
@@ -91,10 +88,10 @@ HasParts text n = (parts : List (List ℕ)) × Parts text parts × (length parts
 abbrev pub IsPlainInit : Accepted → Type 0
 IsPlainInit accepted = HasParts accepted.challenge.client.bare 2
 
--- both sides mean one login: one version, user name and client nonce and, where the init was plain, one full
+-- both sides mean one login: one version of keys, user name and client nonce and, where the init was plain, one full
 -- nonce, salt and count
 pub record Agree (login : Login) (provider : Provider) (answer : Answering) (accepted : Accepted) : Type 0 where
-  pub version : login.version ≡ provider.version
+  pub version : (keys_at login answer).version ≡ provider.version
   pub user : login.user ≡ accepted.challenge.client.user
   pub nonce : answer.nonce ≡ accepted.challenge.client.nonce
   pub full_nonce : IsPlainInit accepted → answer.first.nonce ≡ full_nonce accepted.challenge
@@ -109,5 +106,6 @@ pub record MacCollision (version : ScramVersion) (key text other_key other_text 
 -- the AuthMessages differ, and their HMAC values under these keys are one
 abbrev pub MessagesCollide : Sides → Answering → Accepted → List ℕ → List ℕ → Type 0
 MessagesCollide sides answer accepted client_key server_key =
-    (sides.login.version ≡ sides.provider.version) × MacCollision sides.login.version client_key
-    (client_message sides.login answer) server_key (server_message accepted)
+    let version = (keys_at sides.login answer).version in
+    (version ≡ sides.provider.version)
+    × MacCollision version client_key (client_message sides.login answer) server_key (server_message accepted)

@@ -9,7 +9,7 @@ use Rattle.fe2o3_sasl.specs.ClientHistory.{ClientHistory}
 use Rattle.fe2o3_scram.specs.Credentials.{Provider, record_at, record_of}
 use Rattle.fe2o3_sasl.specs.Events.{Given, Login, IsLogin, ServerSays, Challenged, Concluded, Failed, ClientSays, Started, Answered, Reported, Refused, Frame}
 use Rattle.fe2o3_scram.specs.Hmac.{mechanism_name}
-use Rattle.fe2o3_scram.specs.SaslprepAscii.{IsPrintable}
+use Rattle.fe2o3_scram.specs.Exchanges.{Opens}
 use Rattle.fe2o3_sasl.specs.ServerHistory.{ServerHistory}
 use Rattle.fe2o3_sasl.specs.TwoSides.{Sides, sides_of}
 use Rattle.fe2o3_sasl.specs.Audit.{Verdict, Agreed, Finding, OfVerifier, OfProof, Audits}
@@ -55,16 +55,17 @@ pub record Suffices (sides : Sides) : Type 0 where
   pub client_small : (k : ℕ) → slice_get sides.client_replies k ≢ Some (Refused (Frame faults.TooLarge))
   pub server_small : (k : ℕ) → slice_get sides.server_replies k ≢ Some (Failed faults.TooLarge)
 
--- the provider holds the record of the login's own password, with this salt and this count, and the client can
--- use them
-pub record HoldsLogin (sides : Sides) (salt : List ℕ) (count : ℕ) : Type 0 where
+-- the provider holds the record of a password with this salt and this count, which the client's secret opens and whose
+-- count it accepts
+pub record HoldsLogin (sides : Sides) (password salt : List ℕ) (count : ℕ) : Type 0 where
   pub version : sides.provider.version ≡ sides.login.version
   pub stored : record_at sides.provider.records sides.login.user
-      ≡ Some (record_of sides.login.version sides.login.password salt count)
+      ≡ Some (record_of sides.login.version password salt count)
   pub bytes : IsBytes salt
-  pub printable : IsPrintable sides.login.password
+  pub opens : Opens sides.login.version sides.login.secret password salt count
   pub some : 1 ≤ count
-  pub within : count ≤ sides.login.limit
+  pub least : sides.login.limits.least ≤ count
+  pub within : count ≤ sides.login.limits.most
 
 -- the values on which both sides agree
 abbrev pub agreed : {sides : Sides} → UnalteredRun sides → List ℕ → ℕ → Verdict
@@ -89,11 +90,11 @@ pub record LogsIn {sides : Sides} (run : UnalteredRun sides) (salt : List ℕ) (
       ≡ Challenged run.challenge.body ∷ Concluded outcomes.Ok run.outcome.body ∷ []
   pub audit : Audits sides (agreed_findings run salt count)
 
--- an unaltered run against the record of the login's own password, which the client can use, logs in, whatever
--- the nonces, where memory suffices and nothing is too large
+-- an unaltered run against a record that the client's secret opens logs in, whatever the nonces, where memory suffices
+-- and nothing is too large
 abbrev pub LogsInUnaltered : Sides → Type 0
-LogsInUnaltered sides = (salt : List ℕ) (count : ℕ) (run : UnalteredRun sides) → HoldsLogin sides salt count
-    → Suffices sides → LogsIn run salt count
+LogsInUnaltered sides = (password salt : List ℕ) (count : ℕ) (run : UnalteredRun sides)
+    → HoldsLogin sides password salt count → Suffices sides → LogsIn run salt count
 
 -- what that gives a client's history: it logs in with every server
 abbrev pub ClientLogsIn : Login → List Given → List ClientSays → Type 0

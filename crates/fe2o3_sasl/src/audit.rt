@@ -6,7 +6,7 @@
 //! one login, and, where not, which texts or keys of theirs collide.
 
 ghost use Rattle.std.specs.Prelude.{◌≡◌, IfOk, map};
-ghost use Rattle.fe2o3_scram.specs.ServerFirst.{no_limit};
+ghost use Rattle.fe2o3_scram.specs.ClientSecret.{no_limit};
 ghost use Rattle.fe2o3_sasl.specs.Audit.{AuditsEvents, finding_of};
 ghost use Rattle.fe2o3_sasl.specs.Runs.{given, login_of};
 ghost use Rattle.fe2o3_sasl.specs.declared.audit.AuditError.TheVariants.{OutOfMemory as NoMemory};

@@ -9,8 +9,7 @@ ghost use Rattle.fe2o3_sasl.specs.Laws.{OneServerHistory, OneClientHistory, Some
 
 pub use fe2o3_scram::laws::{
     base64_texts, clone_of_version, digests, each_text_is_read, escaped_names, kept_keys,
-    keyed_clients, mechanism_names, one_answer_each, parts, record_texts, unaltered_exchanges,
-    users_texts,
+    mechanism_names, one_answer_each, parts, record_texts, unaltered_exchanges, users_texts,
 };
 
 /// The headline theorem. Over every list of frame bodies, a SCRAM server answers Ok exactly when a
@@ -38,9 +37,8 @@ pub fn runs_are_histories()
     ensures profile { ProfileRunsAreHistories }
 {}
 
-/// A client that keeps the keys of its password runs as the client with the password, as long as servers
-/// name the salt and the count that the keys are of; so its run is a client history, and the headline
-/// holds of it.
+/// A client that keeps the keys of a password runs as the client with the password, as long as servers
+/// name the salt and the count that the keys are of; so its run is a client history of that login too.
 pub fn keyed_runs()
     ensures runs { KeyedRunsAreRuns }
     ensures histories { KeyedRunsAreHistories }
@@ -101,9 +99,11 @@ pub fn repeated_findings()
     ensures server { RepeatedServerFindings }
 {}
 
-/// A client logs in where no body is altered on the way, the server holds the record of its password,
-/// that password is printable ASCII, the count is from 1 to the client's limit, memory suffices on both
-/// sides, and no frame is too large; an audit of it has exactly two findings, and in both the sides agree.
+/// A client logs in where no body is altered on the way, its secret opens the record that the server holds
+/// (a printable password, the keys of the record's password, salt and count, or a password beside keys that
+/// are of another salt or count), the count is from 1 on and within the client's limits, memory suffices on
+/// both sides, and no frame is too large; an audit of it has exactly two findings, and in both the sides
+/// agree.
 pub fn unaltered_runs()
     ensures client { ClientsLogIn }
     ensures server { ServersLogIn }

@@ -32,25 +32,26 @@ pub use crate::sasl_profile::{
     Negotiation, ProfileError, SaslProfile, SaslScramSha1, SaslScramSha256, SaslScramSha512,
     UrlError,
 };
-pub use fe2o3_scram::client_keys::{KeyedClientError, ScramClientKeys};
+pub use fe2o3_scram::client_keys::ScramClientKeys;
+pub use fe2o3_scram::client_secret::{ClientSecret, IterationLimits};
 pub use fe2o3_scram::credentials::{
     AddRecordError, DEFAULT_SCRAM_ITERATIONS, ReadLinesError, ReadLinesErrorKind, RecordError,
     RecordTextError, ScramCredentialProvider, ScramCredentials, ScramRecord, SingleScramCredential,
     StoredPassword, StoredScramCredential, WriteLinesError,
 };
 pub use fe2o3_scram::hmac::{DigestBytes, Meter, ScramVersion, UnknownMechanism};
-pub use fe2o3_scram::keyed_scram_client::KeyedScramClient;
 pub use fe2o3_scram::keys::auth_message;
 pub use fe2o3_scram::pbkdf2_hi::KeyError;
 pub use fe2o3_scram::saslprep_ascii::{NormalizeError, saslprep};
 pub use fe2o3_scram::scram_client::ScramClient;
 pub use fe2o3_scram::scram_messages::{
-    ClientFinal, ClientFirst, ScramErrorKind, ServerFinal, ServerFirst, ServerFirstMessage,
-    ServerScramErrorKind, UnescapeError, XorLengthMismatch, escape_username, unescape_username,
+    ClientAnswer, ClientFinal, ClientFirst, ScramErrorKind, ServerFinal, ServerFirst,
+    ServerFirstMessage, ServerScramErrorKind, UnescapeError, XorLengthMismatch, escape_username,
+    unescape_username,
 };
 pub use fe2o3_scram::scram_server::ScramAuthenticator;
 pub use fe2o3_scram::{
-    client_keys, credentials, hmac, keyed_scram_client, keys, pbkdf2_hi, provider, saslprep_ascii,
+    client_keys, client_secret, credentials, hmac, keys, pbkdf2_hi, provider, saslprep_ascii,
     scram_client, scram_messages, scram_server,
 };
 pub use std::alloc::AllocError as OutOfMemory;

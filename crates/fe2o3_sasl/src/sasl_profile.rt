@@ -1,13 +1,16 @@
 //! The client's side of a negotiation: what it answers to the frames of a server (AMQP 1.0, part 5,
 //! section 5.3.2).
 
-ghost use Rattle.std.specs.Prelude.{◌≡◌, ◌↔◌, ◌++◌, ◌∷◌, Option, ℕ, List, IfOk, IfErr, OnOk, OnErr, IsSome, IsTrue, IsAscii, option_map, string_bytes};
+ghost use Rattle.std.specs.Prelude.{◌≡◌, ◌≢◌, ◌↔◌, ◌++◌, ◌∷◌, Option, Some, None, ℕ, List, IfOk, IfErr, OnOk, OnErr, MatchOption, IsSome, IsTrue, IsAscii, option_map, string_bytes};
 ghost use Rattle.std.specs.List.{Contains};
 ghost use Rattle.fe2o3_sasl_wire.specs.AmqpTypes.{binary_bytes, init_frame, response_frame, outcome_frame};
 ghost use Rattle.fe2o3_sasl_wire.specs.FrameView.{shown, viewed_frame};
 ghost use Rattle.fe2o3_sasl_wire.specs.Owned.{owned_frame};
 ghost use Rattle.fe2o3_sasl_wire.specs.SaslFrames.{Init, Challenge, Outcome};
-ghost use Rattle.fe2o3_sasl.specs.Profiles.{ScramProfile, PlainProfile, scram_profile, profile_name, initial_response, after_init, ProfileAnswers};
+ghost use Rattle.fe2o3_scram.specs.ClientKeys.{ClientKeys};
+ghost use Rattle.fe2o3_scram.specs.ScramClient.{Initial, ClientFirstSent, ClientFinalSent, answer_keys, login_keys};
+ghost use Rattle.fe2o3_scram.specs.Texts.{base64_text};
+ghost use Rattle.fe2o3_sasl.specs.Profiles.{ScramProfile, PlainProfile, scram_profile, profile_name, profile_state, in_state, initial_response, after_init, ProfileAnswers};
 ghost use Rattle.fe2o3_sasl.specs.ProfileFaults.{answered};
 ghost use Rattle.fe2o3_sasl.specs.Runs.{login_of};
 ghost use Rattle.fe2o3_sasl.specs.SaslProfile.{RefusesUrl, HasCredentials, negotiated_frame, profile_of};
@@ -15,7 +18,7 @@ ghost use Rattle.fe2o3_sasl.specs.private.Writing.{is_scram, AnswersAlways};
 
 mod error;
 mod scram;
-mod scram_side;
+mod scram_frames;
 
 use crate::OutOfMemory;
 use crate::mechanism_names::{ANONYMOUS, EXTERNAL, PLAIN, symbol_of};
@@ -23,9 +26,11 @@ pub use error::{ProfileError, UrlError};
 use fe2o3_sasl_wire::{
     Binary, Frame, FrameView, SaslCode, SaslInit, SaslMechanisms, SaslOutcome, SaslResponse, Symbol,
 };
+use fe2o3_scram::client_keys::ScramClientKeys;
 use fe2o3_scram::hmac::ScramVersion;
+use fe2o3_scram::scram_client::ScramClient;
 pub use scram::{SaslScram, SaslScramSha1, SaslScramSha256, SaslScramSha512};
-use scram_side::ScramSide;
+use scram_frames::{answer, believe, first_message};
 use std::alloc::{AllocError, Global};
 use std::fmt;
 use url::Url;
@@ -109,13 +114,89 @@ impl SaslProfile {
         ensures { profile_of result ≡ scram_profile (login_of version (string_bytes username)
             (string_bytes password) limit) }
     {
-        let client = ScramSide::by_password(username, password, version).with_iteration_limit(
-            limit,
-        );
+        let client = ScramClient::new(username, password, version).with_iteration_limit(limit);
         match version {
             ScramVersion::Sha1 => SaslProfile::ScramSha1(SaslScramSha1::of(client)),
             ScramVersion::Sha256 => SaslProfile::ScramSha256(SaslScramSha256::of(client)),
             ScramVersion::Sha512 => SaslProfile::ScramSha512(SaslScramSha512::of(client)),
+        }
+    }
+
+    /// The client of a profile of SCRAM.
+    fn client(&self) -> Option<&ScramClient>
+        ensures { MatchOption result (profile_state (profile_of self.now) ≡ Initial)
+            (λ client. profile_state (profile_of self.now) ≡ client.now.state) }
+    {
+        match self {
+            SaslProfile::Anonymous | SaslProfile::Plain { .. } | SaslProfile::External => None,
+            SaslProfile::ScramSha1(scram) => Some(&scram.client),
+            SaslProfile::ScramSha256(scram) => Some(&scram.client),
+            SaslProfile::ScramSha512(scram) => Some(&scram.client),
+        }
+    }
+
+    /// The keys of the login of SCRAM, once its server was believed, and `None` before and of another
+    /// profile. The next login by them takes two HMAC values, as long as the server keeps its salt and its
+    /// iteration count (RFC 5802, section 3).
+    pub fn keys(&self) -> Option<&ScramClientKeys>
+        ensures { MatchOption result (login_keys (profile_state (profile_of self.now)) ≡ None)
+            (λ keys. login_keys (profile_state (profile_of self.now)) ≡ Some keys.now) }
+    {
+        self.client()?.keys()
+    }
+
+    /// The nonce of the client-first message of SCRAM, where that is what the client sent last. A client
+    /// that is set down here is taken up by `initial_response` with it.
+    pub fn nonce(&self) -> Option<&[u8; 32]>
+        ensures { MatchOption result
+            ((nonce bare : List ℕ) → profile_state (profile_of self.now) ≢ ClientFirstSent nonce bare)
+            (λ nonce. (bare : List ℕ)
+            × (profile_state (profile_of self.now) ≡ ClientFirstSent (base64_text nonce.now) bare)) }
+    {
+        self.client()?.nonce()
+    }
+
+    /// The signature that a client of SCRAM waits for, where it has sent its client-final message last. A
+    /// client that is set down here is taken up by `waiting_for`.
+    pub fn server_signature(&self) -> Option<&[u8]>
+        ensures { MatchOption result ((signature : List ℕ) (keys : Option ClientKeys)
+            → profile_state (profile_of self.now) ≢ ClientFinalSent signature keys)
+            (λ signature. (keys : Option ClientKeys)
+            × (profile_state (profile_of self.now) ≡ ClientFinalSent signature.now keys)) }
+    {
+        self.client()?.server_signature()
+    }
+
+    /// The keys of the answer for which a client of SCRAM waits for a signature. They are for a client that
+    /// is set down: until the server is believed anybody may have named their salt, so do not keep them for
+    /// another login.
+    pub fn answer_keys(&self) -> Option<&ScramClientKeys>
+        ensures { MatchOption result (answer_keys (profile_state (profile_of self.now)) ≡ None)
+            (λ keys. answer_keys (profile_state (profile_of self.now)) ≡ Some keys.now) }
+    {
+        self.client()?.answer_keys()
+    }
+
+    /// The same profile, where the client-final message of SCRAM is what it sent last, and it waits for
+    /// this signature. With the keys of that answer it hands them out once the server is believed. A
+    /// profile that is not of SCRAM stays as it is.
+    pub fn waiting_for(self, server_signature: Vec<u8>, keys: Option<ScramClientKeys>) -> Self
+        ensures { profile_of result ≡ in_state (profile_of self) (ClientFinalSent server_signature.items keys) }
+    {
+        match self {
+            SaslProfile::ScramSha1(scram) => {
+                let client = scram.client.waiting_for(server_signature, keys);
+                SaslProfile::ScramSha1(SaslScramSha1::of(client))
+            }
+            SaslProfile::ScramSha256(scram) => {
+                let client = scram.client.waiting_for(server_signature, keys);
+                SaslProfile::ScramSha256(SaslScramSha256::of(client))
+            }
+            SaslProfile::ScramSha512(scram) => {
+                let client = scram.client.waiting_for(server_signature, keys);
+                SaslProfile::ScramSha512(SaslScramSha512::of(client))
+            }
+            profile => profile,
         }
     }
 
@@ -159,9 +240,15 @@ impl SaslProfile {
             SaslProfile::Plain { username, password } => {
                 Ok(Some(plain_message(alloc, username, password)?))
             }
-            SaslProfile::ScramSha1(scram) => Ok(Some(scram.client.first_message(alloc, nonce)?)),
-            SaslProfile::ScramSha256(scram) => Ok(Some(scram.client.first_message(alloc, nonce)?)),
-            SaslProfile::ScramSha512(scram) => Ok(Some(scram.client.first_message(alloc, nonce)?)),
+            SaslProfile::ScramSha1(scram) => {
+                Ok(Some(first_message(&mut scram.client, alloc, nonce)?))
+            }
+            SaslProfile::ScramSha256(scram) => {
+                Ok(Some(first_message(&mut scram.client, alloc, nonce)?))
+            }
+            SaslProfile::ScramSha512(scram) => {
+                Ok(Some(first_message(&mut scram.client, alloc, nonce)?))
+            }
         }
     }
 
@@ -282,9 +369,9 @@ impl SaslProfile {
             SaslProfile::Anonymous | SaslProfile::Plain { .. } | SaslProfile::External => {
                 Err(ProfileError::NotImplemented)
             }
-            SaslProfile::ScramSha1(scram) => scram.client.answer(alloc, challenge),
-            SaslProfile::ScramSha256(scram) => scram.client.answer(alloc, challenge),
-            SaslProfile::ScramSha512(scram) => scram.client.answer(alloc, challenge),
+            SaslProfile::ScramSha1(scram) => answer(&mut scram.client, alloc, challenge),
+            SaslProfile::ScramSha256(scram) => answer(&mut scram.client, alloc, challenge),
+            SaslProfile::ScramSha512(scram) => answer(&mut scram.client, alloc, challenge),
         }
     }
 
@@ -301,9 +388,9 @@ impl SaslProfile {
     {
         match self {
             SaslProfile::Anonymous | SaslProfile::Plain { .. } | SaslProfile::External => Ok(()),
-            SaslProfile::ScramSha1(scram) => scram.client.believe(alloc, outcome),
-            SaslProfile::ScramSha256(scram) => scram.client.believe(alloc, outcome),
-            SaslProfile::ScramSha512(scram) => scram.client.believe(alloc, outcome),
+            SaslProfile::ScramSha1(scram) => believe(&mut scram.client, alloc, outcome),
+            SaslProfile::ScramSha256(scram) => believe(&mut scram.client, alloc, outcome),
+            SaslProfile::ScramSha512(scram) => believe(&mut scram.client, alloc, outcome),
         }
     }
 }

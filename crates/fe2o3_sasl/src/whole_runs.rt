@@ -3,7 +3,7 @@
 
 ghost use Rattle.std.specs.Prelude.{◌≡◌, ◌<◌, ◌≤◌, ◌+◌, ◌++◌, ◌∷◌, [], map, IfOk, OnErr, vec_len, vec_capacity};
 ghost use Rattle.fe2o3_sasl_wire.specs.FrameView.{shown};
-ghost use Rattle.fe2o3_scram.specs.ServerFirst.{no_limit};
+ghost use Rattle.fe2o3_scram.specs.ClientSecret.{no_limit};
 ghost use Rattle.fe2o3_sasl.specs.ClientHistory.{ClientHistory};
 ghost use Rattle.fe2o3_sasl.specs.Events.{Login, IsLogin};
 ghost use Rattle.fe2o3_sasl.specs.ServerHistory.{ServerHistory};

@@ -6,6 +6,7 @@ use Rattle.fe2o3_sasl_wire.specs.SaslFrames.{canonical, fault_of, SaslFrame}
 use Rattle.fe2o3_sasl_wire.specs.SaslFrames as frames
 use Rattle.fe2o3_scram.specs.declared.hmac.ScramVersion.TheVariants.{Sha256}
 use Rattle.fe2o3_scram.specs.Texts.{base64_text, joined}
+use Rattle.fe2o3_scram.specs.ClientSecret.{Password, no_limit, up_to}
 use Rattle.fe2o3_scram.specs.Credentials.{Record, Provider, record_of}
 use Rattle.fe2o3_sasl.specs.ClientHistory.{Answering, answer_at, OpenAnswer}
 use Rattle.fe2o3_sasl.specs.Events.{Given, Login, IsLogin, IsRecord, Challenged, Concluded, Failed, Started, Answered, Reported, Refused, Frame}
@@ -44,10 +45,10 @@ salt = replicate 32 3
 -- the client's login
 abbrev pub login : Login
 login = record {
-  version = Sha256;
   user = codes "user";
-  password = codes "pencil";
-  limit = 4294967295;
+  secret = Password (codes "pencil");
+  version = Sha256;
+  limits = up_to no_limit;
   hostname = None;
 }
 
@@ -107,7 +108,7 @@ sends_response without proof = frames.Response (joined (without ∷ (codes "p=" 
 
 -- the verifier with the signature that the client waits for
 abbrev pub verifier : Answering → List ℕ
-verifier answer = codes "v=" ++ base64_text (answer_at login answer).1
+verifier answer = codes "v=" ++ base64_text (answer_at login answer).signature
 
 -- the outcome Ok with it
 abbrev pub sends_ok : Answering → SaslFrame
@@ -194,7 +195,7 @@ unaltered = record { nonce = server_nonce; init = []; challenge = []; response =
 abbrev pub PremisesCanBeMet : Type 0
 PremisesCanBeMet =
     let sides = sides_with unaltered in
-    UnalteredRun sides × Histories sides × IsLogin login × HoldsLogin sides salt 4096 × Suffices sides
+    UnalteredRun sides × Histories sides × IsLogin login × HoldsLogin sides (codes "pencil") salt 4096 × Suffices sides
 
 -- ---- the shifted text
 

@@ -72,11 +72,11 @@ ClientKeeps login place init event (Refused fault) start next shown shown' taken
 abbrev pub login_at : Words → Login
 login_at words = login_of words.version words.user.now words.password.now words.limit
 
--- the keys that the login's password has with this salt and this count
-abbrev pub AreKeys : Login → List ℕ → ℕ → ClientKeys → Type 0
-AreKeys login salt count keys = keys ≡ keys_of login.version login.password salt count
+-- the keys that the password has with this salt and this count
+abbrev pub AreKeys : Words → List ℕ → ℕ → ClientKeys → Type 0
+AreKeys words salt count keys = keys ≡ keys_of words.version words.password.now salt count
 
 -- what is kept, if anything, are the keys of its salt and its count
-abbrev pub KeptKeys : Login → Option ClientKeys → Type 0
-KeptKeys login None = Unit {0}
-KeptKeys login (Some keys) = AreKeys login keys.salt keys.count keys
+abbrev pub KeptKeys : Words → Option ClientKeys → Type 0
+KeptKeys words None = Unit {0}
+KeptKeys words (Some keys) = AreKeys words keys.salt keys.count keys

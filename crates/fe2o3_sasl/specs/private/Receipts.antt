@@ -5,11 +5,11 @@ use Rattle.fe2o3_sasl_wire.specs.declared.amqp_types.SaslCode.TheVariants as out
 use Rattle.fe2o3_scram.specs.Credentials.{Provider}
 use Rattle.fe2o3_scram.specs.Hmac.{digest}
 use Rattle.fe2o3_scram.specs.Texts.{Part}
-use Rattle.fe2o3_sasl.specs.Audit.{Parameters, AreParameters, client_key_at, recovered_at}
+use Rattle.fe2o3_sasl.specs.Audit.{Parameters, AreParameters, recovered_at}
 use Rattle.fe2o3_sasl.specs.ClientHistory.{Answering, AnswersAt, OpenAnswer}
 use Rattle.fe2o3_sasl.specs.Events.{Given, Login, IsRecord, ServerSays, Concluded, ClientSays, Answered, Reported}
 use Rattle.fe2o3_sasl.specs.ServerHistory.{Accepted, AcceptsAt, final_message}
-use Rattle.fe2o3_sasl.specs.TwoSides.{client_message, server_message, server_key_at, proof_at}
+use Rattle.fe2o3_sasl.specs.TwoSides.{client_message, server_message, keys_at, proof_at}
 
 -- of a position of the client: what it showed or took there, and the AuthMessage and the keys of its answer
 pub record ClientReceipt : Type 0 where
@@ -37,9 +37,9 @@ pub record ServerReceipt : Type 0 where
 -- the receipt is of this answer
 pub record OfAnswer (login : Login) (answer : Answering) (receipt : ClientReceipt) : Type 0 where
   pub message : receipt.message ≡ client_message login answer
-  pub client_key : receipt.client_key ≡ client_key_at login answer
-  pub stored_key : receipt.stored_key ≡ digest login.version (client_key_at login answer)
-  pub server_key : receipt.server_key ≡ server_key_at login answer
+  pub client_key : receipt.client_key ≡ (keys_at login answer).client_key
+  pub stored_key : receipt.stored_key ≡ digest (keys_at login answer).version (keys_at login answer).client_key
+  pub server_key : receipt.server_key ≡ (keys_at login answer).server_key
 
 -- the receipt is of this accepted response
 pub record OfAccepted (provider : Provider) (accepted : Accepted) (receipt : ServerReceipt) : Type 0 where

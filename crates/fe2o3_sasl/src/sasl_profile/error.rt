@@ -2,15 +2,14 @@
 
 ghost use Rattle.std.specs.Prelude.{◌≡◌};
 ghost use Rattle.fe2o3_sasl.specs.declared.sasl_profile.error.ProfileError.TheVariants.{OutOfMemory};
-ghost use Rattle.fe2o3_sasl.specs.ProfileFaults.{fault_of_kind, fault_of_keyed, fault_of_frame};
+ghost use Rattle.fe2o3_sasl.specs.ProfileFaults.{fault_of_kind, fault_of_frame};
 
 use fe2o3_sasl_wire::Error;
-use fe2o3_scram::client_keys::KeyedClientError;
 use fe2o3_scram::scram_messages::ScramErrorKind;
 use std::alloc::AllocError;
 
-/// Why a profile does not answer. Want of memory is always `OutOfMemory`, and never inside another
-/// fault.
+/// Why a profile does not answer. Want of memory is always `OutOfMemory`, and other keys are always
+/// `OtherKeys`: neither is inside another fault.
 #[derive(Clone, Copy, Debug, PartialEq, Eq, thiserror::Error)]
 pub enum ProfileError {
     /// The frame is none that the profile answers, or the server does not have its mechanism.
@@ -21,8 +20,8 @@ pub enum ProfileError {
     #[error("Scram")]
     Scram(ScramErrorKind),
 
-    /// The server names another salt or another iteration count than the kept keys are of. The password
-    /// is needed.
+    /// The server names another salt or another iteration count than the kept keys are of, and the client
+    /// has no password, which is needed.
     #[error("The keys are of another salt or iteration count")]
     OtherKeys,
 
@@ -41,18 +40,8 @@ impl From<ScramErrorKind> for ProfileError {
     fn from(kind: ScramErrorKind) -> Self {
         match kind {
             ScramErrorKind::OutOfMemory => ProfileError::OutOfMemory,
+            ScramErrorKind::OtherKeys => ProfileError::OtherKeys,
             kind => ProfileError::Scram(kind),
-        }
-    }
-}
-
-impl From<KeyedClientError> for ProfileError {
-    ghost from_gives = { λ fault error. error ≡ fault_of_keyed fault };
-
-    fn from(fault: KeyedClientError) -> Self {
-        match fault {
-            KeyedClientError::Scram(kind) => ProfileError::from(kind),
-            KeyedClientError::OtherKeys => ProfileError::OtherKeys,
         }
     }
 }

@@ -1,15 +1,16 @@
 //! The SCRAM profiles: one type over the versions (RFC 5802, section 5), and a name for each of the three.
 
-ghost use Rattle.std.specs.Prelude.{◌≡◌, ◌≢◌, MatchOption, string_bytes};
+ghost use Rattle.std.specs.Prelude.{◌≡◌, ◌≢◌, MatchOption, Some, None, string_bytes};
 ghost use Rattle.fe2o3_scram.specs.declared.hmac.ScramVersion.{ScramVersion};
 ghost use Rattle.fe2o3_scram.specs.declared.hmac.ScramVersion.TheVariants.{Sha1, Sha256, Sha512};
-ghost use Rattle.fe2o3_scram.specs.ServerFirst.{no_limit};
-ghost use Rattle.fe2o3_sasl.specs.Profiles.{ScramProfile, scram_profile, keyed_profile, with_limit};
+ghost use Rattle.fe2o3_scram.specs.ClientSecret.{Keys, Both, no_limit, up_to};
+ghost use Rattle.fe2o3_scram.specs.ScramClient.{Initial, login_keys, with_limits};
+ghost use Rattle.fe2o3_sasl.specs.Profiles.{ScramProfile, scram_profile};
 ghost use Rattle.fe2o3_sasl.specs.Runs.{login_of};
 
-use crate::sasl_profile::scram_side::ScramSide;
 use fe2o3_scram::client_keys::ScramClientKeys;
 use fe2o3_scram::hmac::ScramVersion;
+use fe2o3_scram::scram_client::ScramClient;
 use std::alloc::AllocError;
 use std::fmt;
 use std::marker::{Model, PhantomData};
@@ -68,21 +69,21 @@ impl OfVersion for OfSha512 {
 /// A client of one user, by SCRAM of the version that `V` names.
 #[derive(Drop)]
 pub struct SaslScram<V: OfVersion> {
-    pub(super) client: ScramSide,
+    pub(super) client: ScramClient,
     pub(super) version: PhantomData<V>,
 }
 
 impl<V: OfVersion> Model for SaslScram<V> {
-    ghost use Rattle.fe2o3_sasl.specs.Profiles.{EitherSide};
+    ghost use Rattle.fe2o3_scram.specs.ScramClient.{ClientSide};
 
-    ghost Value = { EitherSide };
+    ghost Value = { ClientSide };
 
     ghost view = { λ scram. scram.client };
 }
 
 impl<V: OfVersion> SaslScram<V> {
     /// The profile of this client.
-    pub(super) fn of(client: ScramSide) -> Self
+    pub(super) fn of(client: ScramClient) -> Self
         ensures { result ≡ client }
     {
         Self {
@@ -91,12 +92,23 @@ impl<V: OfVersion> SaslScram<V> {
         }
     }
 
+    /// The profile of a client of this version.
+    fn of_version(client: ScramClient) -> Option<Self>
+        ensures { MatchOption result (client.version ≢ V.version)
+            (λ scram. (client.version ≡ V.version) × (scram ≡ client)) }
+    {
+        if client.version() != V::version() {
+            return None;
+        }
+        Some(Self::of(client))
+    }
+
     /// A client of this user with this password, which accepts every iteration count from 1 on.
     pub fn new(username: String, password: String) -> Self
         ensures { ScramProfile result ≡ scram_profile (login_of V.version (string_bytes username)
             (string_bytes password) no_limit) }
     {
-        Self::of(ScramSide::by_password(username, password, V::version()))
+        Self::of(ScramClient::new(username, password, V::version()))
     }
 
     /// A client of this user that keeps these keys in place of the password (RFC 5802, section 3), and
@@ -108,19 +120,63 @@ impl<V: OfVersion> SaslScram<V> {
     pub fn with_keys(username: String, keys: ScramClientKeys) -> Option<Self>
         ensures { MatchOption result (keys.version ≢ V.version)
             (λ scram. (keys.version ≡ V.version)
-            × (ScramProfile scram ≡ keyed_profile (string_bytes username) keys no_limit)) }
+            × (scram ≡ record {
+              user = string_bytes username;
+              secret = Keys keys;
+              version = V.version;
+              limits = up_to no_limit;
+              state =
+                  Initial;
+            })) }
     {
-        if keys.scram_version() != V::version() {
-            return None;
-        }
-        Some(Self::of(ScramSide::by_keys(username, keys)))
+        Self::of_version(ScramClient::with_keys(username, keys))
+    }
+
+    /// A client of this user with this password and these keys (RFC 5802, section 3), which accepts every
+    /// iteration count from 1 on. `None` where the keys are of another version.
+    ///
+    /// It answers by the keys a challenge that names the salt and the count that they are of, and any
+    /// other by the password. So it never answers `OtherKeys`.
+    pub fn with_password_and_keys(
+        username: String,
+        password: String,
+        keys: ScramClientKeys,
+    ) -> Option<Self>
+        ensures { MatchOption result (keys.version ≢ V.version)
+            (λ scram. (keys.version ≡ V.version)
+            × (scram ≡ record {
+              user = string_bytes username;
+              secret = Both (string_bytes password) keys;
+              version = V.version;
+              limits = up_to no_limit;
+              state =
+                  Initial;
+            })) }
+    {
+        Self::of_version(ScramClient::with_password_and_keys(username, password, keys))
     }
 
     /// The same client, which refuses an iteration count above the limit.
     pub fn with_iteration_limit(self, limit: u32) -> Self
-        ensures { result ≡ with_limit self limit }
+        ensures { result ≡ with_limits self (record { least = self.limits.least; most = limit }) }
     {
         Self::of(self.client.with_iteration_limit(limit))
+    }
+
+    /// The same client, which refuses an iteration count below this one by `IterationCountTooSmall`. RFC
+    /// 7677, section 4, asks for 4096 at least.
+    pub fn with_least_iterations(self, least: u32) -> Self
+        ensures { result ≡ with_limits self (record { least = least; most = self.limits.most }) }
+    {
+        Self::of(self.client.with_least_iterations(least))
+    }
+
+    /// The keys of the login, once its server was believed, and `None` before (RFC 5802, section 3).
+    pub fn keys(&self) -> Option<&ScramClientKeys>
+        ensures { MatchOption result (login_keys self.now.state ≡ None)
+            (λ keys. login_keys self.now.state ≡ Some keys.now) }
+    {
+        self.client.keys()
     }
 }
 

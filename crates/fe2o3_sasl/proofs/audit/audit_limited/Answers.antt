@@ -18,7 +18,7 @@ returns g c =
     let shown = c.in_ok-client.client.shown.items in
     let taken = c.in_ok-client.client.taken.items in
     let oks = c.in_ok-oks.oks.items in
-    audits_events login provider given client_answer server_answer finding_of client_receipt server_receipt
+    audits_events login provider given client_answer server_answer finding_of client_receipt server_receipt tt
     c.args.client_events.now c.args.server_events.now c.in_ok-client_replies.client_replies.items
     c.in_ok-server_replies.server_replies.items shown taken oks c.match_verifiers.new.findings.items
     c.match_proofs.new.findings.items c.in_ok-client_replies.ensures.history c.in_ok-server_replies.ensures.history

@@ -9,7 +9,7 @@ use Rattle.fe2o3_sasl_wire.specs.declared.amqp_types.SaslCode.TheVariants as out
 use Rattle.fe2o3_sasl.specs.Audit.{Parameters, Verdict, Agreed, SameMac, SameHash, OtherKey, AreAgreed, JudgesVerifier, JudgesProof, Finding, place_of, IsVerifierFinding, IsProofFinding, Audits, AuditsEvents}
 use Rattle.fe2o3_sasl.specs.ClientHistory.{Answering, AnswersAt, ClientHistory}
 use Rattle.fe2o3_sasl.specs.Complete.{ClientComplete, ServerComplete}
-use Rattle.fe2o3_sasl.specs.Events.{Given, Login, ServerSays, Concluded, ClientSays, Answered, Reported}
+use Rattle.fe2o3_sasl.specs.Events.{Given, Login, ServerSays, Concluded, ClientSays, Answered, Reported, IsSecret}
 use Rattle.fe2o3_sasl.specs.ServerHistory.{Accepted, AcceptsAt, ServerHistory, final_message}
 use Rattle.fe2o3_sasl.specs.TwoSides.{Sides, Histories, OkAt, Takes, Shows, proof_at}
 use Rattle.fe2o3_sasl.specs.private.Findings.{same, agreed_on, verifier_verdict, proof_verdict, is_taken, is_shown, verifier_finding, proof_finding, findings_of}
@@ -120,7 +120,7 @@ OfOk sides receipt = IsOkReceipt sides.provider sides.server_events sides.server
 ok_at : (sides : Sides) (server : ServerReceipt) (o : OfOk sides server) → OkAt sides server.place o.1
 ok_at sides server o = record { body = o.0; says = o.2; accepts = o.3 }
 
-module _ (sides : Sides) (histories : Histories sides) where
+module _ (sides : Sides) (histories : Histories sides) (held : IsSecret sides.login.secret) where
   taken_of : (client : ClientReceipt) (server : ServerReceipt) (t : Taken sides client) (o : OfOk sides server)
       → is_taken client server ≡ true → Takes sides client.place server.place o.1
   taken_of client server t o meets =
@@ -168,7 +168,8 @@ module _ (sides : Sides) (histories : Histories sides) where
       → is_shown client server ≡ true → IsProofFinding sides (proof_finding client server)
   shown_finding client server t o meets =
       let shows = shown_of client server t o meets in
-      let judged = shown_proofs_are_judged sides client.place server.place t.1 o.1 histories o.4.kept shows in (
+      let judged = shown_proofs_are_judged sides client.place server.place t.1 o.1 histories held o.4.kept
+      shows in (
         refl,
         (
           t.1,
@@ -283,6 +284,7 @@ module _ (sides : Sides) (histories : Histories sides) where
 pub audits_events : {E X Y F A B : Type 0} (login : Login) (provider : Provider) (given : E → Given)
     (client_says : X → ClientSays) (server_says : Y → ServerSays) (finding : F → Finding) (client : A → ClientReceipt)
     (server : B → ServerReceipt)
+    → IsSecret login.secret
     → (client_events server_events : List E) (client_replies : List X) (server_replies : List Y) (shown taken : List A)
     (oks : List B) (first whole : List F)
     → ClientHistory login (map given client_events) (map client_says client_replies)
@@ -297,7 +299,7 @@ pub audits_events : {E X Y F A B : Type 0} (login : Login) (provider : Provider)
     → map finding first ≡ findings_of is_taken verifier_finding (map client taken) (map server oks)
     → map finding whole ≡ map finding first ++ findings_of is_shown proof_finding (map client shown) (map server oks)
     → AuditsEvents login (map given client_events) provider (map given server_events) (map finding whole)
-audits_events login provider given client_says server_says finding client server client_events server_events
+audits_events login provider given client_says server_says finding client server held client_events server_events
     client_replies server_replies shown taken oks first whole hc hs fc fs cs ct co e f =
     let sides : Sides = record {
       login = login;
@@ -315,7 +317,7 @@ audits_events login provider given client_says server_says finding client server
       map server_says server_replies,
       subst (Audits sides) (sym (f ∙ ap (λ z. z ++ findings_of is_shown proof_finding (map client shown)
           (map server oks)) e))
-          (audits sides (record { client = hc; server = hs }) (map client shown) (map client taken)
+          (audits sides (record { client = hc; server = hs }) held (map client shown) (map client taken)
           (map server oks) fc fs
           (subst (λ (i : ℕ). Covers (Shown sides) (λ (r : ClientReceipt). r.place) (RespondsAt sides.client_replies) i
           (map client shown)) n cs)

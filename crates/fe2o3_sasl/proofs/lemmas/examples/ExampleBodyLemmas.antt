@@ -99,8 +99,9 @@ pub short_response : (without proof : List ℕ) → length without < 2 ^ 15 → 
 short_response without proof short long =
     omega (arith, short, length-append without (44 ∷ (codes "p=" ++ base64_text proof)), length-base64_text proof long)
 
-pub short_ok : (answer : Answering) → length (codes "v=" ++ base64_text (answer_at login answer).1) < 2 ^ 16
-short_ok answer = omega (arith, length-base64_text (answer_at login answer).1 (length-hmac_of login.version _ _))
+pub short_ok : (answer : Answering) → length (codes "v=" ++ base64_text (answer_at login answer).signature) < 2 ^ 16
+short_ok answer =
+    omega (arith, length-base64_text (answer_at login answer).signature (length-hmac_of login.version _ _))
 
 pub response_sent : (without proof : List ℕ) → length without < 2 ^ 15 → length proof ≡ 32
     → canonical (sends_response without proof) ≡ Some (body_of (sends_response without proof))
@@ -108,7 +109,7 @@ response_sent without proof short long = response_bodied (joined (without ∷ (c
     (short_response without proof short long)
 
 pub ok_sent : (answer : Answering) → canonical (sends_ok answer) ≡ Some (body_of (sends_ok answer))
-ok_sent answer = outcome_bodied (codes "v=" ++ base64_text (answer_at login answer).1) (short_ok answer)
+ok_sent answer = outcome_bodied (codes "v=" ++ base64_text (answer_at login answer).signature) (short_ok answer)
 
 -- ---- frames that are written out
 

@@ -56,13 +56,14 @@ run = record {
   concluded = refl;
 }
 
-holds : HoldsLogin (sides_with unaltered) salt 4096
+holds : HoldsLogin (sides_with unaltered) (codes "pencil") salt 4096
 holds = record {
   version = refl;
   stored = refl;
   bytes = IsBytes-replicate 32 3 (omega arith);
-  printable = password_printable;
+  opens = (refl, password_printable);
   some = omega arith;
+  least = omega arith;
   within = omega arith;
 }
 

@@ -20,14 +20,13 @@ use Rattle.fe2o3_scram.specs.SaslprepAscii.{IsPrintable}
 use Rattle.fe2o3_scram.specs.ServerFinal.{ReadsServerFinal}
 use Rattle.fe2o3_scram.specs.ServerFirst.{HasSalt, HasCount, ReadsServerFirst}
 use Rattle.fe2o3_sasl.specs.ServerHistory.{first_message}
-use Rattle.fe2o3_sasl.specs.TwoSides.{proof_at, client_message}
-use Rattle.fe2o3_sasl.specs.Audit.{client_key_at}
+use Rattle.fe2o3_sasl.specs.TwoSides.{keys_at, proof_at, client_message}
 use Rattle.fe2o3_scram.proofs.lemmas.texts.AsciiLemmas.{IsUtf8-literal}
 use Rattle.fe2o3_scram.proofs.lemmas.messages.ClientFirstLemmas.{named}
 use Rattle.fe2o3_scram.proofs.lemmas.hashes.DigestLemmas.{length-hmac_of, IsBytes-digest, IsBytes-hmac_of}
 use Rattle.fe2o3_sasl.proofs.lemmas.examples.ExampleTextLemmas.{Plain, plain-literal, plain-append, plain-base64_text, parts_joined, utf8_joined, joined-append, header_text, user_text, count_text, IsBytes-replicate}
 use Rattle.fe2o3_scram.proofs.lemmas.messages.ExchangeLemmas.{IsBytes-literal, IsBytes-exclusive_or, length-exclusive_or, exclusive_or-back, IsCount-decimal, not_extended, final_read, reads_signature}
-use Rattle.fe2o3_scram.proofs.lemmas.messages.ServerFirstLemmas.{values_read, same_nonce, not_too_large}
+use Rattle.fe2o3_scram.proofs.lemmas.messages.ServerFirstLemmas.{values_read, same_nonce, not_too_small, not_too_large}
 use Rattle.fe2o3_sasl.proofs.lemmas.lists.EachLemmas.{each_append}
 
 -- ---- login and record
@@ -35,7 +34,6 @@ use Rattle.fe2o3_sasl.proofs.lemmas.lists.EachLemmas.{each_append}
 pub is_login : IsLogin login
 is_login = record {
   user = IsUtf8-literal (codes "user") refl;
-  password = IsUtf8-literal (codes "pencil") refl;
   limit = omega arith;
   hostname = λ host is. absurd (none-some host is);
 }
@@ -136,10 +134,13 @@ reads_values nonce rest more begins plain too =
       λ none. none (codes "4096") digits,
       (
         λ none. none 4096 count,
-        (not_too_large text login.limit 4096 count (omega arith), tt),
+        (
+          not_too_small text 1 4096 count (omega arith),
+          (not_too_large text login.limits.most 4096 count (omega arith), tt),
+        ),
       ),
     )
-    password_printable has_nonce has_salt count
+    (λ un. un password_printable, tt) (record { nonce = has_nonce; salt = has_salt; count = count })
 
 -- ---- the AuthMessage
 
@@ -180,7 +181,7 @@ first_joined bare = ap (λ (count : List ℕ). joined ((codes "r=" ++ both) ∷ 
 
 module _ (text nonce : List ℕ) where
   abbrev key : List ℕ
-  key = client_key_at login (answering text nonce)
+  key = (keys_at login (answering text nonce)).client_key
 
   abbrev mac : List ℕ
   mac = hmac_of Sha256 (digest Sha256 key) (client_message login (answering text nonce))
@@ -207,10 +208,10 @@ module _ (text nonce : List ℕ) where
 
   -- and then the signature is the one that the client waits for
   pub signature_read : (message : List ℕ) → client_message login (answering text nonce) ≡ message
-      → ReadsServerFinal (answer_at login (answering text nonce)).1
+      → ReadsServerFinal (answer_at login (answering text nonce)).signature
       (codes "v=" ++ base64_text (hmac_of Sha256 stored.server_key message)) (Ok tt)
   signature_read message same =
-      let signature = (answer_at login (answering text nonce)).1 in
+      let signature = (answer_at login (answering text nonce)).signature in
       subst (λ (one : List ℕ). ReadsServerFinal signature (codes "v="
       ++ base64_text (hmac_of Sha256 stored.server_key one)) (Ok tt)) same
       (reads_signature signature (IsBytes-hmac_of Sha256 _ _))

@@ -9,7 +9,7 @@ use Rattle.fe2o3_sasl_wire.specs.SaslFrames.{SaslFrame}
 use Rattle.fe2o3_scram.specs.declared.scram_messages.error.ScramErrorKind.{ScramErrorKind}
 use Rattle.fe2o3_scram.specs.Texts.{base64_text}
 use Rattle.fe2o3_sasl.specs.ClientHistory.{Answering, client_at, answer_at, says_answer, ReadsChallenge, ReadsOutcome, ClientAnswers, ClientAllocates, is_start, is_answer, ends_answer, NonceAt, IsDue, AnswersAt, OpenAnswer, ClientHistory}
-use Rattle.fe2o3_sasl.specs.Events.{Given, Login, ClientSays, Refused, Scram, OutOfMemory}
+use Rattle.fe2o3_sasl.specs.Events.{Given, Login, ClientSays, Refused, OutOfMemory, scram_fault}
 use Rattle.fe2o3_sasl.specs.Laws.{OneClientHistory}
 use Rattle.fe2o3_scram.specs.ServerFinal.{ReadsServerFinal}
 use Rattle.fe2o3_scram.specs.ServerFirst.{ServerFirst, ReadsServerFirst}
@@ -130,10 +130,12 @@ one_reading_of_outcome login IsOpen one (Some text) answer other h k = go answer
   where
     -- against one signature
     reads : (waits again : Answering) (first second : Result (Unit {0}) ScramErrorKind) → IsOpen waits → IsOpen again
-        → ReadsServerFinal (answer_at login waits).1 text first → ReadsServerFinal (answer_at login again).1 text second
+        → ReadsServerFinal (answer_at login waits).signature text first
+        → ReadsServerFinal (answer_at login again).signature text second
         → first ≡ second
-    reads waits again first second opened too h k = one_server_final (answer_at login again).1 text first second
-        (subst (λ (x : Answering). ReadsServerFinal (answer_at login x).1 text first) (one waits again opened too) h) k
+    reads waits again first second opened too h k = one_server_final (answer_at login again).signature text first second
+        (subst (λ (x : Answering). ReadsServerFinal (answer_at login x).signature text first)
+        (one waits again opened too) h) k
 
     go : (a b : Result (Unit {0}) ScramErrorKind) → ReadsOutcome login IsOpen (Some text) a
         → ReadsOutcome login IsOpen (Some text) b → a ≡ b
@@ -177,7 +179,7 @@ one_client_answer login Due IsOpen due opened event (Ok (frames.Challenge text))
     go (inl h) (inr k) = let e = same (Ok h.0) (Err k.0) h.1 k.1 in absurd (cc)
     go (inr h) (inl k) = let e = same (Err h.0) (Ok k.0) h.1 k.1 in absurd (cc)
     go (inr h) (inr k) = let e = same (Err h.0) (Err k.0) h.1 k.1 in let d : h.0 ≡ k.0 = cc in
-        h.2 ∙ (ap (λ (x : ScramErrorKind). Refused (Scram x)) d ∙ sym k.2)
+        h.2 ∙ (ap (λ (x : ScramErrorKind). Refused (scram_fault x)) d ∙ sym k.2)
 one_client_answer login Due IsOpen due opened event (Ok (frames.Outcome outcomes.Ok more)) says other h k = go h k
   where
     same : (a b : Result (Unit {0}) ScramErrorKind) → ReadsOutcome login IsOpen more a
@@ -190,7 +192,7 @@ one_client_answer login Due IsOpen due opened event (Ok (frames.Outcome outcomes
     go (inl h) (inr k) = let e = same (Ok tt) (Err k.0) h.0 k.1 in absurd (cc)
     go (inr h) (inl k) = let e = same (Err h.0) (Ok tt) h.1 k.0 in absurd (cc)
     go (inr h) (inr k) = let e = same (Err h.0) (Err k.0) h.1 k.1 in let d : h.0 ≡ k.0 = cc in
-        h.2 ∙ (ap (λ (x : ScramErrorKind). Refused (Scram x)) d ∙ sym k.2)
+        h.2 ∙ (ap (λ (x : ScramErrorKind). Refused (scram_fault x)) d ∙ sym k.2)
 one_client_answer login Due IsOpen due opened event (Ok (frames.Outcome outcomes.Auth more)) says other h k = h ∙ sym k
 one_client_answer login Due IsOpen due opened event (Ok (frames.Outcome outcomes.Sys more)) says other h k = h ∙ sym k
 one_client_answer login Due IsOpen due opened event (Ok (frames.Outcome outcomes.SysPerm more)) says other h k =

@@ -20,7 +20,7 @@ use Rattle.fe2o3_sasl.proofs.lemmas.frames.SpellingLemmas.{carried_not}
 module _ (login : Login) (Due : List ℕ → Type 0) (IsOpen : Answering → Type 0) where
   reads_ok : (more : Option (List ℕ)) → ReadsOutcome login IsOpen more (Ok tt)
       → (text : List ℕ) × (more ≡ Some text) × ((answer : Answering) × IsOpen answer
-      × HasSignature text (answer_at login answer).1)
+      × HasSignature text (answer_at login answer).signature)
   reads_ok None reads = absurd reads
   reads_ok (Some text) reads = (
     text,
@@ -28,7 +28,7 @@ module _ (login : Login) (Due : List ℕ → Type 0) (IsOpen : Answering → Typ
     (
       reads.0,
       reads.1,
-      names_server_final (answer_at login reads.0).1 text tt reads.2,
+      names_server_final (answer_at login reads.0).signature text tt reads.2,
     ),
   )
 
@@ -47,7 +47,7 @@ module _ (login : Login) (Due : List ℕ → Type 0) (IsOpen : Answering → Typ
   reported event (Ok (frames.Mechanisms names)) more (inr says) = let is = says.1 in absurd (cc)
   reported event (Ok (frames.Challenge text)) more (inl says) =
       absurd (carried_not (Refused (Frame faults.TooLarge)) (λ body. Answered body)
-      (canonical (frames.Response (answer_at login says.0).0)) (Reported outcomes.Ok more) (λ is. cc)
+      (canonical (frames.Response (answer_at login says.0).message)) (Reported outcomes.Ok more) (λ is. cc)
       (λ body is. cc) (sym says.2))
   reported event (Ok (frames.Challenge text)) more (inr says) = let is = says.2 in absurd (cc)
   reported event (Ok (frames.Outcome outcomes.Ok other)) more (inl says) =
@@ -64,7 +64,8 @@ module _ (login : Login) (Due : List ℕ → Type 0) (IsOpen : Answering → Typ
 -- a reported Ok stands on the signature of the open answer
 pub signature_of_ok : (login : Login) (events : List Given) (replies : List ClientSays) (m : ℕ) (text : List ℕ)
     → ClientHistory login events replies → slice_get replies m ≡ Some (Reported outcomes.Ok (Some text))
-    → (answer : Answering) × OpenAnswer login events replies m answer × HasSignature text (answer_at login answer).1
+    → (answer : Answering) × OpenAnswer login events replies m answer
+    × HasSignature text (answer_at login answer).signature
 signature_of_ok login events replies m text history at =
     let event = some_at events m (omega (
       arith,
@@ -80,5 +81,5 @@ signature_of_ok login events replies m text history at =
     (reported login (IsDue events replies m) (OpenAnswer login events replies m) event.0 row.0 (Some text) says).1
     in
     let same : reads.0 ≡ text = same_Some reads.0 text (sym reads.1) in
-    (reads.2.0, reads.2.1, subst (λ (z : List ℕ). HasSignature z (answer_at login reads.2.0).1) same reads.2.2))
+    (reads.2.0, reads.2.1, subst (λ (z : List ℕ). HasSignature z (answer_at login reads.2.0).signature) same reads.2.2))
     row.2

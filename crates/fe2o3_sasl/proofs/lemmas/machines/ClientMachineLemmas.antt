@@ -14,12 +14,13 @@ use Rattle.fe2o3_scram.specs.declared.scram_messages.error.ScramErrorKind.TheVar
 use Rattle.fe2o3_scram.specs.Texts.{base64_text}
 use Rattle.fe2o3_scram.specs.ClientFinal.{Answer, answer_of}
 use Rattle.fe2o3_scram.specs.ClientFirst.{client_first, client_first_bare}
+use Rattle.fe2o3_scram.specs.ClientKeys.{ClientKeys}
 use Rattle.fe2o3_sasl.specs.ClientHistory.{Answering, answer_at, says_answer, ReadsChallenge, ReadsOutcome, ClientAnswers, ClientAllocates, is_start, is_answer, ends_answer, NonceAt, IsDue, AnswersAt, OpenAnswer, ClientHistory}
 use Rattle.fe2o3_scram.specs.ScramClient.{ClientState, Initial, ClientFirstSent, ClientFinalSent, Complete, ClientSide, AnswersIn, BelievesIn}
-use Rattle.fe2o3_sasl.specs.Events.{Given, Login, ClientSays, Started, Answered, Reported, Refused, ClientFault, NotImplemented, Scram, Frame, OutOfMemory}
+use Rattle.fe2o3_sasl.specs.Events.{Given, Login, ClientSays, Started, Answered, Reported, Refused, ClientFault, NotImplemented, Scram, Frame, OutOfMemory, scram_fault}
 use Rattle.fe2o3_sasl.specs.Laws.{ProfileRunsAreHistories}
 use Rattle.fe2o3_scram.specs.Hmac.{mechanism_name}
-use Rattle.fe2o3_sasl.specs.Profiles.{Profile, ScramProfile, ByPassword, client_frame, profile_machine, ProfileAllocates}
+use Rattle.fe2o3_sasl.specs.Profiles.{Profile, ScramProfile, client_frame, profile_machine, ProfileAllocates}
 use Rattle.fe2o3_sasl.specs.Runs.{Replies, ProfileGives, ProfileSteps, Runs}
 use Rattle.fe2o3_scram.specs.ServerFinal.{ReadsServerFinal}
 use Rattle.fe2o3_sasl.specs.Bodies.{carried, SpellsBody}
@@ -35,31 +36,32 @@ use Rattle.fe2o3_sasl.proofs.lemmas.histories.LongerClientHistoryLemmas.{nonce_f
 abbrev pub side_in : Login → ClientState → ClientSide
 side_in login state = record {
   user = login.user;
-  password = login.password;
+  secret = login.secret;
   version = login.version;
-  limit =
-      login.limit;
+  limits =
+      login.limits;
   state = state;
 }
 
 abbrev pub profile_in : Login → ClientState → Profile
-profile_in login state = ScramProfile (ByPassword (side_in login state))
+profile_in login state = ScramProfile (side_in login state)
 
 -- the states after a start and after an answer
 abbrev pub started_state : Login → List ℕ → ClientState
 started_state login nonce = ClientFirstSent nonce (client_first_bare login.user nonce)
 
 abbrev pub answered_state : Login → Answering → ClientState
-answered_state login answer = ClientFinalSent (answer_at login answer).1
+answered_state login answer =
+    ClientFinalSent (answer_at login answer).signature (Some (answer_at login answer).keys)
 
 -- in this state this nonce is due and this answer is open
 abbrev pub StandsFor : Login → ClientState → Option (List ℕ) → Option Answering → Type 0
 StandsFor login Initial due waits = (due ≡ None) × (waits ≡ None)
 StandsFor login (ClientFirstSent nonce bare) due waits =
     (due ≡ Some nonce) × (bare ≡ client_first_bare login.user nonce) × (waits ≡ None)
-StandsFor login (ClientFinalSent signature) due waits =
-    (due ≡ None) × ((answer : Answering) × (waits ≡ Some answer) × (signature ≡ (answer_at login answer).1))
-StandsFor login Complete due waits = (due ≡ None) × (waits ≡ None)
+StandsFor login (ClientFinalSent signature keys) due waits =
+    (due ≡ None) × ((answer : Answering) × (waits ≡ Some answer) × (signature ≡ (answer_at login answer).signature))
+StandsFor login (Complete keys) due waits = (due ≡ None) × (waits ≡ None)
 
 -- what the client's table says where these are due and open, or want of memory
 abbrev pub SaysRow : Login → Option (List ℕ) → Option Answering → Given → Result SaslFrame Error → ClientSays → Type 0
@@ -79,7 +81,8 @@ Goes login state due event spelled says next =
     ⊎ ((body : List ℕ) × (answer : Answering) × (text : List ℕ) × (says ≡ Answered body)
     × (spelled ≡ Ok (frames.Challenge text)) × ReadsChallenge login (λ nonce. due ≡ Some nonce) text (Ok answer)
     × (next ≡ answered_state login answer))
-    ⊎ ((more : Option (List ℕ)) × (says ≡ Reported outcomes.Ok more) × (due ≡ None) × (next ≡ Complete))
+    ⊎ ((more : Option (List ℕ)) × (keys : Option ClientKeys) × (says ≡ Reported outcomes.Ok more) × (due ≡ None)
+    × (next ≡ Complete keys))
 
 -- a step of the machine says what the table says, and goes so
 abbrev pub StepsTo : Login → ClientState → Option (List ℕ) → Option Answering → Given → Result SaslFrame Error
@@ -125,20 +128,19 @@ answers_due : (login : Login) (state : ClientState) (due : Option (List ℕ)) (w
     (text message : List ℕ) (after : ClientSide) → StandsFor login state due waits → IsUtf8 text
     → AnswersIn state (side_in login state) text (Ok message) after →
     (answer : Answering) × ReadsChallenge login (λ nonce. due ≡ Some nonce) text (Ok answer)
-    × (message ≡ (answer_at login answer).0) × (after ≡ side_in login (answered_state login answer))
+    × (message ≡ (answer_at login answer).message) × (after ≡ side_in login (answered_state login answer))
 answers_due login Initial due waits text message after stands utf8 h = absurd h
-answers_due login (ClientFinalSent signature) due waits text message after stands utf8 h = absurd h
-answers_due login Complete due waits text message after stands utf8 h = absurd h
+answers_due login (ClientFinalSent signature keys) due waits text message after stands utf8 h = absurd h
+answers_due login (Complete keys) due waits text message after stands utf8 h = absurd h
 answers_due login (ClientFirstSent nonce bare) due waits text message after stands utf8 h =
     let first = h.1.0 in
     let answer : Answering = record { nonce = nonce; text = text; first = first } in
-    let both : (message, h.0) ≡ answer_at login answer = h.1.2
-    ∙ ap (λ (b : List ℕ). answer_of login.version login.password b text first) stands.1 in (
+    let same : h.0 ≡ answer_at login answer = h.1.2
+    ∙ ap (λ (b : List ℕ). answer_of login.version login.secret b text first) stands.1 in (
       answer,
       (utf8, refl, stands.0, h.1.1),
-      ap (λ (x : Answer). x.0) both,
-      h.2
-          ∙ ap (λ (x : Answer). side_in login (ClientFinalSent x.1)) both,
+      h.2 ∙ ap (λ (x : Answer). x.message) same,
+      h.3 ∙ ap (λ (x : Answer). side_in login (ClientFinalSent x.signature (Some x.keys))) same,
     )
 
 -- and so is one that is refused, and the client stays
@@ -148,9 +150,9 @@ refuses_due : (login : Login) (state : ClientState) (due : Option (List ℕ)) (w
     ReadsChallenge login (λ nonce. due ≡ Some nonce) text (Err kind) × (after ≡ side_in login state)
 refuses_due login Initial due waits text kind after stands utf8 h =
     (inr (inl (utf8, (λ nonce e. absurd (none-some nonce (sym stands.0 ∙ e))), h.0)), h.1)
-refuses_due login (ClientFinalSent signature) due waits text kind after stands utf8 h =
+refuses_due login (ClientFinalSent signature keys) due waits text kind after stands utf8 h =
     (inr (inl (utf8, (λ nonce e. absurd (none-some nonce (sym stands.0 ∙ e))), h.0)), h.1)
-refuses_due login Complete due waits text kind after stands utf8 h =
+refuses_due login (Complete keys) due waits text kind after stands utf8 h =
     (inr (inl (utf8, (λ nonce e. absurd (none-some nonce (sym stands.0 ∙ e))), h.0)), h.1)
 refuses_due login (ClientFirstSent nonce bare) due waits text kind after stands utf8 h =
     (inr (inr (utf8, (nonce, stands.0, h.0))), h.1)
@@ -159,13 +161,17 @@ refuses_due login (ClientFirstSent nonce bare) due waits text kind after stands 
 believes_open : (login : Login) (state : ClientState) (due : Option (List ℕ)) (waits : Option Answering) (text : List ℕ)
     (believed : Unit {0}) (after : ClientSide) → StandsFor login state due waits
     → BelievesIn state (side_in login state) text (Ok believed) after →
-    ReadsOutcome login (λ answer. waits ≡ Some answer) (Some text) (Ok tt) × (due ≡ None)
-    × (after ≡ side_in login Complete)
+    (keys : Option ClientKeys) × ReadsOutcome login (λ answer. waits ≡ Some answer) (Some text) (Ok tt)
+    × (due ≡ None) × (after ≡ side_in login (Complete keys))
 believes_open login Initial due waits text believed after stands h = absurd h
 believes_open login (ClientFirstSent nonce bare) due waits text believed after stands h = absurd h
-believes_open login Complete due waits text believed after stands h = absurd h
-believes_open login (ClientFinalSent signature) due waits text believed after stands h =
-    ((stands.1.0, stands.1.1, subst (λ (s : List ℕ). ReadsServerFinal s text (Ok tt)) stands.1.2 h.0), stands.0, h.1)
+believes_open login (Complete keys) due waits text believed after stands h = absurd h
+believes_open login (ClientFinalSent signature keys) due waits text believed after stands h = (
+  keys,
+  (stands.1.0, stands.1.1, subst (λ (s : List ℕ). ReadsServerFinal s text (Ok tt)) stands.1.2 h.0),
+  stands.0,
+  h.1,
+)
 
 -- and one that is refused leaves the client
 refuses_open : (login : Login) (state : ClientState) (due : Option (List ℕ)) (waits : Option Answering) (text : List ℕ)
@@ -176,9 +182,9 @@ refuses_open login Initial due waits text kind after stands h =
     (inl ((λ answer e. absurd (none-some answer (sym stands.1 ∙ e))), h.0), h.1)
 refuses_open login (ClientFirstSent nonce bare) due waits text kind after stands h =
     (inl ((λ answer e. absurd (none-some answer (sym stands.2 ∙ e))), h.0), h.1)
-refuses_open login Complete due waits text kind after stands h =
+refuses_open login (Complete keys) due waits text kind after stands h =
     (inl ((λ answer e. absurd (none-some answer (sym stands.1 ∙ e))), h.0), h.1)
-refuses_open login (ClientFinalSent signature) due waits text kind after stands h =
+refuses_open login (ClientFinalSent signature keys) due waits text kind after stands h =
     (inr (stands.1.0, stands.1.1, subst (λ (s : List ℕ). ReadsServerFinal s text (Err kind)) stands.1.2 h.0), h.1)
 
 -- the step over a challenge in UTF-8
@@ -186,51 +192,51 @@ challenge_step : (login : Login) (state : ClientState) (due : Option (List ℕ))
     (event : Given) (text : List ℕ) (answer : Result (List ℕ) ScramErrorKind) (after : ClientSide) (says : ClientSays)
     (next : Profile) → StandsFor login state due waits → IsUtf8 text →
     AnswersIn state (side_in login state) text answer after
-    → Replies (profile_in login state) (ScramProfile (ByPassword after))
+    → Replies (profile_in login state) (ScramProfile after)
     (client_frame (λ message. frames.Response message) answer) says next
     → StepsTo login state due waits event (Ok (frames.Challenge text)) says next
 challenge_step login state due waits event text (Ok message) after says next stands utf8 a h =
     let d = answers_due login state due waits text message after stands utf8 a in
     let answer = d.0 in
     let s = sent (Refused (Frame faults.TooLarge)) (λ body. Answered body) (canonical (frames.Response message))
-    (profile_in login state) (ScramProfile (ByPassword after)) says next h in
+    (profile_in login state) (ScramProfile after) says next h in
     let says_it : says ≡ says_answer login answer = s.0 ∙ ap
     (λ (m : List ℕ). carried (Refused (Frame faults.TooLarge)) (λ body. Answered body)
     (canonical (frames.Response m))) d.2 in
     let row : SaysRow login due waits event (Ok (frames.Challenge text)) says = inr (inl (answer, d.1, says_it)) in
     ⊎_elim (λ (x : (says ≡ Refused (Frame faults.TooLarge)) × (next ≡ profile_in login state)). refused login state due
     waits event (Ok (frames.Challenge text)) says next (Frame faults.TooLarge) x.0 x.1 row)
-    (λ (x : (body : List ℕ) × (says ≡ Answered body) × (next ≡ ScramProfile (ByPassword after))). (
+    (λ (x : (body : List ℕ) × (says ≡ Answered body) × (next ≡ ScramProfile after)). (
       answered_state login answer,
-      x.2 ∙ ap (λ (c : ClientSide). ScramProfile (ByPassword c)) d.3,
+      x.2 ∙ ap (λ (c : ClientSide). ScramProfile c) d.3,
       row,
       inr (inr (inl (x.0, answer, text, x.1, refl, d.1, refl))),
     ))
     s.1
 challenge_step login state due waits event text (Err kind) after says next stands utf8 a h =
     let d = refuses_due login state due waits text kind after stands utf8 a in
-    refused login state due waits event (Ok (frames.Challenge text)) says next (Scram kind) h.0
-    (h.1 ∙ ap (λ (c : ClientSide). ScramProfile (ByPassword c)) d.1) (inr (inr (kind, d.0, h.0)))
+    refused login state due waits event (Ok (frames.Challenge text)) says next (scram_fault kind) h.0
+    (h.1 ∙ ap (λ (c : ClientSide). ScramProfile c) d.1) (inr (inr (kind, d.0, h.0)))
 
 -- the step over an outcome Ok with data
 outcome_step : (login : Login) (state : ClientState) (due : Option (List ℕ)) (waits : Option Answering) (event : Given)
     (text : List ℕ) (answer : Result (Unit {0}) ScramErrorKind) (after : ClientSide) (says : ClientSays)
     (next : Profile) → StandsFor login state due waits →
     BelievesIn state (side_in login state) text answer after
-    → Replies (profile_in login state) (ScramProfile (ByPassword after))
+    → Replies (profile_in login state) (ScramProfile after)
     (client_frame (λ believed. frames.Outcome outcomes.Ok (Some text)) answer) says next
     → StepsTo login state due waits event (Ok (frames.Outcome outcomes.Ok (Some text))) says next
 outcome_step login state due waits event text (Ok believed) after says next stands b h =
     let d = believes_open login state due waits text believed after stands b in (
-      Complete,
-      h.1 ∙ ap (λ (c : ClientSide). ScramProfile (ByPassword c)) d.2,
-      inr (inl (d.0, h.0)),
-      inr (inr (inr (Some text, h.0, d.1, refl))),
+      Complete d.0,
+      h.1 ∙ ap (λ (c : ClientSide). ScramProfile c) d.3,
+      inr (inl (d.1, h.0)),
+      inr (inr (inr (Some text, d.0, h.0, d.2, refl))),
     )
 outcome_step login state due waits event text (Err kind) after says next stands b h =
     let d = refuses_open login state due waits text kind after stands b in
-    refused login state due waits event (Ok (frames.Outcome outcomes.Ok (Some text))) says next (Scram kind) h.0
-    (h.1 ∙ ap (λ (c : ClientSide). ScramProfile (ByPassword c)) d.1) (inr (inr (kind, d.0, h.0)))
+    refused login state due waits event (Ok (frames.Outcome outcomes.Ok (Some text))) says next (scram_fault kind) h.0
+    (h.1 ∙ ap (λ (c : ClientSide). ScramProfile c) d.1) (inr (inr (kind, d.0, h.0)))
 
 -- the reply of the machine in its place
 replied : (profile moved then : Profile) (reply other : Result SaslFrame ClientFault) (says : ClientSays)
@@ -264,7 +270,7 @@ machine_step login state due waits event (frames.Challenge text) reply moved say
     (inr (inr (Utf8Error, inl (m.0, refl), r.0)))
 machine_step login state due waits event (frames.Challenge text) reply moved says next stands (inr m) h =
     challenge_step login state due waits event text m.1.0 m.1.1 says next stands m.0 m.1.2
-    (replied (profile_in login state) moved (ScramProfile (ByPassword m.1.1)) reply
+    (replied (profile_in login state) moved (ScramProfile m.1.1) reply
     (client_frame (λ message. frames.Response message) m.1.0) says next m.1.3 m.1.4 h)
 machine_step login state due waits event (frames.Outcome outcomes.Ok None) reply moved says next stands m h =
     let r = replied (profile_in login state) moved (profile_in login state) reply
@@ -273,7 +279,7 @@ machine_step login state due waits event (frames.Outcome outcomes.Ok None) reply
     (Scram ServerSignatureMismatch) r.0 r.1 (inr (inr (ServerSignatureMismatch, refl, r.0)))
 machine_step login state due waits event (frames.Outcome outcomes.Ok (Some text)) reply moved says next stands m h =
     outcome_step login state due waits event text m.0 m.1 says next stands m.2
-    (replied (profile_in login state) moved (ScramProfile (ByPassword m.1)) reply
+    (replied (profile_in login state) moved (ScramProfile m.1) reply
     (client_frame (λ believed. frames.Outcome outcomes.Ok (Some text)) m.0) says next m.3 m.4 h)
 machine_step login state due waits event (frames.Outcome outcomes.Auth more) reply moved says next stands m h =
     let r = replied (profile_in login state) moved (profile_in login state) reply
@@ -420,8 +426,8 @@ running_push login events replies state next event spelled says running spells r
         (inr (inl (ap is_start g.3, ap is_answer g.3, refl)))
         (inl (ap is_answer g.3, (answer, (event, g.2, there, body, read_there g.2 answer g.5), refl)))
     go (inr (inr (inr g))) =
-        made running.due None (subst (λ (s : ClientState). StandsFor login s running.due None) (sym g.3) (g.2, refl))
-        (inr (inr (ap is_start g.1, ap is_answer g.1, refl))) (inr (inl (ap is_answer g.1, ap ends_answer g.1, refl)))
+        made running.due None (subst (λ (s : ClientState). StandsFor login s running.due None) (sym g.4) (g.3, refl))
+        (inr (inr (ap is_start g.2, ap is_answer g.2, refl))) (inr (inl (ap is_answer g.2, ap ends_answer g.2, refl)))
 
 runs_on : (login : Login) (events more : List Given) (replies others : List ClientSays) (state : ClientState)
     (last : Profile) → Running login events replies state

@@ -9,7 +9,7 @@ use Rattle.fe2o3_scram.specs.declared.hmac.ScramVersion.TheVariants.{Sha1, Sha25
 use Rattle.fe2o3_scram.specs.Hmac.{mechanism_name}
 use Rattle.fe2o3_sasl.specs.MechanismLaws.{PlainLetsIn, PlainRefuses, AnonymousLetsIn, OffersAgree, SomethingIsOffered, NamesDiffer}
 use Rattle.fe2o3_sasl.specs.SaslAcceptor.{ScramAcceptor, PlainAcceptor, AnonymousAcceptor}
-use Rattle.fe2o3_sasl.specs.Profiles.{ScramProfile, ByPassword, ByKeys, PlainProfile, AnonymousProfile, ExternalProfile, initial_response}
+use Rattle.fe2o3_sasl.specs.Profiles.{ScramProfile, PlainProfile, AnonymousProfile, ExternalProfile, initial_response}
 use Rattle.fe2o3_sasl_wire.specs.SaslFrames as frames
 use Rattle.fe2o3_sasl.proofs.lemmas.machines.ZeroPartLemmas.{names_both, names_no_other}
 
@@ -48,12 +48,8 @@ other_name Sha256 = (differ _ _ refl, differ _ _ refl, differ _ _ refl)
 other_name Sha512 = (differ _ _ refl, differ _ _ refl, differ _ _ refl)
 
 pub offers_agree : OffersAgree
-offers_agree (ScramAcceptor provider state) (ScramProfile (ByPassword client)) = (
+offers_agree (ScramAcceptor provider state) (ScramProfile client) = (
   λ has. one_version provider.version client.version (the_one _ _ has),
-  λ same. subst (Contains (mechanism_name provider.version ∷ [])) (ap mechanism_name (sym same)) (contains_one _),
-)
-offers_agree (ScramAcceptor provider state) (ScramProfile (ByKeys client)) = (
-  λ has. one_version provider.version client.keys.version (the_one _ _ has),
   λ same. subst (Contains (mechanism_name provider.version ∷ [])) (ap mechanism_name (sym same)) (contains_one _),
 )
 offers_agree (ScramAcceptor provider state) (PlainProfile user password) =
@@ -62,19 +58,15 @@ offers_agree (ScramAcceptor provider state) AnonymousProfile =
     (λ has. absurd ((other_name provider.version).1 (the_one _ _ has)), λ same. absurd same)
 offers_agree (ScramAcceptor provider state) ExternalProfile =
     (λ has. absurd ((other_name provider.version).2 (the_one _ _ has)), λ same. absurd same)
-offers_agree (PlainAcceptor user password) (ScramProfile (ByPassword client)) =
+offers_agree (PlainAcceptor user password) (ScramProfile client) =
     (λ has. absurd ((other_name client.version).0 (sym (the_one _ _ has))), λ same. absurd same)
-offers_agree (PlainAcceptor user password) (ScramProfile (ByKeys client)) =
-    (λ has. absurd ((other_name client.keys.version).0 (sym (the_one _ _ has))), λ same. absurd same)
 offers_agree (PlainAcceptor user password) (PlainProfile other secret) = (λ has. tt, λ same. contains_one _)
 offers_agree (PlainAcceptor user password) AnonymousProfile =
     (λ has. absurd (differ _ _ refl (the_one _ _ has)), λ same. absurd same)
 offers_agree (PlainAcceptor user password) ExternalProfile =
     (λ has. absurd (differ _ _ refl (the_one _ _ has)), λ same. absurd same)
-offers_agree AnonymousAcceptor (ScramProfile (ByPassword client)) =
+offers_agree AnonymousAcceptor (ScramProfile client) =
     (λ has. absurd ((other_name client.version).1 (sym (the_one _ _ has))), λ same. absurd same)
-offers_agree AnonymousAcceptor (ScramProfile (ByKeys client)) =
-    (λ has. absurd ((other_name client.keys.version).1 (sym (the_one _ _ has))), λ same. absurd same)
 offers_agree AnonymousAcceptor (PlainProfile user password) =
     (λ has. absurd (differ _ _ refl (the_one _ _ has)), λ same. absurd same)
 offers_agree AnonymousAcceptor AnonymousProfile = (λ has. tt, λ same. contains_one _)
@@ -86,7 +78,7 @@ something_is_offered [] = (λ e. absurd (cc), λ some. absurd (some refl))
 something_is_offered (name ∷ names) = (λ e. absurd (cc), λ some. refl)
 
 pub names_differ : NamesDiffer
-names_differ login =
+names_differ login password =
     let apart : (text other : List ℕ) → pointwise nat_eq text other ≡ false → text ≢ other = differ in (
       (apart _ _ refl, (apart _ _ refl, (apart _ _ refl, (apart _ _ refl, (apart _ _ refl, tt))))),
       (

@@ -9,8 +9,9 @@ use Rattle.fe2o3_sasl_wire.specs.SaslFrames.{fault_of, SaslFrame}
 use Rattle.fe2o3_sasl_wire.specs.SaslFrames as frames
 use Rattle.fe2o3_scram.specs.Credentials.{Provider}
 use Rattle.fe2o3_scram.specs.declared.scram_messages.error.ScramErrorKind.{ScramErrorKind}
+use Rattle.fe2o3_scram.specs.declared.scram_messages.error.ScramErrorKind.TheVariants as kinds
 use Rattle.fe2o3_sasl.specs.ClientHistory.{Answering, ClientAllocates, ClientAnswers, IsDue, OpenAnswer}
-use Rattle.fe2o3_sasl.specs.Events.{Given, Login, ClientFault, Reported, Refused, NotImplemented, Scram, OutOfMemory, Failed}
+use Rattle.fe2o3_sasl.specs.Events.{Given, Login, ClientFault, Reported, Refused, NotImplemented, Scram, OutOfMemory, Failed, scram_fault}
 use Rattle.fe2o3_sasl.specs.Laws.{WantsAtServer, ServersWantMemory, WantsAtProfile, ClientsWantMemory, ProfilesWantMemory}
 use Rattle.fe2o3_sasl.specs.Profiles.{Profile, ScramProfile, scram_profile, profile_machine}
 use Rattle.fe2o3_sasl.specs.Runs.{Replies}
@@ -63,6 +64,14 @@ servers_want_memory provider events replies k history is =
 
 -- ---- a SCRAM client
 
+-- a refusal of SCRAM is not want of memory
+pub scram_tells : (kind : ScramErrorKind) → scram_fault kind ≢ OutOfMemory
+scram_tells kinds.OtherKeys is = cc
+scram_tells kind is = cc
+
+same_refusal : (fault other : ClientFault) → Refused fault ≡ Refused other → fault ≡ other
+same_refusal fault other is = cc
+
 -- want of memory is no other reply
 not_reported : (code : SaslCode) (more : Option (List ℕ)) → Refused OutOfMemory ≢ Reported code more
 not_reported code more is = absurd (cc)
@@ -88,7 +97,7 @@ client_wants login Due IsOpen event (Ok (frames.Outcome code None)) spells (inl 
 client_wants login Due IsOpen event (Ok (frames.Outcome outcomes.Ok None)) spells (inr (inl believed)) =
     absurd believed.0
 client_wants login Due IsOpen event (Ok (frames.Outcome outcomes.Ok None)) spells (inr (inr refused)) =
-    let is = refused.2 in absurd (cc)
+    absurd (scram_tells refused.0 (same_refusal (scram_fault refused.0) OutOfMemory (sym refused.2)))
 client_wants login Due IsOpen event (Ok (frames.Outcome outcomes.Auth None)) spells (inr is) = absurd (cc)
 client_wants login Due IsOpen event (Ok (frames.Outcome outcomes.Sys None)) spells (inr is) = absurd (cc)
 client_wants login Due IsOpen event (Ok (frames.Outcome outcomes.SysPerm None)) spells (inr is) = absurd (cc)

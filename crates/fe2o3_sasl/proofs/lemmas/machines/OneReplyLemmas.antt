@@ -9,10 +9,7 @@ use Rattle.fe2o3_scram.specs.declared.scram_messages.error.ServerScramErrorKind.
 use Rattle.fe2o3_scram.specs.ClientFinal.{Server, ClientFinal, ReadsClientFinal, Answer, answer_of, server_of}
 use Rattle.fe2o3_scram.specs.ClientFirst.{ClientFirst, ReadsClientFirst}
 use Rattle.fe2o3_scram.specs.Credentials.{Record, Provider, record_at}
-use Rattle.fe2o3_scram.specs.declared.scram_messages.error.KeyedClientError.{KeyedClientError}
-use Rattle.fe2o3_scram.specs.declared.scram_messages.error.KeyedClientError.TheVariants as keyed_faults
-use Rattle.fe2o3_scram.specs.ClientKeys.{Fits, answer_with}
-use Rattle.fe2o3_scram.specs.KeyedScramClient.{KeyedSide, KeyedAnswersIn, KeyedBelievesIn, keyed_in, keyed_holding}
+use Rattle.fe2o3_scram.specs.ClientKeys.{ClientKeys}
 use Rattle.fe2o3_scram.specs.ScramClient as client_states
 use Rattle.fe2o3_scram.specs.ScramClient.{ClientState, ClientSide, AnswersIn, BelievesIn, with_state, holding}
 use Rattle.fe2o3_scram.specs.ScramServer as server_states
@@ -27,7 +24,7 @@ use Rattle.fe2o3_scram.proofs.lemmas.messages.ServerFirstLemmas.{one_server_firs
 use Rattle.fe2o3_sasl.specs.Events.{ClientFault}
 use Rattle.fe2o3_sasl.specs.MechanismLaws.{OneAcceptorReply, OneProfileReply}
 use Rattle.fe2o3_sasl.specs.SaslAcceptor.{Acceptor, ScramAcceptor, PlainAcceptor, AnonymousAcceptor, server_frame}
-use Rattle.fe2o3_sasl.specs.Profiles.{Profile, ScramProfile, ByPassword, ByKeys, client_frame, keyed_frame}
+use Rattle.fe2o3_sasl.specs.Profiles.{Profile, ScramProfile, client_frame}
 
 -- the result is made of a reading
 abbrev MadeOf : {V R : Type 0} → (V → Type 0) → (V → R) → R → Type 0
@@ -190,20 +187,24 @@ one_acceptor_reply acceptor nonce frame reply other next last is too = absurd is
 abbrev ClientTurn : Type 0 → Type 0
 ClientTurn A = Result A ScramErrorKind × ClientSide
 
+abbrev answered_side : ClientSide → Answer → ClientSide
+answered_side side answer = with_state side (client_states.ClientFinalSent answer.signature (Some answer.keys))
+
 -- the turn to a server-first message that was read
 abbrev answer_turn : ClientSide → List ℕ → List ℕ → Result ServerFirst ScramErrorKind → ClientTurn (List ℕ)
 answer_turn side bare text (Ok first) =
-    let answer = answer_of side.version side.password bare text first in
-    (Ok answer.0, with_state side (client_states.ClientFinalSent answer.1))
+    let answer = answer_of side.version side.secret bare text first in
+    (Ok answer.message, answered_side side answer)
 answer_turn side bare text (Err fault) = (Err fault, side)
 
 answer_made : (nonce bare : List ℕ) (side : ClientSide) (text : List ℕ) (answer : Result (List ℕ) ScramErrorKind)
     (next : ClientSide) → AnswersIn (client_states.ClientFirstSent nonce bare) side text answer next
     → MadeOf (ReadsServerFirst (holding side nonce) text) (answer_turn side bare text) (answer, next)
 answer_made nonce bare side text (Ok message) next is =
-    let both : ◌≡◌ {A = Answer} (message, is.0) (answer_of side.version side.password bare text is.1.0) = is.1.2 in
-    let after = is.2 ∙ ap (λ (x : Answer). with_state side (client_states.ClientFinalSent x.1)) both in
-    (Ok is.1.0, is.1.1, λ i. (Ok (both i).0, after i))
+    let first = is.1 in
+    let sent = is.2 ∙ ap (λ (x : Answer). x.message) first.2 in
+    let after = is.3 ∙ ap (answered_side side) first.2 in
+    (Ok first.0, first.1, λ i. (Ok (sent i), after i))
 answer_made nonce bare side text (Err fault) next is = (Err fault, is.0, λ i. (Err fault, is.1 i))
 
 one_answer : (state : ClientState) (side : ClientSide) (text : List ℕ) (answer other : Result (List ℕ) ScramErrorKind)
@@ -217,33 +218,35 @@ one_answer client_states.Initial side text (Ok message) other next last is too =
 one_answer client_states.Initial side text (Err fault) (Ok message) next last is too = absurd too
 one_answer client_states.Initial side text (Err fault) (Err kind) next last is too =
     λ i. (Err ((is.0 ∙ sym too.0) i), (is.1 ∙ sym too.1) i)
-one_answer (client_states.ClientFinalSent signature) side text (Ok message) other next last is too = absurd is
-one_answer (client_states.ClientFinalSent signature) side text (Err fault) (Ok message) next last is too = absurd too
-one_answer (client_states.ClientFinalSent signature) side text (Err fault) (Err kind) next last is too =
+one_answer (client_states.ClientFinalSent signature keys) side text (Ok message) other next last is too = absurd is
+one_answer (client_states.ClientFinalSent signature keys) side text (Err fault) (Ok message) next last is too =
+    absurd too
+one_answer (client_states.ClientFinalSent signature keys) side text (Err fault) (Err kind) next last is too =
     λ i. (Err ((is.0 ∙ sym too.0) i), (is.1 ∙ sym too.1) i)
-one_answer client_states.Complete side text (Ok message) other next last is too = absurd is
-one_answer client_states.Complete side text (Err fault) (Ok message) next last is too = absurd too
-one_answer client_states.Complete side text (Err fault) (Err kind) next last is too =
+one_answer (client_states.Complete keys) side text (Ok message) other next last is too = absurd is
+one_answer (client_states.Complete keys) side text (Err fault) (Ok message) next last is too = absurd too
+one_answer (client_states.Complete keys) side text (Err fault) (Err kind) next last is too =
     λ i. (Err ((is.0 ∙ sym too.0) i), (is.1 ∙ sym too.1) i)
 
 -- the turn to a server-final message that was read
-abbrev belief_turn : ClientSide → Result (Unit {0}) ScramErrorKind → ClientTurn (Unit {0})
-belief_turn side (Ok believed) = (Ok believed, with_state side client_states.Complete)
-belief_turn side (Err fault) = (Err fault, side)
+abbrev belief_turn : ClientSide → Option ClientKeys → Result (Unit {0}) ScramErrorKind → ClientTurn (Unit {0})
+belief_turn side keys (Ok believed) = (Ok believed, with_state side (client_states.Complete keys))
+belief_turn side keys (Err fault) = (Err fault, side)
 
-belief_made : (signature : List ℕ) (side : ClientSide) (text : List ℕ) (answer : Result (Unit {0}) ScramErrorKind)
-    (next : ClientSide) → BelievesIn (client_states.ClientFinalSent signature) side text answer next
-    → MadeOf (ReadsServerFinal signature text) (belief_turn side) (answer, next)
-belief_made signature side text (Ok believed) next is = (Ok believed, is.0, λ i. (Ok believed, is.1 i))
-belief_made signature side text (Err fault) next is = (Err fault, is.0, λ i. (Err fault, is.1 i))
+belief_made : (signature : List ℕ) (keys : Option ClientKeys) (side : ClientSide) (text : List ℕ)
+    (answer : Result (Unit {0}) ScramErrorKind) (next : ClientSide)
+    → BelievesIn (client_states.ClientFinalSent signature keys) side text answer next
+    → MadeOf (ReadsServerFinal signature text) (belief_turn side keys) (answer, next)
+belief_made signature keys side text (Ok believed) next is = (Ok believed, is.0, λ i. (Ok believed, is.1 i))
+belief_made signature keys side text (Err fault) next is = (Err fault, is.0, λ i. (Err fault, is.1 i))
 
 one_belief : (state : ClientState) (side : ClientSide) (text : List ℕ) (answer other : Result (Unit {0}) ScramErrorKind)
     (next last : ClientSide) → BelievesIn state side text answer next → BelievesIn state side text other last
     → ◌≡◌ {A = ClientTurn (Unit {0})} (answer, next) (other, last)
-one_belief (client_states.ClientFinalSent signature) side text answer other next last is too =
-    one_made (ReadsServerFinal signature text) (belief_turn side) (answer, next) (other, last)
-    (one_server_final signature text) (belief_made signature side text answer next is)
-    (belief_made signature side text other last too)
+one_belief (client_states.ClientFinalSent signature keys) side text answer other next last is too =
+    one_made (ReadsServerFinal signature text) (belief_turn side keys) (answer, next) (other, last)
+    (one_server_final signature text) (belief_made signature keys side text answer next is)
+    (belief_made signature keys side text other last too)
 one_belief client_states.Initial side text (Ok believed) other next last is too = absurd is
 one_belief client_states.Initial side text (Err fault) (Ok believed) next last is too = absurd too
 one_belief client_states.Initial side text (Err fault) (Err kind) next last is too =
@@ -252,111 +255,9 @@ one_belief (client_states.ClientFirstSent nonce bare) side text (Ok believed) ot
 one_belief (client_states.ClientFirstSent nonce bare) side text (Err fault) (Ok believed) next last is too = absurd too
 one_belief (client_states.ClientFirstSent nonce bare) side text (Err fault) (Err kind) next last is too =
     λ i. (Err ((is.0 ∙ sym too.0) i), (is.1 ∙ sym too.1) i)
-one_belief client_states.Complete side text (Ok believed) other next last is too = absurd is
-one_belief client_states.Complete side text (Err fault) (Ok believed) next last is too = absurd too
-one_belief client_states.Complete side text (Err fault) (Err kind) next last is too =
-    λ i. (Err ((is.0 ∙ sym too.0) i), (is.1 ∙ sym too.1) i)
-
--- ---- a SCRAM client with kept keys
-
--- what it answers, and the client after it
-abbrev KeyedTurn : Type 0 → Type 0 → Type 0
-KeyedTurn A E = Result A E × KeyedSide
-
-same_ok : {A E : Type 0} (a b : A) → ◌≡◌ {A = Result A E} (Ok a) (Ok b) → a ≡ b
-same_ok a b e = cc
-
-no_ok : {A E : Type 0} (a : A) (fault : E) → ◌≡◌ {A = Result A E} (Ok a) (Err fault) → ⊥
-no_ok a fault e = absurd (cc)
-
-same_err : {A E : Type 0} (fault other : E) → ◌≡◌ {A = Result A E} (Err fault) (Err other) → fault ≡ other
-same_err fault other e = cc
-
-one_keyed_answer : (state : ClientState) (side : KeyedSide) (text : List ℕ)
-    (answer other : Result (List ℕ) KeyedClientError) (next last : KeyedSide) → KeyedAnswersIn state side text answer next
-    → KeyedAnswersIn state side text other last
-    → ◌≡◌ {A = KeyedTurn (List ℕ) KeyedClientError} (answer, next) (other, last)
-one_keyed_answer (client_states.ClientFirstSent nonce bare) side text (Ok message) (Ok again) next last is too =
-    let first = same_ok is.1.0 too.1.0 (one_server_first (keyed_holding side nonce) text (Ok is.1.0) (Ok too.1.0)
-    is.1.1 too.1.1) in
-    let both : ◌≡◌ {A = Answer} (message, is.0) (again, too.0) =
-    is.1.3 ∙ (ap (λ (f : ServerFirst). answer_with side.keys bare text f) first ∙ sym too.1.3) in
-    let after = is.2 ∙ (ap (λ (x : Answer). keyed_in side (client_states.ClientFinalSent x.1)) both ∙ sym too.2) in
-    λ i. (Ok (both i).0, after i)
-one_keyed_answer (client_states.ClientFirstSent nonce bare) side text (Ok message) (Err (keyed_faults.Scram kind)) next
-    last is too = absurd (no_ok is.1.0 kind (one_server_first (keyed_holding side nonce) text (Ok is.1.0) (Err kind)
-    is.1.1 too.0))
-one_keyed_answer (client_states.ClientFirstSent nonce bare) side text (Ok message) (Err keyed_faults.OtherKeys) next
-    last is too =
-    let first = same_ok is.1.0 too.0.0 (one_server_first (keyed_holding side nonce) text (Ok is.1.0) (Ok too.0.0)
-    is.1.1 too.0.1) in
-    absurd (too.0.2 (subst (λ (f : ServerFirst). Fits side.keys f) first is.1.2))
-one_keyed_answer (client_states.ClientFirstSent nonce bare) side text (Err (keyed_faults.Scram kind)) (Ok again) next
-    last is too = absurd (no_ok too.1.0 kind (one_server_first (keyed_holding side nonce) text (Ok too.1.0) (Err kind)
-    too.1.1 is.0))
-one_keyed_answer (client_states.ClientFirstSent nonce bare) side text (Err (keyed_faults.Scram kind))
-    (Err (keyed_faults.Scram fault)) next last is too =
-    let same = same_err kind fault (one_server_first (keyed_holding side nonce) text (Err kind) (Err fault) is.0 too.0)
-    in λ i. (Err (keyed_faults.Scram (same i)), (is.1 ∙ sym too.1) i)
-one_keyed_answer (client_states.ClientFirstSent nonce bare) side text (Err (keyed_faults.Scram kind))
-    (Err keyed_faults.OtherKeys) next last is too =
-    absurd (no_ok too.0.0 kind (one_server_first (keyed_holding side nonce) text (Ok too.0.0) (Err kind) too.0.1 is.0))
-one_keyed_answer (client_states.ClientFirstSent nonce bare) side text (Err keyed_faults.OtherKeys) (Ok again) next last
-    is too =
-    let first = same_ok too.1.0 is.0.0 (one_server_first (keyed_holding side nonce) text (Ok too.1.0) (Ok is.0.0)
-    too.1.1 is.0.1) in
-    absurd (is.0.2 (subst (λ (f : ServerFirst). Fits side.keys f) first too.1.2))
-one_keyed_answer (client_states.ClientFirstSent nonce bare) side text (Err keyed_faults.OtherKeys)
-    (Err (keyed_faults.Scram fault)) next last is too =
-    absurd (no_ok is.0.0 fault (one_server_first (keyed_holding side nonce) text (Ok is.0.0) (Err fault) is.0.1 too.0))
-one_keyed_answer (client_states.ClientFirstSent nonce bare) side text (Err keyed_faults.OtherKeys)
-    (Err keyed_faults.OtherKeys) next last is too = λ i. (Err keyed_faults.OtherKeys, (is.1 ∙ sym too.1) i)
-one_keyed_answer client_states.Initial side text (Ok message) other next last is too = absurd is
-one_keyed_answer client_states.Initial side text (Err fault) (Ok message) next last is too = absurd too
-one_keyed_answer client_states.Initial side text (Err fault) (Err kind) next last is too =
-    λ i. (Err ((is.0 ∙ sym too.0) i), (is.1 ∙ sym too.1) i)
-one_keyed_answer (client_states.ClientFinalSent signature) side text (Ok message) other next last is too = absurd is
-one_keyed_answer (client_states.ClientFinalSent signature) side text (Err fault) (Ok message) next last is too =
-    absurd too
-one_keyed_answer (client_states.ClientFinalSent signature) side text (Err fault) (Err kind) next last is too =
-    λ i. (Err ((is.0 ∙ sym too.0) i), (is.1 ∙ sym too.1) i)
-one_keyed_answer client_states.Complete side text (Ok message) other next last is too = absurd is
-one_keyed_answer client_states.Complete side text (Err fault) (Ok message) next last is too = absurd too
-one_keyed_answer client_states.Complete side text (Err fault) (Err kind) next last is too =
-    λ i. (Err ((is.0 ∙ sym too.0) i), (is.1 ∙ sym too.1) i)
-
--- the turn to a server-final message that was read
-abbrev keyed_belief_turn : KeyedSide → Result (Unit {0}) ScramErrorKind → KeyedTurn (Unit {0}) ScramErrorKind
-keyed_belief_turn side (Ok believed) = (Ok believed, keyed_in side client_states.Complete)
-keyed_belief_turn side (Err fault) = (Err fault, side)
-
-keyed_belief_made : (signature : List ℕ) (side : KeyedSide) (text : List ℕ)
-    (answer : Result (Unit {0}) ScramErrorKind) (next : KeyedSide)
-    → KeyedBelievesIn (client_states.ClientFinalSent signature) side text answer next
-    → MadeOf (ReadsServerFinal signature text) (keyed_belief_turn side) (answer, next)
-keyed_belief_made signature side text (Ok believed) next is = (Ok believed, is.0, λ i. (Ok believed, is.1 i))
-keyed_belief_made signature side text (Err fault) next is = (Err fault, is.0, λ i. (Err fault, is.1 i))
-
-one_keyed_belief : (state : ClientState) (side : KeyedSide) (text : List ℕ)
-    (answer other : Result (Unit {0}) ScramErrorKind) (next last : KeyedSide)
-    → KeyedBelievesIn state side text answer next → KeyedBelievesIn state side text other last
-    → ◌≡◌ {A = KeyedTurn (Unit {0}) ScramErrorKind} (answer, next) (other, last)
-one_keyed_belief (client_states.ClientFinalSent signature) side text answer other next last is too =
-    one_made (ReadsServerFinal signature text) (keyed_belief_turn side) (answer, next) (other, last)
-    (one_server_final signature text) (keyed_belief_made signature side text answer next is)
-    (keyed_belief_made signature side text other last too)
-one_keyed_belief client_states.Initial side text (Ok believed) other next last is too = absurd is
-one_keyed_belief client_states.Initial side text (Err fault) (Ok believed) next last is too = absurd too
-one_keyed_belief client_states.Initial side text (Err fault) (Err kind) next last is too =
-    λ i. (Err ((is.0 ∙ sym too.0) i), (is.1 ∙ sym too.1) i)
-one_keyed_belief (client_states.ClientFirstSent nonce bare) side text (Ok believed) other next last is too = absurd is
-one_keyed_belief (client_states.ClientFirstSent nonce bare) side text (Err fault) (Ok believed) next last is too =
-    absurd too
-one_keyed_belief (client_states.ClientFirstSent nonce bare) side text (Err fault) (Err kind) next last is too =
-    λ i. (Err ((is.0 ∙ sym too.0) i), (is.1 ∙ sym too.1) i)
-one_keyed_belief client_states.Complete side text (Ok believed) other next last is too = absurd is
-one_keyed_belief client_states.Complete side text (Err fault) (Ok believed) next last is too = absurd too
-one_keyed_belief client_states.Complete side text (Err fault) (Err kind) next last is too =
+one_belief (client_states.Complete keys) side text (Ok believed) other next last is too = absurd is
+one_belief (client_states.Complete keys) side text (Err fault) (Ok believed) next last is too = absurd too
+one_belief (client_states.Complete keys) side text (Err fault) (Err kind) next last is too =
     λ i. (Err ((is.0 ∙ sym too.0) i), (is.1 ∙ sym too.1) i)
 
 -- ---- a profile
@@ -364,21 +265,11 @@ one_keyed_belief client_states.Complete side text (Err fault) (Err kind) next la
 -- both of one turn of the client
 same_turn : {A : Type 0} (frame : A → SaslFrame) (turn again : ClientTurn A)
     (reply other : Result SaslFrame ClientFault) (next last : Profile) → turn ≡ again
-    → reply ≡ client_frame frame turn.0 → next ≡ ScramProfile (ByPassword turn.1)
-    → other ≡ client_frame frame again.0 → last ≡ ScramProfile (ByPassword again.1) → (reply ≡ other) × (next ≡ last)
+    → reply ≡ client_frame frame turn.0 → next ≡ ScramProfile turn.1
+    → other ≡ client_frame frame again.0 → last ≡ ScramProfile again.1 → (reply ≡ other) × (next ≡ last)
 same_turn {A} frame turn again reply other next last same r n s l = (
   r ∙ (ap (λ (x : ClientTurn A). client_frame frame x.0) same ∙ sym s),
-  n ∙ (ap (λ (x : ClientTurn A). ScramProfile (ByPassword x.1)) same ∙ sym l),
-)
-
--- both of one turn of the client with kept keys
-same_keyed_turn : {A E : Type 0} (frame : Result A E → Result SaslFrame ClientFault) (turn again : KeyedTurn A E)
-    (reply other : Result SaslFrame ClientFault) (next last : Profile) → turn ≡ again
-    → reply ≡ frame turn.0 → next ≡ ScramProfile (ByKeys turn.1)
-    → other ≡ frame again.0 → last ≡ ScramProfile (ByKeys again.1) → (reply ≡ other) × (next ≡ last)
-same_keyed_turn {A} {E} frame turn again reply other next last same r n s l = (
-  r ∙ (ap (λ (x : KeyedTurn A E). frame x.0) same ∙ sym s),
-  n ∙ (ap (λ (x : KeyedTurn A E). ScramProfile (ByKeys x.1)) same ∙ sym l),
+  n ∙ (ap (λ (x : ClientTurn A). ScramProfile x.1) same ∙ sym l),
 )
 
 pub one_profile_reply : OneProfileReply
@@ -390,38 +281,22 @@ one_profile_reply profile hostname nonce (frames.Mechanisms names) reply other n
     absurd (is.0 too.0)
 one_profile_reply profile hostname nonce (frames.Mechanisms names) reply other next last (inr is) (inr too) =
     (is.1 ∙ sym too.1, is.2 ∙ sym too.2)
-one_profile_reply (ScramProfile (ByPassword client)) hostname nonce (frames.Challenge text) reply other next last
+one_profile_reply (ScramProfile client) hostname nonce (frames.Challenge text) reply other next last
     (inl is) (inl too) = (is.1 ∙ sym too.1, is.2 ∙ sym too.2)
-one_profile_reply (ScramProfile (ByPassword client)) hostname nonce (frames.Challenge text) reply other next last
+one_profile_reply (ScramProfile client) hostname nonce (frames.Challenge text) reply other next last
     (inl is) (inr too) = absurd (is.0 too.0)
-one_profile_reply (ScramProfile (ByPassword client)) hostname nonce (frames.Challenge text) reply other next last
+one_profile_reply (ScramProfile client) hostname nonce (frames.Challenge text) reply other next last
     (inr is) (inl too) = absurd (too.0 is.0)
-one_profile_reply (ScramProfile (ByPassword client)) hostname nonce (frames.Challenge text) reply other next last
+one_profile_reply (ScramProfile client) hostname nonce (frames.Challenge text) reply other next last
     (inr is) (inr too) =
     same_turn (λ message. frames.Response message) (is.1.0, is.1.1) (too.1.0, too.1.1) reply other next last
     (one_answer client.state client text is.1.0 too.1.0 is.1.1 too.1.1 is.1.2 too.1.2) is.1.3 is.1.4 too.1.3 too.1.4
 one_profile_reply (ScramProfile client) hostname nonce (frames.Outcome outcomes.Ok None) reply other next last is too =
     both_are _ _ reply other next last is too
-one_profile_reply (ScramProfile (ByPassword client)) hostname nonce (frames.Outcome outcomes.Ok (Some text)) reply other
+one_profile_reply (ScramProfile client) hostname nonce (frames.Outcome outcomes.Ok (Some text)) reply other
     next last is too =
     same_turn (λ believed. frames.Outcome outcomes.Ok (Some text)) (is.0, is.1) (too.0, too.1) reply other next last
     (one_belief client.state client text is.0 too.0 is.1 too.1 is.2 too.2) is.3 is.4 too.3 too.4
-one_profile_reply (ScramProfile (ByKeys client)) hostname nonce (frames.Challenge text) reply other next last
-    (inl is) (inl too) = (is.1 ∙ sym too.1, is.2 ∙ sym too.2)
-one_profile_reply (ScramProfile (ByKeys client)) hostname nonce (frames.Challenge text) reply other next last
-    (inl is) (inr too) = absurd (is.0 too.0)
-one_profile_reply (ScramProfile (ByKeys client)) hostname nonce (frames.Challenge text) reply other next last
-    (inr is) (inl too) = absurd (too.0 is.0)
-one_profile_reply (ScramProfile (ByKeys client)) hostname nonce (frames.Challenge text) reply other next last
-    (inr is) (inr too) =
-    same_keyed_turn (keyed_frame (λ message. frames.Response message)) (is.1.0, is.1.1) (too.1.0, too.1.1) reply other
-    next last (one_keyed_answer client.state client text is.1.0 too.1.0 is.1.1 too.1.1 is.1.2 too.1.2) is.1.3 is.1.4
-    too.1.3 too.1.4
-one_profile_reply (ScramProfile (ByKeys client)) hostname nonce (frames.Outcome outcomes.Ok (Some text)) reply other
-    next last is too =
-    same_keyed_turn (client_frame (λ (believed : Unit {0}). frames.Outcome outcomes.Ok (Some text))) (is.0, is.1)
-    (too.0, too.1) reply other next last
-    (one_keyed_belief client.state client text is.0 too.0 is.1 too.1 is.2 too.2) is.3 is.4 too.3 too.4
 one_profile_reply profile hostname nonce (frames.Outcome code more) reply other next last is too =
     both_are _ _ reply other next last is too
 one_profile_reply profile hostname nonce frame reply other next last is too =

@@ -30,11 +30,11 @@ use Rattle.fe2o3_sasl.specs.Events.{Given, ServerSays, Failed, ClientSays, Start
 use Rattle.fe2o3_sasl.specs.Laws.{BodiesAreBytes, SomeServerHistory, SomeClientHistory}
 use Rattle.fe2o3_sasl.specs.Runs.{Runs, AcceptorGives, AcceptorSteps, ProfileGives, ProfileSteps, Replies, Sends, server_says}
 use Rattle.fe2o3_sasl.specs.SaslAcceptor.{ScramAcceptor, acceptor_machine, ends_with, server_frame}
-use Rattle.fe2o3_sasl.specs.Profiles.{ScramProfile, ByPassword, profile_machine, client_frame, initial_response}
+use Rattle.fe2o3_sasl.specs.Profiles.{ScramProfile, profile_machine, client_frame, initial_response}
 use Rattle.fe2o3_sasl.specs.Complete.{ServerComplete, ClientComplete}
 use Rattle.fe2o3_sasl.specs.Bodies.{SpellsBody}
 use Rattle.fe2o3_sasl.proofs.lemmas.machines.ClientMachineLemmas.{profile_runs_are_histories}
-use Rattle.fe2o3_sasl.proofs.lemmas.machines.MemoryLemmas.{no_want}
+use Rattle.fe2o3_sasl.proofs.lemmas.machines.MemoryLemmas.{no_want, scram_tells}
 use Rattle.fe2o3_sasl.proofs.lemmas.machines.ServerMachineLemmas.{acceptor_runs_are_histories}
 
 -- ---- what a body spells
@@ -221,16 +221,19 @@ contains_or (first ∷ names) name = go (same_or first name) (contains_or names 
 some_answer : (state : ClientState) (side : ClientSide) (text : List ℕ)
     → (answer : Result (List ℕ) ScramErrorKind) × (after : ClientSide) × AnswersIn state side text answer after
 some_answer client_states.Initial side text = (Err IllegalClientState, side, (refl, refl))
-some_answer (client_states.ClientFinalSent signature) side text = (Err IllegalClientState, side, (refl, refl))
-some_answer client_states.Complete side text = (Err IllegalClientState, side, (refl, refl))
+some_answer (client_states.ClientFinalSent signature keys) side text = (Err IllegalClientState, side, (refl, refl))
+some_answer (client_states.Complete keys) side text = (Err IllegalClientState, side, (refl, refl))
 some_answer (client_states.ClientFirstSent nonce bare) side text =
     let read = some_server_first (holding side nonce) text in go read.0 read.1
   where
     go : (read : Result ServerFirst ScramErrorKind) → ReadsServerFirst (holding side nonce) text read
         → (answer : Result (List ℕ) ScramErrorKind) × (after : ClientSide)
         × AnswersIn (client_states.ClientFirstSent nonce bare) side text answer after
-    go (Ok first) reads = let answer = answer_of side.version side.password bare text first in
-        (Ok answer.0, with_state side (client_states.ClientFinalSent answer.1), (answer.1, (first, reads, refl), refl))
+    go (Ok first) reads = let answer = answer_of side.version side.secret bare text first in (
+      Ok answer.message,
+      with_state side (client_states.ClientFinalSent answer.signature (Some answer.keys)),
+      (answer, (first, reads, refl), refl, refl),
+    )
     go (Err kind) reads = (Err kind, side, (reads, refl))
 
 -- an answer to a server-final message
@@ -238,14 +241,14 @@ some_belief : (state : ClientState) (side : ClientSide) (text : List ℕ)
     → (answer : Result (Unit {0}) ScramErrorKind) × (after : ClientSide) × BelievesIn state side text answer after
 some_belief client_states.Initial side text = (Err IllegalClientState, side, (refl, refl))
 some_belief (client_states.ClientFirstSent nonce bare) side text = (Err IllegalClientState, side, (refl, refl))
-some_belief client_states.Complete side text = (Err IllegalClientState, side, (refl, refl))
-some_belief (client_states.ClientFinalSent signature) side text =
+some_belief (client_states.Complete keys) side text = (Err IllegalClientState, side, (refl, refl))
+some_belief (client_states.ClientFinalSent signature keys) side text =
     let read = some_server_final signature text in go read.0 read.1
   where
     go : (read : Result (Unit {0}) ScramErrorKind) → ReadsServerFinal signature text read
         → (answer : Result (Unit {0}) ScramErrorKind) × (after : ClientSide)
-        × BelievesIn (client_states.ClientFinalSent signature) side text answer after
-    go (Ok believed) reads = (Ok believed, with_state side client_states.Complete, (reads, refl))
+        × BelievesIn (client_states.ClientFinalSent signature keys) side text answer after
+    go (Ok believed) reads = (Ok believed, with_state side (client_states.Complete keys), (reads, refl))
     go (Err kind) reads = (Err kind, side, (reads, refl))
 
 -- it is not a refusal for want of memory
@@ -255,12 +258,12 @@ Told (Err fault) = fault ≢ OutOfMemory
 
 told_frame : {A : Type 0} (frame : A → SaslFrame) (answer : Result A ScramErrorKind) → Told (client_frame frame answer)
 told_frame frame (Ok answer) = tt
-told_frame frame (Err kind) = λ is. cc
+told_frame frame (Err kind) = scram_tells kind
 
 -- what the machine of a SCRAM profile does
 abbrev Moves : Option (List ℕ) → ClientSide → List ℕ → SaslFrame → Type 0
 Moves hostname side nonce frame = (reply : Result SaslFrame ClientFault) × (moved : ClientSide)
-    × profile_machine (ScramProfile (ByPassword side)) hostname nonce frame reply (ScramProfile (ByPassword moved))
+    × profile_machine (ScramProfile side) hostname nonce frame reply (ScramProfile moved)
     × Told reply
 
 some_move : (hostname : Option (List ℕ)) (side : ClientSide) (nonce : List ℕ) (frame : SaslFrame)
@@ -269,7 +272,7 @@ some_move hostname side nonce (frames.Mechanisms names) = go (contains_or names 
   where
     go : Decided (Contains names (mechanism_name side.version)) → Moves hostname side nonce (frames.Mechanisms names)
     go (inl has) = (
-      Ok (frames.Init (mechanism_name side.version) (initial_response (ScramProfile (ByPassword side)) nonce) hostname),
+      Ok (frames.Init (mechanism_name side.version) (initial_response (ScramProfile side) nonce) hostname),
       started side nonce,
       inl (has, refl, refl),
       tt,
@@ -307,14 +310,14 @@ some_move hostname side nonce (frames.Response text) = (Err NotImplemented, side
 -- what a client says with a reply
 abbrev SaysWith : ClientSide → ClientSide → Result SaslFrame ClientFault → Type 0
 SaysWith side moved reply = (says : ClientSays) × (after : ClientSide)
-    × Replies (ScramProfile (ByPassword side)) (ScramProfile (ByPassword moved)) reply says
-    (ScramProfile (ByPassword after)) × (says ≢ Refused OutOfMemory)
+    × Replies (ScramProfile side) (ScramProfile moved) reply says
+    (ScramProfile after) × (says ≢ Refused OutOfMemory)
 
 -- the reply that carries a frame
 abbrev CarriesIn : ClientSide → ClientSide → (List ℕ → ClientSays) → Option (List ℕ) → Type 0
 CarriesIn side moved carry body = (says : ClientSays) × (after : ClientSide)
-    × Sends (Refused (Frame faults.TooLarge)) carry body (ScramProfile (ByPassword side)) (ScramProfile (ByPassword moved)) says
-    (ScramProfile (ByPassword after)) × (says ≢ Refused OutOfMemory)
+    × Sends (Refused (Frame faults.TooLarge)) carry body (ScramProfile side) (ScramProfile moved) says
+    (ScramProfile after) × (says ≢ Refused OutOfMemory)
 
 some_carried : (side moved : ClientSide) (carry : List ℕ → ClientSays) (body : Option (List ℕ))
     → ((bytes : List ℕ) → carry bytes ≢ Refused OutOfMemory) → CarriesIn side moved carry body
@@ -339,17 +342,17 @@ some_says side moved (Ok (frames.Response text)) told =
 -- what the profile gives
 some_told : (hostname : Option (List ℕ)) (side : ClientSide) (event : Given) (spelled : Result SaslFrame Error)
     → (says : ClientSays) × (after : ClientSide)
-    × ProfileGives hostname (ScramProfile (ByPassword side)) event spelled says (ScramProfile (ByPassword after))
+    × ProfileGives hostname (ScramProfile side) event spelled says (ScramProfile after)
     × (says ≢ Refused OutOfMemory)
 some_told hostname side event (Err fault) = (Refused (Frame fault), side, (refl, refl), λ is. cc)
 some_told hostname side event (Ok frame) =
     let move = some_move hostname side event.nonce frame in
     let reply = some_says side move.1 move.0 move.3 in
-    (reply.0, reply.1, inr (move.0, ScramProfile (ByPassword move.1), move.2, reply.2), reply.3)
+    (reply.0, reply.1, inr (move.0, ScramProfile move.1, move.2, reply.2), reply.3)
 
 some_profile_run : (hostname : Option (List ℕ)) (side : ClientSide) (events : List Given) → BodiesAreBytes events
     → (replies : List ClientSays) × (last : ClientSide)
-    × Runs (ProfileSteps hostname) (ScramProfile (ByPassword side)) events replies (ScramProfile (ByPassword last))
+    × Runs (ProfileSteps hostname) (ScramProfile side) events replies (ScramProfile last)
     × ClientComplete replies
 some_profile_run hostname side [] are = ([], side, (refl, refl), λ k is. none-some (Refused OutOfMemory) is)
 some_profile_run hostname side (event ∷ events) are =
@@ -358,7 +361,7 @@ some_profile_run hostname side (event ∷ events) are =
     let rest = some_profile_run hostname step.1 events (λ k. are (suc k)) in (
       step.0 ∷ rest.0,
       rest.1,
-      (step.0, ScramProfile (ByPassword step.1), rest.0, (spelled.0, spelled.1, step.2), refl, rest.2),
+      (step.0, ScramProfile step.1, rest.0, (spelled.0, spelled.1, step.2), refl, rest.2),
       complete_on (Refused OutOfMemory) step.0 rest.0 step.3 rest.3,
     )
 
@@ -366,10 +369,10 @@ pub some_client_history : SomeClientHistory
 some_client_history login events are =
     let side : ClientSide = record {
       user = login.user;
-      password = login.password;
+      secret = login.secret;
       version = login.version;
-      limit = login.limit;
+      limits = login.limits;
       state = client_states.Initial;
     } in
     let run = some_profile_run login.hostname side events are in
-    (run.0, profile_runs_are_histories login events run.0 (ScramProfile (ByPassword run.1)) run.2, run.3)
+    (run.0, profile_runs_are_histories login events run.0 (ScramProfile run.1) run.2, run.3)

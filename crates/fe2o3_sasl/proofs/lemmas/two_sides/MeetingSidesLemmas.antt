@@ -1,19 +1,24 @@
 -- Where a client and a server meet: one version, and one login where the AuthMessages are equal.
-use Rattle.std.proofs.Common.{◌≡◌, ℕ, ◌++◌, length, refl, sym, ap, ◌∙◌, arith, codes, inl, inr}
+use Rattle.std.proofs.Common.{◌≡◌, ℕ, Bool, true, false, List, ◌++◌, length, subst, refl, sym, ap, ◌∙◌, arith, codes, inl, inr}
 use Rattle.fe2o3_scram.specs.declared.hmac.ScramVersion.{ScramVersion}
 use Rattle.fe2o3_scram.specs.declared.hmac.ScramVersion.TheVariants.{Sha1, Sha256, Sha512}
 use Rattle.fe2o3_scram.specs.Texts.{base64_text}
 use Rattle.fe2o3_sasl.specs.ClientHistory.{Answering, AnswersAt, OpenAnswer}
-use Rattle.fe2o3_sasl.specs.Events.{IsRecord}
+use Rattle.std.specs.Prelude.{if◌then◌else◌}
+use Rattle.fe2o3_scram.specs.ClientFinal.{fit, keys_for}
+use Rattle.fe2o3_scram.specs.ClientKeys.{AreSized, ClientKeys, keys_of}
+use Rattle.fe2o3_scram.specs.ClientSecret.{Secret, Password, Keys, Both}
+use Rattle.fe2o3_scram.specs.ServerFirst.{ServerFirst}
+use Rattle.fe2o3_sasl.specs.Events.{IsRecord, IsSecret, Login}
 use Rattle.fe2o3_scram.specs.Hmac.{digest_len, hmac_of}
-use Rattle.fe2o3_sasl.specs.Laws.{AreMatched, EqualMessagesAgree, NoShortExtensions}
+use Rattle.fe2o3_sasl.specs.Laws.{AreMatched, MatchEqually, EqualMessagesAgree, NoShortExtensions}
 use Rattle.fe2o3_scram.specs.Keys.{stored_key}
 use Rattle.fe2o3_sasl.specs.ServerHistory.{Accepted, AcceptsAt, final_message}
-use Rattle.fe2o3_sasl.specs.TwoSides.{Sides, Histories, Takes, Shows, Agree, client_message, server_message, salted_at, server_key_at}
-use Rattle.fe2o3_sasl.specs.Audit.{client_key_at}
+use Rattle.fe2o3_sasl.specs.TwoSides.{Sides, Histories, Takes, Shows, Agree, client_message, server_message, keys_at}
 use Rattle.fe2o3_scram.proofs.lemmas.texts.Base64Lemmas.{one_spelled}
 use Rattle.fe2o3_scram.proofs.lemmas.hashes.DigestLemmas.{length-hmac_of, IsBytes-hmac_of}
 use Rattle.fe2o3_scram.proofs.lemmas.messages.ExchangeLemmas.{length-exclusive_or}
+use Rattle.fe2o3_sasl.proofs.lemmas.histories.OneClientHistoryLemmas.{one_open_answer}
 use Rattle.fe2o3_sasl.proofs.lemmas.histories.ReportedOkLemmas.{signature_of_ok}
 use Rattle.fe2o3_scram.proofs.lemmas.texts.PartsLemmas.{one_part}
 use Rattle.fe2o3_sasl.proofs.lemmas.two_sides.EqualMessageLemmas.{SameMessages, same_messages, is_answering, is_accepted}
@@ -30,22 +35,45 @@ one_version Sha512 Sha1 same = absurd (omega (arith, same))
 one_version Sha512 Sha256 same = absurd (omega (arith, same))
 one_version Sha512 Sha512 same = refl
 
+-- the keys of an answer are as long as a digest, where those of the secret are
+pub sized_at : (login : Login) (answer : Answering) → IsSecret login.secret → AreSized (keys_at login answer)
+sized_at login answer = sized login.version login.secret answer.first
+  where
+    of_password : (version : ScramVersion) (password : List ℕ) (first : ServerFirst)
+        → AreSized (keys_of version password first.salt first.count)
+    of_password version password first =
+        (length-hmac_of version _ (codes "Client Key"), length-hmac_of version _ (codes "Server Key"))
+
+    either : (keys other : ClientKeys) → AreSized keys → AreSized other → (own : Bool)
+        → AreSized (if own then keys else other)
+    either keys other is too true = is
+    either keys other is too false = too
+
+    sized : (version : ScramVersion) (secret : Secret) (first : ServerFirst) → IsSecret secret
+        → AreSized (keys_for version secret first)
+    sized version (Password password) first is = of_password version password first
+    sized version (Keys keys) first is = is
+    sized version (Both password keys) first is =
+        either keys (keys_of version password first.salt first.count) is (of_password version password first)
+        (fit keys first)
+
 -- the signature that the client waited for is the one that the server gave
 pub record OneSignature (sides : Sides) (answer : Answering) (accepted : Accepted) : Type 0 where
-  pub version : sides.login.version ≡ sides.provider.version
-  pub one : hmac_of sides.login.version (server_key_at sides.login answer) (client_message sides.login answer)
+  pub version : (keys_at sides.login answer).version ≡ sides.provider.version
+  pub one : hmac_of (keys_at sides.login answer).version (keys_at sides.login answer).server_key
+      (client_message sides.login answer)
       ≡ hmac_of sides.provider.version accepted.challenge.stored.server_key (server_message accepted)
 
-pub taken_signature : (sides : Sides) (m n : ℕ) (accepted : Accepted) → Histories sides → Takes sides m n accepted
+taken_signature : (sides : Sides) (m n : ℕ) (accepted : Accepted) → Histories sides → Takes sides m n accepted
     → (answer : Answering) × OpenAnswer sides.login sides.client_events sides.client_replies m answer
     × OneSignature sides answer accepted
 taken_signature sides m n accepted histories takes =
     let stands = signature_of_ok sides.login sides.client_events sides.client_replies m takes.text histories.client
     takes.reported in
     let answer = stands.0 in
-    let version = sides.login.version in
+    let version = (keys_at sides.login answer).version in
     let other = sides.provider.version in
-    let key = server_key_at sides.login answer in
+    let key = (keys_at sides.login answer).server_key in
     let its_key = accepted.challenge.stored.server_key in
     let auth = client_message sides.login answer in
     let its_auth = server_message accepted in
@@ -66,15 +94,23 @@ taken_signature sides m n accepted histories takes =
       },
     )
 
+-- it is that of the answer which is open
+pub signature_at : (sides : Sides) (m n : ℕ) (answer : Answering) (accepted : Accepted) → Histories sides
+    → Takes sides m n accepted → OpenAnswer sides.login sides.client_events sides.client_replies m answer
+    → OneSignature sides answer accepted
+signature_at sides m n answer accepted histories takes opened =
+    let signed = taken_signature sides m n accepted histories takes in
+    subst (λ (other : Answering). OneSignature sides other accepted)
+    (one_open_answer sides.login sides.client_events sides.client_replies m signed.0 answer signed.1 opened) signed.2
+
 -- a proof that was shown has the length of either side's digest
-pub shown_version : (sides : Sides) (k n : ℕ) (answer : Answering) (accepted : Accepted)
-    → Shows sides k n answer accepted → sides.login.version ≡ sides.provider.version
-shown_version sides k n answer accepted shows =
-    let version = sides.login.version in
-    let salted = salted_at sides.login answer in
-    let key = client_key_at sides.login answer in
+pub shown_version : (sides : Sides) (k n : ℕ) (answer : Answering) (accepted : Accepted) → IsSecret sides.login.secret
+    → Shows sides k n answer accepted → (keys_at sides.login answer).version ≡ sides.provider.version
+shown_version sides k n answer accepted held shows =
+    let version = (keys_at sides.login answer).version in
+    let key = (keys_at sides.login answer).client_key in
     let pad = hmac_of version (stored_key version key) (client_message sides.login answer) in
-    let long : length key ≡ digest_len version = length-hmac_of version salted (codes "Client Key") in
+    let long : length key ≡ digest_len version = (sized_at sides.login answer held).0 in
     let wide : length pad ≡ digest_len version = length-hmac_of version (stored_key version key)
     (client_message sides.login answer) in
     let sized = (is_accepted sides.provider sides.server_events sides.server_replies n accepted
@@ -94,22 +130,33 @@ same_at sides k n answer accepted kept answers accepts same =
 
 -- what a meeting says
 pub record Met (sides : Sides) (answer : Answering) (accepted : Accepted) : Type 0 where
-  pub version : sides.login.version ≡ sides.provider.version
+  pub version : (keys_at sides.login answer).version ≡ sides.provider.version
   pub same : client_message sides.login answer ≡ server_message accepted → SameMessages sides.login answer accepted
 
-pub met : (sides : Sides) (answer : Answering) (accepted : Accepted) → Histories sides
-    → IsRecord accepted.challenge.stored → AreMatched sides answer accepted → Met sides answer accepted
-met sides answer accepted histories kept (inl taken) =
-    let takes = taken.2 in
-    let answered = taken.3 in record {
-      version = (taken_signature sides taken.0 taken.1 accepted histories takes).2.version;
-      same = same_at sides answered.0 taken.1 answer accepted kept answered.2 takes.ok.accepts;
-    }
-met sides answer accepted histories kept (inr shown) =
-    let shows = shown.2 in record {
-      version = shown_version sides shown.0 shown.1 answer accepted shows;
-      same = same_at sides shown.0 shown.1 answer accepted kept shows.answers shows.ok.accepts;
-    }
+-- where the client took the verifier
+pub met_taken : (sides : Sides) (m n : ℕ) (answer : Answering) (accepted : Accepted) → Histories sides
+    → IsRecord accepted.challenge.stored → Takes sides m n accepted
+    → OpenAnswer sides.login sides.client_events sides.client_replies m answer → Met sides answer accepted
+met_taken sides m n answer accepted histories kept takes opened = record {
+  version = (signature_at sides m n answer accepted histories takes opened).version;
+  same = same_at sides opened.0 n answer accepted kept opened.2 takes.ok.accepts;
+}
+
+-- and where it showed the proof
+pub met_shown : (sides : Sides) (k n : ℕ) (answer : Answering) (accepted : Accepted) → IsSecret sides.login.secret
+    → IsRecord accepted.challenge.stored → Shows sides k n answer accepted → Met sides answer accepted
+met_shown sides k n answer accepted held kept shows = record {
+  version = shown_version sides k n answer accepted held shows;
+  same = same_at sides k n answer accepted kept shows.answers shows.ok.accepts;
+}
+
+met : (sides : Sides) (answer : Answering) (accepted : Accepted) → MatchEqually sides answer accepted
+    → Met sides answer accepted
+met sides answer accepted is = go is.matched
+  where
+    go : AreMatched sides answer accepted → Met sides answer accepted
+    go (inl taken) = met_taken sides taken.0 taken.1 answer accepted is.histories is.held taken.2 taken.3
+    go (inr shown) = met_shown sides shown.0 shown.1 answer accepted is.secret is.held shown.2
 
 -- both sides mean one login
 pub agree : (sides : Sides) (answer : Answering) (accepted : Accepted) → Met sides answer accepted
@@ -127,9 +174,9 @@ agree sides answer accepted is same =
 
 pub equal_messages_agree : EqualMessagesAgree
 equal_messages_agree sides answer accepted is =
-    agree sides answer accepted (met sides answer accepted is.histories is.held is.matched) is.same
+    agree sides answer accepted (met sides answer accepted is) is.same
 
 pub no_short_extensions : NoShortExtensions
 no_short_extensions sides answer accepted is =
-    let messages = (met sides answer accepted is.histories is.held is.matched).same is.same in
+    let messages = (met sides answer accepted is).same is.same in
     (messages.not_three, messages.not_four)

@@ -1,15 +1,16 @@
 -- Each finding has one verdict.
-use Rattle.std.proofs.Common.{◌≡◌, ◌≢◌, ◌⊎◌, ℕ, Option, Some, None, List, [], ◌∷◌, length, refl, sym, ap, ◌∙◌, arith, codes, inl, inr}
+use Rattle.std.proofs.Common.{◌≡◌, ◌≢◌, ◌⊎◌, ℕ, Option, Some, None, List, [], ◌∷◌, length, refl, sym, ap, ◌∙◌, arith, inl, inr}
 use Rattle.fe2o3_sasl.specs.ClientHistory.{Answering}
+use Rattle.fe2o3_scram.specs.ClientKeys.{AreSized}
 use Rattle.fe2o3_scram.specs.Hmac.{digest, digest_len, hmac_of, exclusive_or}
 use Rattle.fe2o3_sasl.specs.Laws.{TakenVerifiersAreJudged, ShownProofsAreJudged, OneVerdictEach}
 use Rattle.fe2o3_sasl.specs.ServerHistory.{Accepted, full_nonce}
 use Rattle.fe2o3_scram.specs.Texts.{Parts}
-use Rattle.fe2o3_sasl.specs.TwoSides.{Sides, Agree, IsPlainInit, client_message, server_message, salted_at, server_key_at, proof_at}
-use Rattle.fe2o3_sasl.specs.Audit.{Parameters, Verdict, Agreed, SameMac, SameHash, OtherKey, AreParameters, AreAgreed, JudgesVerifier, JudgesProof, IsStoredKey, client_key_at, recovered_at}
+use Rattle.fe2o3_sasl.specs.TwoSides.{Sides, Agree, IsPlainInit, client_message, server_message, keys_at, proof_at}
+use Rattle.fe2o3_sasl.specs.Audit.{Parameters, Verdict, Agreed, SameMac, SameHash, OtherKey, AreParameters, AreAgreed, JudgesVerifier, JudgesProof, IsStoredKey, recovered_at}
 use Rattle.fe2o3_scram.proofs.lemmas.hashes.DigestLemmas.{length-hmac_of}
 use Rattle.fe2o3_scram.proofs.lemmas.hashes.OnePadLemmas.{one_pad}
-use Rattle.fe2o3_sasl.proofs.lemmas.two_sides.MeetingSidesLemmas.{Met, met, agree}
+use Rattle.fe2o3_sasl.proofs.lemmas.two_sides.MeetingSidesLemmas.{Met, met_shown, agree, sized_at}
 use Rattle.fe2o3_sasl.specs.Headline.{VerifierAgrees}
 use Rattle.fe2o3_sasl.proofs.lemmas.two_sides.HeadlineLemmas.{verifier_agrees}
 use Rattle.fe2o3_scram.proofs.lemmas.texts.PartsLemmas.{pieces, Parts-pieces, one_list_of_parts}
@@ -80,7 +81,7 @@ verifier_judged sides m accepted agrees =
     go (inl same) = let values = agreed sides agrees.answer accepted same (agrees.agrees same) in
         (Agreed accepted.challenge.client.user accepted.challenge.client.nonce values.0, values.1)
     go (inr differ) = (
-      SameMac (server_key_at sides.login agrees.answer) (client_message sides.login agrees.answer)
+      SameMac (keys_at sides.login agrees.answer).server_key (client_message sides.login agrees.answer)
           accepted.challenge.stored.server_key (server_message accepted),
       (refl, refl, refl, refl, agrees.collides differ),
     )
@@ -94,18 +95,20 @@ taken_verifiers_are_judged sides m n accepted histories kept takes =
 -- what a proof says that was shown and accepted
 record Shown (sides : Sides) (answer : Answering) (accepted : Accepted) : Type 0 where
   met : Met sides answer accepted
+  sized : AreSized (keys_at sides.login answer)
   one : proof_at sides.login answer ≡ accepted.final.proof
   meets : digest sides.provider.version (recovered_at sides.provider accepted) ≡ accepted.challenge.stored.stored_key
 
 -- with the stored key, and where the client's key comes back out of the proof, the two HMAC values are one
 one_mac : (sides : Sides) (answer : Answering) (accepted : Accepted) → Shown sides answer accepted
-    → IsStoredKey sides answer accepted → client_key_at sides.login answer ≡ recovered_at sides.provider accepted
-    → hmac_of sides.login.version accepted.challenge.stored.stored_key (client_message sides.login answer)
-    ≡ hmac_of sides.login.version accepted.challenge.stored.stored_key (server_message accepted)
+    → IsStoredKey sides answer accepted → (keys_at sides.login answer).client_key ≡ recovered_at sides.provider accepted
+    → hmac_of (keys_at sides.login answer).version accepted.challenge.stored.stored_key
+    (client_message sides.login answer)
+    ≡ hmac_of (keys_at sides.login answer).version accepted.challenge.stored.stored_key (server_message accepted)
 one_mac sides answer accepted shown stored recovers =
-    let version = sides.login.version in
+    let version = (keys_at sides.login answer).version in
     let kept = accepted.challenge.stored.stored_key in
-    let key = client_key_at sides.login answer in
+    let key = (keys_at sides.login answer).client_key in
     let pad = hmac_of version kept (client_message sides.login answer) in
     let other = hmac_of version kept (server_message accepted) in
     let is : exclusive_or key pad ≡ accepted.final.proof =
@@ -114,8 +117,7 @@ one_mac sides answer accepted shown stored recovers =
     ap (λ z. exclusive_or z other) is
     ∙ (ap (λ z. exclusive_or accepted.final.proof (hmac_of z kept (server_message accepted))) shown.met.version
     ∙ sym recovers) in
-    let long : length key ≡ digest_len version = length-hmac_of version (salted_at sides.login answer)
-    (codes "Client Key") in
+    let long : length key ≡ digest_len version = shown.sized.0 in
     one_pad key pad other (long ∙ sym (length-hmac_of version kept (client_message sides.login answer)))
     (long ∙ sym (length-hmac_of version kept (server_message accepted))) back
 
@@ -123,16 +125,16 @@ one_mac sides answer accepted shown stored recovers =
 proof_judged : (sides : Sides) (answer : Answering) (accepted : Accepted) → Shown sides answer accepted
     → (verdict : Verdict) × JudgesProof sides answer accepted verdict
 proof_judged sides answer accepted shown =
-    go (same_or_not (digest sides.login.version (client_key_at sides.login answer))
+    go (same_or_not (digest (keys_at sides.login answer).version (keys_at sides.login answer).client_key)
     accepted.challenge.stored.stored_key) (same_or_not (client_message sides.login answer)
-    (server_message accepted)) (same_or_not (client_key_at sides.login answer)
+    (server_message accepted)) (same_or_not (keys_at sides.login answer).client_key
     (recovered_at sides.provider accepted))
   where
     go : IsStoredKey sides answer accepted ⊎ ¬ IsStoredKey sides answer accepted
         → (client_message sides.login answer ≡ server_message accepted)
         ⊎ (client_message sides.login answer ≢ server_message accepted)
-        → (client_key_at sides.login answer ≡ recovered_at sides.provider accepted)
-        ⊎ (client_key_at sides.login answer ≢ recovered_at sides.provider accepted)
+        → ((keys_at sides.login answer).client_key ≡ recovered_at sides.provider accepted)
+        ⊎ ((keys_at sides.login answer).client_key ≢ recovered_at sides.provider accepted)
         → (verdict : Verdict) × JudgesProof sides answer accepted verdict
     go (inr other) texts keys = (OtherKey, other)
     go (inl stored) (inl same) keys =
@@ -141,7 +143,7 @@ proof_judged sides answer accepted shown =
     go (inl stored) (inr differ) (inr keys) =
         let one = stored ∙ (sym shown.meets ∙ ap (λ version. digest version (recovered_at sides.provider accepted))
         (sym shown.met.version)) in (
-          SameHash (client_key_at sides.login answer) (recovered_at sides.provider accepted),
+          SameHash (keys_at sides.login answer).client_key (recovered_at sides.provider accepted),
           (stored, differ, refl, refl, shown.met.version, record { differ = keys; one = one }),
         )
     go (inl stored) (inr differ) (inl recovers) =
@@ -162,12 +164,13 @@ proof_judged sides answer accepted shown =
         )
 
 pub shown_proofs_are_judged : ShownProofsAreJudged
-shown_proofs_are_judged sides k n answer accepted histories kept shows =
+shown_proofs_are_judged sides k n answer accepted histories held kept shows =
     let names = (is_accepted sides.provider sides.server_events sides.server_replies n accepted shows.ok.accepts).names
     in
     proof_judged sides answer accepted
     (record {
-      met = met sides answer accepted histories kept (inr (k, n, shows));
+      met = met_shown sides k n answer accepted held kept shows;
+      sized = sized_at sides.login answer held;
       one = shows.one;
       meets = names.meets;
     })

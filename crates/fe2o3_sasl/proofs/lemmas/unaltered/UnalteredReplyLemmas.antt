@@ -207,14 +207,14 @@ answer_row : (login : Login) (events : List Given) (replies : List ClientSays) (
     → ReadsChallenge login (IsDue events replies k) text (Ok answer)
     → ClientRow login events replies k event (Ok (frames.Challenge text)) says
     → says ≢ Refused OutOfMemory → says ≢ Refused (Frame faults.TooLarge) → Arrives (client_body (Some says)) body
-    → (says ≡ Answered body) × (canonical (frames.Response (answer_at login answer).0) ≡ Some body)
+    → (says ≡ Answered body) × (canonical (frames.Response (answer_at login answer).message) ≡ Some body)
 answer_row login events replies k event text answer says body one reads (inl wants) memory small arrives =
     absurd (memory wants.1)
 answer_row login events replies k event text answer says body one reads (inr (inl row)) memory small arrives =
     let step = sent_as client_body (Refused (Frame faults.TooLarge)) (λ (b : List ℕ). Answered b) (λ bytes. refl)
-    (canonical (frames.Response (answer_at login row.0).0)) says body row.2 small arrives in (
+    (canonical (frames.Response (answer_at login row.0).message)) says body row.2 small arrives in (
       step.0,
-      subst (λ (a : Answering). canonical (frames.Response (answer_at login a).0) ≡ Some body)
+      subst (λ (a : Answering). canonical (frames.Response (answer_at login a).message) ≡ Some body)
           (one_answering login (IsDue events replies k) text answer row.0 one reads row.1) step.1,
     )
 answer_row login events replies k event text answer says body one reads (inr (inr row)) memory small arrives =
@@ -228,7 +228,7 @@ pub client_answers : (login : Login) (events : List Given) (replies : List Clien
     → nonce ≡ answer.nonce) → ReadsChallenge login (IsDue events replies k) text (Ok answer)
     → ClientComplete replies → ClientSmall replies → Arrives (client_body (slice_get replies k)) body
     → (slice_get replies k ≡ Some (Answered body))
-    × (canonical (frames.Response (answer_at login answer).0) ≡ Some body)
+    × (canonical (frames.Response (answer_at login answer).message) ≡ Some body)
 client_answers login events replies k event text answer body history at spells one reads complete small arrives =
     let reply = client_reply login events replies k event (frames.Challenge text) history at spells in
     let some = λ (r : ClientSays). Some r in
@@ -307,7 +307,7 @@ not_refused signature text kind reads refuses = differ
 report_row : (login : Login) (events : List Given) (replies : List ClientSays) (k : ℕ) (event : Given) (text : List ℕ)
     (answer : Answering) (says : ClientSays) → ((other : Answering) → OpenAnswer login events replies k other
     → other ≡ answer)
-    → OpenAnswer login events replies k answer → ReadsServerFinal (answer_at login answer).1 text (Ok tt)
+    → OpenAnswer login events replies k answer → ReadsServerFinal (answer_at login answer).signature text (Ok tt)
     → ClientRow login events replies k event (Ok (frames.Outcome outcomes.Ok (Some text))) says
     → ¬ (says ≡ Refused OutOfMemory)
     → says ≡ Reported outcomes.Ok (Some text)
@@ -317,8 +317,8 @@ report_row login events replies k event text answer says one opened reads (inr (
 report_row login events replies k event text answer says one opened reads (inr (inr (kind, inl none, is))) complete =
     absurd (none.0 answer opened)
 report_row login events replies k event text answer says one opened reads (inr (inr (kind, inr refuses, is))) complete =
-    absurd (not_refused (answer_at login answer).1 text kind reads
-    (subst (λ (a : Answering). ReadsServerFinal (answer_at login a).1 text (Err kind))
+    absurd (not_refused (answer_at login answer).signature text kind reads
+    (subst (λ (a : Answering). ReadsServerFinal (answer_at login a).signature text (Err kind))
     (one refuses.0 refuses.1) refuses.2))
 
 -- a verifier of the answer that is open is reported
@@ -328,7 +328,7 @@ pub client_reports : (login : Login) (events : List Given) (replies : List Clien
     → SpellsBody event.body (Ok (frames.Outcome outcomes.Ok (Some text)))
     → ((other : Answering) → OpenAnswer login events replies k other → other ≡ answer)
     → OpenAnswer login events replies k answer
-    → ReadsServerFinal (answer_at login answer).1 text (Ok tt)
+    → ReadsServerFinal (answer_at login answer).signature text (Ok tt)
     → slice_get replies k ≡ Some (Reported outcomes.Ok (Some text))
 client_reports login events replies k event text answer history complete at spells one opened reads =
     let reply = client_reply login events replies k event (frames.Outcome outcomes.Ok (Some text)) history at spells in

@@ -6,7 +6,6 @@ use Rattle.std.specs.Str.{IsUtf8}
 use Rattle.std.proofs.lemmas.Fmt.{IsAscii-decimal}
 use Rattle.std.proofs.lemmas.Option.{same_Some}
 use Rattle.std.proofs.lemmas.Str.{IsUtf8-append, IsUtf8-from_ascii}
-use Rattle.base64.specs.GeneralPurpose.{IsBytes}
 use Rattle.fe2o3_sasl_wire.specs.declared.amqp_types.SaslCode.TheVariants as outcomes
 use Rattle.fe2o3_sasl_wire.specs.declared.sasl_frames.error.Error.{Error}
 use Rattle.fe2o3_sasl_wire.specs.SaslFrames.{canonical, SaslFrame}
@@ -15,24 +14,25 @@ use Rattle.fe2o3_scram.specs.declared.hmac.ScramVersion.{ScramVersion}
 use Rattle.fe2o3_scram.specs.Texts.{base64_text}
 use Rattle.fe2o3_scram.specs.ClientFirst.{client_first}
 use Rattle.fe2o3_sasl.specs.ClientHistory.{Answering, AnswersAt, ReadsChallenge, IsDue, NonceAt, OpenAnswer, is_start, is_answer, ends_answer}
+use Rattle.fe2o3_scram.specs.ClientKeys.{ClientKeys, keys_of}
+use Rattle.fe2o3_scram.specs.Keys.{client_proof}
 use Rattle.fe2o3_scram.specs.Escape.{escaped}
 use Rattle.fe2o3_sasl.specs.Events.{Given, Login, IsLogin, ServerSays, Challenged, Concluded, ClientSays, Started, Answered, Reported}
 use Rattle.fe2o3_scram.specs.Exchanges.{Exchange, IsSound, Succeeds, nonce_in, bare_in, record_in, first_in, named_in, answer_in, final_in}
-use Rattle.fe2o3_scram.specs.Hmac.{mechanism_name}
+use Rattle.fe2o3_scram.specs.Hmac.{digest, mechanism_name}
 use Rattle.fe2o3_sasl.specs.Laws.{ClientsLogIn, ServersLogIn}
 use Rattle.fe2o3_sasl.specs.Positions.{test_at, IsLastOpen}
 use Rattle.fe2o3_scram.specs.ClientFinal.{ReadsClientFinal, server_of}
 use Rattle.fe2o3_scram.specs.ServerFinal.{server_final_of, ReadsServerFinal}
-use Rattle.fe2o3_scram.specs.SaslprepAscii.{IsPrintable}
 use Rattle.fe2o3_sasl.specs.Bodies.{SpellsBody}
 use Rattle.fe2o3_sasl.specs.ServerHistory.{Challenging, Accepted, FitsAsInit, FitsAsResponse, FitsAt, Open, final_message, is_challenge, is_ok}
-use Rattle.fe2o3_sasl.specs.TwoSides.{Sides, sides_of, Histories, IsPlainInit, OkAt, Takes, Shows}
-use Rattle.fe2o3_sasl.specs.UnalteredRuns.{UnalteredRun, Suffices, HoldsLogin, LogsIn, agreed_findings}
+use Rattle.fe2o3_sasl.specs.TwoSides.{Sides, sides_of, Histories, IsPlainInit, OkAt, Takes, Shows, client_message, keys_at}
+use Rattle.fe2o3_sasl.specs.UnalteredRuns.{UnalteredRun, Suffices, HoldsLogin, LogsIn, LogsInUnaltered, agreed_findings}
 use Rattle.fe2o3_sasl.specs.Audit.{AreAgreed, Lists, Audits}
 use Rattle.fe2o3_scram.proofs.lemmas.texts.AsciiLemmas.{IsUtf8-base64_text, IsUtf8-literal}
 use Rattle.fe2o3_scram.proofs.lemmas.texts.Base64Lemmas.{no_comma-base64_text}
 use Rattle.fe2o3_scram.proofs.lemmas.texts.EscapingLemmas.{no_comma-escaped}
-use Rattle.fe2o3_scram.proofs.lemmas.messages.ExchangeLemmas.{succeeds, two_parts, part_of, only_part, nonce_text}
+use Rattle.fe2o3_scram.proofs.lemmas.messages.ExchangeLemmas.{succeeds, opened, two_parts, part_of, only_part, nonce_text}
 use Rattle.fe2o3_sasl.proofs.lemmas.positions.PositionLemmas.{opens_here}
 use Rattle.fe2o3_sasl.proofs.lemmas.histories.OneServerHistoryLemmas.{one_fits}
 use Rattle.fe2o3_sasl.proofs.lemmas.frames.SpellingLemmas.{one_spelling, spells_mechanisms, spells_init, spells_challenge, spells_response, spells_outcome}
@@ -40,28 +40,30 @@ use Rattle.fe2o3_sasl.proofs.lemmas.unaltered.UnalteredReplyLemmas.{one_answerin
 
 -- ---- the exchange of a run
 
--- a login with the salt and the count of a record, and with the nonces of both sides
-abbrev exchange_of : Login → List ℕ → ℕ → List ℕ → List ℕ → Exchange
-exchange_of login salt count mine theirs =
+-- a login with the password, the salt and the count of a record, and with the nonces of both sides
+abbrev exchange_of : Login → List ℕ → List ℕ → ℕ → List ℕ → List ℕ → Exchange
+exchange_of login password salt count mine theirs =
     record {
       version = login.version;
       user = login.user;
-      password = login.password;
+      secret = login.secret;
+      limits = login.limits;
+      password = password;
       salt = salt;
       count = count;
-      limit = login.limit;
       client_nonce = base64_text mine;
       server_nonce = base64_text theirs;
     }
 
-sound_exchange : (login : Login) (salt : List ℕ) (count : ℕ) (mine theirs : List ℕ) → IsLogin login → IsBytes salt
-    → IsPrintable login.password → 1 ≤ count → count ≤ login.limit → IsSound (exchange_of login salt count mine theirs)
-sound_exchange login salt count mine theirs is bytes printable some within = record {
-  printable = printable;
-  some = some;
-  within = within;
+sound_exchange : (sides : Sides) (password salt : List ℕ) (count : ℕ) (mine theirs : List ℕ) → IsLogin sides.login
+    → HoldsLogin sides password salt count → IsSound (exchange_of sides.login password salt count mine theirs)
+sound_exchange sides password salt count mine theirs is holds = record {
+  opens = holds.opens;
+  some = holds.some;
+  least = holds.least;
+  within = holds.within;
   limit = is.limit;
-  salt = bytes;
+  salt = holds.bytes;
   user = is.user;
   client_text = IsUtf8-base64_text mine;
   server_text = IsUtf8-base64_text theirs;
@@ -162,17 +164,20 @@ one_pair R i j is only = record {
 
 -- ---- the run, event by event
 
-module _ (sides : Sides) (salt : List ℕ) (count : ℕ) (run : UnalteredRun sides) (histories : Histories sides)
-    (login : IsLogin sides.login) (holds : HoldsLogin sides salt count) (fits : Suffices sides) where
+module _ (sides : Sides) (password salt : List ℕ) (count : ℕ) (run : UnalteredRun sides) (histories : Histories sides)
+    (login : IsLogin sides.login) (holds : HoldsLogin sides password salt count) (fits : Suffices sides) where
   abbrev exchange : Exchange
-  exchange = exchange_of sides.login salt count run.offer.nonce run.init.nonce
+  exchange = exchange_of sides.login password salt count run.offer.nonce run.init.nonce
 
   abbrev final_sent : List ℕ
   final_sent = final_message sides.provider (accepted_in exchange)
 
   sound : IsSound exchange
-  sound = sound_exchange sides.login salt count run.offer.nonce run.init.nonce login holds.bytes holds.printable
-      holds.some holds.within
+  sound = sound_exchange sides password salt count run.offer.nonce run.init.nonce login holds
+
+  -- the client answers by the keys of the record
+  by_keys : keys_at sides.login (answering_in exchange) ≡ keys_of sides.login.version password salt count
+  by_keys = (opened sides.login.version sides.login.secret password salt count (nonce_in exchange) holds.opens).0
 
   meets : Succeeds exchange
   meets = succeeds exchange sound
@@ -235,16 +240,21 @@ module _ (sides : Sides) (salt : List ℕ) (count : ℕ) (run : UnalteredRun sid
 
   challenge_read : ReadsChallenge sides.login (IsDue sides.client_events sides.client_replies 1) (first_in exchange)
       (Ok (answering_in exchange))
-  challenge_read = (first_text exchange sound, refl, due, meets.server_first)
+  challenge_read = (
+    first_text exchange sound,
+    refl,
+    due,
+    meets.server_first,
+  )
 
   answers : (slice_get sides.client_replies 1 ≡ Some (Answered run.response.body))
-      × (canonical (frames.Response (answer_in exchange).0) ≡ Some run.response.body)
+      × (canonical (frames.Response (answer_in exchange).message) ≡ Some run.response.body)
   answers = client_answers sides.login sides.client_events sides.client_replies 1 run.challenge (first_in exchange)
       (answering_in exchange) run.response.body histories.client challenge_at challenge_spelled one_due challenge_read
       fits.client fits.client_small run.answered
 
-  response_spelled : SpellsBody run.response.body (Ok (frames.Response (answer_in exchange).0))
-  response_spelled = spells_response (answer_in exchange).0 run.response.body answers.1
+  response_spelled : SpellsBody run.response.body (Ok (frames.Response (answer_in exchange).message))
+  response_spelled = spells_response (answer_in exchange).message run.response.body answers.1
 
   -- the server accepts
   challenged_open : IsLastOpen is_challenge is_ok sides.server_replies 1 0
@@ -270,17 +280,17 @@ module _ (sides : Sides) (salt : List ℕ) (count : ℕ) (run : UnalteredRun sid
       same_frame frame other e = cc
 
   response_fits : FitsAsResponse sides.provider (Open sides.provider sides.server_events sides.server_replies 1)
-      (frames.Response (answer_in exchange).0) (accepted_in exchange)
+      (frames.Response (answer_in exchange).message) (accepted_in exchange)
   response_fits = (
     is_open,
     subst (λ (version : ScramVersion). ReadsClientFinal
         (server_of version (bare_in exchange) (first_in exchange) (nonce_in exchange) (record_in exchange))
-        (answer_in exchange).0 (Ok (final_in exchange))) (sym holds.version) meets.client_final,
+        (answer_in exchange).message (Ok (final_in exchange))) (sym holds.version) meets.client_final,
   )
 
   accepts : (slice_get sides.server_replies 1 ≡ Some (Concluded outcomes.Ok run.outcome.body))
       × (canonical (frames.Outcome outcomes.Ok (Some final_sent)) ≡ Some run.outcome.body)
-  accepts = server_accepts sides.provider sides.server_events sides.server_replies 1 run.response (answer_in exchange).0
+  accepts = server_accepts sides.provider sides.server_events sides.server_replies 1 run.response (answer_in exchange).message
       (accepted_in exchange) run.outcome.body histories.server response_at response_spelled one_open_challenge
       response_fits fits.server fits.server_small run.concluded
 
@@ -315,8 +325,8 @@ module _ (sides : Sides) (salt : List ℕ) (count : ℕ) (run : UnalteredRun sid
           (Ok (frames.Challenge other)) → text ≡ other
       same_text text other e = cc
 
-  verifier_read : ReadsServerFinal (answer_in exchange).1 final_sent (Ok tt)
-  verifier_read = subst (λ (version : ScramVersion). ReadsServerFinal (answer_in exchange).1
+  verifier_read : ReadsServerFinal (answer_in exchange).signature final_sent (Ok tt)
+  verifier_read = subst (λ (version : ScramVersion). ReadsServerFinal (answer_in exchange).signature
       (server_final_of (server_of version (bare_in exchange) (first_in exchange) (nonce_in exchange)
       (record_in exchange)) (final_in exchange)) (Ok tt)) (sym holds.version) meets.server_final
 
@@ -342,7 +352,7 @@ module _ (sides : Sides) (salt : List ℕ) (count : ℕ) (run : UnalteredRun sid
   ok_at = record {
     body = run.outcome.body;
     says = accepts.0;
-    accepts = (run.response, frames.Response (answer_in exchange).0, response_at, response_spelled, response_fits);
+    accepts = (run.response, frames.Response (answer_in exchange).message, response_at, response_spelled, response_fits);
   }
 
   takes : Takes sides 2 1 (accepted_in exchange)
@@ -354,7 +364,14 @@ module _ (sides : Sides) (salt : List ℕ) (count : ℕ) (run : UnalteredRun sid
   }
 
   shows : Shows sides 1 1 (answering_in exchange) (accepted_in exchange)
-  shows = record { body = run.response.body; answered = answers.0; answers = answers_at; ok = ok_at; one = refl }
+  shows = record {
+    body = run.response.body;
+    answered = answers.0;
+    answers = answers_at;
+    ok = ok_at;
+    one = ap (λ (keys : ClientKeys). client_proof keys.version keys.client_key
+        (client_message sides.login (answering_in exchange))) by_keys;
+  }
 
   ok_place : (n : ℕ) (accepted : Accepted) → OkAt sides n accepted → n ≡ 1
   ok_place n accepted ok = only_ok run.challenge.body run.outcome.body ok.body n
@@ -380,7 +397,7 @@ module _ (sides : Sides) (salt : List ℕ) (count : ℕ) (run : UnalteredRun sid
   are_agreed = (
     refl,
     record {
-      version = sym holds.version;
+      version = ap (λ (keys : ClientKeys). keys.version) by_keys ∙ sym holds.version;
       user = refl;
       nonce = refl;
       full_nonce = λ plain. refl;
@@ -405,7 +422,18 @@ module _ (sides : Sides) (salt : List ℕ) (count : ℕ) (run : UnalteredRun sid
     shows = one_pair (λ k n. (answer : Answering) × (accepted : Accepted) × Shows sides k n answer accepted) 1 1
         (answering_in exchange, accepted_in exchange, shows) one_shown;
     verifier_verdicts = ((refl, (answering_in exchange, accepted_in exchange, takes, open_answer, are_agreed)), tt);
-    proof_verdicts = ((refl, (answering_in exchange, accepted_in exchange, shows, (refl, are_agreed))), tt);
+    proof_verdicts = (
+      (
+        refl,
+        (
+          answering_in exchange,
+          accepted_in exchange,
+          shows,
+          (ap (λ (keys : ClientKeys). digest keys.version keys.client_key) by_keys, are_agreed),
+        ),
+      ),
+      tt,
+    );
   }
 
   logs_in : LogsIn run salt count
@@ -416,12 +444,16 @@ module _ (sides : Sides) (salt : List ℕ) (count : ℕ) (run : UnalteredRun sid
     audit = audit;
   }
 
+logs_in_by : (sides : Sides) → Histories sides → IsLogin sides.login → LogsInUnaltered sides
+logs_in_by sides histories login password salt count run holds fits =
+    logs_in sides password salt count run histories login holds fits
+
 pub clients_log_in : ClientsLogIn
-clients_log_in login events replies history is provider server_events server_replies server salt count run holds fits =
-    logs_in (sides_of login events replies provider server_events server_replies) salt count run
-    (record { client = history; server = server }) is holds fits
+clients_log_in login events replies history is provider server_events server_replies server =
+    logs_in_by (sides_of login events replies provider server_events server_replies)
+    (record { client = history; server = server }) is
 
 pub servers_log_in : ServersLogIn
-servers_log_in provider events replies history login client_events client_replies is client salt count run holds fits =
-    logs_in (sides_of login client_events client_replies provider events replies) salt count run
-    (record { client = client; server = history }) is holds fits
+servers_log_in provider events replies history login client_events client_replies is client =
+    logs_in_by (sides_of login client_events client_replies provider events replies)
+    (record { client = client; server = history }) is

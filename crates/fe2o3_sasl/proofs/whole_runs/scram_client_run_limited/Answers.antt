@@ -29,7 +29,6 @@ returns-clause-unaltered c =
     let made = rw (c.in_ok-username.ensures.ok, c.in_ok-password.ensures.ok) at c.scram-profile.ensures in
     if_ok_map _ _ c.run_profile.result (λ replies has. has login (made, refl) (record {
       user = c.utf8.user;
-      password = c.utf8.password;
       limit = omega arith;
       hostname = λ host is. absurd (none-some host is);
     })) c.run_profile.ensures.unaltered

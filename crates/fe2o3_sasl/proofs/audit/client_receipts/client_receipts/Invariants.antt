@@ -9,5 +9,5 @@ invariant-loop-place l = record {
   so_far : ClientSoFar (login_at l.words) (map given l.events) (map client_answer l.replies) l.place l.start
       (map client_receipt l.receipts.shown.items) (map client_receipt l.receipts.taken.items);
   behind : l.start ≤ l.place;
-  keys : KeptKeys (login_at l.words) l.kept;
+  keys : KeptKeys l.words l.kept;
 }

@@ -1,0 +1,75 @@
+//! What a SCRAM client answers to frames (RFC 5802, section 5).
+
+ghost use Rattle.std.specs.Prelude.{◌≡◌, Some, Option, ℕ, List, IfOk, OnOk, OnErr};
+ghost use Rattle.fe2o3_sasl_wire.specs.AmqpTypes.{binary_bytes, response_frame, outcome_frame};
+ghost use Rattle.fe2o3_sasl_wire.specs.SaslFrames.{Challenge};
+ghost use Rattle.fe2o3_sasl.specs.Profiles.{ScramProfile, ProfileAnswers, initial_response, after_init};
+ghost use Rattle.fe2o3_sasl.specs.ProfileFaults.{answered};
+ghost use Rattle.fe2o3_sasl.specs.private.Writing.{AnswersAlways};
+
+use crate::OutOfMemory;
+use crate::sasl_profile::error::ProfileError;
+use fe2o3_sasl_wire::{Binary, SaslCode, SaslOutcome, SaslResponse};
+use fe2o3_scram::scram_client::ScramClient;
+use fe2o3_scram::scram_messages::ScramErrorKind;
+use std::alloc::Global;
+
+/// A fresh start: the client-first message. The client has not started before it is copied.
+pub(super) fn first_message(
+    client: &mut ScramClient,
+    alloc: Global,
+    nonce: &[u8; 32],
+) -> Result<Binary, OutOfMemory>
+    ensures ok { IfOk result (λ message.
+        Some (binary_bytes message) ≡ initial_response (ScramProfile client.old) nonce.now) }
+    ensures started { OnOk result (ScramProfile client.new ≡ after_init (ScramProfile client.old) nonce.now) }
+    ensures err { OnErr result (client.new ≡ client.old) }
+{
+    let mut next = client.clone()?;
+    let text = next.compute_client_first_message(alloc, nonce)?;
+    let message = text.to_vec(alloc)?;
+    *client = next;
+    Ok(Binary(message))
+}
+
+/// The answer to a challenge, which is tested for UTF-8 before the client's state and its own tests.
+pub(super) fn answer(
+    client: &mut ScramClient,
+    alloc: Global,
+    challenge: &[u8],
+) -> Result<SaslResponse, ProfileError>
+    ensures answer { AnswersAlways (ScramProfile client.old) (Challenge challenge.now)
+        (answered response_frame result) (ScramProfile client.new) }
+    ensures err { OnErr result (client.new ≡ client.old) }
+{
+    let Ok(server_first) = str::from_utf8(challenge) else {
+        return Err(ProfileError::Scram(ScramErrorKind::Utf8Error));
+    };
+    match client.compute_client_final_message(alloc, server_first) {
+        Ok(client_final) => Ok(SaslResponse {
+            response: Binary(client_final),
+        }),
+        Err(kind) => Err(ProfileError::from(kind)),
+    }
+}
+
+/// Whether an outcome is believed. One of code Ok is tested for data before the client's state and
+/// its own tests; others are not tested.
+pub(super) fn believe(
+    client: &mut ScramClient,
+    alloc: Global,
+    outcome: &SaslOutcome,
+) -> Result<(), ProfileError>
+    ensures answer { (hostname : Option (List ℕ)) (nonce : List ℕ) → ProfileAnswers (ScramProfile client.old) hostname
+        nonce (outcome_frame outcome.now) (answered (λ _. outcome_frame outcome.now) result)
+        (ScramProfile client.new) }
+    ensures err { OnErr result (client.new ≡ client.old) }
+{
+    if outcome.code != SaslCode::Ok {
+        return Ok(());
+    }
+    let Some(server_final) = &outcome.additional_data else {
+        return Err(ProfileError::Scram(ScramErrorKind::ServerSignatureMismatch));
+    };
+    Ok(client.validate_server_final(alloc, &server_final.0)?)
+}
