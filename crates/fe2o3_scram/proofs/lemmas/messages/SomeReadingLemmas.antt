@@ -180,10 +180,13 @@ salt_decided text = (none_or (attribute_text_or text 1 (codes "s=")), (none_or (
 count_decided : (limits : IterationLimits) (text : List ℕ) → AllDecided (count_tests limits text)
 count_decided limits text = (
   none_or (attribute_text_or text 2 (codes "i=")),
-  (none_or (has_count_or text), (
+  (
+    none_or (has_count_or text),
+    (
       some_count_or text (λ count. count < limits.least) (λ count. less_or count limits.least),
       (some_count_or text (λ count. limits.most < count) (less_or limits.most), tt),
-    )),
+    ),
+  ),
 )
 
 pub some_server_first : (client : Client) (text : List ℕ)
