@@ -1,2 +1,3 @@
 -- Nobody has to believe these: they are worked examples of the definitions.
+pub mod ClientExamples
 pub mod Examples

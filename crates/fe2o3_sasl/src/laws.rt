@@ -3,6 +3,7 @@
 
 ghost use Rattle.fe2o3_sasl.specs.Hex.{OneBytesOfHex, HexIsReadAgain};
 ghost use Rattle.fe2o3_sasl.specs.MechanismLaws.{OneAcceptorReply, OneProfileReply, OffersAgree, PlainLetsIn, PlainRefuses, AnonymousLetsIn, SomethingIsOffered, NamesDiffer};
+ghost use Rattle.fe2o3_sasl.specs.examples.ClientExamples.{FloorsRefuse, HostnamesAreSent, KeysLogIn, OtherKeysLogInLater};
 ghost use Rattle.fe2o3_sasl.specs.examples.Examples.{PremisesCanBeMet, RefusalsAreUnaltered, ShiftedTextsPass};
 ghost use Rattle.fe2o3_sasl.specs.Headline.{EveryServer, EveryClient, AnswersOkExactly, ReportsOkExactly, TakenVerifiersAgree};
 ghost use Rattle.fe2o3_sasl.specs.Laws.{OneServerHistory, OneClientHistory, SomeServerHistory, SomeClientHistory, AcceptorRunsAreHistories, ProfileRunsAreHistories, KeyedRunsAreRuns, KeyedRunsAreHistories, OksWithinChallenges, RepeatedResponsesAreRefused, OneResponseOneNonce, RefusalsLeaveOpen, PositionsAreUsedOnce, EqualMessagesAgree, NoShortExtensions, TakenVerifiersAreJudged, ShownProofsAreJudged, OneVerdictEach, OneAuditEach, RepeatedClientPositions, RepeatedServerPositions, RepeatedClientFindings, RepeatedServerFindings, ClientsLogIn, ServersLogIn, ServersWantMemory, ClientsWantMemory, ProfilesWantMemory};
@@ -118,6 +119,16 @@ pub fn worked_examples()
     ensures premises_can_be_met { PremisesCanBeMet }
     ensures refusals_are_unaltered { RefusalsAreUnaltered }
     ensures shifted_texts_pass { ShiftedTextsPass }
+{}
+
+/// Worked examples of clients, each in the first of those logins: one with a hostname, which its init
+/// carries; one with the keys of its password; one with these keys that is first asked by another salt,
+/// refuses that, and logs in by the next challenge; and one that refuses a count below its floor.
+pub fn worked_clients()
+    ensures hostname { HostnamesAreSent }
+    ensures keys { KeysLogIn }
+    ensures other_keys { OtherKeysLogInLater }
+    ensures floor { FloorsRefuse }
 {}
 
 /// What holds of every mechanism: each acceptor and each profile has one reply to a frame; a server

@@ -1,4 +1,5 @@
 pub mod ExampleBodyLemmas
+pub mod ExampleClientLemmas
 pub mod ExampleLemmas
 pub mod ExampleLoginLemmas
 pub mod ExampleReadingLemmas

@@ -66,9 +66,13 @@ provider = record { version = Sha256; records = (codes "user", stored) ∷ [] }
 abbrev pub names : List ℕ → List (List ℕ)
 names user = (codes "n=" ++ user) ∷ (codes "r=" ++ client_nonce) ∷ []
 
--- the parts of a server-first message: this nonce, the salt and the count
+-- the parts of a server-first message: this salt, this nonce, and the count
+abbrev pub salted : List ℕ → List ℕ → List (List ℕ)
+salted bytes nonce = (codes "r=" ++ nonce) ∷ (codes "s=" ++ base64_text bytes) ∷ codes "i=4096" ∷ []
+
+-- the same with the salt of the record
 abbrev pub values : List ℕ → List (List ℕ)
-values nonce = (codes "r=" ++ nonce) ∷ (codes "s=" ++ base64_text salt) ∷ codes "i=4096" ∷ []
+values nonce = salted salt nonce
 
 -- the parts of a client-final message before the proof
 abbrev pub binds : List ℕ → List (List ℕ)

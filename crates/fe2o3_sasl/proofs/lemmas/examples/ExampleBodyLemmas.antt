@@ -14,7 +14,7 @@ use Rattle.fe2o3_sasl_wire.proofs.lemmas.writing.BodyPartsLemmas.{has_body}
 use Rattle.fe2o3_sasl_wire.proofs.lemmas.frames.LawLemmas.{written_bodies_are_read}
 use Rattle.fe2o3_scram.specs.Texts.{base64_text, joined}
 use Rattle.fe2o3_sasl.specs.ClientHistory.{Answering, answer_at}
-use Rattle.fe2o3_sasl.specs.examples.Examples.{client_bytes, server_bytes, client_nonce, server_nonce, both, salt, login, names, values, binds, sends_init, sends_response, sends_ok, body_of}
+use Rattle.fe2o3_sasl.specs.examples.Examples.{client_bytes, server_bytes, client_nonce, server_nonce, both, salt, login, names, salted, values, binds, sends_init, sends_response, sends_ok, body_of}
 use Rattle.fe2o3_sasl.specs.Bodies.{SpellsBody, carried}
 use Rattle.fe2o3_scram.proofs.lemmas.texts.AsciiLemmas.{IsAscii-literal}
 use Rattle.fe2o3_scram.proofs.lemmas.hashes.DigestLemmas.{length-hmac_of}
@@ -88,8 +88,13 @@ length-both = omega (
 pub short_names : (user : List ℕ) → length user ≤ 100 → AllByRecursion Short (names user)
 short_names user short = (omega (arith, short), (omega (arith, length-client_nonce), tt))
 
+pub short_salted : (bytes nonce : List ℕ) → length bytes ≡ 32 → length nonce ≤ 100
+    → AllByRecursion Short (salted bytes nonce)
+short_salted bytes nonce long short =
+    (omega (arith, short), (omega (arith, length-base64_text bytes long), (omega arith, tt)))
+
 pub short_values : (nonce : List ℕ) → length nonce ≤ 100 → AllByRecursion Short (values nonce)
-short_values nonce short = (omega (arith, short), (omega (arith, length-base64_text salt refl), (omega arith, tt)))
+short_values nonce short = short_salted salt nonce refl short
 
 pub short_binds : (nonce : List ℕ) → length nonce ≤ 100 → AllByRecursion Short (binds nonce)
 short_binds nonce short = (omega arith, (omega (arith, short), tt))

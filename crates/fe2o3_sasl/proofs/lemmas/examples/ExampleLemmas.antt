@@ -22,12 +22,12 @@ use Rattle.fe2o3_sasl.proofs.lemmas.examples.ExampleReadingLemmas.{is_login, is_
 use Rattle.fe2o3_sasl.proofs.lemmas.examples.ExampleTextLemmas.{Plain, plain-literal, plain-append, plain-base64_text, parts_joined, length-base64_text, IsBytes-replicate}
 use Rattle.fe2o3_sasl.proofs.lemmas.lists.EachLemmas.{each_append}
 
-short_both : length both ≤ 100
+pub short_both : length both ≤ 100
 short_both = omega (arith, length-both)
 
 -- ---- nobody adds anything
 
-is_unaltered : PassesUnseen unaltered
+pub is_unaltered : PassesUnseen unaltered
 is_unaltered = record {
   nonce = plain_both;
   init = tt;

@@ -65,7 +65,7 @@ pub start_sent : canonical (sends_init (joined (names (codes "user"))))
 start_sent = init_bodied (joined (names (codes "user")))
     (omega (arith, short_joined (names (codes "user")) (short_names (codes "user") (omega arith))))
 
-start_said : Started (body_of (sends_init (joined (names (codes "user")))))
+pub start_said : Started (body_of (sends_init (joined (names (codes "user")))))
     ≡ says_start login (event_of client_bytes offers)
 start_said =
     let says = carried (Refused (Frame faults.TooLarge)) (λ body. Started body) in
@@ -212,7 +212,7 @@ module _ (added : Added) (is : PassesUnseen added) where
   answer_sent = response_sent (joined (binds nonce)) proof
       (omega (arith, short_joined (binds nonce) (short_binds nonce is.short_nonce))) (length-proof text nonce)
 
-  answer_said : Answered (body_of (sends_response (joined (binds nonce)) proof)) ≡ says_answer login answer
+  pub answer_said : Answered (body_of (sends_response (joined (binds nonce)) proof)) ≡ says_answer login answer
   answer_said =
       let says = carried (Refused (Frame faults.TooLarge)) (λ body. Answered body) in
       let named : says_answer login answer ≡ says (canonical (sends_response (joined (binds nonce)) proof)) =

@@ -1,5 +1,5 @@
 -- How the messages of the worked examples are read.
-use Rattle.std.proofs.Common.{◌≡◌, ◌≤◌, ℕ, List, [], ◌∷◌, ◌++◌, length, refl, sym, ◌∙◌, ap, subst, arith, codes, Ok}
+use Rattle.std.proofs.Common.{◌≡◌, ◌≤◌, ◌<◌, ℕ, List, [], ◌∷◌, ◌++◌, length, refl, sym, ◌∙◌, ap, subst, arith, codes, Ok, inl, inr}
 use Rattle.std.specs.List.{AllByRecursion}
 use Rattle.std.specs.Str.{IsUtf8}
 use Rattle.std.proofs.lemmas.List.Elements.{All-from_recursion}
@@ -13,12 +13,15 @@ use Rattle.fe2o3_scram.specs.ClientFirst.{ReadsClientFirst}
 use Rattle.fe2o3_sasl.specs.ClientHistory.{client_at, answer_at}
 use Rattle.fe2o3_scram.specs.Escape.{escaped}
 use Rattle.fe2o3_sasl.specs.Events.{IsLogin, IsRecord}
-use Rattle.fe2o3_sasl.specs.examples.Examples.{client_bytes, server_bytes, client_nonce, server_nonce, both, salt, login, stored, names, values, binds, answering, challenging}
+use Rattle.fe2o3_sasl.specs.examples.Examples.{client_bytes, server_bytes, client_nonce, server_nonce, both, salt, login, stored, names, salted, values, binds, answering, challenging}
 use Rattle.fe2o3_scram.specs.Hmac.{digest, digest_len, hmac_of, exclusive_or}
 use Rattle.fe2o3_scram.specs.Keys.{auth_message}
 use Rattle.fe2o3_scram.specs.SaslprepAscii.{IsPrintable}
 use Rattle.fe2o3_scram.specs.ServerFinal.{ReadsServerFinal}
-use Rattle.fe2o3_scram.specs.ServerFirst.{HasSalt, HasCount, ReadsServerFirst}
+use Rattle.fe2o3_scram.specs.Readings.{IsFirst, NoneHolds}
+use Rattle.fe2o3_scram.specs.ServerFirst.{NamesServerFirst, ReadsServerFirst, count_tests, nonce_tests, salt_tests}
+use Rattle.fe2o3_scram.specs.declared.client_secret.IterationLimits.{IterationLimits}
+use Rattle.fe2o3_scram.specs.declared.scram_messages.error.ScramErrorKind.TheVariants.{IterationCountTooSmall}
 use Rattle.fe2o3_sasl.specs.ServerHistory.{first_message}
 use Rattle.fe2o3_sasl.specs.TwoSides.{keys_at, proof_at, client_message}
 use Rattle.fe2o3_scram.proofs.lemmas.texts.AsciiLemmas.{IsUtf8-literal}
@@ -63,15 +66,18 @@ plain_names user plain = (
   (plain_nonce client_nonce (plain-base64_text client_bytes), tt),
 )
 
-pub plain_values : (nonce : List ℕ) → Plain nonce → AllByRecursion Plain (values nonce)
-plain_values nonce plain = (
+pub plain_salted : (bytes nonce : List ℕ) → Plain nonce → AllByRecursion Plain (salted bytes nonce)
+plain_salted bytes nonce plain = (
   plain_nonce nonce plain,
   (
-    plain-append (codes "s=") (base64_text salt) (plain-literal (codes "s=") refl refl)
-        (plain-base64_text salt),
+    plain-append (codes "s=") (base64_text bytes) (plain-literal (codes "s=") refl refl)
+        (plain-base64_text bytes),
     (plain-literal (codes "i=4096") refl refl, tt),
   ),
 )
+
+pub plain_values : (nonce : List ℕ) → Plain nonce → AllByRecursion Plain (values nonce)
+plain_values nonce plain = plain_salted salt nonce plain
 
 pub plain_binds : (nonce : List ℕ) → Plain nonce → AllByRecursion Plain (binds nonce)
 plain_binds nonce plain = (plain-literal (codes "c=biws") refl refl, (plain_nonce nonce plain, tt))
@@ -90,6 +96,9 @@ reads_names user more sent plain too =
     (names user ++ more, parts, refl) sent (names user ++ more, parts, refl)
 
 -- ---- the server-first message, with more parts behind the count
+
+pub salt_bytes : IsBytes salt
+salt_bytes = IsBytes-replicate 32 3 (omega arith)
 
 pub password_printable : IsPrintable (codes "pencil")
 password_printable =
@@ -111,36 +120,72 @@ password_printable =
 counted : IsCount (codes "4096") 4096
 counted = subst (λ (digits : List ℕ). IsCount digits 4096) count_text (IsCount-decimal 4096 (omega arith) (omega arith))
 
+-- whatever the salt, the tests before that of the secret
+module _ (bytes : List ℕ) (is : IsBytes bytes) (nonce rest : List ℕ) (more : List (List ℕ))
+    (begins : nonce ≡ client_nonce ++ rest) (plain : Plain nonce) (too : AllByRecursion Plain more) where
+  abbrev challenge : List ℕ
+  challenge = joined (salted bytes nonce ++ more)
+
+  cut : Parts challenge (salted bytes nonce ++ more)
+  cut = parts_joined (codes "r=" ++ nonce) ((codes "s=" ++ base64_text bytes) ∷ codes "i=4096" ∷ more)
+      (each_append Plain (salted bytes nonce) more (plain_salted bytes nonce plain) too)
+
+  digits : Part challenge 2 (codes "i=" ++ codes "4096")
+  digits = (salted bytes nonce ++ more, cut, refl)
+
+  pub names_salted : NamesServerFirst challenge (record { nonce = nonce; salt = bytes; count = 4096 })
+  names_salted = record {
+    nonce = (salted bytes nonce ++ more, cut, refl);
+    salt = (is, (salted bytes nonce ++ more, cut, refl));
+    count = (codes "4096", digits, counted);
+  }
+
+  pub nonce_passes : NoneHolds (nonce_tests client_nonce challenge)
+  nonce_passes = (
+    λ few. few (codes "i=4096") digits,
+    (
+      not_extended challenge nonce names_salted.nonce,
+      (
+        λ none. none nonce names_salted.nonce,
+        (same_nonce challenge client_nonce nonce rest names_salted.nonce begins, tt),
+      ),
+    ),
+  )
+
+  pub salt_passes : NoneHolds (salt_tests challenge)
+  salt_passes = (λ none. none (base64_text bytes) names_salted.salt.1, (λ none. none bytes names_salted.salt, tt))
+
+  pub count_passes : (limits : IterationLimits) → limits.least ≤ 4096 → 4096 ≤ limits.most
+      → NoneHolds (count_tests limits challenge)
+  count_passes limits least most = (
+    λ none. none (codes "4096") digits,
+    (
+      λ none. none 4096 names_salted.count,
+      (
+        not_too_small challenge limits.least 4096 names_salted.count least,
+        (not_too_large challenge limits.most 4096 names_salted.count most, tt),
+      ),
+    ),
+  )
+
+  -- a floor above it
+  pub count_small : (limits : IterationLimits) → 4096 < limits.least
+      → IsFirst (count_tests limits challenge) IterationCountTooSmall
+  count_small limits small = inr (
+    λ none. none (codes "4096") digits,
+    inr (λ none. none 4096 names_salted.count, inl ((4096, names_salted.count, small), refl)),
+  )
+
 pub reads_values : (nonce rest : List ℕ) (more : List (List ℕ)) → nonce ≡ client_nonce ++ rest → Plain nonce
     → AllByRecursion Plain more
     → ReadsServerFirst (client_at login client_nonce) (joined (values nonce ++ more))
     (Ok (answering (joined (values nonce ++ more)) nonce).first)
 reads_values nonce rest more begins plain too =
-    let text = joined (values nonce ++ more) in
-    let all = each_append Plain (values nonce) more (plain_values nonce plain) too in
-    let parts = parts_joined (codes "r=" ++ nonce) ((codes "s=" ++ base64_text salt) ∷ codes "i=4096" ∷ more) all in
-    let has_nonce : Part text 0 (codes "r=" ++ nonce) = (values nonce ++ more, parts, refl) in
-    let has_salt : HasSalt text salt = (IsBytes-replicate 32 3 (omega arith), (values nonce ++ more, parts, refl)) in
-    let digits : Part text 2 (codes "i=" ++ codes "4096") = (values nonce ++ more, parts, refl) in
-    let count : HasCount text 4096 = (codes "4096", digits, counted) in
-    values_read (client_at login client_nonce) text (answering text nonce).first (
-      λ few. few (codes "i=4096") digits,
-      (
-        not_extended text nonce has_nonce,
-        (λ none. none nonce has_nonce, (same_nonce text client_nonce nonce rest has_nonce begins, tt)),
-      ),
-    )
-    (λ none. none (base64_text salt) has_salt.1, (λ none. none salt has_salt, tt)) (
-      λ none. none (codes "4096") digits,
-      (
-        λ none. none 4096 count,
-        (
-          not_too_small text 1 4096 count (omega arith),
-          (not_too_large text login.limits.most 4096 count (omega arith), tt),
-        ),
-      ),
-    )
-    (λ un. un password_printable, tt) (record { nonce = has_nonce; salt = has_salt; count = count })
+    values_read (client_at login client_nonce) (joined (values nonce ++ more)) _
+    (nonce_passes salt salt_bytes nonce rest more begins plain too)
+    (salt_passes salt salt_bytes nonce rest more begins plain too)
+    (count_passes salt salt_bytes nonce rest more begins plain too login.limits (omega arith) (omega arith))
+    (λ un. un password_printable, tt) (names_salted salt salt_bytes nonce rest more begins plain too)
 
 -- ---- the AuthMessage
 

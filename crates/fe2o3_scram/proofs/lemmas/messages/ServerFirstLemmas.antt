@@ -121,7 +121,7 @@ count_refused client text fault nonce salt first =
     (secret_tests client.secret text) fault first))
 
 -- a message has one salt
-one_has_salt : (text salt other : List ℕ) → HasSalt text salt → HasSalt text other → salt ≡ other
+pub one_has_salt : (text salt other : List ℕ) → HasSalt text salt → HasSalt text other → salt ≡ other
 one_has_salt text salt other has too =
     let same : codes "s=" ++ base64_text salt ≡ codes "s=" ++ base64_text other =
     one_part text 1 (codes "s=" ++ base64_text salt) (codes "s=" ++ base64_text other) has.1 too.1 in

@@ -1,0 +1,99 @@
+-- Worked examples of clients. Each is the client of the first examples but for one value: it has a hostname, or the
+-- keys of its password, or a floor.
+use Rattle.std.specs.Prelude.{ℕ, Some, None, List, [], ◌∷◌, ◌++◌, replicate, codes}
+use Rattle.fe2o3_sasl_wire.specs.declared.amqp_types.SaslCode.TheVariants as outcomes
+use Rattle.fe2o3_sasl_wire.specs.SaslFrames.{SaslFrame}
+use Rattle.fe2o3_sasl_wire.specs.SaslFrames as frames
+use Rattle.fe2o3_scram.specs.declared.hmac.ScramVersion.TheVariants.{Sha256}
+use Rattle.fe2o3_scram.specs.declared.scram_messages.error.ScramErrorKind.TheVariants.{IterationCountTooSmall}
+use Rattle.fe2o3_scram.specs.ClientKeys.{keys_of}
+use Rattle.fe2o3_scram.specs.ClientSecret.{Keys, no_limit}
+use Rattle.fe2o3_scram.specs.Texts.{joined}
+use Rattle.fe2o3_sasl.specs.ClientHistory.{Answering, ClientHistory}
+use Rattle.fe2o3_sasl.specs.Events.{ClientSays, Given, Login, Answered, Reported, OtherKeys, Refused, Scram, Started}
+use Rattle.fe2o3_sasl.specs.TwoSides.{proof_at}
+use Rattle.fe2o3_sasl.specs.examples.Examples.{answer_to, binds, body_of, both, client_bytes, event_of, login, names, offers, salt, salted, sends_init, sends_ok, sends_response, unaltered, values, verifier}
+
+-- ---- what all of them get and say
+
+-- a challenge with this salt
+abbrev pub asks : List ℕ → Given
+asks bytes = event_of client_bytes (frames.Challenge (joined (salted bytes both)))
+
+-- what the client of the first examples makes of the one with the salt of the record
+abbrev pub made : Answering
+made = answer_to unaltered
+
+-- its init
+abbrev pub starts : ClientSays
+starts = Started (body_of (sends_init (joined (names (codes "user")))))
+
+-- its response, and its report of the outcome Ok
+abbrev pub logs_in : List ClientSays
+logs_in = Answered (body_of (sends_response (joined (binds both)) (proof_at login made)))
+    ∷ Reported outcomes.Ok (Some (verifier made)) ∷ []
+
+-- the challenge with the salt of the record, and the outcome Ok
+abbrev pub is_served : List Given
+is_served = asks salt ∷ event_of client_bytes (sends_ok made) ∷ []
+
+-- ---- a hostname
+
+abbrev pub with_hostname : Login
+with_hostname = record {
+  user = login.user;
+  secret = login.secret;
+  version = Sha256;
+  limits = login.limits;
+  hostname = Some (codes "vhost");
+}
+
+-- the init with it
+abbrev pub names_host : SaslFrame
+names_host = frames.Init (codes "SCRAM-SHA-256") (Some (codes "n,," ++ joined (names (codes "user"))))
+    (Some (codes "vhost"))
+
+-- the init carries it, and nothing else is said in another way
+abbrev pub HostnamesAreSent : Type 0
+HostnamesAreSent = ClientHistory with_hostname (event_of client_bytes offers ∷ is_served)
+    (Started (body_of names_host) ∷ logs_in)
+
+-- ---- keys in place of the password
+
+abbrev pub with_keys : Login
+with_keys = record {
+  user = login.user;
+  secret = Keys (keys_of Sha256 (codes "pencil") salt 4096);
+  version = Sha256;
+  limits = login.limits;
+  hostname = None;
+}
+
+-- they say what the password says
+abbrev pub KeysLogIn : Type 0
+KeysLogIn = ClientHistory with_keys (event_of client_bytes offers ∷ is_served) (starts ∷ logs_in)
+
+-- another salt than the keys are of
+abbrev pub other_salt : List ℕ
+other_salt = replicate 32 4
+
+-- a challenge with it is refused, and stays due: the next one with the salt of the keys logs in
+abbrev pub OtherKeysLogInLater : Type 0
+OtherKeysLogInLater = ClientHistory with_keys (event_of client_bytes offers ∷ asks other_salt ∷ is_served)
+    (starts ∷ Refused OtherKeys ∷ logs_in)
+
+-- ---- a floor
+
+abbrev pub with_floor : Login
+with_floor = record {
+  user = login.user;
+  secret = login.secret;
+  version = Sha256;
+  limits = record { least = 10000; most = no_limit };
+  hostname = None;
+}
+
+-- a challenge with the count 4096 is refused
+abbrev pub FloorsRefuse : Type 0
+FloorsRefuse = ClientHistory with_floor (event_of client_bytes offers ∷ asks salt ∷ [])
+    (starts ∷ Refused (Scram IterationCountTooSmall) ∷ [])
