@@ -27,8 +27,8 @@ SendsServerFirst version client bare text (Ok sent) =
     × (sent ≡ (answer.message, answer.signature))
 SendsServerFirst version client bare text (Err fault) = ReadsServerFirst client text (Err fault)
 
--- the HMAC values of an answer (RFC 5802, section 3): two by the client's own keys, and by its password two for the keys
--- and those of the iteration count besides
+-- the HMAC values of an answer (RFC 5802, section 3): two by the client's own keys, and by its password two for the
+-- keys and those of the iteration count besides
 abbrev pub hmac_count : Secret → ServerFirst → ℕ
 hmac_count (Password password) first = first.count + 4
 hmac_count (Keys keys) first = 2

@@ -136,8 +136,8 @@ silent nonce = record { body = []; nonce = nonce }
 
 -- ---- a login to which somebody on the way may add
 
--- what is added: to the client's nonce, where the server adds its own; and parts behind the client's first message, behind
--- the server's, and in front of the proof
+-- what is added: to the client's nonce, where the server adds its own; and parts behind the client's first message,
+-- behind the server's, and in front of the proof
 pub record Added : Type 0 where
   pub nonce : List ℕ
   pub init : List (List ℕ)
@@ -203,8 +203,9 @@ PremisesCanBeMet =
 
 -- ---- the shifted text
 
--- behind the client's first message stand the parts of a server-first message with another nonce, which the client is told;
--- what the server says for itself comes to the client behind those, and the rest of it to the server before the proof
+-- behind the client's first message stand the parts of a server-first message with another nonce, which the client is
+-- told; what the server says for itself comes to the client behind those, and the rest of it to the server before the
+-- proof
 abbrev pub shifted : Added
 shifted =
     let nonce = client_nonce ++ codes "x" in
@@ -216,8 +217,8 @@ shifted =
     }
 
 -- the two lists are histories, the client takes the server's verifier and shows it the proof that it accepts, and both
--- are judged to agree on user name and client nonce, and on nothing more: the init has five parts, and the sides mean two
--- nonces
+-- are judged to agree on user name and client nonce, and on nothing more: the init has five parts, and the sides mean
+-- two nonces
 pub record IsShifted (sides : Sides) (answer : Answering) (accepted : Accepted) : Type 0 where
   pub login : IsLogin sides.login
   pub record_held : IsRecord accepted.challenge.stored

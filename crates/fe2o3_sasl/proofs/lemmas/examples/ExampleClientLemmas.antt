@@ -61,7 +61,8 @@ module _ (some : Login) (one : answer_at some made ≡ answer_at login made)
       (utf8_joined (salted salt both) (plain_salted salt both plain_both), refl, due, reads)
 
   -- the two last replies
-  response_said : Answered (body_of (sends_response (joined (binds both)) (proof_at login made))) ≡ says_answer some made
+  response_said : Answered (body_of (sends_response (joined (binds both)) (proof_at login made)))
+      ≡ says_answer some made
   response_said = answer_said unaltered is_unaltered
       ∙ ap (λ (answer : Answer). carried (Refused (Frame faults.TooLarge)) (λ body. Answered body)
       (canonical (frames.Response answer.message))) (sym one)
@@ -111,8 +112,8 @@ host_said : Started (body_of names_host) ≡ says_start with_hostname (event_of 
 host_said =
     let says = carried (Refused (Frame faults.TooLarge)) (λ body. Started body) in
     let named : says_start with_hostname (event_of client_bytes offers) ≡ says (canonical names_host) =
-    ap (λ (name : List ℕ). says (canonical (frames.Init (codes "SCRAM-SHA-256") (Some (codes "n,," ++ joined (names name)))
-    (Some (codes "vhost"))))) user_text in
+    ap (λ (name : List ℕ). says (canonical (frames.Init (codes "SCRAM-SHA-256")
+    (Some (codes "n,," ++ joined (names name))) (Some (codes "vhost"))))) user_text in
     sym (named ∙ ap says host_sent)
 
 host_reads : ReadsServerFirst (client_at with_hostname client_nonce) made.text (Ok made.first)
@@ -167,15 +168,17 @@ keys_log_in =
 other_bytes : IsBytes other_salt
 other_bytes = IsBytes-replicate 32 4 (omega arith)
 
-others_refused : ReadsServerFirst (client_at with_keys client_nonce) (joined (salted other_salt both)) (Err NamesOtherKeys)
+others_refused : ReadsServerFirst (client_at with_keys client_nonce) (joined (salted other_salt both))
+    (Err NamesOtherKeys)
 others_refused =
     let text = joined (salted other_salt both) in
     let named = names_salted other_salt other_bytes both server_nonce [] refl plain_both tt in
     let apart : ¬ (other_salt ≡ salt) = λ same. absurd (cc) in
     secret_refused (client_at with_keys client_nonce) text NamesOtherKeys
     (nonce_passes other_salt other_bytes both server_nonce [] refl plain_both tt)
-    (salt_passes other_salt other_bytes both server_nonce [] refl plain_both tt) (count_passes other_salt other_bytes both
-    server_nonce [] refl plain_both tt with_keys.limits (omega arith) (omega arith))
+    (salt_passes other_salt other_bytes both server_nonce [] refl plain_both tt)
+    (count_passes other_salt other_bytes both server_nonce [] refl plain_both tt with_keys.limits (omega arith)
+    (omega arith))
     (inl (λ has. apart (one_has_salt text other_salt salt named.salt has.0), refl))
 
 pub other_keys_log_in_later : OtherKeysLogInLater
@@ -184,7 +187,8 @@ other_keys_log_in_later =
     let replies = starts ∷ Refused OtherKeys ∷ logs_in in
     let first = opens_here is_start is_answer replies 0 refl in
     let at : NonceAt events 0 client_nonce = (event_of client_bytes offers, refl, refl) in
-    let due : IsDue events replies 2 client_nonce = (0, stays_open is_start is_answer replies 1 0 refl refl first, at) in
+    let due : IsDue events replies 2 client_nonce =
+    (0, stays_open is_start is_answer replies 1 0 refl refl first, at) in
     client_history with_keys events replies refl (
       keys_start events replies,
       (

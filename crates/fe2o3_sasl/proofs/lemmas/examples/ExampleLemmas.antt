@@ -101,7 +101,8 @@ plain_nonce = plain-append client_nonce (codes "x") (plain-base64_text client_by
     (plain-literal (codes "x") refl refl)
 
 short_nonce : length nonce ≤ 100
-short_nonce = omega (arith, length-both, length-append client_nonce (codes "x"), length-append client_nonce server_nonce)
+short_nonce =
+    omega (arith, length-both, length-append client_nonce (codes "x"), length-append client_nonce server_nonce)
 
 is_shifted : PassesUnseen shifted
 is_shifted = record {
@@ -117,8 +118,8 @@ is_shifted = record {
   );
   short_challenge = omega (
     arith,
-    short_joined (values nonce ++ (values both ++ binds both)) (each_append Short (values nonce) (values both ++ binds both)
-        (short_values nonce short_nonce)
+    short_joined (values nonce ++ (values both ++ binds both))
+        (each_append Short (values nonce) (values both ++ binds both) (short_values nonce short_nonce)
         (each_append Short (values both) (binds both) (short_values both short_both) (short_binds both short_both))),
   );
   short_response = omega (

@@ -1,5 +1,5 @@
--- The login of the worked examples, whatever somebody on the way adds to it: both sides report Ok where what is added is
--- plain and short and the AuthMessages are equal.
+-- The login of the worked examples, whatever somebody on the way adds to it: both sides report Ok where what is added
+-- is plain and short and the AuthMessages are equal.
 use Rattle.std.proofs.Common.{◌≡◌, ◌<◌, ◌≤◌, ◌^◌, ℕ, zero, suc, Some, List, [], ◌∷◌, ◌++◌, length, Ok, refl, sym, ◌∙◌, ap, subst, arith, codes, inl, inr}
 use Rattle.std.specs.Prelude.{slice_get}
 use Rattle.std.specs.List.{AllByRecursion}

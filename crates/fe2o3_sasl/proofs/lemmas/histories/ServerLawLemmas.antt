@@ -127,14 +127,16 @@ counted_step : (replies : List ServerSays) (k : ℕ) → (test_at is_ok (slice_g
 counted_step replies k opens h true true p q = absurd (not_both (slice_get replies k) p q)
 counted_step replies k opens h true false p q =
     let within = h.within in
-    let oks = one_more_passes is_ok replies k ∙ ap (λ (b : Bool). length (filter is_ok (take k replies)) + cond b 1 0) q in
+    let oks = one_more_passes is_ok replies k
+    ∙ ap (λ (b : Bool). length (filter is_ok (take k replies)) + cond b 1 0) q in
     let challenges = one_more_passes is_challenge replies k
     ∙ ap (λ (b : Bool). length (filter is_challenge (take k replies)) + cond b 1 0) p in
     record { within = omega (arith, oks, challenges, within); more = λ j x. omega (arith, oks, challenges, within) }
 counted_step replies k opens h false true p q =
     let x = opens q in
     let less = h.more x.0 x.1 in
-    let oks = one_more_passes is_ok replies k ∙ ap (λ (b : Bool). length (filter is_ok (take k replies)) + cond b 1 0) q in
+    let oks = one_more_passes is_ok replies k
+    ∙ ap (λ (b : Bool). length (filter is_ok (take k replies)) + cond b 1 0) q in
     let challenges = one_more_passes is_challenge replies k
     ∙ ap (λ (b : Bool). length (filter is_challenge (take k replies)) + cond b 1 0) p in
     record {
@@ -144,7 +146,8 @@ counted_step replies k opens h false true p q =
     }
 counted_step replies k opens h false false p q =
     let within = h.within in
-    let oks = one_more_passes is_ok replies k ∙ ap (λ (b : Bool). length (filter is_ok (take k replies)) + cond b 1 0) q in
+    let oks = one_more_passes is_ok replies k
+    ∙ ap (λ (b : Bool). length (filter is_ok (take k replies)) + cond b 1 0) q in
     let challenges = one_more_passes is_challenge replies k
     ∙ ap (λ (b : Bool). length (filter is_challenge (take k replies)) + cond b 1 0) p in
     record {

@@ -56,7 +56,8 @@ server_wants provider IsOpen event (Ok (frames.Outcome code more)) spells (inr i
 
 pub servers_want_memory : ServersWantMemory
 servers_want_memory provider events replies k history is =
-    let event = some_at events k (omega (arith, history.count, slice_get_within replies k (Failed faults.OutOfMemory) is))
+    let event = some_at events k
+    (omega (arith, history.count, slice_get_within replies k (Failed faults.OutOfMemory) is))
     in
     let row = history.each k event.0 (Failed faults.OutOfMemory) event.1 is in
     let wants = server_wants provider (Open provider events replies k) event.0 row.0 row.1 row.2 in

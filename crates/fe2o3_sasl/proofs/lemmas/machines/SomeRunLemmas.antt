@@ -290,12 +290,13 @@ some_move hostname side nonce (frames.Challenge text) = go (utf8_or text)
     go (inr other) = (Err (Scram Utf8Error), side, inl (other, refl, refl), λ is. cc)
 some_move hostname side nonce (frames.Outcome outcomes.Ok None) =
     (Err (Scram ServerSignatureMismatch), side, (refl, refl), λ is. cc)
-some_move hostname side nonce (frames.Outcome outcomes.Ok (Some text)) = let answer = some_belief side.state side text in (
-  client_frame (λ believed. frames.Outcome outcomes.Ok (Some text)) answer.0,
-  answer.1,
-  (answer.0, answer.1, answer.2, refl, refl),
-  told_frame (λ believed. frames.Outcome outcomes.Ok (Some text)) answer.0,
-)
+some_move hostname side nonce (frames.Outcome outcomes.Ok (Some text)) =
+    let answer = some_belief side.state side text in (
+      client_frame (λ believed. frames.Outcome outcomes.Ok (Some text)) answer.0,
+      answer.1,
+      (answer.0, answer.1, answer.2, refl, refl),
+      told_frame (λ believed. frames.Outcome outcomes.Ok (Some text)) answer.0,
+    )
 some_move hostname side nonce (frames.Outcome outcomes.Auth more) =
     (Ok (frames.Outcome outcomes.Auth more), side, (refl, refl), tt)
 some_move hostname side nonce (frames.Outcome outcomes.Sys more) =

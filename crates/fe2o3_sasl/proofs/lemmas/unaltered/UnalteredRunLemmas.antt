@@ -272,7 +272,8 @@ module _ (sides : Sides) (password salt : List ℕ) (count : ℕ) (run : Unalter
       let frame = same_frame at.1 init_sent (one_spelling run.init.body (Ok at.1) (Ok init_sent)
       (subst (λ (e : Given). SpellsBody e.body (Ok at.1)) event at.3) init_spelled) in
       one_fits sides.provider run.init (frames.Init (mechanism_name sides.login.version)
-      (Some (client_first sides.login.user exchange.client_nonce)) sides.login.hostname) challenge (challenge_in exchange)
+      (Some (client_first sides.login.user exchange.client_nonce)) sides.login.hostname) challenge
+      (challenge_in exchange)
       (subst (λ (f : SaslFrame). FitsAsInit sides.provider run.init f challenge) frame
       (subst (λ (e : Given). FitsAsInit sides.provider e at.1 challenge) event at.4)) init_fits
     where
@@ -290,7 +291,8 @@ module _ (sides : Sides) (password salt : List ℕ) (count : ℕ) (run : Unalter
 
   accepts : (slice_get sides.server_replies 1 ≡ Some (Concluded outcomes.Ok run.outcome.body))
       × (canonical (frames.Outcome outcomes.Ok (Some final_sent)) ≡ Some run.outcome.body)
-  accepts = server_accepts sides.provider sides.server_events sides.server_replies 1 run.response (answer_in exchange).message
+  accepts = server_accepts sides.provider sides.server_events sides.server_replies 1 run.response
+      (answer_in exchange).message
       (accepted_in exchange) run.outcome.body histories.server response_at response_spelled one_open_challenge
       response_fits fits.server fits.server_small run.concluded
 
@@ -352,7 +354,8 @@ module _ (sides : Sides) (password salt : List ℕ) (count : ℕ) (run : Unalter
   ok_at = record {
     body = run.outcome.body;
     says = accepts.0;
-    accepts = (run.response, frames.Response (answer_in exchange).message, response_at, response_spelled, response_fits);
+    accepts =
+        (run.response, frames.Response (answer_in exchange).message, response_at, response_spelled, response_fits);
   }
 
   takes : Takes sides 2 1 (accepted_in exchange)

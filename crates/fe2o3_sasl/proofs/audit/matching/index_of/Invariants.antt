@@ -6,4 +6,5 @@ use Rattle.fe2o3_sasl.proofs.audit.matching.index_of.Given as goal
 abbrev pub invariant-loop-server : goal.invariant-loop-server
 invariant-loop-server l =
     (bytes : List ℕ) → row_at l.index bytes
-    ≡ filter (λ server. same bytes (compared_by (kind_of l.kind) server)) (map server_receipt (take l.server-index l.oks))
+    ≡ filter (λ server. same bytes (compared_by (kind_of l.kind) server))
+    (map server_receipt (take l.server-index l.oks))
