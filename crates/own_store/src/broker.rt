@@ -52,11 +52,13 @@ pub fn log_in(alloc: Global, accounts: &Rc<Accounts>, name: &str, password: &str
     Ok(account.sessions)
 }
 
-/// A client, which computes no more than 100,000 iterations for any server.
+/// A client, which computes from 4096 to 100,000 iterations, and for no server less or more.
 fn client(alloc: Global, name: &str, password: &str) -> Result<ScramClient> {
     let name = name.to_string(alloc)?;
     let password = password.to_string(alloc)?;
-    Ok(ScramClient::new(name, password, ScramVersion::Sha256).with_iteration_limit(100_000))
+    let client = ScramClient::new(name, password, ScramVersion::Sha256);
+    let client = client.with_least_iterations(4096);
+    Ok(client.with_iteration_limit(100_000))
 }
 
 /// The four messages. Nonces are made of random bytes, here of fixed ones.

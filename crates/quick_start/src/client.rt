@@ -5,11 +5,14 @@ use fe2o3_sasl::{ClientReply, Event, SaslProfile, SaslScramSha256, profile_step}
 use fe2o3_sasl_wire::SaslCode;
 use std::alloc::Global;
 
-/// A client that logs in as `user`. The server names the iteration count: the limit bounds it.
+/// A client that logs in as `user`. The server names the iteration count, of which both bounds are the
+/// client's: 4096 is the least that RFC 7677 asks for.
 pub fn new_client(alloc: Global) -> Result<SaslProfile> {
     let username = "user".to_string(alloc)?;
     let password = "pencil".to_string(alloc)?;
-    let scram = SaslScramSha256::new(username, password).with_iteration_limit(100_000);
+    let scram = SaslScramSha256::new(username, password)
+        .with_least_iterations(4096)
+        .with_iteration_limit(100_000);
     Ok(SaslProfile::from(scram))
 }
 
