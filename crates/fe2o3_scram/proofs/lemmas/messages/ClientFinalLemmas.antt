@@ -15,7 +15,7 @@ use Rattle.fe2o3_scram.specs.private.Answers.{AnswersProof}
 use Rattle.fe2o3_scram.proofs.lemmas.hashes.DigestLemmas.{IsBytes-nil, IsBytes-cons}
 use Rattle.fe2o3_scram.proofs.lemmas.texts.Base64Lemmas.{one_spelled}
 use Rattle.fe2o3_scram.proofs.lemmas.texts.DecisionLemmas.{held, utf8_or}
-use Rattle.fe2o3_scram.proofs.lemmas.texts.LastPartLemmas.{one_last_part}
+use Rattle.fe2o3_scram.proofs.lemmas.texts.CutLemmas.{one_last_cut}
 use Rattle.fe2o3_scram.proofs.lemmas.texts.PartsLemmas.{one_part}
 use Rattle.fe2o3_scram.proofs.lemmas.messages.TestListLemmas.{NoneHolds-append, IsFirst-front, IsFirst-back, one_reading, one_first, first_or_none, not_first}
 
@@ -72,7 +72,7 @@ not_the_nonces nonce text = not_first (nonce_tests nonce text) OutOfMemory
 pub no_proof : (text without last : List ℕ) → LastPart text without last → ¬ Begins last (codes "p=")
     → (before rest : List ℕ) → ¬ LastPart text before (codes "p=" ++ rest)
 no_proof text without last is other before rest has = other
-    (rest, (one_last_part text without before last (codes "p=" ++ rest) is has).1)
+    (rest, (one_last_cut 44 text without last before (codes "p=" ++ rest) is has).1)
 
 pub has_proof : (text without last spelling proof : List ℕ) → LastPart text without last → last ≡ codes "p=" ++ spelling
     → IsBase64 spelling proof → HasProof text (record { without = without; proof = proof })
@@ -86,7 +86,7 @@ proof_part text without last spelling is begins none = none without spelling (su
 pub unread_proof : (text without last spelling : List ℕ) → LastPart text without last → last ≡ codes "p=" ++ spelling
     → ((proof : List ℕ) → ¬ IsBase64 spelling proof) → (final : ClientFinal) → ¬ HasProof text final
 unread_proof text without last spelling is begins none final has =
-    let same = one_last_part text without final.without last (codes "p=" ++ base64_text final.proof) is has.1 in
+    let same = one_last_cut 44 text without last final.without (codes "p=" ++ base64_text final.proof) is has.1 in
     let both : codes "p=" ++ spelling ≡ codes "p=" ++ base64_text final.proof = sym begins ∙ same.1 in
     none final.proof (has.0, cc)
 
@@ -96,7 +96,7 @@ made without proof = record { without = without; proof = proof }
 -- a message has one proof
 pub one_proof : (text : List ℕ) (final other : ClientFinal) → HasProof text final → HasProof text other → final ≡ other
 one_proof text final other has too =
-    let same = one_last_part text final.without other.without (codes "p=" ++ base64_text final.proof)
+    let same = one_last_cut 44 text final.without (codes "p=" ++ base64_text final.proof) other.without
     (codes "p=" ++ base64_text other.proof) has.1 too.1 in
     let lasts : codes "p=" ++ base64_text final.proof ≡ codes "p=" ++ base64_text other.proof = same.1 in
     let spelling : base64_text final.proof ≡ base64_text other.proof = cc in

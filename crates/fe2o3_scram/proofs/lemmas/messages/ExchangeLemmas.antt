@@ -4,13 +4,11 @@ use Rattle.std.specs.Prelude.{bit_xor, nat_lt, T, if◌then◌else◌}
 use Rattle.std.specs.List.{list_all}
 use Rattle.std.specs.Fmt.{decimal}
 use Rattle.std.specs.Str.{IsUtf8}
-use Rattle.std.specs.Str.Parse.{AllDigits}
 use Rattle.std.specs.Int.Bits.{xor_assoc, xor_self, xor_zero_r}
 use Rattle.std.proofs.lemmas.Bool.{and_parts}
 use Rattle.std.proofs.lemmas.Fmt.{decimal_is_IsNumeral}
 use Rattle.std.proofs.lemmas.Nat.{xor_of_8}
 use Rattle.std.proofs.lemmas.Str.{IsUtf8-append}
-use Rattle.std.proofs.lemmas.Str.Parse.{digit_from_value}
 use Rattle.base64.specs.GeneralPurpose.{IsBytes}
 use Rattle.fe2o3_scram.specs.Texts.{base64_text, IsCount, NoComma, Parts, Part, joined}
 use Rattle.fe2o3_scram.specs.ClientFinal.{Answer, answer_by, fit, keys_for, without_proof, client_final_of, Server, ClientFinal, Meets, ReadsClientFinal}
@@ -30,6 +28,7 @@ use Rattle.fe2o3_scram.proofs.lemmas.messages.FittingKeyLemmas.{fit_is, is_fit}
 use Rattle.fe2o3_scram.specs.ServerFirst.{ServerFirst, client_of, HasSalt, HasCount, NamesServerFirst, ReadsServerFirst}
 use Rattle.fe2o3_scram.proofs.lemmas.texts.AsciiLemmas.{IsUtf8-base64_text, IsUtf8-literal, IsUtf8-escaped}
 use Rattle.fe2o3_scram.proofs.lemmas.texts.Base64Lemmas.{no_comma-append, no_comma-test, no_comma-base64_text}
+use Rattle.fe2o3_scram.proofs.lemmas.texts.EachByteLemmas.{without-digits}
 use Rattle.fe2o3_scram.proofs.lemmas.messages.ClientFinalLemmas.{NamesAcceptedFinal, text_read}
 use Rattle.fe2o3_scram.proofs.lemmas.messages.ClientFirstLemmas.{named}
 use Rattle.fe2o3_scram.proofs.lemmas.hashes.DigestLemmas.{IsBytes-nil, IsBytes-cons, length-hmac_of, IsBytes-hmac_of}
@@ -75,13 +74,8 @@ exclusive_or-back (x ∷ left) (y ∷ right) same =
 
 -- counts
 
-no_comma-digits : (digits : List ℕ) → AllDigits 10 digits → NoComma digits
-no_comma-digits [] are = tt
-no_comma-digits (d ∷ digits) are = let range = digit_from_value d are.0 in
-    (λ is. absurd (omega (arith, range, is)), no_comma-digits digits are.1)
-
 pub no_comma-decimal : (n : ℕ) → n < 2 ^ 64 → NoComma (decimal n)
-no_comma-decimal n small = no_comma-digits (decimal n) (decimal_is_IsNumeral n small).0.1
+no_comma-decimal n small = without-digits 44 (decimal n) (inl (omega arith)) (decimal_is_IsNumeral n small).0.1
 
 pub IsCount-decimal : (n : ℕ) → 1 ≤ n → n < 2 ^ 32 → IsCount (decimal n) n
 IsCount-decimal n some small =

@@ -4,16 +4,15 @@ use Rattle.std.specs.Prelude.{T, is_ok, if◌then◌else◌}
 use Rattle.fe2o3_scram.specs.declared.client_secret.IterationLimits.{IterationLimits}
 use Rattle.fe2o3_scram.specs.declared.scram_messages.error.ScramErrorKind.{ScramErrorKind}
 use Rattle.fe2o3_scram.specs.declared.scram_messages.error.ScramErrorKind.TheVariants.{NormalizeError, OtherKeys}
-use Rattle.fe2o3_scram.specs.ClientFinal.{Answer, answer_by, answer_of, fit, keys_for, without_proof}
+use Rattle.fe2o3_scram.specs.ClientFinal.{Answer, answer_by, answer_of, fit, without_proof}
 use Rattle.fe2o3_scram.specs.ClientKeys.{ClientKeys, keys_of}
-use Rattle.fe2o3_scram.specs.ClientSecret.{Secret, Password, Keys, Both}
+use Rattle.fe2o3_scram.specs.ClientSecret.{Password, Keys, Both}
 use Rattle.fe2o3_scram.specs.Laws.{AreKeysOf}
 use Rattle.fe2o3_scram.specs.Readings.{IsFirst, NoneHolds, Reads}
 use Rattle.fe2o3_scram.specs.SaslprepAscii.{IsPrintable}
-use Rattle.fe2o3_scram.specs.ServerFirst.{ServerFirst, HasSalt, HasCount, NamesOther, NamesServerFirst, ReadsServerFirst, client_of, nonce_tests, salt_tests, count_tests, secret_tests}
+use Rattle.fe2o3_scram.specs.ServerFirst.{ServerFirst, HasSalt, HasCount, NamesOther, NamesServerFirst, ReadsServerFirst, client_of, nonce_tests, salt_tests, count_tests}
 use Rattle.fe2o3_scram.specs.ServerFirstAnswers.{AnswersServerFirst}
-use Rattle.fe2o3_scram.proofs.lemmas.messages.FittingKeyLemmas.{fit_is, is_fit}
-use Rattle.fe2o3_scram.proofs.lemmas.messages.OneValueLemmas.{names_server_first}
+use Rattle.fe2o3_scram.proofs.lemmas.messages.FittingKeyLemmas.{fit_is}
 use Rattle.fe2o3_scram.proofs.lemmas.messages.ServerFirstLemmas.{fitting_named}
 use Rattle.fe2o3_scram.proofs.lemmas.messages.SomeReadingLemmas.{names_values_or, none-split}
 use Rattle.fe2o3_scram.proofs.lemmas.texts.DecisionLemmas.{Decided}

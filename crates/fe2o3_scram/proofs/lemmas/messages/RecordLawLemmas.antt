@@ -1,13 +1,9 @@
 -- A record's text is read as that record, and as no other.
-use Rattle.std.proofs.Common.{◌≡◌, ◌≢◌, ◌⊎◌, ◌<◌, ◌≤◌, ◌^◌, ℕ, zero, suc, true, not, eqb, List, [], ◌∷◌, ◌++◌, length, replicate, get_or, Result, Ok, Err, refl, sym, ◌∙◌, ap, subst, inl, inr, arith}
-use Rattle.std.proofs.lemmas.Bool.{and_parts, not-true, eqb-false}
+use Rattle.std.proofs.Common.{◌≡◌, ◌≢◌, ◌⊎◌, ◌<◌, ◌≤◌, ◌^◌, ℕ, true, not, eqb, List, ◌++◌, length, Result, Ok, Err, refl, sym, ◌∙◌, ap, subst, inl, inr, arith}
 use Rattle.std.proofs.lemmas.Fmt.{decimal_is_IsNumeral}
-use Rattle.std.proofs.lemmas.Str.Parse.{digit_from_value}
 use Rattle.std.specs.Fmt.{decimal}
 use Rattle.std.specs.List.{list_all}
-use Rattle.std.specs.Str.Parse.{AllDigits}
 use Rattle.base64.specs.GeneralPurpose.{IsBytes}
-use Rattle.base64.specs.Rfc4648.{encode_symbols, padding_len}
 use Rattle.fe2o3_scram.specs.declared.hmac.ScramVersion.{ScramVersion}
 use Rattle.fe2o3_scram.specs.declared.hmac.ScramVersion.TheVariants.{Sha1, Sha256, Sha512}
 use Rattle.fe2o3_scram.specs.declared.credentials.record_text.RecordTextError.{RecordTextError}
@@ -25,82 +21,18 @@ use Rattle.fe2o3_scram.proofs.lemmas.messages.TestListLemmas.{one_reading}
 use Rattle.fe2o3_scram.proofs.lemmas.texts.Base64Lemmas.{one_spelled}
 use Rattle.fe2o3_scram.proofs.lemmas.texts.CountLemmas.{no_plain_count, one_count, one_plain_count, plain_is_count}
 use Rattle.fe2o3_scram.proofs.lemmas.texts.CutLemmas.{cut_or, not_without, uncut}
+use Rattle.fe2o3_scram.proofs.lemmas.texts.EachByteLemmas.{each-base64_text, without-digits, without-test}
 use Rattle.fe2o3_scram.proofs.lemmas.texts.DecisionLemmas.{Decided, Found, held, found_one, none_or, both_or, base64_or, count_or, same_number_or, same_or}
 
 -- ---- no field of a record holds a separator
 
-pub without-append : (byte : ℕ) (front back : List ℕ) → Without byte front → Without byte back
-    → Without byte (front ++ back)
-without-append byte [] back plain too = too
-without-append byte (x ∷ front) back plain too = (plain.0, without-append byte front back plain.1 too)
-
--- a literal is without the byte where the test says so
-pub without-test : (byte : ℕ) (text : List ℕ) → list_all (λ other. not (eqb other byte)) text ≡ true → Without byte text
-without-test byte [] passes = tt
-without-test byte (x ∷ text) passes =
-    let both = and_parts (not (eqb x byte)) (list_all (λ other. not (eqb other byte)) text) passes in
-    (eqb-false x byte (not-true (eqb x byte) both.0), without-test byte text both.1)
-
-without-replicate : (byte n : ℕ) → 61 ≢ byte → Without byte (replicate n 61)
-without-replicate byte zero other = tt
-without-replicate byte (suc n) other = (other, without-replicate byte n other)
-
-without-get_or : (byte : ℕ) (text : List ℕ) (i : ℕ) → 0 ≢ byte → Without byte text → get_or text i 0 ≢ byte
-without-get_or byte [] i other plain = other
-without-get_or byte (x ∷ text) zero other plain = plain.0
-without-get_or byte (x ∷ text) (suc i) other plain = without-get_or byte text i other plain.1
-
-without-encode_symbols : (byte : ℕ) (symbols bytes : List ℕ) → 0 ≢ byte → Without byte symbols
-    → Without byte (encode_symbols symbols bytes)
-unfolding encode_symbols
-without-encode_symbols byte symbols [] other plain = tt
-without-encode_symbols byte symbols (a ∷ []) other plain =
-    (without-get_or byte symbols _ other plain, (without-get_or byte symbols _ other plain, tt))
-without-encode_symbols byte symbols (a ∷ b ∷ []) other plain = (
-  without-get_or byte symbols _ other plain,
-  (without-get_or byte symbols _ other plain, (without-get_or byte symbols _ other plain, tt)),
-)
-without-encode_symbols byte symbols (a ∷ b ∷ c ∷ bytes) other plain = (
-  without-get_or byte symbols _ other plain,
-  (
-    without-get_or byte symbols _ other plain,
-    (
-      without-get_or byte symbols _ other plain,
-      (
-        without-get_or byte symbols _ other plain,
-        without-encode_symbols byte symbols bytes other plain,
-      ),
-    ),
-  ),
-)
-
-pub without-base64_text : (byte : ℕ) (bytes : List ℕ) → 0 ≢ byte → 61 ≢ byte → Without byte alphabet
-    → Without byte (base64_text bytes)
-unfolding base64_text
-without-base64_text byte bytes other equals plain =
-    without-append byte (encode_symbols alphabet bytes) (replicate (padding_len (length bytes)) 61)
-    (without-encode_symbols byte alphabet bytes other plain)
-    (without-replicate byte (padding_len (length bytes)) equals)
-
 plain-base64_text : (bytes : List ℕ) → Plain (base64_text bytes)
 plain-base64_text bytes = (
-  without-base64_text 36 bytes (λ is. absurd (omega (arith, is))) (λ is. absurd (omega (arith, is)))
+  each-base64_text (λ byte. byte ≢ 36) bytes (λ is. absurd (omega (arith, is))) (λ is. absurd (omega (arith, is)))
       (without-test 36 alphabet refl),
-  without-base64_text 58 bytes (λ is. absurd (omega (arith, is))) (λ is. absurd (omega (arith, is)))
+  each-base64_text (λ byte. byte ≢ 58) bytes (λ is. absurd (omega (arith, is))) (λ is. absurd (omega (arith, is)))
       (without-test 58 alphabet refl),
 )
-
-pub without-digits : (byte : ℕ) (digits : List ℕ) → (byte < 48) ⊎ (57 < byte) → AllDigits 10 digits
-    → Without byte digits
-without-digits byte [] apart are = tt
-without-digits byte (x ∷ digits) apart are =
-    let range = digit_from_value x are.0 in (
-      λ is. elim apart [
-        | inl low ↦ absurd (omega (arith, range, is, low))
-        | inr high ↦ absurd (omega (arith, range, is, high))
-      ],
-      without-digits byte digits apart are.1,
-    )
 
 plain-decimal : (n : ℕ) → n < 2 ^ 32 → Plain (decimal n)
 plain-decimal n small =

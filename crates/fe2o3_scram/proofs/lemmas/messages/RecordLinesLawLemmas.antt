@@ -16,9 +16,9 @@ use Rattle.fe2o3_scram.specs.Laws.{HoldsBytes}
 use Rattle.fe2o3_scram.specs.RecordLines.{HeadFault, IsLineReadable, IsWritable, LastCut, LineFault, ReadsUsers, UserFault, record_of_user, user_line, users_text}
 use Rattle.fe2o3_scram.specs.RecordText.{IsReadable, ReadsRecord, record_text}
 use Rattle.fe2o3_scram.specs.Texts.{Cut, Without, alphabet, base64_text}
-use Rattle.fe2o3_scram.proofs.lemmas.messages.RecordLawLemmas.{one_record, read_again, without-append, without-base64_text, without-digits, without-test}
-use Rattle.fe2o3_scram.proofs.lemmas.messages.RecordLinesLemmas.{not_without-in}
-use Rattle.fe2o3_scram.proofs.lemmas.texts.CutLemmas.{one_cut}
+use Rattle.fe2o3_scram.proofs.lemmas.messages.RecordLawLemmas.{one_record, read_again}
+use Rattle.fe2o3_scram.proofs.lemmas.texts.CutLemmas.{one_cut, one_last_cut}
+use Rattle.fe2o3_scram.proofs.lemmas.texts.EachByteLemmas.{each-base64_text, not_without-in, without-append, without-digits, without-test}
 use Rattle.fe2o3_scram.proofs.lemmas.texts.EscapingLemmas.{by_cases, escaped-cons, escaped-nil, one_escaped}
 
 -- ---- what a user's line is without
@@ -38,7 +38,7 @@ without-record_text byte kept is low some plain names =
     let small = is.small in
     let numeral = decimal_is_IsNumeral kept.stored.count (omega (arith, small)) in
     let spelt : (bytes : List ℕ) → Without byte (base64_text bytes) =
-    λ bytes. without-base64_text byte bytes some (λ same. absurd (omega (arith, low, same))) plain in
+    λ bytes. each-base64_text (λ other. other ≢ byte) bytes some (λ same. absurd (omega (arith, low, same))) plain in
     without-append byte (mechanism_name kept.version) _ (names kept.version) (
       λ same. absurd (omega (arith, low, same)),
       without-append byte (decimal kept.stored.count) _
@@ -79,22 +79,6 @@ no_space-record version user is =
     (without-test 32 alphabet refl) names-space
 
 -- ---- one cut, one line, one head
-
-one_last_cut : (byte : ℕ) (text before rest other last : List ℕ) → LastCut byte text before rest
-    → LastCut byte text other last → (before ≡ other) × (rest ≡ last)
-one_last_cut byte text before rest other last is too = go before other is.0 too.0 (sym is.1 ∙ too.1)
-  where
-    go : (before other : List ℕ) → Without byte rest → Without byte last
-        → before ++ byte ∷ rest ≡ other ++ byte ∷ last → (before ≡ other) × (rest ≡ last)
-    go [] [] plain too same = (refl, cc)
-    go [] (c ∷ other) plain too same = absurd (not_without-in byte other last rest (cc) plain)
-    go (b ∷ before) [] plain too same = absurd (not_without-in byte before rest last (cc) too)
-    go (b ∷ before) (c ∷ other) plain too same =
-        let first : b ≡ c = cc in
-        let tail : before ++ byte ∷ rest ≡ other ++ byte ∷ last = cc in
-        let more = go before other plain too tail in
-        let fronts = more.0 in
-        (cc, more.1)
 
 line_cut : (version : ScramVersion) (user : List ℕ × Record) → IsLineReadable version user
     → LastCut 32 (user_line version user) (escaped user.0) (record_text (record_of_user version user))

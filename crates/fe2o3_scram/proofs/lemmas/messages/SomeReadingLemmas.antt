@@ -21,7 +21,8 @@ use Rattle.fe2o3_scram.specs.Texts.{base64_text, IsBase64, IsCount, Part, LastPa
 use Rattle.base64.specs.GeneralPurpose.{IsBytes}
 use Rattle.fe2o3_scram.proofs.lemmas.messages.ClientFinalLemmas.{no_proof, has_proof, proof_part, unread_proof}
 use Rattle.fe2o3_scram.proofs.lemmas.messages.ServerFirstLemmas.{one_has_count, no_count}
-use Rattle.fe2o3_scram.proofs.lemmas.texts.DecisionLemmas.{Decided, Found, held, found_one, not_or, none_or, some_or, both_or, found_with, less_or, same_number_or, same_or, bytes_or, utf8_or, printable_or, rest_or, begins_or, part_or, part_is_or, attribute_or, attribute_text_or, last_part_or, base64_or, count_or, name_or}
+use Rattle.fe2o3_scram.proofs.lemmas.texts.CutLemmas.{last_part_or}
+use Rattle.fe2o3_scram.proofs.lemmas.texts.DecisionLemmas.{Decided, Found, held, found_one, not_or, none_or, some_or, both_or, found_with, less_or, same_number_or, same_or, bytes_or, utf8_or, printable_or, rest_or, begins_or, part_or, part_is_or, attribute_or, attribute_text_or, base64_or, count_or, name_or}
 
 -- ---- lists of tests
 

@@ -1,7 +1,6 @@
-use Rattle.std.proofs.Common.{rules}
 use Rattle.std.proofs.lemmas.Result.{err_from_is_err_and}
 use Rattle.fe2o3_scram.specs.ClientSecret.{secret_of}
-use Rattle.fe2o3_scram.specs.ServerFirst.{Client, ServerFirst, NamesServerFirst, client_of, server_first_values}
+use Rattle.fe2o3_scram.specs.ServerFirst.{Client, ServerFirst, NamesServerFirst, client_of}
 use Rattle.fe2o3_scram.proofs.lemmas.messages.ServerFirstLemmas.{not_the_nonces, not_the_count, nonce_refused, salt_refused, count_refused, secret_refused, values_read, secret_holds, secret_first, not_the_secret}
 use Rattle.fe2o3_scram.proofs.scram_messages.server_first_reading.ServerFirst.read.Goals as goal
 
