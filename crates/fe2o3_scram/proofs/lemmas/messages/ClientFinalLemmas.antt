@@ -16,7 +16,7 @@ use Rattle.fe2o3_scram.proofs.lemmas.hashes.DigestLemmas.{IsBytes-nil, IsBytes-c
 use Rattle.fe2o3_scram.proofs.lemmas.texts.Base64Lemmas.{one_spelled}
 use Rattle.fe2o3_scram.proofs.lemmas.texts.DecisionLemmas.{held, utf8_or}
 use Rattle.fe2o3_scram.proofs.lemmas.texts.CutLemmas.{one_last_cut}
-use Rattle.fe2o3_scram.proofs.lemmas.texts.PartsLemmas.{one_part}
+use Rattle.fe2o3_scram.proofs.lemmas.texts.PartsLemmas.{one_behind}
 use Rattle.fe2o3_scram.proofs.lemmas.messages.TestListLemmas.{NoneHolds-append, IsFirst-front, IsFirst-back, one_reading, one_first, first_or_none, not_first}
 
 -- the channel binding
@@ -24,9 +24,7 @@ use Rattle.fe2o3_scram.proofs.lemmas.messages.TestListLemmas.{NoneHolds-append, 
 binding_spelled : (text spelling binding : List ℕ) → Part text 0 (codes "c=" ++ spelling) → HasBinding text binding
     → IsBase64 spelling binding
 binding_spelled text spelling binding is has =
-    let both : codes "c=" ++ spelling ≡ codes "c=" ++ base64_text binding =
-    one_part text 0 (codes "c=" ++ spelling) (codes "c=" ++ base64_text binding) is has.1 in
-    (has.0, cc)
+    (has.0, one_behind text 0 (codes "c=") spelling (base64_text binding) is has.1)
 
 pub has_binding : (text spelling binding : List ℕ) → Part text 0 (codes "c=" ++ spelling) → IsBase64 spelling binding
     → HasBinding text binding
@@ -58,9 +56,7 @@ other_binding text spelling is other has =
 
 pub other_nonce : (text named nonce : List ℕ) → Part text 1 (codes "r=" ++ named) → named ≢ nonce
     → ¬ Part text 1 (codes "r=" ++ nonce)
-other_nonce text named nonce is other has =
-    let both : codes "r=" ++ named ≡ codes "r=" ++ nonce =
-    one_part text 1 (codes "r=" ++ named) (codes "r=" ++ nonce) is has in other (cc)
+other_nonce text named nonce is other has = other (one_behind text 1 (codes "r=") named nonce is has)
 
 -- no test of the nonce has the fault for refused memory
 pub not_the_nonces : (nonce text : List ℕ) → ¬ IsFirst (nonce_tests nonce text) OutOfMemory

@@ -112,10 +112,13 @@ one_head version text rest more user other is too same so =
 
 -- ---- a head with a fault
 
+abbrev OfLine : ScramVersion → List ℕ → ReadLinesErrorKind → Type 0
+OfLine version text kind = ((text ≢ []) × Without 10 text × (kind ≡ LineFeedMissing))
+    ⊎ ((line : List ℕ) × (rest : List ℕ) × Cut 10 text line rest × LineFault version line kind)
+
 -- a fault but for a missing line feed is one of the first line
 of_line : (version : ScramVersion) (text : List ℕ) (kind : ReadLinesErrorKind) → HeadFault version text kind
-    → ((text ≢ []) × Without 10 text × (kind ≡ LineFeedMissing))
-    ⊎ ((line : List ℕ) × (rest : List ℕ) × Cut 10 text line rest × LineFault version line kind)
+    → OfLine version text kind
 of_line version text LineFeedMissing fault = inl (fault.0, fault.1, refl)
 of_line version text SpaceMissing fault = inr fault
 of_line version text InvalidName fault = inr fault
@@ -123,10 +126,13 @@ of_line version text (InvalidRecord wrong) fault = inr fault
 of_line version text VersionMismatch fault = inr fault
 of_line version text OutOfMemory fault = inr fault
 
+abbrev OfUser : ScramVersion → List ℕ → ReadLinesErrorKind → Type 0
+OfUser version line kind = (Without 32 line × (kind ≡ SpaceMissing))
+    ⊎ ((name : List ℕ) × (kept : List ℕ) × LastCut 32 line name kept × UserFault version name kept kind)
+
 -- a fault but for a missing space is one of the name or of the record
 of_user : (version : ScramVersion) (line : List ℕ) (kind : ReadLinesErrorKind) → LineFault version line kind
-    → (Without 32 line × (kind ≡ SpaceMissing))
-    ⊎ ((name : List ℕ) × (kept : List ℕ) × LastCut 32 line name kept × UserFault version name kept kind)
+    → OfUser version line kind
 of_user version line LineFeedMissing fault = inr fault
 of_user version line SpaceMissing fault = inl (fault, refl)
 of_user version line InvalidName fault = inr fault
@@ -176,10 +182,6 @@ one_user_fault version name kept VersionMismatch (InvalidRecord wrong) fault too
     absurd (no_both kept fault.1.0 wrong fault.1.1 too.1)
 one_user_fault version name kept VersionMismatch VersionMismatch fault too = refl
 
-abbrev OfUser : ScramVersion → List ℕ → ReadLinesErrorKind → Type 0
-OfUser version line kind = (Without 32 line × (kind ≡ SpaceMissing))
-    ⊎ ((name : List ℕ) × (kept : List ℕ) × LastCut 32 line name kept × UserFault version name kept kind)
-
 one_of_user : (version : ScramVersion) (line : List ℕ) (kind other : ReadLinesErrorKind) → OfUser version line kind
     → OfUser version line other → kind ≡ other
 one_of_user version line kind other (inl plain) (inl too) = plain.1 ∙ sym too.1
@@ -192,10 +194,6 @@ one_of_user version line kind other (inr (name, kept, cut, fault)) (inr (names, 
     one_user_fault version name kept kind other fault
     (subst (λ (text : List ℕ). UserFault version name text other) same.1
     (subst (λ (text : List ℕ). UserFault version text others other) same.0 too))
-
-abbrev OfLine : ScramVersion → List ℕ → ReadLinesErrorKind → Type 0
-OfLine version text kind = ((text ≢ []) × Without 10 text × (kind ≡ LineFeedMissing))
-    ⊎ ((line : List ℕ) × (rest : List ℕ) × Cut 10 text line rest × LineFault version line kind)
 
 one_of_line : (version : ScramVersion) (text : List ℕ) (kind other : ReadLinesErrorKind) → OfLine version text kind
     → OfLine version text other → kind ≡ other

@@ -1,5 +1,5 @@
 -- Texts that are cut at the first or the last of some byte.
-use Rattle.std.proofs.Common.{◌≡◌, ◌≢◌, ◌⊎◌, ◌<◌, ℕ, List, [], ◌∷◌, ◌++◌, Bor, length, get_or, take, drop, refl, sym, ◌∙◌, ap, inl, inr}
+use Rattle.std.proofs.Common.{◌≡◌, ◌⊎◌, ◌<◌, ℕ, List, [], ◌∷◌, ◌++◌, Bor, take, drop, refl, sym, ◌∙◌, ap, inl, inr}
 use Rattle.std.proofs.lemmas.List.{take-append-drop}
 use Rattle.std.proofs.lemmas.Str.Pattern.{IsSplitOnceResult, NoCharPasses-char, drop_at_char, split_parts}
 use Rattle.std.specs.Prelude.{Option, None, Some, MatchOption}
@@ -35,16 +35,9 @@ pub cut_from : (byte : ℕ) (text : List ℕ) (found : Option (Bor (List ℕ) ×
     → IsSplitOnceResult byte text found
     → MatchOption found ((before rest : List ℕ) → ¬ Cut byte text before rest)
     (λ both. Cut byte text both.0.now both.1.now)
-cut_from byte text found small is = go found (split_parts byte text found is small)
-  where
-    go : (found : Option (Bor (List ℕ) × Bor (List ℕ)))
-        → MatchOption found ((i : ℕ) → i < length text → get_or text i 0 ≢ byte)
-        (λ both. (text ≡ both.0.now ++ (byte ∷ both.1.now))
-        × ((i : ℕ) → i < length both.0.now → get_or both.0.now i 0 ≢ byte))
-        → MatchOption found ((before rest : List ℕ) → ¬ Cut byte text before rest)
-        (λ both. Cut byte text both.0.now both.1.now)
-    go None none = uncut byte text (without-index byte text none)
-    go (Some both) is = (without-index byte both.0.now is.1, is.0)
+cut_from byte text None small is = uncut byte text (without-index byte text (split_parts byte text None is small))
+cut_from byte text (Some both) small is = let parts = split_parts byte text (Some both) is small in
+    (without-index byte both.0.now parts.1, parts.0)
 
 -- a text is cut, or it is without the byte
 pub cut_or : (byte : ℕ) (text : List ℕ)

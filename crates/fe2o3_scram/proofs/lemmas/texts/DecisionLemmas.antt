@@ -127,11 +127,7 @@ rest_or (x ∷ prefix) (y ∷ text) = go (same_number_or y x) (rest_or prefix te
     go (inr other) found = inr (λ rest is. other (let head : y ≡ x = cc in head))
 
 pub begins_or : (text prefix : List ℕ) → Decided (Begins text prefix)
-begins_or text prefix = go (rest_or prefix text)
-  where
-    go : Found (λ (rest : List ℕ). text ≡ prefix ++ rest) → Decided (Begins text prefix)
-    go (inl found) = inl found
-    go (inr none) = inr (λ begins. none begins.0 begins.1)
+begins_or text prefix = some_or (rest_or prefix text)
 
 pub part_or : (text : List ℕ) (k : ℕ) → Found (Part text k)
 part_or text k = go (slice_get (pieces text) k) (part_from_pieces (λ (part : List ℕ). part) text k _ (same _))
@@ -147,15 +143,13 @@ part_or text k = go (slice_get (pieces text) k) (part_from_pieces (λ (part : Li
 
 -- whether this is the part
 pub part_is_or : (text : List ℕ) (k : ℕ) (part : List ℕ) → Decided (Part text k part)
-part_is_or text k part = go (part_or text k)
-  where
-    named : (other : List ℕ) → Part text k other → Decided (other ≡ part) → Decided (Part text k part)
-    named other is (inl same) = inl (subst (Part text k) same is)
-    named other is (inr apart) = inr (λ has. apart (one_part text k other part is has))
-
-    go : Found (Part text k) → Decided (Part text k part)
-    go (inl (other, is)) = named other is (same_or other part)
-    go (inr none) = inr (none part)
+part_is_or text k part = elim (part_or text k) [
+  | inl (other, is) ↦ elim (same_or other part) [
+    | inl same ↦ inl (subst (Part text k) same is)
+    | inr apart ↦ inr (λ has. apart (one_part text k other part is has))
+  ]
+  | inr none ↦ inr (none part)
+]
 
 -- what stands behind the key of a part, which says something or nothing
 pub attribute_or : {X : Type 0} (Good : X → Type 0) (write : X → List ℕ) (text : List ℕ) (k : ℕ) (key : List ℕ)
