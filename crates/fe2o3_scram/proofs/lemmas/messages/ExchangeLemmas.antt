@@ -96,6 +96,9 @@ pub part_of : (key text : List ℕ) → list_all (λ byte. not (eqb byte 44)) ke
     → NoComma (key ++ text)
 part_of key text passes plain = no_comma-append key text (no_comma-test key passes) plain
 
+utf8_behind : (key text : List ℕ) → list_all (λ byte. nat_lt byte 128) key ≡ true → IsUtf8 text → IsUtf8 (key ++ text)
+utf8_behind key text passes utf8 = IsUtf8-append key text (IsUtf8-literal key passes) utf8
+
 pub only_part : (text : List ℕ) → NoComma text → Parts text (text ∷ [])
 only_part text plain = record { some = omega arith; apart = (plain, tt); whole = refl }
 
@@ -108,10 +111,8 @@ pub nonce_text : (x : Exchange) → IsSound x → IsUtf8 (nonce_in x)
 nonce_text x sound = IsUtf8-append x.client_nonce x.server_nonce sound.client_text sound.server_text
 
 bare_text : (user nonce : List ℕ) → IsUtf8 user → IsUtf8 nonce → IsUtf8 (client_first_bare user nonce)
-bare_text user nonce utf8 too =
-    IsUtf8-append (codes "n=" ++ escaped user) (codes ",r=" ++ nonce)
-    (IsUtf8-append (codes "n=") (escaped user) (IsUtf8-literal (codes "n=") refl) (IsUtf8-escaped user utf8))
-    (IsUtf8-append (codes ",r=") nonce (IsUtf8-literal (codes ",r=") refl) too)
+bare_text user nonce utf8 too = IsUtf8-append (codes "n=" ++ escaped user) (codes ",r=" ++ nonce)
+    (utf8_behind (codes "n=") (escaped user) refl (IsUtf8-escaped user utf8)) (utf8_behind (codes ",r=") nonce refl too)
 
 reads_client_first : (x : Exchange) → IsSound x → ReadsClientFirst (client_first x.user x.client_nonce)
     (Ok (record { user = x.user; nonce = x.client_nonce; bare = bare_in x }))
@@ -119,7 +120,7 @@ reads_client_first x sound =
     let parts = two_parts (codes "n=" ++ escaped x.user) (codes "r=" ++ x.client_nonce)
     (part_of (codes "n=") (escaped x.user) refl (no_comma-escaped x.user))
     (part_of (codes "r=") x.client_nonce refl sound.client_plain) in
-    let utf8 = IsUtf8-append (codes "n,,") (bare_in x) (IsUtf8-literal (codes "n,,") refl)
+    let utf8 = utf8_behind (codes "n,,") (bare_in x) refl
     (bare_text x.user x.client_nonce sound.user sound.client_text) in
     named (client_first x.user x.client_nonce) (bare_in x) utf8 refl (escaped x.user) x.user x.client_nonce
     (_, parts, refl) refl (_, parts, refl)
@@ -171,7 +172,8 @@ opened version (Both own keys) password salt count nonce opens = go (fit keys fi
 
 -- so the answer is by the keys of the record
 abbrev made_in : Exchange → Answer
-made_in x = answer_by (keys_of x.version x.password x.salt x.count) (bare_in x) (first_in x) (without_proof (nonce_in x))
+made_in x =
+    answer_by (keys_of x.version x.password x.salt x.count) (bare_in x) (first_in x) (without_proof (nonce_in x))
 
 pub answered : (x : Exchange) → IsSound x → answer_in x ≡ made_in x
 answered x sound =
@@ -231,10 +233,9 @@ final_text : (nonce proof : List ℕ) → IsUtf8 nonce → IsUtf8 (client_final_
 final_text nonce proof utf8 =
     IsUtf8-append (without_proof nonce) (codes ",p=" ++ base64_text proof)
     (IsUtf8-append (codes "c=" ++ base64_text (codes "n,,")) (codes ",r=" ++ nonce)
-    (IsUtf8-append (codes "c=") (base64_text (codes "n,,")) (IsUtf8-literal (codes "c=") refl)
-    (IsUtf8-base64_text (codes "n,,"))) (IsUtf8-append (codes ",r=") nonce
-    (IsUtf8-literal (codes ",r=") refl) utf8))
-    (IsUtf8-append (codes ",p=") (base64_text proof) (IsUtf8-literal (codes ",p=") refl) (IsUtf8-base64_text proof))
+    (utf8_behind (codes "c=") (base64_text (codes "n,,")) refl (IsUtf8-base64_text (codes "n,,")))
+    (utf8_behind (codes ",r=") nonce refl utf8))
+    (utf8_behind (codes ",p=") (base64_text proof) refl (IsUtf8-base64_text proof))
 
 -- a message that names its values is read
 pub final_read : (server : Server) (text : List ℕ) (final : ClientFinal) → IsUtf8 text
@@ -299,13 +300,12 @@ pub reads_signature : (signature : List ℕ) → IsBytes signature
 reads_signature signature bytes =
     let text = codes "v=" ++ base64_text signature in
     let plain = part_of (codes "v=") (base64_text signature) refl (no_comma-base64_text signature) in
-    let utf8 = IsUtf8-append (codes "v=") (base64_text signature) (IsUtf8-literal (codes "v=") refl)
-    (IsUtf8-base64_text signature) in
+    let utf8 = utf8_behind (codes "v=") (base64_text signature) refl (IsUtf8-base64_text signature) in
     same_signature signature text signature (signature_read text utf8 (base64_text signature) signature
     (_, only_part text plain, refl) (bytes, refl)) refl
 
-reads_server_final : (x : Exchange) → ReadsServerFinal (made_in x).signature (server_final_of (server_in x) (final_in x))
-    (Ok tt)
+reads_server_final : (x : Exchange)
+    → ReadsServerFinal (made_in x).signature (server_final_of (server_in x) (final_in x)) (Ok tt)
 reads_server_final x = reads_signature (made_in x).signature (IsBytes-hmac_of x.version _ _)
 
 pub succeeds : (x : Exchange) → IsSound x → Succeeds x

@@ -118,6 +118,14 @@ one_has_salt text salt other has too =
     let spelling = one_behind text 1 (codes "s=") (base64_text salt) (base64_text other) has.1 too.1 in
     one_spelled (base64_text salt) salt other (has.0, refl) (too.0, spelling)
 
+-- what a message names, of its parts
+abbrev pub made : List ℕ → List ℕ → ℕ → ServerFirst
+made nonce salt count = record { nonce = nonce; salt = salt; count = count }
+
+pub names_made : (text nonce salt : List ℕ) (count : ℕ) → Part text 0 (codes "r=" ++ nonce) → HasSalt text salt
+    → HasCount text count → NamesServerFirst text (made nonce salt count)
+names_made text nonce salt count first second third = record { nonce = first; salt = second; count = third }
+
 -- keys of no other salt and count than are named fit what is named
 pub fitting_named : (keys : ClientKeys) (text : List ℕ) (first : ServerFirst) → NamesServerFirst text first
     → HasSalt text keys.salt × HasCount text keys.count → T (fit keys first)
@@ -177,9 +185,6 @@ values_read client text first nonce salt count secret names =
     )
 
 -- a message has one reading
-
-abbrev made : List ℕ → List ℕ → ℕ → ServerFirst
-made nonce salt count = record { nonce = nonce; salt = salt; count = count }
 
 one_values : (text : List ℕ) (first other : ServerFirst) → NamesServerFirst text first → NamesServerFirst text other
     → first ≡ other
