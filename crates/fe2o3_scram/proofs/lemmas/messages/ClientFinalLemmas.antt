@@ -193,24 +193,19 @@ proof_reached nonce text final reads =
 -- no test of the text has the fault of a proof
 not_the_proof : (nonce text : List ℕ) → ¬ ReadsFinalText nonce text (Err AuthenticationFailed)
 unfolding ReadsFinalText
-not_the_proof nonce text (inl found) = let wrong : AuthenticationFailed ≡ Utf8Error = found.1 in absurd (cc)
-not_the_proof nonce text (inr (utf8, inl found)) =
-    let wrong : AuthenticationFailed ≡ CannotParseClientFinalMessage = found.1 in absurd (cc)
-not_the_proof nonce text (inr (utf8, inr (begins, inl found))) =
-    let wrong : AuthenticationFailed ≡ Base64DecodeError = found.1 in absurd (cc)
-not_the_proof nonce text (inr (utf8, inr (begins, inr (spelled, inl found)))) =
-    let wrong : AuthenticationFailed ≡ InvalidChannelBinding = found.1 in absurd (cc)
-not_the_proof nonce text (inr (utf8, inr (begins, inr (spelled, inr (bound, inl found))))) =
-    let wrong : AuthenticationFailed ≡ CannotParseClientFinalMessage = found.1 in absurd (cc)
-not_the_proof nonce text (inr (utf8, inr (begins, inr (spelled, inr (bound, inr (named, inl found)))))) =
-    let wrong : AuthenticationFailed ≡ IncorrectClientFinalNonce = found.1 in absurd (cc)
-not_the_proof nonce text (inr (utf8, inr (begins, inr (spelled, inr (bound, inr (named, inr (same, inl found))))))) =
-    let wrong : AuthenticationFailed ≡ ProofNotFoundInClientFinal = found.1 in absurd (cc)
-not_the_proof nonce text
-    (inr (utf8, inr (begins, inr (spelled, inr (bound, inr (named, inr (same, inr (has, inl found)))))))) =
-    let wrong : AuthenticationFailed ≡ Base64DecodeError = found.1 in absurd (cc)
-not_the_proof nonce text
-    (inr (utf8, inr (begins, inr (spelled, inr (bound, inr (named, inr (same, inr (has, inr none)))))))) = absurd none.1
+not_the_proof nonce text = not_first (final_text_tests nonce text) AuthenticationFailed (
+  λ wrong. absurd (cc),
+  (
+    λ wrong. absurd (cc),
+    (
+      λ wrong. absurd (cc),
+      (
+        λ wrong. absurd (cc),
+        (λ wrong. absurd (cc), (λ wrong. absurd (cc), (λ wrong. absurd (cc), (λ wrong. absurd (cc), tt)))),
+      ),
+    ),
+  ),
+)
 
 -- a text that is refused costs nothing
 pub text_costs_nothing : (A : Type 0) (nonce text : List ℕ) (fault : ServerScramErrorKind) (count : ℕ)

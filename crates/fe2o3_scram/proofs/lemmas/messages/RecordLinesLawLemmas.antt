@@ -120,11 +120,7 @@ OfLine version text kind = ((text ≢ []) × Without 10 text × (kind ≡ LineFe
 of_line : (version : ScramVersion) (text : List ℕ) (kind : ReadLinesErrorKind) → HeadFault version text kind
     → OfLine version text kind
 of_line version text LineFeedMissing fault = inl (fault.0, fault.1, refl)
-of_line version text SpaceMissing fault = inr fault
-of_line version text InvalidName fault = inr fault
-of_line version text (InvalidRecord wrong) fault = inr fault
-of_line version text VersionMismatch fault = inr fault
-of_line version text OutOfMemory fault = inr fault
+of_line version text kind fault = inr fault
 
 abbrev OfUser : ScramVersion → List ℕ → ReadLinesErrorKind → Type 0
 OfUser version line kind = (Without 32 line × (kind ≡ SpaceMissing))
@@ -133,12 +129,8 @@ OfUser version line kind = (Without 32 line × (kind ≡ SpaceMissing))
 -- a fault but for a missing space is one of the name or of the record
 of_user : (version : ScramVersion) (line : List ℕ) (kind : ReadLinesErrorKind) → LineFault version line kind
     → OfUser version line kind
-of_user version line LineFeedMissing fault = inr fault
 of_user version line SpaceMissing fault = inl (fault, refl)
-of_user version line InvalidName fault = inr fault
-of_user version line (InvalidRecord wrong) fault = inr fault
-of_user version line VersionMismatch fault = inr fault
-of_user version line OutOfMemory fault = inr fault
+of_user version line kind fault = inr fault
 
 no_both : (kept : List ℕ) (read : VersionedRecord) (wrong : RecordTextError) → ReadsRecord kept (Ok read)
     → ReadsRecord kept (Err wrong) → ⊥
@@ -157,30 +149,22 @@ one_wrong kept wrong other refused too =
 
 one_user_fault : (version : ScramVersion) (name kept : List ℕ) (kind other : ReadLinesErrorKind)
     → UserFault version name kept kind → UserFault version name kept other → kind ≡ other
-one_user_fault version name kept LineFeedMissing other fault too = absurd fault
-one_user_fault version name kept SpaceMissing other fault too = absurd fault
-one_user_fault version name kept OutOfMemory other fault too = absurd fault
-one_user_fault version name kept InvalidName LineFeedMissing fault too = absurd too
-one_user_fault version name kept InvalidName SpaceMissing fault too = absurd too
-one_user_fault version name kept InvalidName OutOfMemory fault too = absurd too
 one_user_fault version name kept InvalidName InvalidName fault too = refl
 one_user_fault version name kept InvalidName (InvalidRecord wrong) fault too = absurd (fault too.0.0 too.0.1)
 one_user_fault version name kept InvalidName VersionMismatch fault too = absurd (fault too.0.0 too.0.1)
-one_user_fault version name kept (InvalidRecord wrong) LineFeedMissing fault too = absurd too
-one_user_fault version name kept (InvalidRecord wrong) SpaceMissing fault too = absurd too
-one_user_fault version name kept (InvalidRecord wrong) OutOfMemory fault too = absurd too
+one_user_fault version name kept InvalidName other fault too = absurd too
 one_user_fault version name kept (InvalidRecord wrong) InvalidName fault too = absurd (too fault.0.0 fault.0.1)
 one_user_fault version name kept (InvalidRecord wrong) (InvalidRecord other) fault too =
     ap InvalidRecord (one_wrong kept wrong other fault.1 too.1)
 one_user_fault version name kept (InvalidRecord wrong) VersionMismatch fault too =
     absurd (no_both kept too.1.0 wrong too.1.1 fault.1)
-one_user_fault version name kept VersionMismatch LineFeedMissing fault too = absurd too
-one_user_fault version name kept VersionMismatch SpaceMissing fault too = absurd too
-one_user_fault version name kept VersionMismatch OutOfMemory fault too = absurd too
+one_user_fault version name kept (InvalidRecord wrong) other fault too = absurd too
 one_user_fault version name kept VersionMismatch InvalidName fault too = absurd (too fault.0.0 fault.0.1)
 one_user_fault version name kept VersionMismatch (InvalidRecord wrong) fault too =
     absurd (no_both kept fault.1.0 wrong fault.1.1 too.1)
 one_user_fault version name kept VersionMismatch VersionMismatch fault too = refl
+one_user_fault version name kept VersionMismatch other fault too = absurd too
+one_user_fault version name kept kind other fault too = absurd fault
 
 one_of_user : (version : ScramVersion) (line : List ℕ) (kind other : ReadLinesErrorKind) → OfUser version line kind
     → OfUser version line other → kind ≡ other
@@ -217,9 +201,6 @@ one_fault version text kind other fault too =
 no_user_fault : (version : ScramVersion) (user : List ℕ × Record) (kind : ReadLinesErrorKind)
     → IsLineReadable version user
     → ¬ UserFault version (escaped user.0) (record_text (record_of_user version user)) kind
-no_user_fault version user LineFeedMissing is fault = absurd fault
-no_user_fault version user SpaceMissing is fault = absurd fault
-no_user_fault version user OutOfMemory is fault = absurd fault
 no_user_fault version user InvalidName is fault = fault user.0 refl
 no_user_fault version user (InvalidRecord wrong) is fault =
     no_both _ (record_of_user version user) wrong (read_again (record_of_user version user) is.1) fault.1
@@ -227,6 +208,7 @@ no_user_fault version user VersionMismatch is fault =
     fault.1.2 (ap (λ (read : VersionedRecord). read.version)
     (one_read _ fault.1.0 (record_of_user version user) fault.1.1
     (read_again (record_of_user version user) is.1)))
+no_user_fault version user kind is fault = absurd fault
 
 no_fault : (version : ScramVersion) (text rest : List ℕ) (user : List ℕ × Record) (kind : ReadLinesErrorKind)
     → IsLineReadable version user → text ≡ user_line version user ++ 10 ∷ rest → ¬ HeadFault version text kind
