@@ -3,7 +3,7 @@ pub mod Base64Lemmas
 pub mod CountLemmas
 pub mod CutLemmas
 pub mod DecisionLemmas
+pub mod EachByteLemmas
 pub mod EscapingLemmas
 pub mod JoinedTextLemmas
-pub mod LastPartLemmas
 pub mod PartsLemmas

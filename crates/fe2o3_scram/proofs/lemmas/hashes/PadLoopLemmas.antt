@@ -1,5 +1,7 @@
 -- The pad of a key as the code makes it: an array full of the mask, into which the masked key is written.
-use Rattle.std.proofs.Common.{◌≡◌, ◌≤◌, ◌<◌, ◌+◌, ◌-◌, ℕ, zero, suc, List, [], ◌∷◌, ◌++◌, length, replicate, take, map, refl, arith, ◌∙◌, sym, ap}
+use Rattle.std.proofs.Common.{◌≡◌, ◌≤◌, ◌<◌, ◌+◌, ◌-◌, ℕ, zero, suc, List, [], ◌∷◌, ◌++◌, length, replicate, take, refl, arith, ◌∙◌, sym, ap}
+use Rattle.std.proofs.Math.Seq.{take-length}
+use Rattle.std.proofs.lemmas.List.{length-map, map-append, take-replicate}
 use Rattle.std.specs.Prelude.{bit_xor, slice_set, slice_index_or}
 use Rattle.fe2o3_scram.specs.declared.hmac.ScramVersion.{ScramVersion}
 use Rattle.fe2o3_scram.specs.declared.hmac.ScramVersion.TheVariants.{Sha1, Sha256, Sha512}
@@ -33,16 +35,6 @@ pad_after-next version mask k key pad below short is =
     let next : k + 1 ≡ suc k = omega arith in
     rw (is, left, next) (set-pad mask k (128 - suc k) key below)
 
-take-all : (xs : List ℕ) → take (length xs) xs ≡ xs
-take-all [] = refl
-take-all (x ∷ xs) = ap (λ rest. x ∷ rest) (take-all xs)
-
-take-replicate : (k n x : ℕ) → k ≤ n → take k (replicate n x) ≡ replicate k x
-take-replicate zero n x within = refl
-take-replicate (suc k) zero x within = absurd (omega (arith, within))
-take-replicate (suc k) (suc n) x within = let less : k ≤ n = omega (arith, within) in
-    ap (λ rest. x ∷ rest) (take-replicate k n x less)
-
 -- the front of a list with a byte repeated at its end
 take-front : (n many few mask : ℕ) (xs : List ℕ) → length xs + few ≡ n → few ≤ many
     → take n (xs ++ replicate many mask) ≡ xs ++ replicate few mask
@@ -51,14 +43,6 @@ take-front n many few mask [] is within = let same : n ≡ few = omega (arith, i
 take-front zero many few mask (x ∷ xs) is within = absurd (omega (arith, is))
 take-front (suc n) many few mask (x ∷ xs) is within = let less : length xs + few ≡ n = omega (arith, is) in
     ap (λ rest. x ∷ rest) (take-front n many few mask xs less within)
-
-length-masked : (mask : ℕ) (key : List ℕ) → length (masked mask key) ≡ length key
-length-masked mask [] = refl
-length-masked mask (x ∷ key) = ap suc (length-masked mask key)
-
-map-append : (f : ℕ → ℕ) (xs ys : List ℕ) → map f (xs ++ ys) ≡ map f xs ++ map f ys
-map-append f [] ys = refl
-map-append f (x ∷ xs) ys = ap (λ rest. f x ∷ rest) (map-append f xs ys)
 
 masked-zeros : (mask n : ℕ) → masked mask (replicate n 0) ≡ replicate n mask
 masked-zeros mask zero = refl
@@ -75,9 +59,9 @@ pub take-pad : (version : ScramVersion) (mask k : ℕ) (key pad : List ℕ) → 
     → take (block_len version) pad ≡ masked mask (zero_filled (block_len version) key)
 take-pad version mask k key pad past within short is =
     let all : k ≡ length key = omega (arith, past, within) in
-    let whole : take k key ≡ key = rw all (take-all key) in
+    let whole : take k key ≡ key = rw all (take-length key) in
     let most = block_len-max version in
-    let long = length-masked mask key in
+    let long = length-map key (λ byte. bit_xor byte mask) in
     let written : pad ≡ masked mask key ++ replicate (128 - length key) mask = is ∙ rw (whole, all) refl in
     rw written (take-front (block_len version) (128 - length key) (block_len version - length key) mask
     (masked mask key) (omega (arith, long, short)) (omega (arith, short, most))

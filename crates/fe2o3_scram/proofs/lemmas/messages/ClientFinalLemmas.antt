@@ -5,7 +5,7 @@ use Rattle.std.specs.Prelude.{IfOk, IfErr}
 use Rattle.base64.specs.GeneralPurpose.{IsBytes}
 use Rattle.base64.specs.Rfc4648.{encode_symbols}
 use Rattle.fe2o3_scram.specs.declared.scram_messages.error.ServerScramErrorKind.{ServerScramErrorKind}
-use Rattle.fe2o3_scram.specs.declared.scram_messages.error.ServerScramErrorKind.TheVariants.{Utf8Error, CannotParseClientFinalMessage, Base64DecodeError, InvalidChannelBinding, IncorrectClientFinalNonce, ProofNotFoundInClientFinal, AuthenticationFailed, OutOfMemory}
+use Rattle.fe2o3_scram.specs.declared.scram_messages.error.ServerScramErrorKind.TheVariants.{Utf8Error, AuthenticationFailed, OutOfMemory}
 use Rattle.fe2o3_scram.specs.Texts.{base64_text, IsBase64, Part, LastPart, Begins}
 use Rattle.fe2o3_scram.specs.Hmac.{digest_len}
 use Rattle.fe2o3_scram.specs.Readings.{IsFirst, NoneHolds, Gives}
@@ -15,8 +15,8 @@ use Rattle.fe2o3_scram.specs.private.Answers.{AnswersProof}
 use Rattle.fe2o3_scram.proofs.lemmas.hashes.DigestLemmas.{IsBytes-nil, IsBytes-cons}
 use Rattle.fe2o3_scram.proofs.lemmas.texts.Base64Lemmas.{one_spelled}
 use Rattle.fe2o3_scram.proofs.lemmas.texts.DecisionLemmas.{held, utf8_or}
-use Rattle.fe2o3_scram.proofs.lemmas.texts.LastPartLemmas.{one_last_part}
-use Rattle.fe2o3_scram.proofs.lemmas.texts.PartsLemmas.{one_part}
+use Rattle.fe2o3_scram.proofs.lemmas.texts.CutLemmas.{one_last_cut}
+use Rattle.fe2o3_scram.proofs.lemmas.texts.PartsLemmas.{one_behind}
 use Rattle.fe2o3_scram.proofs.lemmas.messages.TestListLemmas.{NoneHolds-append, IsFirst-front, IsFirst-back, one_reading, one_first, first_or_none, not_first}
 
 -- the channel binding
@@ -24,9 +24,7 @@ use Rattle.fe2o3_scram.proofs.lemmas.messages.TestListLemmas.{NoneHolds-append, 
 binding_spelled : (text spelling binding : List ℕ) → Part text 0 (codes "c=" ++ spelling) → HasBinding text binding
     → IsBase64 spelling binding
 binding_spelled text spelling binding is has =
-    let both : codes "c=" ++ spelling ≡ codes "c=" ++ base64_text binding =
-    one_part text 0 (codes "c=" ++ spelling) (codes "c=" ++ base64_text binding) is has.1 in
-    (has.0, cc)
+    (has.0, one_behind text 0 (codes "c=") spelling (base64_text binding) is has.1)
 
 pub has_binding : (text spelling binding : List ℕ) → Part text 0 (codes "c=" ++ spelling) → IsBase64 spelling binding
     → HasBinding text binding
@@ -58,9 +56,7 @@ other_binding text spelling is other has =
 
 pub other_nonce : (text named nonce : List ℕ) → Part text 1 (codes "r=" ++ named) → named ≢ nonce
     → ¬ Part text 1 (codes "r=" ++ nonce)
-other_nonce text named nonce is other has =
-    let both : codes "r=" ++ named ≡ codes "r=" ++ nonce =
-    one_part text 1 (codes "r=" ++ named) (codes "r=" ++ nonce) is has in other (cc)
+other_nonce text named nonce is other has = other (one_behind text 1 (codes "r=") named nonce is has)
 
 -- no test of the nonce has the fault for refused memory
 pub not_the_nonces : (nonce text : List ℕ) → ¬ IsFirst (nonce_tests nonce text) OutOfMemory
@@ -72,7 +68,7 @@ not_the_nonces nonce text = not_first (nonce_tests nonce text) OutOfMemory
 pub no_proof : (text without last : List ℕ) → LastPart text without last → ¬ Begins last (codes "p=")
     → (before rest : List ℕ) → ¬ LastPart text before (codes "p=" ++ rest)
 no_proof text without last is other before rest has = other
-    (rest, (one_last_part text without before last (codes "p=" ++ rest) is has).1)
+    (rest, (one_last_cut 44 text without last before (codes "p=" ++ rest) is has).1)
 
 pub has_proof : (text without last spelling proof : List ℕ) → LastPart text without last → last ≡ codes "p=" ++ spelling
     → IsBase64 spelling proof → HasProof text (record { without = without; proof = proof })
@@ -86,7 +82,7 @@ proof_part text without last spelling is begins none = none without spelling (su
 pub unread_proof : (text without last spelling : List ℕ) → LastPart text without last → last ≡ codes "p=" ++ spelling
     → ((proof : List ℕ) → ¬ IsBase64 spelling proof) → (final : ClientFinal) → ¬ HasProof text final
 unread_proof text without last spelling is begins none final has =
-    let same = one_last_part text without final.without last (codes "p=" ++ base64_text final.proof) is has.1 in
+    let same = one_last_cut 44 text without last final.without (codes "p=" ++ base64_text final.proof) is has.1 in
     let both : codes "p=" ++ spelling ≡ codes "p=" ++ base64_text final.proof = sym begins ∙ same.1 in
     none final.proof (has.0, cc)
 
@@ -96,7 +92,7 @@ made without proof = record { without = without; proof = proof }
 -- a message has one proof
 pub one_proof : (text : List ℕ) (final other : ClientFinal) → HasProof text final → HasProof text other → final ≡ other
 one_proof text final other has too =
-    let same = one_last_part text final.without other.without (codes "p=" ++ base64_text final.proof)
+    let same = one_last_cut 44 text final.without (codes "p=" ++ base64_text final.proof) other.without
     (codes "p=" ++ base64_text other.proof) has.1 too.1 in
     let lasts : codes "p=" ++ base64_text final.proof ≡ codes "p=" ++ base64_text other.proof = same.1 in
     let spelling : base64_text final.proof ≡ base64_text other.proof = cc in
@@ -197,24 +193,19 @@ proof_reached nonce text final reads =
 -- no test of the text has the fault of a proof
 not_the_proof : (nonce text : List ℕ) → ¬ ReadsFinalText nonce text (Err AuthenticationFailed)
 unfolding ReadsFinalText
-not_the_proof nonce text (inl found) = let wrong : AuthenticationFailed ≡ Utf8Error = found.1 in absurd (cc)
-not_the_proof nonce text (inr (utf8, inl found)) =
-    let wrong : AuthenticationFailed ≡ CannotParseClientFinalMessage = found.1 in absurd (cc)
-not_the_proof nonce text (inr (utf8, inr (begins, inl found))) =
-    let wrong : AuthenticationFailed ≡ Base64DecodeError = found.1 in absurd (cc)
-not_the_proof nonce text (inr (utf8, inr (begins, inr (spelled, inl found)))) =
-    let wrong : AuthenticationFailed ≡ InvalidChannelBinding = found.1 in absurd (cc)
-not_the_proof nonce text (inr (utf8, inr (begins, inr (spelled, inr (bound, inl found))))) =
-    let wrong : AuthenticationFailed ≡ CannotParseClientFinalMessage = found.1 in absurd (cc)
-not_the_proof nonce text (inr (utf8, inr (begins, inr (spelled, inr (bound, inr (named, inl found)))))) =
-    let wrong : AuthenticationFailed ≡ IncorrectClientFinalNonce = found.1 in absurd (cc)
-not_the_proof nonce text (inr (utf8, inr (begins, inr (spelled, inr (bound, inr (named, inr (same, inl found))))))) =
-    let wrong : AuthenticationFailed ≡ ProofNotFoundInClientFinal = found.1 in absurd (cc)
-not_the_proof nonce text
-    (inr (utf8, inr (begins, inr (spelled, inr (bound, inr (named, inr (same, inr (has, inl found)))))))) =
-    let wrong : AuthenticationFailed ≡ Base64DecodeError = found.1 in absurd (cc)
-not_the_proof nonce text
-    (inr (utf8, inr (begins, inr (spelled, inr (bound, inr (named, inr (same, inr (has, inr none)))))))) = absurd none.1
+not_the_proof nonce text = not_first (final_text_tests nonce text) AuthenticationFailed (
+  λ wrong. absurd (cc),
+  (
+    λ wrong. absurd (cc),
+    (
+      λ wrong. absurd (cc),
+      (
+        λ wrong. absurd (cc),
+        (λ wrong. absurd (cc), (λ wrong. absurd (cc), (λ wrong. absurd (cc), (λ wrong. absurd (cc), tt)))),
+      ),
+    ),
+  ),
+)
 
 -- a text that is refused costs nothing
 pub text_costs_nothing : (A : Type 0) (nonce text : List ℕ) (fault : ServerScramErrorKind) (count : ℕ)

@@ -9,7 +9,7 @@ use Rattle.fe2o3_scram.specs.declared.scram_messages.escape.UnescapeError.TheVar
 use Rattle.fe2o3_scram.specs.Escape.{escaped}
 use Rattle.fe2o3_scram.specs.Texts.{Part, Begins}
 use Rattle.fe2o3_scram.proofs.lemmas.texts.EscapingLemmas.{one_escaped}
-use Rattle.fe2o3_scram.proofs.lemmas.texts.PartsLemmas.{one_part}
+use Rattle.fe2o3_scram.proofs.lemmas.texts.PartsLemmas.{one_behind}
 use Rattle.fe2o3_scram.proofs.lemmas.messages.TestListLemmas.{one_reading}
 
 -- a message has one text behind its header
@@ -43,21 +43,17 @@ module _ (text bare : List ℕ) (utf8 : IsUtf8 text) (header : text ≡ codes "n
   pub bad_name : (spelling : List ℕ) → Part bare 0 (codes "n=" ++ spelling)
       → ((name : List ℕ) → escaped name ≢ spelling) → ReadsClientFirst text (Err CannotParseUsername)
   unfolding ReadsClientFirst
-  bad_name spelling is bad =
-      inr (
-        λ fails. fails utf8,
-        inr (
-          λ absent. absent (bare, header),
-          inl (
-            λ user has. bad user (other user (part_of_bare text bare (codes "n=" ++ escaped user) 0 header has)),
-            refl,
-          ),
-        ),
-      )
-    where
-      other : (user : List ℕ) → Part bare 0 (codes "n=" ++ escaped user) → escaped user ≡ spelling
-      other user part = let both : codes "n=" ++ escaped user ≡ codes "n=" ++ spelling =
-          one_part bare 0 (codes "n=" ++ escaped user) (codes "n=" ++ spelling) part is in cc
+  bad_name spelling is bad = inr (
+    λ fails. fails utf8,
+    inr (
+      λ absent. absent (bare, header),
+      inl (
+        λ user has. bad user (one_behind bare 0 (codes "n=") (escaped user) spelling
+            (part_of_bare text bare (codes "n=" ++ escaped user) 0 header has) is),
+        refl,
+      ),
+    ),
+  )
 
   -- the part of the user whom the text spells
   user_part : (spelling user : List ℕ) → Part bare 0 (codes "n=" ++ spelling) → escaped user ≡ spelling
@@ -102,14 +98,11 @@ one_values : (text : List ℕ) (first other : ClientFirst) → NamesClientFirst 
     → first ≡ other
 one_values text first other names too =
     let bare = one_bare text first.bare other.bare names.bare too.bare in
-    let users : codes "n=" ++ escaped first.user ≡ codes "n=" ++ escaped other.user =
-    one_part other.bare 0 (codes "n=" ++ escaped first.user) (codes "n=" ++ escaped other.user)
-    (subst (λ (behind : List ℕ). Part behind 0 (codes "n=" ++ escaped first.user)) bare names.user) too.user in
-    let nonces : codes "r=" ++ first.nonce ≡ codes "r=" ++ other.nonce =
-    one_part other.bare 1 (codes "r=" ++ first.nonce) (codes "r=" ++ other.nonce)
+    let user = one_escaped first.user other.user (one_behind other.bare 0 (codes "n=") (escaped first.user)
+    (escaped other.user) (subst (λ (behind : List ℕ). Part behind 0 (codes "n=" ++ escaped first.user)) bare names.user)
+    too.user) in
+    let nonce = one_behind other.bare 1 (codes "r=") first.nonce other.nonce
     (subst (λ (behind : List ℕ). Part behind 1 (codes "r=" ++ first.nonce)) bare names.nonce) too.nonce in
-    let user = one_escaped first.user other.user (cc) in
-    let nonce : first.nonce ≡ other.nonce = cc in
     λ i. made (user i) (nonce i) (bare i)
 
 pub one_client_first : (text : List ℕ) (answer other : Result ClientFirst ServerScramErrorKind)

@@ -4,13 +4,11 @@ use Rattle.std.specs.Prelude.{bit_xor, nat_lt, T, if◌then◌else◌}
 use Rattle.std.specs.List.{list_all}
 use Rattle.std.specs.Fmt.{decimal}
 use Rattle.std.specs.Str.{IsUtf8}
-use Rattle.std.specs.Str.Parse.{AllDigits}
 use Rattle.std.specs.Int.Bits.{xor_assoc, xor_self, xor_zero_r}
 use Rattle.std.proofs.lemmas.Bool.{and_parts}
 use Rattle.std.proofs.lemmas.Fmt.{decimal_is_IsNumeral}
 use Rattle.std.proofs.lemmas.Nat.{xor_of_8}
 use Rattle.std.proofs.lemmas.Str.{IsUtf8-append}
-use Rattle.std.proofs.lemmas.Str.Parse.{digit_from_value}
 use Rattle.base64.specs.GeneralPurpose.{IsBytes}
 use Rattle.fe2o3_scram.specs.Texts.{base64_text, IsCount, NoComma, Parts, Part, joined}
 use Rattle.fe2o3_scram.specs.ClientFinal.{Answer, answer_by, fit, keys_for, without_proof, client_final_of, Server, ClientFinal, Meets, ReadsClientFinal}
@@ -30,6 +28,7 @@ use Rattle.fe2o3_scram.proofs.lemmas.messages.FittingKeyLemmas.{fit_is, is_fit}
 use Rattle.fe2o3_scram.specs.ServerFirst.{ServerFirst, client_of, HasSalt, HasCount, NamesServerFirst, ReadsServerFirst}
 use Rattle.fe2o3_scram.proofs.lemmas.texts.AsciiLemmas.{IsUtf8-base64_text, IsUtf8-literal, IsUtf8-escaped}
 use Rattle.fe2o3_scram.proofs.lemmas.texts.Base64Lemmas.{no_comma-append, no_comma-test, no_comma-base64_text}
+use Rattle.fe2o3_scram.proofs.lemmas.texts.EachByteLemmas.{without-digits}
 use Rattle.fe2o3_scram.proofs.lemmas.messages.ClientFinalLemmas.{NamesAcceptedFinal, text_read}
 use Rattle.fe2o3_scram.proofs.lemmas.messages.ClientFirstLemmas.{named}
 use Rattle.fe2o3_scram.proofs.lemmas.hashes.DigestLemmas.{IsBytes-nil, IsBytes-cons, length-hmac_of, IsBytes-hmac_of}
@@ -75,13 +74,8 @@ exclusive_or-back (x ∷ left) (y ∷ right) same =
 
 -- counts
 
-no_comma-digits : (digits : List ℕ) → AllDigits 10 digits → NoComma digits
-no_comma-digits [] are = tt
-no_comma-digits (d ∷ digits) are = let range = digit_from_value d are.0 in
-    (λ is. absurd (omega (arith, range, is)), no_comma-digits digits are.1)
-
 pub no_comma-decimal : (n : ℕ) → n < 2 ^ 64 → NoComma (decimal n)
-no_comma-decimal n small = no_comma-digits (decimal n) (decimal_is_IsNumeral n small).0.1
+no_comma-decimal n small = without-digits 44 (decimal n) (inl (omega arith)) (decimal_is_IsNumeral n small).0.1
 
 pub IsCount-decimal : (n : ℕ) → 1 ≤ n → n < 2 ^ 32 → IsCount (decimal n) n
 IsCount-decimal n some small =
@@ -102,6 +96,9 @@ pub part_of : (key text : List ℕ) → list_all (λ byte. not (eqb byte 44)) ke
     → NoComma (key ++ text)
 part_of key text passes plain = no_comma-append key text (no_comma-test key passes) plain
 
+utf8_behind : (key text : List ℕ) → list_all (λ byte. nat_lt byte 128) key ≡ true → IsUtf8 text → IsUtf8 (key ++ text)
+utf8_behind key text passes utf8 = IsUtf8-append key text (IsUtf8-literal key passes) utf8
+
 pub only_part : (text : List ℕ) → NoComma text → Parts text (text ∷ [])
 only_part text plain = record { some = omega arith; apart = (plain, tt); whole = refl }
 
@@ -114,10 +111,8 @@ pub nonce_text : (x : Exchange) → IsSound x → IsUtf8 (nonce_in x)
 nonce_text x sound = IsUtf8-append x.client_nonce x.server_nonce sound.client_text sound.server_text
 
 bare_text : (user nonce : List ℕ) → IsUtf8 user → IsUtf8 nonce → IsUtf8 (client_first_bare user nonce)
-bare_text user nonce utf8 too =
-    IsUtf8-append (codes "n=" ++ escaped user) (codes ",r=" ++ nonce)
-    (IsUtf8-append (codes "n=") (escaped user) (IsUtf8-literal (codes "n=") refl) (IsUtf8-escaped user utf8))
-    (IsUtf8-append (codes ",r=") nonce (IsUtf8-literal (codes ",r=") refl) too)
+bare_text user nonce utf8 too = IsUtf8-append (codes "n=" ++ escaped user) (codes ",r=" ++ nonce)
+    (utf8_behind (codes "n=") (escaped user) refl (IsUtf8-escaped user utf8)) (utf8_behind (codes ",r=") nonce refl too)
 
 reads_client_first : (x : Exchange) → IsSound x → ReadsClientFirst (client_first x.user x.client_nonce)
     (Ok (record { user = x.user; nonce = x.client_nonce; bare = bare_in x }))
@@ -125,7 +120,7 @@ reads_client_first x sound =
     let parts = two_parts (codes "n=" ++ escaped x.user) (codes "r=" ++ x.client_nonce)
     (part_of (codes "n=") (escaped x.user) refl (no_comma-escaped x.user))
     (part_of (codes "r=") x.client_nonce refl sound.client_plain) in
-    let utf8 = IsUtf8-append (codes "n,,") (bare_in x) (IsUtf8-literal (codes "n,,") refl)
+    let utf8 = utf8_behind (codes "n,,") (bare_in x) refl
     (bare_text x.user x.client_nonce sound.user sound.client_text) in
     named (client_first x.user x.client_nonce) (bare_in x) utf8 refl (escaped x.user) x.user x.client_nonce
     (_, parts, refl) refl (_, parts, refl)
@@ -177,7 +172,8 @@ opened version (Both own keys) password salt count nonce opens = go (fit keys fi
 
 -- so the answer is by the keys of the record
 abbrev made_in : Exchange → Answer
-made_in x = answer_by (keys_of x.version x.password x.salt x.count) (bare_in x) (first_in x) (without_proof (nonce_in x))
+made_in x =
+    answer_by (keys_of x.version x.password x.salt x.count) (bare_in x) (first_in x) (without_proof (nonce_in x))
 
 pub answered : (x : Exchange) → IsSound x → answer_in x ≡ made_in x
 answered x sound =
@@ -237,10 +233,9 @@ final_text : (nonce proof : List ℕ) → IsUtf8 nonce → IsUtf8 (client_final_
 final_text nonce proof utf8 =
     IsUtf8-append (without_proof nonce) (codes ",p=" ++ base64_text proof)
     (IsUtf8-append (codes "c=" ++ base64_text (codes "n,,")) (codes ",r=" ++ nonce)
-    (IsUtf8-append (codes "c=") (base64_text (codes "n,,")) (IsUtf8-literal (codes "c=") refl)
-    (IsUtf8-base64_text (codes "n,,"))) (IsUtf8-append (codes ",r=") nonce
-    (IsUtf8-literal (codes ",r=") refl) utf8))
-    (IsUtf8-append (codes ",p=") (base64_text proof) (IsUtf8-literal (codes ",p=") refl) (IsUtf8-base64_text proof))
+    (utf8_behind (codes "c=") (base64_text (codes "n,,")) refl (IsUtf8-base64_text (codes "n,,")))
+    (utf8_behind (codes ",r=") nonce refl utf8))
+    (utf8_behind (codes ",p=") (base64_text proof) refl (IsUtf8-base64_text proof))
 
 -- a message that names its values is read
 pub final_read : (server : Server) (text : List ℕ) (final : ClientFinal) → IsUtf8 text
@@ -305,13 +300,12 @@ pub reads_signature : (signature : List ℕ) → IsBytes signature
 reads_signature signature bytes =
     let text = codes "v=" ++ base64_text signature in
     let plain = part_of (codes "v=") (base64_text signature) refl (no_comma-base64_text signature) in
-    let utf8 = IsUtf8-append (codes "v=") (base64_text signature) (IsUtf8-literal (codes "v=") refl)
-    (IsUtf8-base64_text signature) in
+    let utf8 = utf8_behind (codes "v=") (base64_text signature) refl (IsUtf8-base64_text signature) in
     same_signature signature text signature (signature_read text utf8 (base64_text signature) signature
     (_, only_part text plain, refl) (bytes, refl)) refl
 
-reads_server_final : (x : Exchange) → ReadsServerFinal (made_in x).signature (server_final_of (server_in x) (final_in x))
-    (Ok tt)
+reads_server_final : (x : Exchange)
+    → ReadsServerFinal (made_in x).signature (server_final_of (server_in x) (final_in x)) (Ok tt)
 reads_server_final x = reads_signature (made_in x).signature (IsBytes-hmac_of x.version _ _)
 
 pub succeeds : (x : Exchange) → IsSound x → Succeeds x

@@ -4,19 +4,17 @@ use Rattle.std.specs.Prelude.{T, is_ok, if◌then◌else◌}
 use Rattle.fe2o3_scram.specs.declared.client_secret.IterationLimits.{IterationLimits}
 use Rattle.fe2o3_scram.specs.declared.scram_messages.error.ScramErrorKind.{ScramErrorKind}
 use Rattle.fe2o3_scram.specs.declared.scram_messages.error.ScramErrorKind.TheVariants.{NormalizeError, OtherKeys}
-use Rattle.fe2o3_scram.specs.ClientFinal.{Answer, answer_by, answer_of, fit, keys_for, without_proof}
+use Rattle.fe2o3_scram.specs.ClientFinal.{Answer, answer_by, answer_of, fit, without_proof}
 use Rattle.fe2o3_scram.specs.ClientKeys.{ClientKeys, keys_of}
-use Rattle.fe2o3_scram.specs.ClientSecret.{Secret, Password, Keys, Both}
+use Rattle.fe2o3_scram.specs.ClientSecret.{Password, Keys, Both}
 use Rattle.fe2o3_scram.specs.Laws.{AreKeysOf}
 use Rattle.fe2o3_scram.specs.Readings.{IsFirst, NoneHolds, Reads}
 use Rattle.fe2o3_scram.specs.SaslprepAscii.{IsPrintable}
-use Rattle.fe2o3_scram.specs.ServerFirst.{ServerFirst, HasSalt, HasCount, NamesOther, NamesServerFirst, ReadsServerFirst, client_of, nonce_tests, salt_tests, count_tests, secret_tests}
+use Rattle.fe2o3_scram.specs.ServerFirst.{ServerFirst, NamesOther, NamesServerFirst, ReadsServerFirst, client_of, nonce_tests, salt_tests, count_tests}
 use Rattle.fe2o3_scram.specs.ServerFirstAnswers.{AnswersServerFirst}
-use Rattle.fe2o3_scram.proofs.lemmas.messages.FittingKeyLemmas.{fit_is, is_fit}
-use Rattle.fe2o3_scram.proofs.lemmas.messages.OneValueLemmas.{names_server_first}
+use Rattle.fe2o3_scram.proofs.lemmas.messages.FittingKeyLemmas.{fit_is}
 use Rattle.fe2o3_scram.proofs.lemmas.messages.ServerFirstLemmas.{fitting_named}
 use Rattle.fe2o3_scram.proofs.lemmas.messages.SomeReadingLemmas.{names_values_or, none-split}
-use Rattle.fe2o3_scram.proofs.lemmas.texts.DecisionLemmas.{Decided}
 
 -- a list of tests with one more behind it
 
@@ -61,12 +59,11 @@ goes_over nonce text limits fault other A B (Err kind) passes fails reads =
 fitting : (keys : ClientKeys) (nonce text : List ℕ) (limits : IterationLimits) (first : ServerFirst)
     → ReadsServerFirst (client_of nonce (Keys keys) limits) text (Ok first) → T (fit keys first)
 unfolding ReadsServerFirst
-fitting keys nonce text limits first reads = go (names_values_or keys text)
-  where
-    go : Decided (HasSalt text keys.salt × HasCount text keys.count) → T (fit keys first)
-    go (inl has) = fitting_named keys text first reads.1 has
-    go (inr other) =
-        absurd ((none-split (before nonce limits text) (last OtherKeys (NamesOther keys text)) reads.0).1.0 other)
+fitting keys nonce text limits first reads = elim (names_values_or keys text) [
+  | inl has ↦ fitting_named keys text first reads.1 has
+  | inr other ↦
+      absurd ((none-split (before nonce limits text) (last OtherKeys (NamesOther keys text)) reads.0).1.0 other)
+]
 
 -- a message that keys do not refuse is read by a printable password as by them
 by_password : (keys : ClientKeys) (password nonce text : List ℕ) (limits : IterationLimits)
@@ -75,8 +72,7 @@ by_password : (keys : ClientKeys) (password nonce text : List ℕ) (limits : Ite
     → ReadsServerFirst (client_of nonce (Password password) limits) text answer
 unfolding ReadsServerFirst
 by_password keys password nonce text limits answer printable other =
-    goes_over nonce text limits OtherKeys NormalizeError (NamesOther keys text) (¬ IsPrintable password) answer
-    (λ _ un. un printable) (λ _. other)
+    goes_over nonce text limits _ _ _ _ answer (λ _ un. un printable) (λ _. other)
 
 -- keys of a password are those of the salt and the count that they fit
 same_keys : (keys : ClientKeys) (password : List ℕ) (first : ServerFirst) → AreKeysOf keys password
@@ -105,11 +101,7 @@ keys_stand keys password nonce bare text limits (Ok answer) printable are other 
 )
 keys_stand keys password nonce bare text limits (Err fault) printable are other reads =
     by_password keys password nonce text limits (Err fault) printable
-    (λ is. other (same_fault fault OtherKeys is)) reads
-  where
-    same_fault : (fault other : ScramErrorKind) → ◌≡◌ {A = Result ServerFirst ScramErrorKind} (Err fault) (Err other)
-        → ◌≡◌ {A = Result Answer ScramErrorKind} (Err fault) (Err other)
-    same_fault fault other is = let same : fault ≡ other = cc in ap (λ (kind : ScramErrorKind). Err kind) same
+    (λ is. let same : fault ≡ OtherKeys = cc in other (ap (λ (kind : ScramErrorKind). Err kind) same)) reads
 
 -- the keys read what the password reads, or they are of another salt or another count
 by_keys : (keys : ClientKeys) (password nonce text : List ℕ) (limits : IterationLimits)
@@ -119,17 +111,13 @@ by_keys : (keys : ClientKeys) (password nonce text : List ℕ) (limits : Iterati
     ⊎ ReadsServerFirst (client_of nonce (Keys keys) limits) text (Err OtherKeys)
 unfolding ReadsServerFirst
 by_keys keys password nonce text limits (Err fault) printable reads =
-    inl (goes_over nonce text limits NormalizeError OtherKeys (¬ IsPrintable password) (NamesOther keys text)
-    (Err fault) (λ wrong. absurd (cc)) (λ un. absurd (un printable)) reads)
-by_keys keys password nonce text limits (Ok first) printable reads = go (names_values_or keys text)
-  where
-    go : Decided (HasSalt text keys.salt × HasCount text keys.count)
-        → ReadsServerFirst (client_of nonce (Keys keys) limits) text (Ok first)
-        ⊎ ReadsServerFirst (client_of nonce (Keys keys) limits) text (Err OtherKeys)
-    go (inl has) = inl (goes_over nonce text limits NormalizeError OtherKeys (¬ IsPrintable password)
-        (NamesOther keys text) (Ok first) (λ _ other. other has) (λ un. absurd (un printable)) reads)
-    go (inr other) = inr (last_holds (before nonce limits text) NormalizeError OtherKeys (¬ IsPrintable password)
-        (NamesOther keys text) other reads.0)
+    inl (goes_over nonce text limits _ _ _ _ (Err fault) (λ wrong. absurd (cc)) (λ un. absurd (un printable)) reads)
+by_keys keys password nonce text limits (Ok first) printable reads = elim (names_values_or keys text) [
+  | inl has ↦ inl (goes_over nonce text limits NormalizeError OtherKeys _ _ (Ok first) (λ _ other. other has)
+      (λ un. absurd (un printable)) reads)
+  | inr other ↦ inr (last_holds (before nonce limits text) NormalizeError OtherKeys (¬ IsPrintable password)
+      (NamesOther keys text) other reads.0)
+]
 
 pub keys_answer : (keys : ClientKeys) (password nonce bare text : List ℕ) (limits : IterationLimits)
     (answer : Result Answer ScramErrorKind) → IsPrintable password → AreKeysOf keys password
@@ -137,18 +125,14 @@ pub keys_answer : (keys : ClientKeys) (password nonce bare text : List ℕ) (lim
     → AnswersServerFirst keys.version (client_of nonce (Keys keys) limits) bare text answer
     ⊎ AnswersServerFirst keys.version (client_of nonce (Keys keys) limits) bare text (Err OtherKeys)
 keys_answer keys password nonce bare text limits (Ok answer) printable are (first, reads, is) =
-    go (by_keys keys password nonce text limits (Ok first) printable reads)
-  where
-    go : ReadsServerFirst (client_of nonce (Keys keys) limits) text (Ok first)
-        ⊎ ReadsServerFirst (client_of nonce (Keys keys) limits) text (Err OtherKeys)
-        → AnswersServerFirst keys.version (client_of nonce (Keys keys) limits) bare text (Ok answer)
-        ⊎ AnswersServerFirst keys.version (client_of nonce (Keys keys) limits) bare text (Err OtherKeys)
-    go (inl fits) = inl (
-      first,
-      fits,
-      is ∙ sym (same_answer keys password bare text first are (fitting keys nonce text limits first fits)),
-    )
-    go (inr other) = inr other
+    elim (by_keys keys password nonce text limits (Ok first) printable reads) [
+      | inl fits ↦ inl (
+        first,
+        fits,
+        is ∙ sym (same_answer keys password bare text first are (fitting keys nonce text limits first fits)),
+      )
+      | inr other ↦ inr other
+    ]
 keys_answer keys password nonce bare text limits (Err fault) printable are reads =
     by_keys keys password nonce text limits (Err fault) printable reads
 
@@ -159,10 +143,8 @@ read_by_both : (keys : ClientKeys) (password nonce text : List ℕ) (limits : It
     ↔ ReadsServerFirst (client_of nonce (Password password) limits) text answer
 unfolding ReadsServerFirst
 read_by_both keys password nonce text limits answer printable = (
-  goes_over nonce text limits NormalizeError NormalizeError (NamesOther keys text × ¬ IsPrintable password)
-      (¬ IsPrintable password) answer (λ _ un. un printable) (λ both. absurd (both.1 printable)),
-  goes_over nonce text limits NormalizeError NormalizeError (¬ IsPrintable password)
-      (NamesOther keys text × ¬ IsPrintable password) answer (λ _ both. both.1 printable) (λ un. absurd (un printable)),
+  goes_over nonce text limits _ _ _ _ answer (λ _ un. un printable) (λ both. absurd (both.1 printable)),
+  goes_over nonce text limits _ _ _ _ answer (λ _ both. both.1 printable) (λ un. absurd (un printable)),
 )
 
 -- and answers by the keys of that password

@@ -1,7 +1,5 @@
 -- What the four messages name, where they are read.
 use Rattle.std.proofs.Common.{◌≡◌, ℕ, List, Result, Ok}
-use Rattle.fe2o3_scram.specs.declared.scram_messages.error.ScramErrorKind.{ScramErrorKind}
-use Rattle.fe2o3_scram.specs.declared.scram_messages.error.ServerScramErrorKind.{ServerScramErrorKind}
 use Rattle.fe2o3_scram.specs.ClientFirst.{ClientFirst, ReadsClientFirst, NamesClientFirst}
 use Rattle.fe2o3_scram.specs.ClientFinal.{Server, ClientFinal, ReadsClientFinal}
 use Rattle.fe2o3_scram.specs.ServerFinal.{ReadsServerFinal, HasSignature}
@@ -27,26 +25,21 @@ unfolding ReadsServerFinal
 names_server_final signature text believed reads = names_signature text signature reads
 
 -- one value each
+
+same_value : {X F : Type 0} (x y : X) → ◌≡◌ {A = Result X F} (Ok x) (Ok y) → x ≡ y
+same_value x y same = cc
+
 pub one_client_first_value : (text : List ℕ) (first other : ClientFirst) → ReadsClientFirst text (Ok first)
     → ReadsClientFirst text (Ok other) → first ≡ other
-one_client_first_value text first other reads too = same first other
-    (one_client_first text (Ok first) (Ok other) reads too)
-  where
-    same : (x y : ClientFirst) → ◌≡◌ {A = Result ClientFirst ServerScramErrorKind} (Ok x) (Ok y) → x ≡ y
-    same x y e = cc
+one_client_first_value text first other reads too =
+    same_value first other (one_client_first text (Ok first) (Ok other) reads too)
 
 pub one_client_final_value : (server : Server) (text : List ℕ) (final other : ClientFinal)
     → ReadsClientFinal server text (Ok final) → ReadsClientFinal server text (Ok other) → final ≡ other
 one_client_final_value server text final other reads too =
-    same final other (one_client_final server text (Ok final) (Ok other) reads too)
-  where
-    same : (x y : ClientFinal) → ◌≡◌ {A = Result ClientFinal ServerScramErrorKind} (Ok x) (Ok y) → x ≡ y
-    same x y e = cc
+    same_value final other (one_client_final server text (Ok final) (Ok other) reads too)
 
 pub one_server_first_value : (client : Client) (text : List ℕ) (first other : ServerFirst)
     → ReadsServerFirst client text (Ok first) → ReadsServerFirst client text (Ok other) → first ≡ other
 one_server_first_value client text first other reads too =
-    same first other (one_server_first client text (Ok first) (Ok other) reads too)
-  where
-    same : (x y : ServerFirst) → ◌≡◌ {A = Result ServerFirst ScramErrorKind} (Ok x) (Ok y) → x ≡ y
-    same x y e = cc
+    same_value first other (one_server_first client text (Ok first) (Ok other) reads too)

@@ -1,13 +1,9 @@
 -- A record's text is read as that record, and as no other.
-use Rattle.std.proofs.Common.{◌≡◌, ◌≢◌, ◌⊎◌, ◌<◌, ◌≤◌, ◌^◌, ℕ, zero, suc, true, not, eqb, List, [], ◌∷◌, ◌++◌, length, replicate, get_or, Result, Ok, Err, refl, sym, ◌∙◌, ap, subst, inl, inr, arith}
-use Rattle.std.proofs.lemmas.Bool.{and_parts, not-true, eqb-false}
+use Rattle.std.proofs.Common.{◌≡◌, ◌≢◌, ◌<◌, ◌≤◌, ◌^◌, ℕ, true, not, eqb, List, ◌++◌, length, Result, Ok, Err, refl, sym, ◌∙◌, ap, subst, inl, inr, arith}
 use Rattle.std.proofs.lemmas.Fmt.{decimal_is_IsNumeral}
-use Rattle.std.proofs.lemmas.Str.Parse.{digit_from_value}
 use Rattle.std.specs.Fmt.{decimal}
 use Rattle.std.specs.List.{list_all}
-use Rattle.std.specs.Str.Parse.{AllDigits}
 use Rattle.base64.specs.GeneralPurpose.{IsBytes}
-use Rattle.base64.specs.Rfc4648.{encode_symbols, padding_len}
 use Rattle.fe2o3_scram.specs.declared.hmac.ScramVersion.{ScramVersion}
 use Rattle.fe2o3_scram.specs.declared.hmac.ScramVersion.TheVariants.{Sha1, Sha256, Sha512}
 use Rattle.fe2o3_scram.specs.declared.credentials.record_text.RecordTextError.{RecordTextError}
@@ -16,7 +12,7 @@ use Rattle.fe2o3_scram.specs.Credentials.{VersionedRecord, record_of}
 use Rattle.fe2o3_scram.specs.Hmac.{mechanism_name, digest_len}
 use Rattle.fe2o3_scram.specs.Readings.{NoneHolds}
 use Rattle.fe2o3_scram.specs.RecordText.{ArePlain, Fields, HasFields, IsKey, IsReadable, NamesRecord, Plain, ReadsFields, ReadsRecord, fields_of, head_tests, laid_out, record_text, value_tests}
-use Rattle.fe2o3_scram.specs.Texts.{Cut, IsBase64, IsCount, IsPlainCount, Without, alphabet, base64_text}
+use Rattle.fe2o3_scram.specs.Texts.{IsBase64, IsPlainCount, Without, alphabet, base64_text}
 use Rattle.fe2o3_scram.proofs.lemmas.hashes.DigestLemmas.{length-digest, IsBytes-digest, length-hmac_of, IsBytes-hmac_of}
 use Rattle.fe2o3_scram.proofs.lemmas.hashes.NameLemmas.{one_version}
 use Rattle.fe2o3_scram.proofs.lemmas.messages.RecordTextLemmas.{made, has_fields, no_count, no_keys, no_mechanism, no_salt, not_plain, one_fields, unsized}
@@ -25,82 +21,18 @@ use Rattle.fe2o3_scram.proofs.lemmas.messages.TestListLemmas.{one_reading}
 use Rattle.fe2o3_scram.proofs.lemmas.texts.Base64Lemmas.{one_spelled}
 use Rattle.fe2o3_scram.proofs.lemmas.texts.CountLemmas.{no_plain_count, one_count, one_plain_count, plain_is_count}
 use Rattle.fe2o3_scram.proofs.lemmas.texts.CutLemmas.{cut_or, not_without, uncut}
+use Rattle.fe2o3_scram.proofs.lemmas.texts.EachByteLemmas.{each-base64_text, without-digits, without-test}
 use Rattle.fe2o3_scram.proofs.lemmas.texts.DecisionLemmas.{Decided, Found, held, found_one, none_or, both_or, base64_or, count_or, same_number_or, same_or}
 
 -- ---- no field of a record holds a separator
 
-pub without-append : (byte : ℕ) (front back : List ℕ) → Without byte front → Without byte back
-    → Without byte (front ++ back)
-without-append byte [] back plain too = too
-without-append byte (x ∷ front) back plain too = (plain.0, without-append byte front back plain.1 too)
-
--- a literal is without the byte where the test says so
-pub without-test : (byte : ℕ) (text : List ℕ) → list_all (λ other. not (eqb other byte)) text ≡ true → Without byte text
-without-test byte [] passes = tt
-without-test byte (x ∷ text) passes =
-    let both = and_parts (not (eqb x byte)) (list_all (λ other. not (eqb other byte)) text) passes in
-    (eqb-false x byte (not-true (eqb x byte) both.0), without-test byte text both.1)
-
-without-replicate : (byte n : ℕ) → 61 ≢ byte → Without byte (replicate n 61)
-without-replicate byte zero other = tt
-without-replicate byte (suc n) other = (other, without-replicate byte n other)
-
-without-get_or : (byte : ℕ) (text : List ℕ) (i : ℕ) → 0 ≢ byte → Without byte text → get_or text i 0 ≢ byte
-without-get_or byte [] i other plain = other
-without-get_or byte (x ∷ text) zero other plain = plain.0
-without-get_or byte (x ∷ text) (suc i) other plain = without-get_or byte text i other plain.1
-
-without-encode_symbols : (byte : ℕ) (symbols bytes : List ℕ) → 0 ≢ byte → Without byte symbols
-    → Without byte (encode_symbols symbols bytes)
-unfolding encode_symbols
-without-encode_symbols byte symbols [] other plain = tt
-without-encode_symbols byte symbols (a ∷ []) other plain =
-    (without-get_or byte symbols _ other plain, (without-get_or byte symbols _ other plain, tt))
-without-encode_symbols byte symbols (a ∷ b ∷ []) other plain = (
-  without-get_or byte symbols _ other plain,
-  (without-get_or byte symbols _ other plain, (without-get_or byte symbols _ other plain, tt)),
-)
-without-encode_symbols byte symbols (a ∷ b ∷ c ∷ bytes) other plain = (
-  without-get_or byte symbols _ other plain,
-  (
-    without-get_or byte symbols _ other plain,
-    (
-      without-get_or byte symbols _ other plain,
-      (
-        without-get_or byte symbols _ other plain,
-        without-encode_symbols byte symbols bytes other plain,
-      ),
-    ),
-  ),
-)
-
-pub without-base64_text : (byte : ℕ) (bytes : List ℕ) → 0 ≢ byte → 61 ≢ byte → Without byte alphabet
-    → Without byte (base64_text bytes)
-unfolding base64_text
-without-base64_text byte bytes other equals plain =
-    without-append byte (encode_symbols alphabet bytes) (replicate (padding_len (length bytes)) 61)
-    (without-encode_symbols byte alphabet bytes other plain)
-    (without-replicate byte (padding_len (length bytes)) equals)
-
 plain-base64_text : (bytes : List ℕ) → Plain (base64_text bytes)
 plain-base64_text bytes = (
-  without-base64_text 36 bytes (λ is. absurd (omega (arith, is))) (λ is. absurd (omega (arith, is)))
+  each-base64_text (λ byte. byte ≢ 36) bytes (λ is. absurd (omega (arith, is))) (λ is. absurd (omega (arith, is)))
       (without-test 36 alphabet refl),
-  without-base64_text 58 bytes (λ is. absurd (omega (arith, is))) (λ is. absurd (omega (arith, is)))
+  each-base64_text (λ byte. byte ≢ 58) bytes (λ is. absurd (omega (arith, is))) (λ is. absurd (omega (arith, is)))
       (without-test 58 alphabet refl),
 )
-
-pub without-digits : (byte : ℕ) (digits : List ℕ) → (byte < 48) ⊎ (57 < byte) → AllDigits 10 digits
-    → Without byte digits
-without-digits byte [] apart are = tt
-without-digits byte (x ∷ digits) apart are =
-    let range = digit_from_value x are.0 in (
-      λ is. elim apart [
-        | inl low ↦ absurd (omega (arith, range, is, low))
-        | inr high ↦ absurd (omega (arith, range, is, high))
-      ],
-      without-digits byte digits apart are.1,
-    )
 
 plain-decimal : (n : ℕ) → n < 2 ^ 32 → Plain (decimal n)
 plain-decimal n small =
@@ -234,12 +166,10 @@ one_record text answer other (inr (fields, has, reads)) (inr (others, has_too, t
 -- ---- a text has an answer
 
 without_or : (byte : ℕ) (text : List ℕ) → Decided (Without byte text)
-without_or byte text = go (cut_or byte text)
-  where
-    go : ((before : List ℕ) × (rest : List ℕ) × Cut byte text before rest) ⊎ Without byte text
-        → Decided (Without byte text)
-    go (inl (before, rest, cut)) = inr (not_without byte text before rest cut)
-    go (inr plain) = inl plain
+without_or byte text = elim (cut_or byte text) [
+  | inl (before, rest, cut) ↦ inr (not_without byte text before rest cut)
+  | inr plain ↦ inl plain
+]
 
 plain_or : (text : List ℕ) → Decided (Plain text)
 plain_or text = both_or (without_or 36 text) (without_or 58 text)
@@ -249,46 +179,26 @@ are_plain_or fields = both_or (plain_or fields.mechanism) (both_or (plain_or fie
     (both_or (plain_or fields.salt) (both_or (plain_or fields.stored_key) (both_or (plain_or fields.server_key)
     (inl tt)))))
 
--- a text is cut, or it is not
-abbrev IsCut : ℕ → List ℕ → Type 0
-IsCut byte text = ((before : List ℕ) × (rest : List ℕ) × Cut byte text before rest) ⊎ Without byte text
-
 fields_or : (text : List ℕ) → Found (HasFields text)
-fields_or text = first (cut_or 36 text)
-  where
-    last : (mechanism rest count more salt keys stored server : List ℕ) → Cut 36 text mechanism rest
-        → Cut 58 rest count more → Cut 36 more salt keys → Cut 58 keys stored server
-        → Decided (ArePlain (made mechanism count salt stored server)) → Found (HasFields text)
-    last mechanism rest count more salt keys stored server a b c d (inl plain) =
-        inl (
-          made mechanism count salt stored server,
-          has_fields text mechanism rest count more salt keys stored server a b c d plain,
-        )
-    last mechanism rest count more salt keys stored server a b c d (inr other) =
-        inr (not_plain text mechanism rest count more salt keys stored server a b c d other)
-
-    fourth : (mechanism rest count more salt keys : List ℕ) → Cut 36 text mechanism rest → Cut 58 rest count more
-        → Cut 36 more salt keys → IsCut 58 keys → Found (HasFields text)
-    fourth mechanism rest count more salt keys a b c (inl (stored, server, d)) =
-        last mechanism rest count more salt keys stored server a b c d
-        (are_plain_or (made mechanism count salt stored server))
-    fourth mechanism rest count more salt keys a b c (inr plain) =
-        inr (no_keys text mechanism rest count more salt keys a b c (uncut 58 keys plain))
-
-    third : (mechanism rest count more : List ℕ) → Cut 36 text mechanism rest → Cut 58 rest count more
-        → IsCut 36 more → Found (HasFields text)
-    third mechanism rest count more a b (inl (salt, keys, c)) =
-        fourth mechanism rest count more salt keys a b c (cut_or 58 keys)
-    third mechanism rest count more a b (inr plain) =
-        inr (no_salt text mechanism rest count more a b (uncut 36 more plain))
-
-    second : (mechanism rest : List ℕ) → Cut 36 text mechanism rest → IsCut 58 rest → Found (HasFields text)
-    second mechanism rest a (inl (count, more, b)) = third mechanism rest count more a b (cut_or 36 more)
-    second mechanism rest a (inr plain) = inr (no_count text mechanism rest a (uncut 58 rest plain))
-
-    first : IsCut 36 text → Found (HasFields text)
-    first (inl (mechanism, rest, a)) = second mechanism rest a (cut_or 58 rest)
-    first (inr plain) = inr (no_mechanism text (uncut 36 text plain))
+fields_or text = elim (cut_or 36 text) [
+  | inr plain ↦ inr (no_mechanism text (uncut 36 text plain))
+  | inl (mechanism, rest, a) ↦ elim (cut_or 58 rest) [
+    | inr plain ↦ inr (no_count text mechanism rest a (uncut 58 rest plain))
+    | inl (count, more, b) ↦ elim (cut_or 36 more) [
+      | inr plain ↦ inr (no_salt text mechanism rest count more a b (uncut 36 more plain))
+      | inl (salt, keys, c) ↦ elim (cut_or 58 keys) [
+        | inr plain ↦ inr (no_keys text mechanism rest count more salt keys a b c (uncut 58 keys plain))
+        | inl (stored, server, d) ↦ elim (are_plain_or (made mechanism count salt stored server)) [
+          | inl plain ↦ inl (
+            made mechanism count salt stored server,
+            has_fields text mechanism rest count more salt keys stored server a b c d plain,
+          )
+          | inr other ↦ inr (not_plain text mechanism rest count more salt keys stored server a b c d other)
+        ]
+      ]
+    ]
+  ]
+]
 
 version_or : (name : List ℕ) → Found (λ (version : ScramVersion). mechanism_name version ≡ name)
 version_or name = go (same_or (mechanism_name Sha1) name) (same_or (mechanism_name Sha256) name)
@@ -308,35 +218,30 @@ version_or name = go (same_or (mechanism_name Sha1) name) (same_or (mechanism_na
     go (inr one) (inr two) (inr five) = inr (none one two five)
 
 plain_count_or : (text : List ℕ) → Found (IsPlainCount text)
-plain_count_or text = go (count_or text)
-  where
-    spelled : (count : ℕ) → IsCount text count → Decided (text ≡ decimal count) → Found (IsPlainCount text)
-    spelled count is (inl same) = inl (count, (same, is.4, is.5))
-    spelled count is (inr other) =
+plain_count_or text = elim (count_or text) [
+  | inl (count, is) ↦ elim (same_or text (decimal count)) [
+    | inl same ↦ inl (count, (same, is.4, is.5))
+    | inr other ↦
         inr (λ plain too. other (too.0 ∙ ap decimal (one_count text plain count (plain_is_count text plain too) is)))
-
-    go : Found (IsCount text) → Found (IsPlainCount text)
-    go (inl (count, is)) = spelled count is (same_or text (decimal count))
-    go (inr none) = inr (no_plain_count text none)
+  ]
+  | inr none ↦ inr (no_plain_count text none)
+]
 
 -- no key of the length that the name asks for
 abbrev NoKey : List ℕ → List ℕ → Type 0
 NoKey name text = (version : ScramVersion) (key : List ℕ) → mechanism_name version ≡ name → ¬ IsKey version text key
 
 no_key_or : (name text : List ℕ) → Decided (NoKey name text)
-no_key_or name text = go (version_or name) (base64_or text)
-  where
-    long : (version : ScramVersion) (key : List ℕ) → mechanism_name version ≡ name → IsBase64 text key
-        → Decided (length key ≡ digest_len version) → Decided (NoKey name text)
-    long version key is spells (inl fits) = inr (λ none. none version key is (spells, fits))
-    long version key is spells (inr other) = inl (unsized version name text key is spells other)
-
-    go : Found (λ (version : ScramVersion). mechanism_name version ≡ name) → Found (IsBase64 text)
-        → Decided (NoKey name text)
-    go (inr none) key = inl (λ version value is. absurd (none version is))
-    go (inl (version, is)) (inr none) = inl (λ other value too has. none value has.0)
-    go (inl (version, is)) (inl (key, spells)) =
-        long version key is spells (same_number_or (length key) (digest_len version))
+no_key_or name text = elim (version_or name) [
+  | inr none ↦ inl (λ version value is. absurd (none version is))
+  | inl (version, is) ↦ elim (base64_or text) [
+    | inr none ↦ inl (λ other value too has. none value has.0)
+    | inl (key, spells) ↦ elim (same_number_or (length key) (digest_len version)) [
+      | inl fits ↦ inr (λ none. none version key is (spells, fits))
+      | inr other ↦ inl (unsized version name text key is spells other)
+    ]
+  ]
+]
 
 fields_decided : (fields : Fields) → AllDecided (head_tests fields ++ value_tests fields)
 fields_decided fields = (
@@ -392,11 +297,10 @@ some_fields fields = some_reading (head_tests fields ++ value_tests fields) (Nam
 
 pub some_record : (text : List ℕ) → (answer : Result VersionedRecord RecordTextError) × ReadsRecord text answer
 unfolding ReadsRecord
-some_record text = go (fields_or text)
-  where
-    go : Found (HasFields text) → (answer : Result VersionedRecord RecordTextError) × ReadsRecord text answer
-    go (inl (fields, has)) = let read = some_fields fields in (read.0, inr (fields, has, read.1))
-    go (inr none) = (Err PartsMismatch, inl (none, refl))
+some_record text = elim (fields_or text) [
+  | inl (fields, has) ↦ let read = some_fields fields in (read.0, inr (fields, has, read.1))
+  | inr none ↦ (Err PartsMismatch, inl (none, refl))
+]
 
 -- ---- a record of a password can be read
 

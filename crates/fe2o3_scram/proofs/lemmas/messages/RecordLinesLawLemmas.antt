@@ -7,7 +7,7 @@ use Rattle.fe2o3_scram.specs.declared.hmac.ScramVersion.{ScramVersion}
 use Rattle.fe2o3_scram.specs.declared.hmac.ScramVersion.TheVariants.{Sha1, Sha256, Sha512}
 use Rattle.fe2o3_scram.specs.declared.credentials.record_lines.ReadLinesError.{ReadLinesError}
 use Rattle.fe2o3_scram.specs.declared.credentials.record_lines.ReadLinesErrorKind.{ReadLinesErrorKind}
-use Rattle.fe2o3_scram.specs.declared.credentials.record_lines.ReadLinesErrorKind.TheVariants.{LineFeedMissing, SpaceMissing, InvalidName, InvalidRecord, VersionMismatch, OutOfMemory}
+use Rattle.fe2o3_scram.specs.declared.credentials.record_lines.ReadLinesErrorKind.TheVariants.{LineFeedMissing, SpaceMissing, InvalidName, InvalidRecord, VersionMismatch}
 use Rattle.fe2o3_scram.specs.declared.credentials.record_text.RecordTextError.{RecordTextError}
 use Rattle.fe2o3_scram.specs.Credentials.{Record, Records, VersionedRecord}
 use Rattle.fe2o3_scram.specs.Escape.{escaped, escaped_byte}
@@ -16,9 +16,9 @@ use Rattle.fe2o3_scram.specs.Laws.{HoldsBytes}
 use Rattle.fe2o3_scram.specs.RecordLines.{HeadFault, IsLineReadable, IsWritable, LastCut, LineFault, ReadsUsers, UserFault, record_of_user, user_line, users_text}
 use Rattle.fe2o3_scram.specs.RecordText.{IsReadable, ReadsRecord, record_text}
 use Rattle.fe2o3_scram.specs.Texts.{Cut, Without, alphabet, base64_text}
-use Rattle.fe2o3_scram.proofs.lemmas.messages.RecordLawLemmas.{one_record, read_again, without-append, without-base64_text, without-digits, without-test}
-use Rattle.fe2o3_scram.proofs.lemmas.messages.RecordLinesLemmas.{not_without-in}
-use Rattle.fe2o3_scram.proofs.lemmas.texts.CutLemmas.{one_cut}
+use Rattle.fe2o3_scram.proofs.lemmas.messages.RecordLawLemmas.{one_record, read_again}
+use Rattle.fe2o3_scram.proofs.lemmas.texts.CutLemmas.{one_cut, one_last_cut}
+use Rattle.fe2o3_scram.proofs.lemmas.texts.EachByteLemmas.{each-base64_text, not_without-in, without-append, without-digits, without-test}
 use Rattle.fe2o3_scram.proofs.lemmas.texts.EscapingLemmas.{by_cases, escaped-cons, escaped-nil, one_escaped}
 
 -- ---- what a user's line is without
@@ -38,7 +38,7 @@ without-record_text byte kept is low some plain names =
     let small = is.small in
     let numeral = decimal_is_IsNumeral kept.stored.count (omega (arith, small)) in
     let spelt : (bytes : List ℕ) → Without byte (base64_text bytes) =
-    λ bytes. without-base64_text byte bytes some (λ same. absurd (omega (arith, low, same))) plain in
+    λ bytes. each-base64_text (λ other. other ≢ byte) bytes some (λ same. absurd (omega (arith, low, same))) plain in
     without-append byte (mechanism_name kept.version) _ (names kept.version) (
       λ same. absurd (omega (arith, low, same)),
       without-append byte (decimal kept.stored.count) _
@@ -80,22 +80,6 @@ no_space-record version user is =
 
 -- ---- one cut, one line, one head
 
-one_last_cut : (byte : ℕ) (text before rest other last : List ℕ) → LastCut byte text before rest
-    → LastCut byte text other last → (before ≡ other) × (rest ≡ last)
-one_last_cut byte text before rest other last is too = go before other is.0 too.0 (sym is.1 ∙ too.1)
-  where
-    go : (before other : List ℕ) → Without byte rest → Without byte last
-        → before ++ byte ∷ rest ≡ other ++ byte ∷ last → (before ≡ other) × (rest ≡ last)
-    go [] [] plain too same = (refl, cc)
-    go [] (c ∷ other) plain too same = absurd (not_without-in byte other last rest (cc) plain)
-    go (b ∷ before) [] plain too same = absurd (not_without-in byte before rest last (cc) too)
-    go (b ∷ before) (c ∷ other) plain too same =
-        let first : b ≡ c = cc in
-        let tail : before ++ byte ∷ rest ≡ other ++ byte ∷ last = cc in
-        let more = go before other plain too tail in
-        let fronts = more.0 in
-        (cc, more.1)
-
 line_cut : (version : ScramVersion) (user : List ℕ × Record) → IsLineReadable version user
     → LastCut 32 (user_line version user) (escaped user.0) (record_text (record_of_user version user))
 line_cut version user is = (no_space-record version user is, refl)
@@ -128,27 +112,25 @@ one_head version text rest more user other is too same so =
 
 -- ---- a head with a fault
 
+abbrev OfLine : ScramVersion → List ℕ → ReadLinesErrorKind → Type 0
+OfLine version text kind = ((text ≢ []) × Without 10 text × (kind ≡ LineFeedMissing))
+    ⊎ ((line : List ℕ) × (rest : List ℕ) × Cut 10 text line rest × LineFault version line kind)
+
 -- a fault but for a missing line feed is one of the first line
 of_line : (version : ScramVersion) (text : List ℕ) (kind : ReadLinesErrorKind) → HeadFault version text kind
-    → ((text ≢ []) × Without 10 text × (kind ≡ LineFeedMissing))
-    ⊎ ((line : List ℕ) × (rest : List ℕ) × Cut 10 text line rest × LineFault version line kind)
+    → OfLine version text kind
 of_line version text LineFeedMissing fault = inl (fault.0, fault.1, refl)
-of_line version text SpaceMissing fault = inr fault
-of_line version text InvalidName fault = inr fault
-of_line version text (InvalidRecord wrong) fault = inr fault
-of_line version text VersionMismatch fault = inr fault
-of_line version text OutOfMemory fault = inr fault
+of_line version text kind fault = inr fault
+
+abbrev OfUser : ScramVersion → List ℕ → ReadLinesErrorKind → Type 0
+OfUser version line kind = (Without 32 line × (kind ≡ SpaceMissing))
+    ⊎ ((name : List ℕ) × (kept : List ℕ) × LastCut 32 line name kept × UserFault version name kept kind)
 
 -- a fault but for a missing space is one of the name or of the record
 of_user : (version : ScramVersion) (line : List ℕ) (kind : ReadLinesErrorKind) → LineFault version line kind
-    → (Without 32 line × (kind ≡ SpaceMissing))
-    ⊎ ((name : List ℕ) × (kept : List ℕ) × LastCut 32 line name kept × UserFault version name kept kind)
-of_user version line LineFeedMissing fault = inr fault
+    → OfUser version line kind
 of_user version line SpaceMissing fault = inl (fault, refl)
-of_user version line InvalidName fault = inr fault
-of_user version line (InvalidRecord wrong) fault = inr fault
-of_user version line VersionMismatch fault = inr fault
-of_user version line OutOfMemory fault = inr fault
+of_user version line kind fault = inr fault
 
 no_both : (kept : List ℕ) (read : VersionedRecord) (wrong : RecordTextError) → ReadsRecord kept (Ok read)
     → ReadsRecord kept (Err wrong) → ⊥
@@ -167,34 +149,22 @@ one_wrong kept wrong other refused too =
 
 one_user_fault : (version : ScramVersion) (name kept : List ℕ) (kind other : ReadLinesErrorKind)
     → UserFault version name kept kind → UserFault version name kept other → kind ≡ other
-one_user_fault version name kept LineFeedMissing other fault too = absurd fault
-one_user_fault version name kept SpaceMissing other fault too = absurd fault
-one_user_fault version name kept OutOfMemory other fault too = absurd fault
-one_user_fault version name kept InvalidName LineFeedMissing fault too = absurd too
-one_user_fault version name kept InvalidName SpaceMissing fault too = absurd too
-one_user_fault version name kept InvalidName OutOfMemory fault too = absurd too
 one_user_fault version name kept InvalidName InvalidName fault too = refl
 one_user_fault version name kept InvalidName (InvalidRecord wrong) fault too = absurd (fault too.0.0 too.0.1)
 one_user_fault version name kept InvalidName VersionMismatch fault too = absurd (fault too.0.0 too.0.1)
-one_user_fault version name kept (InvalidRecord wrong) LineFeedMissing fault too = absurd too
-one_user_fault version name kept (InvalidRecord wrong) SpaceMissing fault too = absurd too
-one_user_fault version name kept (InvalidRecord wrong) OutOfMemory fault too = absurd too
+one_user_fault version name kept InvalidName other fault too = absurd too
 one_user_fault version name kept (InvalidRecord wrong) InvalidName fault too = absurd (too fault.0.0 fault.0.1)
 one_user_fault version name kept (InvalidRecord wrong) (InvalidRecord other) fault too =
     ap InvalidRecord (one_wrong kept wrong other fault.1 too.1)
 one_user_fault version name kept (InvalidRecord wrong) VersionMismatch fault too =
     absurd (no_both kept too.1.0 wrong too.1.1 fault.1)
-one_user_fault version name kept VersionMismatch LineFeedMissing fault too = absurd too
-one_user_fault version name kept VersionMismatch SpaceMissing fault too = absurd too
-one_user_fault version name kept VersionMismatch OutOfMemory fault too = absurd too
+one_user_fault version name kept (InvalidRecord wrong) other fault too = absurd too
 one_user_fault version name kept VersionMismatch InvalidName fault too = absurd (too fault.0.0 fault.0.1)
 one_user_fault version name kept VersionMismatch (InvalidRecord wrong) fault too =
     absurd (no_both kept fault.1.0 wrong fault.1.1 too.1)
 one_user_fault version name kept VersionMismatch VersionMismatch fault too = refl
-
-abbrev OfUser : ScramVersion → List ℕ → ReadLinesErrorKind → Type 0
-OfUser version line kind = (Without 32 line × (kind ≡ SpaceMissing))
-    ⊎ ((name : List ℕ) × (kept : List ℕ) × LastCut 32 line name kept × UserFault version name kept kind)
+one_user_fault version name kept VersionMismatch other fault too = absurd too
+one_user_fault version name kept kind other fault too = absurd fault
 
 one_of_user : (version : ScramVersion) (line : List ℕ) (kind other : ReadLinesErrorKind) → OfUser version line kind
     → OfUser version line other → kind ≡ other
@@ -208,10 +178,6 @@ one_of_user version line kind other (inr (name, kept, cut, fault)) (inr (names, 
     one_user_fault version name kept kind other fault
     (subst (λ (text : List ℕ). UserFault version name text other) same.1
     (subst (λ (text : List ℕ). UserFault version text others other) same.0 too))
-
-abbrev OfLine : ScramVersion → List ℕ → ReadLinesErrorKind → Type 0
-OfLine version text kind = ((text ≢ []) × Without 10 text × (kind ≡ LineFeedMissing))
-    ⊎ ((line : List ℕ) × (rest : List ℕ) × Cut 10 text line rest × LineFault version line kind)
 
 one_of_line : (version : ScramVersion) (text : List ℕ) (kind other : ReadLinesErrorKind) → OfLine version text kind
     → OfLine version text other → kind ≡ other
@@ -235,9 +201,6 @@ one_fault version text kind other fault too =
 no_user_fault : (version : ScramVersion) (user : List ℕ × Record) (kind : ReadLinesErrorKind)
     → IsLineReadable version user
     → ¬ UserFault version (escaped user.0) (record_text (record_of_user version user)) kind
-no_user_fault version user LineFeedMissing is fault = absurd fault
-no_user_fault version user SpaceMissing is fault = absurd fault
-no_user_fault version user OutOfMemory is fault = absurd fault
 no_user_fault version user InvalidName is fault = fault user.0 refl
 no_user_fault version user (InvalidRecord wrong) is fault =
     no_both _ (record_of_user version user) wrong (read_again (record_of_user version user) is.1) fault.1
@@ -245,6 +208,7 @@ no_user_fault version user VersionMismatch is fault =
     fault.1.2 (ap (λ (read : VersionedRecord). read.version)
     (one_read _ fault.1.0 (record_of_user version user) fault.1.1
     (read_again (record_of_user version user) is.1)))
+no_user_fault version user kind is fault = absurd fault
 
 no_fault : (version : ScramVersion) (text rest : List ℕ) (user : List ℕ × Record) (kind : ReadLinesErrorKind)
     → IsLineReadable version user → text ≡ user_line version user ++ 10 ∷ rest → ¬ HeadFault version text kind

@@ -1,10 +1,8 @@
 -- The lines of users, as they are read and written.
-use Rattle.std.proofs.Common.{◌≡◌, ◌≢◌, ◌<◌, ◌+◌, ℕ, zero, suc, List, [], ◌∷◌, ◌++◌, Bor, length, get_or, take, drop, Result, Ok, Err, refl, sym, ◌∙◌, ap, subst, arith, append_assoc, append-nil}
-use Rattle.std.proofs.lemmas.List.{take-append-drop}
-use Rattle.std.proofs.lemmas.Str.Pattern.{NoCharPasses-char, drop_at_char}
+use Rattle.std.proofs.Common.{◌≡◌, ◌≢◌, ◌<◌, ◌+◌, ℕ, List, [], ◌∷◌, ◌++◌, length, get_or, take, Result, Ok, Err, refl, sym, ◌∙◌, ap, subst, arith, append_assoc, append-nil}
+use Rattle.std.proofs.lemmas.List.{take_more}
 use Rattle.std.specs.List.{AllByRecursion}
-use Rattle.std.specs.Prelude.{Option, None, Some, MatchOption, IfErr}
-use Rattle.std.specs.Str.Pattern.{RFindsChar, SplitsAroundMatch}
+use Rattle.std.specs.Prelude.{IfErr}
 use Rattle.fe2o3_scram.specs.declared.hmac.ScramVersion.{ScramVersion}
 use Rattle.fe2o3_scram.specs.Credentials.{Record, Records, VersionedRecord}
 use Rattle.fe2o3_scram.specs.Escape.{escaped}
@@ -12,46 +10,8 @@ use Rattle.fe2o3_scram.specs.RecordLines.{IsLineReadable, LastCut, record_of_use
 use Rattle.fe2o3_scram.specs.RecordText.{IsReadable, ReadsRecord, record_text}
 use Rattle.fe2o3_scram.specs.Texts.{Without}
 use Rattle.fe2o3_scram.proofs.lemmas.messages.RecordLawLemmas.{one_spelling}
-use Rattle.fe2o3_scram.proofs.lemmas.texts.CutLemmas.{without-index}
+use Rattle.fe2o3_scram.proofs.lemmas.texts.EachByteLemmas.{all-at, each-append, each-front}
 use Rattle.fe2o3_scram.proofs.lemmas.texts.EscapingLemmas.{by_cases, escaped-cons}
-
--- ---- the last of some bytes
-
-pub not_without-in : (byte : ℕ) (front back text : List ℕ) → text ≡ front ++ byte ∷ back → ¬ Without byte text
-not_without-in byte [] back text is plain = (subst (Without byte) is plain).0 refl
-not_without-in byte (b ∷ front) back text is plain =
-    not_without-in byte front back (front ++ byte ∷ back) refl (subst (Without byte) is plain).1
-
--- what `rsplit_once` found at a byte
-pub last_cut_from : (byte : ℕ) (text : List ℕ) (found : Option (Bor (List ℕ) × Bor (List ℕ))) → byte < 128
-    → MatchOption found (RFindsChar byte text None)
-    (λ both. SplitsAroundMatch (RFindsChar byte) text both.0.now both.1.now)
-    → MatchOption found ((before rest : List ℕ) → ¬ LastCut byte text before rest)
-    (λ both. LastCut byte text both.0.now both.1.now)
-last_cut_from byte text None small none =
-    let plain = without-index byte text (λ i below. NoCharPasses-char byte text i none small below) in
-    λ before rest is. not_without-in byte before rest text is.1 plain
-last_cut_from byte text (Some both) small cut =
-    let start = cut.0 in
-    let end = cut.1 in
-    let at = drop_at_char byte text start end cut.2.1 small in
-    let plain = without-index byte (drop end text) (λ i below. NoCharPasses-char byte (drop end text) i cut.2.0
-    small below) in
-    let whole : text ≡ take start text ++ byte ∷ drop end text =
-    sym (take-append-drop start text) ∙ ap (λ rest. take start text ++ rest) at in
-    (rw cut.4 plain, rw (cut.3, cut.4) whole)
-
--- what is not cut at its last such byte is without it
-pub without-no_last_cut : (byte : ℕ) (text : List ℕ) → ((before rest : List ℕ) → ¬ LastCut byte text before rest)
-    → Without byte text
-without-no_last_cut byte text none = go text (λ before rest is. none before rest is)
-  where
-    go : (text : List ℕ) → ((before rest : List ℕ) → ¬ LastCut byte text before rest) → Without byte text
-    go [] none = tt
-    go (x ∷ text) none =
-        let behind = go text (λ before rest is. none (x ∷ before) rest
-        (is.0, ap (λ (tail : List ℕ). x ∷ tail) is.1)) in
-        (λ same. none [] text (behind, ap (λ (first : ℕ). first ∷ text) same), behind)
 
 -- ---- one line
 
@@ -65,10 +25,6 @@ without-name byte (b ∷ name) comma equals plain =
     (λ _ _ has. (has.0, has.1)) (subst (Without byte) (escaped-cons b name) plain) in
     (both.0, without-name byte name comma equals both.1)
 
-without-front : (byte : ℕ) (front back : List ℕ) → Without byte (front ++ back) → Without byte front
-without-front byte [] back plain = tt
-without-front byte (x ∷ front) back plain = (plain.0, without-front byte front back plain.1)
-
 -- what a line says whose name and whose record are read
 pub user_read : (version : ScramVersion) (line name kept plain : List ℕ) (read : VersionedRecord) → Without 10 line
     → LastCut 32 line name kept → escaped plain ≡ name → ReadsRecord kept (Ok read) → read.version ≡ version
@@ -77,7 +33,7 @@ user_read version line name kept plain read without cut is reads same =
     let spelt = one_spelling kept read reads in
     let whole : record_of_user version (plain, read.stored) ≡ read =
     λ i. record { version = sym same i; stored = read.stored } in
-    let front : Without 10 name = without-front 10 name (32 ∷ kept) (subst (Without 10) cut.1 without) in (
+    let front : Without 10 name = each-front (λ b. b ≢ 10) name (32 ∷ kept) (subst (Without 10) cut.1 without) in (
       (
         without-name 10 plain (λ wrong. absurd (omega (arith, wrong))) (λ wrong. absurd (omega (arith, wrong)))
             (subst (Without 10) (sym is) front),
@@ -96,8 +52,7 @@ always_if_err (Err fault) Q P holds = λ _. holds
 
 pub all-more : {X : Type 0} (P : X → Type 0) (items : List X) (item : X) → AllByRecursion P items → P item
     → AllByRecursion P (items ++ (item ∷ []))
-all-more P [] item all holds = (holds, tt)
-all-more P (first ∷ items) item all holds = (all.0, all-more P items item all.1 holds)
+all-more P items item all holds = each-append P items (item ∷ []) all (holds, tt)
 
 users_text-append : (version : ScramVersion) (users others : Records)
     → users_text version (users ++ others) ≡ users_text version users ++ users_text version others
@@ -120,17 +75,8 @@ one_more_user version text rest more users user is line =
 users_text-next : (version : ScramVersion) (users : Records) (k : ℕ) (other : List ℕ × Record) → k < length users
     → users_text version (take (k + 1) users)
     ≡ users_text version (take k users) ++ (user_line version (get_or users k other) ++ (10 ∷ []))
-users_text-next version users k other below = let next : k + 1 ≡ suc k = omega arith in rw next (go users k below)
-  where
-    go : (users : Records) (k : ℕ) → k < length users → users_text version (take (suc k) users)
-        ≡ users_text version (take k users) ++ (user_line version (get_or users k other) ++ (10 ∷ []))
-    go [] k below = absurd (omega (arith, below))
-    go (user ∷ users) zero below = refl
-    go (user ∷ users) (suc k) below =
-        let less : k < length users = omega (arith, below) in
-        ap (λ (rest : List ℕ). user_line version user ++ 10 ∷ rest) (go users k less)
-        ∙ sym (append_assoc (user_line version user) (10 ∷ users_text version (take k users))
-        (user_line version (get_or users k other) ++ (10 ∷ [])))
+users_text-next version users k other below = ap (users_text version) (take_more users k other below)
+    ∙ users_text-append version (take k users) (get_or users k other ∷ [])
 
 pub users_text-start : (version : ScramVersion) (before : List ℕ) → before ++ users_text version [] ≡ before
 users_text-start version before = append-nil before
@@ -150,21 +96,7 @@ pub ruleset writing = (users_text-start, users_text-more)
 
 pub all-next : {X : Type 0} (P : X → Type 0) (items : List X) (k : ℕ) (other : X) → k < length items
     → AllByRecursion P (take k items) → P (get_or items k other) → AllByRecursion P (take (k + 1) items)
-all-next {X} P items k other below all holds = let next : k + 1 ≡ suc k = omega arith in rw next (go items k below all
-    holds)
-  where
-    go : (items : List X) (k : ℕ) → k < length items → AllByRecursion P (take k items) → P (get_or items k other)
-        → AllByRecursion P (take (suc k) items)
-    go [] k below all holds = absurd (omega (arith, below))
-    go (item ∷ items) zero below all holds = (holds, tt)
-    go (item ∷ items) (suc k) below all holds =
-        let less : k < length items = omega (arith, below) in (all.0, go items k less all.1 holds)
-
-pub all-at : {X : Type 0} (P : X → Type 0) (items : List X) (k : ℕ) (other : X) → k < length items
-    → AllByRecursion P items → P (get_or items k other)
-all-at P [] k other below all = absurd (omega (arith, below))
-all-at P (item ∷ items) zero other below all = all.0
-all-at P (item ∷ items) (suc k) other below all =
-    let less : k < length items = omega (arith, below) in all-at P items k other less all.1
+all-next P items k other below all holds =
+    rw (take_more items k other below) (all-more P (take k items) (get_or items k other) all holds)
 
 pub ruleset each_user = (all-next, all-at)

@@ -6,16 +6,14 @@ use Rattle.fe2o3_scram.specs.declared.scram_messages.error.ScramErrorKind.TheVar
 use Rattle.fe2o3_scram.specs.Texts.{base64_text, IsBase64, Part}
 use Rattle.fe2o3_scram.specs.ServerFinal.{HasSignature, ReadsSignature, ReadsServerFinal, server_final_tests}
 use Rattle.fe2o3_scram.proofs.lemmas.texts.Base64Lemmas.{one_spelled}
-use Rattle.fe2o3_scram.proofs.lemmas.texts.PartsLemmas.{one_part}
+use Rattle.fe2o3_scram.proofs.lemmas.texts.PartsLemmas.{one_behind}
 use Rattle.fe2o3_scram.proofs.lemmas.messages.TestListLemmas.{one_reading}
 
 -- the signature that the first part spells
 spelled : (text spelling bytes other : List ℕ) → Part text 0 (codes "v=" ++ spelling) → HasSignature text other
     → IsBase64 spelling other
 spelled text spelling bytes other is has =
-    let same : codes "v=" ++ spelling ≡ codes "v=" ++ base64_text other =
-    one_part text 0 (codes "v=" ++ spelling) (codes "v=" ++ base64_text other) is has.1 in
-    (has.0, cc)
+    (has.0, one_behind text 0 (codes "v=") spelling (base64_text other) is has.1)
 
 has_signature : (text spelling bytes : List ℕ) → Part text 0 (codes "v=" ++ spelling) → IsBase64 spelling bytes
     → HasSignature text bytes

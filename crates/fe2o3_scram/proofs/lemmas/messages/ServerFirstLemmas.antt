@@ -14,7 +14,7 @@ use Rattle.fe2o3_scram.specs.Readings.{IsFirst, NoneHolds}
 use Rattle.fe2o3_scram.specs.ServerFirst.{Client, ServerFirst, HasSalt, HasCount, NamesServerFirst, ReachesSalt, ReadsServerFirst, nonce_tests, salt_tests, count_tests, secret_tests, NamesOther}
 use Rattle.fe2o3_scram.proofs.lemmas.texts.Base64Lemmas.{one_spelled}
 use Rattle.fe2o3_scram.proofs.lemmas.texts.CountLemmas.{one_count}
-use Rattle.fe2o3_scram.proofs.lemmas.texts.PartsLemmas.{one_part}
+use Rattle.fe2o3_scram.proofs.lemmas.texts.PartsLemmas.{one_behind}
 use Rattle.fe2o3_scram.proofs.lemmas.messages.TestListLemmas.{NoneHolds-append, IsFirst-front, IsFirst-back, one_reading, not_first}
 
 -- no test of the nonce or of the count has the fault for refused memory
@@ -40,9 +40,7 @@ not_the_secret (Both password keys) first (unfit, unprintable, wrong) = absurd (
 pub other_nonce : (text client_nonce nonce : List ℕ) → Part text 0 (codes "r=" ++ nonce) → ¬ Begins nonce client_nonce
     → (rest : List ℕ) → ¬ Part text 0 (codes "r=" ++ (client_nonce ++ rest))
 other_nonce text client_nonce nonce is other rest has =
-    let same : codes "r=" ++ nonce ≡ codes "r=" ++ (client_nonce ++ rest) =
-    one_part text 0 (codes "r=" ++ nonce) (codes "r=" ++ (client_nonce ++ rest)) is has in
-    other (rest, cc)
+    other (rest, one_behind text 0 (codes "r=") nonce (client_nonce ++ rest) is has)
 
 -- it does
 pub same_nonce : (text client_nonce nonce rest : List ℕ) → Part text 0 (codes "r=" ++ nonce)
@@ -55,9 +53,7 @@ pub ruleset nonces = (other_nonce, same_nonce)
 pub no_salt : (text spelling : List ℕ) → Part text 1 (codes "s=" ++ spelling)
     → ((bytes : List ℕ) → ¬ IsBase64 spelling bytes) → (salt : List ℕ) → ¬ HasSalt text salt
 no_salt text spelling is none salt has =
-    let same : codes "s=" ++ spelling ≡ codes "s=" ++ base64_text salt =
-    one_part text 1 (codes "s=" ++ spelling) (codes "s=" ++ base64_text salt) is has.1 in
-    none salt (has.0, cc)
+    none salt (has.0, one_behind text 1 (codes "s=") spelling (base64_text salt) is has.1)
 
 pub has_salt : (text spelling salt : List ℕ) → Part text 1 (codes "s=" ++ spelling) → IsBase64 spelling salt
     → HasSalt text salt
@@ -68,17 +64,13 @@ pub ruleset salts = (no_salt, has_salt)
 
 pub no_count : (text digits : List ℕ) → Part text 2 (codes "i=" ++ digits) → ((count : ℕ) → ¬ IsCount digits count)
     → (count : ℕ) → ¬ HasCount text count
-no_count text digits is none count has =
-    let same : codes "i=" ++ digits ≡ codes "i=" ++ has.0 =
-    one_part text 2 (codes "i=" ++ digits) (codes "i=" ++ has.0) is has.1 in
-    none count (subst (λ (spelt : List ℕ). IsCount spelt count) (let back : has.0 ≡ digits = cc in back) has.2)
+no_count text digits is none count has = none count
+    (subst (λ (spelt : List ℕ). IsCount spelt count) (one_behind text 2 (codes "i=") has.0 digits has.1 is) has.2)
 
 -- a message names one count
 pub one_has_count : (text : List ℕ) (count other : ℕ) → HasCount text count → HasCount text other → count ≡ other
 one_has_count text count other has too =
-    let same : codes "i=" ++ has.0 ≡ codes "i=" ++ too.0 =
-    one_part text 2 (codes "i=" ++ has.0) (codes "i=" ++ too.0) has.1 too.1 in
-    let digits : has.0 ≡ too.0 = cc in
+    let digits = one_behind text 2 (codes "i=") has.0 too.0 has.1 too.1 in
     one_count too.0 count other (subst (λ (spelt : List ℕ). IsCount spelt count) digits has.2) too.2
 
 pub not_too_large : (text : List ℕ) (limit count : ℕ) → HasCount text count → count ≤ limit
@@ -123,10 +115,16 @@ count_refused client text fault nonce salt first =
 -- a message has one salt
 pub one_has_salt : (text salt other : List ℕ) → HasSalt text salt → HasSalt text other → salt ≡ other
 one_has_salt text salt other has too =
-    let same : codes "s=" ++ base64_text salt ≡ codes "s=" ++ base64_text other =
-    one_part text 1 (codes "s=" ++ base64_text salt) (codes "s=" ++ base64_text other) has.1 too.1 in
-    let spelling : base64_text salt ≡ base64_text other = cc in
+    let spelling = one_behind text 1 (codes "s=") (base64_text salt) (base64_text other) has.1 too.1 in
     one_spelled (base64_text salt) salt other (has.0, refl) (too.0, spelling)
+
+-- what a message names, of its parts
+abbrev pub made : List ℕ → List ℕ → ℕ → ServerFirst
+made nonce salt count = record { nonce = nonce; salt = salt; count = count }
+
+pub names_made : (text nonce salt : List ℕ) (count : ℕ) → Part text 0 (codes "r=" ++ nonce) → HasSalt text salt
+    → HasCount text count → NamesServerFirst text (made nonce salt count)
+names_made text nonce salt count first second third = record { nonce = first; salt = second; count = third }
 
 -- keys of no other salt and count than are named fit what is named
 pub fitting_named : (keys : ClientKeys) (text : List ℕ) (first : ServerFirst) → NamesServerFirst text first
@@ -188,15 +186,10 @@ values_read client text first nonce salt count secret names =
 
 -- a message has one reading
 
-abbrev made : List ℕ → List ℕ → ℕ → ServerFirst
-made nonce salt count = record { nonce = nonce; salt = salt; count = count }
-
 one_values : (text : List ℕ) (first other : ServerFirst) → NamesServerFirst text first → NamesServerFirst text other
     → first ≡ other
 one_values text first other names too =
-    let nonces : codes "r=" ++ first.nonce ≡ codes "r=" ++ other.nonce =
-    one_part text 0 (codes "r=" ++ first.nonce) (codes "r=" ++ other.nonce) names.nonce too.nonce in
-    let nonce : first.nonce ≡ other.nonce = cc in
+    let nonce = one_behind text 0 (codes "r=") first.nonce other.nonce names.nonce too.nonce in
     let salt = one_has_salt text first.salt other.salt names.salt too.salt in
     let count = one_has_count text first.count other.count names.count too.count in
     λ i. made (nonce i) (salt i) (count i)

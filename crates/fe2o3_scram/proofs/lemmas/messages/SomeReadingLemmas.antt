@@ -6,7 +6,7 @@ use Rattle.fe2o3_scram.specs.declared.scram_messages.error.ScramErrorKind.TheVar
 use Rattle.fe2o3_scram.specs.declared.scram_messages.error.ServerScramErrorKind.{ServerScramErrorKind}
 use Rattle.fe2o3_scram.specs.declared.scram_messages.error.ServerScramErrorKind.TheVariants.{XorLengthMismatch, AuthenticationFailed}
 use Rattle.fe2o3_scram.specs.ClientFinal as client_final
-use Rattle.fe2o3_scram.specs.ClientFinal.{Server, ClientFinal, HasBinding, HasProof, Meets, recovered_key, NamesClientFinal, ReadsFinalText, ReadsClientFinal, final_text_tests, binding_tests, spelling_tests}
+use Rattle.fe2o3_scram.specs.ClientFinal.{Server, ClientFinal, HasBinding, HasProof, recovered_key, NamesClientFinal, ReadsFinalText, ReadsClientFinal, final_text_tests, binding_tests, spelling_tests}
 use Rattle.fe2o3_scram.specs.ClientFirst.{ClientFirst, BarePart, NamesClientFirst, ReadsClientFirst, client_first_tests}
 use Rattle.fe2o3_scram.specs.Escape.{escaped}
 use Rattle.fe2o3_scram.specs.Hmac.{digest, digest_len}
@@ -17,11 +17,12 @@ use Rattle.fe2o3_scram.specs.ServerFirst.{Client, ServerFirst, HasSalt, HasCount
 use Rattle.fe2o3_scram.specs.declared.client_secret.IterationLimits.{IterationLimits}
 use Rattle.fe2o3_scram.specs.ClientKeys.{ClientKeys}
 use Rattle.fe2o3_scram.specs.ClientSecret.{Secret, Password, Keys, Both}
-use Rattle.fe2o3_scram.specs.Texts.{base64_text, IsBase64, IsCount, Part, LastPart}
+use Rattle.fe2o3_scram.specs.Texts.{base64_text, Part, LastPart}
 use Rattle.base64.specs.GeneralPurpose.{IsBytes}
 use Rattle.fe2o3_scram.proofs.lemmas.messages.ClientFinalLemmas.{no_proof, has_proof, proof_part, unread_proof}
 use Rattle.fe2o3_scram.proofs.lemmas.messages.ServerFirstLemmas.{one_has_count, no_count}
-use Rattle.fe2o3_scram.proofs.lemmas.texts.DecisionLemmas.{Decided, Found, held, found_one, not_or, none_or, some_or, both_or, found_with, less_or, same_number_or, same_or, bytes_or, utf8_or, printable_or, rest_or, begins_or, part_or, part_is_or, attribute_or, attribute_text_or, last_part_or, base64_or, count_or, name_or}
+use Rattle.fe2o3_scram.proofs.lemmas.texts.CutLemmas.{last_part_or}
+use Rattle.fe2o3_scram.proofs.lemmas.texts.DecisionLemmas.{Decided, Found, held, found_one, not_or, none_or, some_or, both_or, found_with, less_or, same_number_or, same_or, bytes_or, utf8_or, printable_or, rest_or, begins_or, part_or, part_is_or, attribute_or, attribute_text_or, base64_or, count_or, name_or}
 
 -- ---- lists of tests
 
@@ -45,21 +46,18 @@ first_or : {F : Type 0} (tests : List (F × Type 0)) → AllDecided tests
     → ((fault : F) × IsFirst tests fault) ⊎ NoneHolds tests
 first_or [] decided = inr tt
 first_or (test ∷ tests) (inl holds, decided) = inl (test.0, inl (holds, refl))
-first_or {F} (test ∷ tests) (inr fails, decided) = go (first_or tests decided)
-  where
-    go : ((fault : F) × IsFirst tests fault) ⊎ NoneHolds tests
-        → ((fault : F) × IsFirst (test ∷ tests) fault) ⊎ NoneHolds (test ∷ tests)
-    go (inl (fault, first)) = inl (fault, inr (fails, first))
-    go (inr none) = inr (fails, none)
+first_or (test ∷ tests) (inr fails, decided) = elim (first_or tests decided) [
+  | inl (fault, first) ↦ inl (fault, inr (fails, first))
+  | inr none ↦ inr (fails, none)
+]
 
 -- where each test is decided, and something is named where none holds, there is an answer
 pub some_reading : {F V : Type 0} (tests : List (F × Type 0)) (Names : V → Type 0) → AllDecided tests
     → (NoneHolds tests → (values : V) × Names values) → (answer : Result V F) × Reads tests Names answer
-some_reading {F} {V} tests Names decided named = go (first_or tests decided)
-  where
-    go : ((fault : F) × IsFirst tests fault) ⊎ NoneHolds tests → (answer : Result V F) × Reads tests Names answer
-    go (inl (fault, first)) = (Err fault, first)
-    go (inr none) = let values = named none in (Ok values.0, (none, values.1))
+some_reading tests Names decided named = elim (first_or tests decided) [
+  | inl (fault, first) ↦ (Err fault, first)
+  | inr none ↦ let values = named none in (Ok values.0, (none, values.1))
+]
 
 -- ---- the client-first message
 
@@ -119,37 +117,28 @@ salt_or : (text : List ℕ) → Found (HasSalt text)
 salt_or text = attribute_or IsBytes base64_text text 1 (codes "s=") base64_or
 
 has_count_or : (text : List ℕ) → Found (HasCount text)
-has_count_or text = found_with (attribute_text_or text 2 (codes "i=")) counted (λ count has. (has.0, has.1))
-  where
-    counted : (digits : List ℕ) → Part text 2 (codes "i=" ++ digits) → Found (HasCount text)
-    counted digits is = go (count_or digits)
-      where
-        go : Found (IsCount digits) → Found (HasCount text)
-        go (inl (count, has)) = inl (count, (digits, is, has))
-        go (inr none) = inr (no_count text digits is none)
+has_count_or text = found_with (attribute_text_or text 2 (codes "i=")) (λ digits is. elim (count_or digits) [
+  | inl (count, has) ↦ inl (count, (digits, is, has))
+  | inr none ↦ inr (no_count text digits is none)
+]) (λ count has. (has.0, has.1))
 
 -- whether a message names a count that passes this test
 some_count_or : (text : List ℕ) (Test : ℕ → Type 0) → ((count : ℕ) → Decided (Test count))
     → Decided ((count : ℕ) × HasCount text count × Test count)
-some_count_or text Test test = go (has_count_or text)
-  where
-    tested : (count : ℕ) → HasCount text count → Decided (Test count)
-        → Decided ((count : ℕ) × HasCount text count × Test count)
-    tested count has (inl holds) = inl (count, has, holds)
-    tested count has (inr fails) =
-        inr (λ some. fails (subst Test (one_has_count text some.0 count some.1 has) some.2))
-
-    go : Found (HasCount text) → Decided ((count : ℕ) × HasCount text count × Test count)
-    go (inl (count, has)) = tested count has (test count)
-    go (inr none) = inr (λ some. none some.0 some.1)
+some_count_or text Test test = elim (has_count_or text) [
+  | inl (count, has) ↦ elim (test count) [
+    | inl holds ↦ inl (count, has, holds)
+    | inr fails ↦ inr (λ some. fails (subst Test (one_has_count text some.0 count some.1 has) some.2))
+  ]
+  | inr none ↦ inr (λ some. none some.0 some.1)
+]
 
 -- whether a message names this count, and the values that these keys are of
 this_count_or : (text : List ℕ) (count : ℕ) → Decided (HasCount text count)
-this_count_or text count = go (some_count_or text (λ other. other ≡ count) (λ other. same_number_or other count))
-  where
-    go : Decided ((other : ℕ) × HasCount text other × (other ≡ count)) → Decided (HasCount text count)
-    go (inl (other, has, is)) = inl (subst (HasCount text) is has)
-    go (inr none) = inr (λ has. none (count, has, refl))
+this_count_or text count = elim (some_count_or text (λ other. other ≡ count) (λ other. same_number_or other count)) [
+  | inl (other, has, is) ↦ inl (subst (HasCount text) is has)
+  | inr none ↦ inr (λ has. none (count, has, refl))
+]
 
 pub names_values_or : (keys : ClientKeys) (text : List ℕ) → Decided (HasSalt text keys.salt × HasCount text keys.count)
 names_values_or keys text = both_or
@@ -221,45 +210,27 @@ this_binding_or : (text binding : List ℕ) → Decided (HasBinding text binding
 this_binding_or text binding = both_or (bytes_or binding) (part_is_or text 0 (codes "c=" ++ base64_text binding))
 
 proof_part_or : (text : List ℕ) → Decided ((before rest : List ℕ) → ¬ LastPart text before (codes "p=" ++ rest))
-proof_part_or text = go (last_part_or text)
-  where
-    key : (before last : List ℕ) → LastPart text before last → Found (λ (rest : List ℕ). last ≡ codes "p=" ++ rest)
-        → Decided ((before rest : List ℕ) → ¬ LastPart text before (codes "p=" ++ rest))
-    key before last is (inl (rest, begins)) = inr (proof_part text before last rest is begins)
-    key before last is (inr none) = inl (no_proof text before last is (λ begins. none begins.0 begins.1))
-
-    go : ((before : List ℕ) × (part : List ℕ) × LastPart text before part)
-        ⊎ ((before part : List ℕ) → ¬ LastPart text before part)
-        → Decided ((before rest : List ℕ) → ¬ LastPart text before (codes "p=" ++ rest))
-    go (inl (before, part, is)) = key before part is (rest_or (codes "p=") part)
-    go (inr none) = inl (λ before rest. none before (codes "p=" ++ rest))
+proof_part_or text = elim (last_part_or text) [
+  | inl (before, part, is) ↦ elim (rest_or (codes "p=") part) [
+    | inl (rest, begins) ↦ inr (proof_part text before part rest is begins)
+    | inr none ↦ inl (no_proof text before part is (λ begins. none begins.0 begins.1))
+  ]
+  | inr none ↦ inl (λ before rest. none before (codes "p=" ++ rest))
+]
 
 proof_or : (text : List ℕ) → Found (HasProof text)
-proof_or text = go (last_part_or text)
-  where
-    spelled : (before last spelling : List ℕ) → LastPart text before last → last ≡ codes "p=" ++ spelling
-        → Found (IsBase64 spelling) → Found (HasProof text)
-    spelled before last spelling is begins (inl (proof, spells)) =
-        inl (record { without = before; proof = proof }, has_proof text before last spelling proof is begins spells)
-    spelled before last spelling is begins (inr none) = inr (unread_proof text before last spelling is begins none)
-
-    key : (before last : List ℕ) → LastPart text before last → Found (λ (rest : List ℕ). last ≡ codes "p=" ++ rest)
-        → Found (HasProof text)
-    key before last is (inl (spelling, begins)) = spelled before last spelling is begins (base64_or spelling)
-    key before last is (inr none) =
-        inr (λ final has. no_proof text before last is (λ begins. none begins.0 begins.1) final.without
+proof_or text = elim (last_part_or text) [
+  | inl (before, part, is) ↦ elim (rest_or (codes "p=") part) [
+    | inl (spelling, begins) ↦ elim (base64_or spelling) [
+      | inl (proof, spells) ↦
+          inl (record { without = before; proof = proof }, has_proof text before part spelling proof is begins spells)
+      | inr none ↦ inr (unread_proof text before part spelling is begins none)
+    ]
+    | inr none ↦ inr (λ final has. no_proof text before part is (λ begins. none begins.0 begins.1) final.without
         (base64_text final.proof) has.1)
-
-    go : ((before : List ℕ) × (part : List ℕ) × LastPart text before part)
-        ⊎ ((before part : List ℕ) → ¬ LastPart text before part) → Found (HasProof text)
-    go (inl (before, part, is)) = key before part is (rest_or (codes "p=") part)
-    go (inr none) = inr (λ final has. none final.without (codes "p=" ++ base64_text final.proof) has.1)
-
-sized_or : (server : Server) (final : ClientFinal) → Decided (length final.proof ≡ digest_len server.version)
-sized_or server final = same_number_or (length final.proof) (digest_len server.version)
-
-meets_or : (server : Server) (final : ClientFinal) → Decided (Meets server final)
-meets_or server final = same_or (digest server.version (recovered_key server final)) server.stored_key
+  ]
+  | inr none ↦ inr (λ final has. none final.without (codes "p=" ++ base64_text final.proof) has.1)
+]
 
 binding_decided : (text : List ℕ) → AllDecided (binding_tests text)
 binding_decided text = (
@@ -305,18 +276,17 @@ pub some_client_final : (server : Server) (text : List ℕ)
 unfolding ReadsClientFinal
 some_client_final server text = go (some_final_text server.nonce text)
   where
-    tested : (final : ClientFinal) → ReadsFinalText server.nonce text (Ok final)
-        → Decided (length final.proof ≡ digest_len server.version) → Decided (Meets server final)
-        → (answer : Result ClientFinal ServerScramErrorKind) × ReadsClientFinal server text answer
-    tested final reads (inr other) meets = (Err XorLengthMismatch, inr (final, reads, inl (other, refl)))
-    tested final reads (inl sized) (inl meets) = (Ok final, (reads, sized, meets))
-    tested final reads (inl sized) (inr fails) =
-        (Err AuthenticationFailed, inr (final, reads, inr ((λ other. other sized), inl (fails, refl))))
-
     go : (answer : Result ClientFinal ServerScramErrorKind) × ReadsFinalText server.nonce text answer
         → (answer : Result ClientFinal ServerScramErrorKind) × ReadsClientFinal server text answer
     go (Err fault, reads) = (Err fault, inl reads)
-    go (Ok final, reads) = tested final reads (sized_or server final) (meets_or server final)
+    go (Ok final, reads) = elim (same_number_or (length final.proof) (digest_len server.version)) [
+      | inr other ↦ (Err XorLengthMismatch, inr (final, reads, inl (other, refl)))
+      | inl sized ↦ elim (same_or (digest server.version (recovered_key server final)) server.stored_key) [
+        | inl meets ↦ (Ok final, (reads, sized, meets))
+        | inr fails ↦
+            (Err AuthenticationFailed, inr (final, reads, inr ((λ other. other sized), inl (fails, refl))))
+      ]
+    ]
 
 -- ---- the server-final message
 
@@ -334,12 +304,10 @@ pub some_server_final : (signature text : List ℕ)
 unfolding ReadsServerFinal
 some_server_final signature text = go (some_signature text)
   where
-    tested : (other : List ℕ) → ReadsSignature text (Ok other) → Decided (other ≡ signature)
-        → (answer : Result (Unit {0}) ScramErrorKind) × ReadsServerFinal signature text answer
-    tested other reads (inl same) = (Ok tt, subst (λ (named : List ℕ). ReadsSignature text (Ok named)) same reads)
-    tested other reads (inr differ) = (Err ServerSignatureMismatch, inr (other, reads, differ, refl))
-
     go : (answer : Result (List ℕ) ScramErrorKind) × ReadsSignature text answer
         → (answer : Result (Unit {0}) ScramErrorKind) × ReadsServerFinal signature text answer
     go (Err fault, reads) = (Err fault, inl reads)
-    go (Ok other, reads) = tested other reads (same_or other signature)
+    go (Ok other, reads) = elim (same_or other signature) [
+      | inl same ↦ (Ok tt, subst (λ (named : List ℕ). ReadsSignature text (Ok named)) same reads)
+      | inr differ ↦ (Err ServerSignatureMismatch, inr (other, reads, differ, refl))
+    ]

@@ -1,5 +1,5 @@
 -- Which texts are UTF-8: literals, base64, escaped names.
-use Rattle.std.proofs.Common.{◌≡◌, ◌≢◌, ◌<◌, ◌≤◌, ◌+◌, ◌/◌, ℕ, zero, suc, true, false, Bool, List, [], ◌∷◌, ◌++◌, length, replicate, get_or, refl, arith, lit<, codes, cond, subst, inl, inr}
+use Rattle.std.proofs.Common.{◌≡◌, ◌≢◌, ◌<◌, ◌≤◌, ◌+◌, ◌/◌, ℕ, zero, suc, true, false, Bool, List, [], ◌∷◌, ◌++◌, refl, arith, lit<, codes, cond, subst, inl, inr}
 use Rattle.std.specs.Prelude.{nat_lt}
 use Rattle.std.specs.List.{AllByRecursion, list_all}
 use Rattle.std.specs.Str.{IsUtf8, IsAscii}
@@ -7,9 +7,9 @@ use Rattle.std.proofs.lemmas.Str.{IsUtf8-append, IsUtf8-encode, IsUtf8-nil, IsUt
 use Rattle.std.proofs.lemmas.Str.Ascii.{IsAscii-nil}
 use Rattle.std.proofs.lemmas.Bool.{cases_lt, and_parts, le-ltb}
 use Rattle.std.proofs.Math.Utf8.{encode, encodes, scalars, scalar, next}
-use Rattle.base64.specs.Rfc4648.{encode_symbols, padding_len}
-use Rattle.fe2o3_scram.specs.Texts.{alphabet, base64_text, NoComma}
-use Rattle.fe2o3_scram.specs.Escape.{escaped, escaped_byte, NoEquals}
+use Rattle.fe2o3_scram.specs.Texts.{alphabet, base64_text}
+use Rattle.fe2o3_scram.specs.Escape.{escaped, escaped_byte}
+use Rattle.fe2o3_scram.proofs.lemmas.texts.EachByteLemmas.{each-append, each-base64_text, each-weaker}
 use Rattle.fe2o3_scram.proofs.lemmas.texts.EscapingLemmas.{by_cases, escaped-nil, escaped-cons, escaped-append, escaped-plain}
 
 -- each byte is ASCII
@@ -17,41 +17,15 @@ abbrev pub Small : List ℕ → Type 0
 Small text = AllByRecursion (λ byte. byte < 128) text
 
 pub small-append : (front back : List ℕ) → Small front → Small back → Small (front ++ back)
-small-append [] back small too = too
-small-append (x ∷ front) back small too = (small.0, small-append front back small.1 too)
-
-small-replicate : (n : ℕ) → Small (replicate n 61)
-small-replicate zero = tt
-small-replicate (suc n) = (lit< tt, small-replicate n)
-
-small-get_or : (text : List ℕ) (i : ℕ) → Small text → get_or text i 0 < 128
-small-get_or [] i small = lit< tt
-small-get_or (x ∷ text) zero small = small.0
-small-get_or (x ∷ text) (suc i) small = small-get_or text i small.1
+small-append = each-append (λ byte. byte < 128)
 
 pub small-test : (text : List ℕ) → list_all (λ byte. nat_lt byte 128) text ≡ true → Small text
 small-test [] passes = tt
 small-test (x ∷ text) passes = let both = and_parts (nat_lt x 128) (list_all (λ byte. nat_lt byte 128) text) passes in
     (grind (arith, both), small-test text both.1)
 
-small-encode_symbols : (symbols bytes : List ℕ) → Small symbols → Small (encode_symbols symbols bytes)
-unfolding encode_symbols
-small-encode_symbols symbols [] small = tt
-small-encode_symbols symbols (a ∷ []) small = (small-get_or symbols _ small, (small-get_or symbols _ small, tt))
-small-encode_symbols symbols (a ∷ b ∷ []) small =
-    (small-get_or symbols _ small, (small-get_or symbols _ small, (small-get_or symbols _ small, tt)))
-small-encode_symbols symbols (a ∷ b ∷ c ∷ bytes) small = (
-  small-get_or symbols _ small,
-  (
-    small-get_or symbols _ small,
-    (small-get_or symbols _ small, (small-get_or symbols _ small, small-encode_symbols symbols bytes small)),
-  ),
-)
-
 pub small-base64_text : (bytes : List ℕ) → Small (base64_text bytes)
-unfolding base64_text
-small-base64_text bytes = small-append (encode_symbols alphabet bytes) (replicate (padding_len (length bytes)) 61)
-    (small-encode_symbols alphabet bytes (small-test alphabet refl)) (small-replicate (padding_len (length bytes)))
+small-base64_text bytes = each-base64_text (λ byte. byte < 128) bytes (lit< tt) (lit< tt) (small-test alphabet refl)
 
 ascii : (text : List ℕ) → Small text → IsAscii text
 ascii [] small i = IsAscii-nil i
@@ -101,20 +75,13 @@ wide c large = rw (le-ltb c 128 large) (go (nat_lt c 2048) (nat_lt c 65536))
       (high (next (c / 4096)) (omega arith), (high (next (c / 64)) (omega arith), (high (next c) (omega arith), tt))),
     )
 
-no_commas : (text : List ℕ) → AllByRecursion Plain text → NoComma text
-no_commas [] plain = tt
-no_commas (b ∷ text) plain = (plain.0.0, no_commas text plain.1)
-
-no_equals : (text : List ℕ) → AllByRecursion Plain text → NoEquals text
-no_equals [] plain = tt
-no_equals (b ∷ text) plain = (plain.0.1, no_equals text plain.1)
-
 character : (c : ℕ) → scalar c ≡ true → IsUtf8 (escaped (encode c))
 character c is = elim (cases_lt c 128) [
   | inl small ↦ rw (encode_ascii c small, escaped-cons c [], escaped-nil)
       (IsUtf8-append (escaped_byte c) [] (IsUtf8-escaped_byte c small) IsUtf8-nil)
-  | inr large ↦ rw (escaped-plain (encode c) (no_commas (encode c) (wide c large))
-      (no_equals (encode c) (wide c large))) (IsUtf8-encode c is)
+  | inr large ↦ rw (escaped-plain (encode c)
+      (each-weaker Plain (λ byte. byte ≢ 44) (λ _ plain. plain.0) (encode c) (wide c large))
+      (each-weaker Plain (λ byte. byte ≢ 61) (λ _ plain. plain.1) (encode c) (wide c large))) (IsUtf8-encode c is)
 ]
 
 characters : (cs : List ℕ) → scalars cs ≡ true → IsUtf8 (escaped (encodes cs))

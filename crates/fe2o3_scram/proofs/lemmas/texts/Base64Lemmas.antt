@@ -1,14 +1,13 @@
 -- The kit's engine `STANDARD` writes and reads exactly the base64 texts of specs/Texts.antt.
-use Rattle.std.proofs.Common.{◌≡◌, ◌≢◌, ℕ, zero, suc, true, not, eqb, List, [], ◌∷◌, ◌++◌, ◌≤◌, replicate, length, drop, get_or, refl, sym, ◌∙◌, subst, append-nil, Result, Ok, Err, OnOk, arith}
+use Rattle.std.proofs.Common.{◌≡◌, ◌≢◌, ℕ, true, not, eqb, List, ◌++◌, ◌≤◌, length, drop, refl, sym, ◌∙◌, subst, append-nil, Result, Ok, Err, OnOk, arith}
 use Rattle.std.specs.List.{list_all}
 use Rattle.std.proofs.lemmas.List.{drop_all}
-use Rattle.std.proofs.lemmas.Bool.{and_parts, not-true, eqb-false}
-use Rattle.base64.specs.Rfc4648.{encode_symbols, padding_len}
 use Rattle.base64.specs.Engines.{standard}
 use Rattle.base64.specs.GeneralPurpose.{encode_of, decode_of, IsBytes, IsStrict}
 use Rattle.base64.specs.declared.decode.DecodeError.{DecodeError}
 use Rattle.base64.proofs.EngineFacts.{decode_of-encode_of}
 use Rattle.fe2o3_scram.specs.Texts.{NoComma, alphabet, base64_text, IsBase64}
+use Rattle.fe2o3_scram.proofs.lemmas.texts.EachByteLemmas.{each-base64_text, without-append, without-test}
 
 pub encode_of-standard : (bytes : List ℕ) → encode_of standard bytes ≡ base64_text bytes
 unfolding base64_text
@@ -47,50 +46,13 @@ one_spelled text bytes others is too =
     cc
 
 pub no_comma-append : (front back : List ℕ) → NoComma front → NoComma back → NoComma (front ++ back)
-no_comma-append [] back plain too = too
-no_comma-append (x ∷ front) back plain too = (plain.0, no_comma-append front back plain.1 too)
+no_comma-append = without-append 44
 
 -- a literal holds no comma where the test says so
 pub no_comma-test : (text : List ℕ) → list_all (λ byte. not (eqb byte 44)) text ≡ true → NoComma text
-no_comma-test [] passes = tt
-no_comma-test (x ∷ text) passes =
-    let both = and_parts (not (eqb x 44)) (list_all (λ byte. not (eqb byte 44)) text) passes in
-    (eqb-false x 44 (not-true (eqb x 44) both.0), no_comma-test text both.1)
-
-no_comma-replicate : (n : ℕ) → NoComma (replicate n 61)
-no_comma-replicate zero = tt
-no_comma-replicate (suc n) = (λ is. absurd (omega (arith, is)), no_comma-replicate n)
-
-no_comma-get_or : (text : List ℕ) (i : ℕ) → NoComma text → get_or text i 0 ≢ 44
-no_comma-get_or [] i plain = λ is. absurd (omega (arith, is))
-no_comma-get_or (x ∷ text) zero plain = plain.0
-no_comma-get_or (x ∷ text) (suc i) plain = no_comma-get_or text i plain.1
-
-no_comma-encode_symbols : (symbols bytes : List ℕ) → NoComma symbols → NoComma (encode_symbols symbols bytes)
-unfolding encode_symbols
-no_comma-encode_symbols symbols [] plain = tt
-no_comma-encode_symbols symbols (a ∷ []) plain =
-    (no_comma-get_or symbols _ plain, (no_comma-get_or symbols _ plain, tt))
-no_comma-encode_symbols symbols (a ∷ b ∷ []) plain =
-    (no_comma-get_or symbols _ plain, (no_comma-get_or symbols _ plain, (no_comma-get_or symbols _ plain, tt)))
-no_comma-encode_symbols symbols (a ∷ b ∷ c ∷ bytes) plain = (
-  no_comma-get_or symbols _ plain,
-  (
-    no_comma-get_or symbols _ plain,
-    (
-      no_comma-get_or symbols _ plain,
-      (
-        no_comma-get_or symbols _ plain,
-        no_comma-encode_symbols symbols bytes plain,
-      ),
-    ),
-  ),
-)
+no_comma-test = without-test 44
 
 -- a spelling holds no comma
 pub no_comma-base64_text : (bytes : List ℕ) → NoComma (base64_text bytes)
-unfolding base64_text
-no_comma-base64_text bytes =
-    no_comma-append (encode_symbols alphabet bytes) (replicate (padding_len (length bytes)) 61)
-    (no_comma-encode_symbols alphabet bytes (no_comma-test alphabet refl))
-    (no_comma-replicate (padding_len (length bytes)))
+no_comma-base64_text bytes = each-base64_text (λ byte. byte ≢ 44) bytes (λ is. absurd (omega (arith, is)))
+    (λ is. absurd (omega (arith, is))) (no_comma-test alphabet refl)

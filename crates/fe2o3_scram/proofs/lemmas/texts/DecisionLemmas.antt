@@ -15,7 +15,7 @@ use Rattle.base64.specs.GeneralPurpose.{IsBytes, decode_of}
 use Rattle.base64.specs.declared.decode.DecodeError.{DecodeError}
 use Rattle.fe2o3_scram.specs.Escape.{escaped, escaped_byte}
 use Rattle.fe2o3_scram.specs.SaslprepAscii.{IsPrintable}
-use Rattle.fe2o3_scram.specs.Texts.{NoComma, Part, LastPart, Begins, base64_text, IsBase64, IsCount}
+use Rattle.fe2o3_scram.specs.Texts.{NoComma, Part, Begins, base64_text, IsBase64, IsCount}
 use Rattle.fe2o3_scram.proofs.lemmas.texts.Base64Lemmas.{decode_of-base64_text, none_spelled}
 use Rattle.fe2o3_scram.proofs.lemmas.texts.EscapingLemmas.{by_cases, escaped-nil, escaped-cons, escaped_byte-plain, no_comma-escaped}
 use Rattle.fe2o3_scram.proofs.lemmas.texts.PartsLemmas.{pieces, one_part, part_from_pieces}
@@ -127,11 +127,7 @@ rest_or (x ∷ prefix) (y ∷ text) = go (same_number_or y x) (rest_or prefix te
     go (inr other) found = inr (λ rest is. other (let head : y ≡ x = cc in head))
 
 pub begins_or : (text prefix : List ℕ) → Decided (Begins text prefix)
-begins_or text prefix = go (rest_or prefix text)
-  where
-    go : Found (λ (rest : List ℕ). text ≡ prefix ++ rest) → Decided (Begins text prefix)
-    go (inl found) = inl found
-    go (inr none) = inr (λ begins. none begins.0 begins.1)
+begins_or text prefix = some_or (rest_or prefix text)
 
 pub part_or : (text : List ℕ) (k : ℕ) → Found (Part text k)
 part_or text k = go (slice_get (pieces text) k) (part_from_pieces (λ (part : List ℕ). part) text k _ (same _))
@@ -147,15 +143,13 @@ part_or text k = go (slice_get (pieces text) k) (part_from_pieces (λ (part : Li
 
 -- whether this is the part
 pub part_is_or : (text : List ℕ) (k : ℕ) (part : List ℕ) → Decided (Part text k part)
-part_is_or text k part = go (part_or text k)
-  where
-    named : (other : List ℕ) → Part text k other → Decided (other ≡ part) → Decided (Part text k part)
-    named other is (inl same) = inl (subst (Part text k) same is)
-    named other is (inr apart) = inr (λ has. apart (one_part text k other part is has))
-
-    go : Found (Part text k) → Decided (Part text k part)
-    go (inl (other, is)) = named other is (same_or other part)
-    go (inr none) = inr (none part)
+part_is_or text k part = elim (part_or text k) [
+  | inl (other, is) ↦ elim (same_or other part) [
+    | inl same ↦ inl (subst (Part text k) same is)
+    | inr apart ↦ inr (λ has. apart (one_part text k other part is has))
+  ]
+  | inr none ↦ inr (none part)
+]
 
 -- what stands behind the key of a part, which says something or nothing
 pub attribute_or : {X : Type 0} (Good : X → Type 0) (write : X → List ℕ) (text : List ℕ) (k : ℕ) (key : List ℕ)
@@ -186,31 +180,6 @@ attribute_or {X} Good write text k key read =
 pub attribute_text_or : (text : List ℕ) (k : ℕ) (key : List ℕ) → Found (λ (rest : List ℕ). Part text k (key ++ rest))
 attribute_text_or text k key = found_with (attribute_or (λ _. Unit {0}) (λ rest. rest) text k key
     (λ spelling. inl (spelling, (tt, refl)))) (λ rest has. inl (rest, has.1)) (λ rest has. (rest, (tt, has)))
-
-no_comma-before : (before part : List ℕ) → ¬ NoComma (before ++ 44 ∷ part)
-no_comma-before [] part plain = plain.0 refl
-no_comma-before (x ∷ before) part plain = no_comma-before before part plain.1
-
--- the last part and what stands before it, or no comma
-last_or_plain : (text : List ℕ) → ((before : List ℕ) × (part : List ℕ) × LastPart text before part) ⊎ NoComma text
-last_or_plain [] = inr tt
-last_or_plain (x ∷ text) = go (last_or_plain text) (same_number_or x 44)
-  where
-    go : ((before : List ℕ) × (part : List ℕ) × LastPart text before part) ⊎ NoComma text → Decided (x ≡ 44)
-        → ((before : List ℕ) × (part : List ℕ) × LastPart (x ∷ text) before part) ⊎ NoComma (x ∷ text)
-    go (inl last) comma = inl (x ∷ last.0, last.1, (last.2.0, ap (λ (rest : List ℕ). x ∷ rest) last.2.1))
-    go (inr plain) (inl is) = inl ([], text, (plain, ap (λ (byte : ℕ). byte ∷ text) is))
-    go (inr plain) (inr other) = inr (other, plain)
-
-pub last_part_or : (text : List ℕ) → ((before : List ℕ) × (part : List ℕ) × LastPart text before part)
-    ⊎ ((before part : List ℕ) → ¬ LastPart text before part)
-last_part_or text = go (last_or_plain text)
-  where
-    go : ((before : List ℕ) × (part : List ℕ) × LastPart text before part) ⊎ NoComma text
-        → ((before : List ℕ) × (part : List ℕ) × LastPart text before part)
-        ⊎ ((before part : List ℕ) → ¬ LastPart text before part)
-    go (inl last) = inl last
-    go (inr plain) = inr (λ before part is. no_comma-before before part (subst NoComma is.1 plain))
 
 -- ---- what a text spells
 

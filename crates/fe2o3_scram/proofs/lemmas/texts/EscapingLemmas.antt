@@ -1,10 +1,12 @@
 -- Escaped names hold no comma, and no two names have one escaped text.
-use Rattle.std.proofs.Common.{◌≡◌, ◌≢◌, ◌<◌, ◌+◌, ℕ, zero, suc, true, false, Bool, List, [], ◌∷◌, ◌++◌, length, get_or, take, refl, arith, ◌∙◌, sym, ap, codes, eqb, cond, append_assoc, append-nil}
+use Rattle.std.proofs.Common.{◌≡◌, ◌≢◌, ◌<◌, ◌+◌, ℕ, true, false, Bool, List, [], ◌∷◌, ◌++◌, length, get_or, take, refl, arith, ◌∙◌, sym, ap, codes, eqb, cond, append_assoc, append-nil}
 use Rattle.std.specs.Prelude.{Option, None, Some, MatchOption}
 use Rattle.std.proofs.lemmas.Bool.{eqb-false, ne_eqb, eqb-true}
+use Rattle.std.proofs.lemmas.List.{take_more}
 use Rattle.fe2o3_scram.specs.Texts.{NoComma, Begins}
 use Rattle.fe2o3_scram.specs.Escape.{escaped, escaped_byte, NoEquals}
 use Rattle.fe2o3_scram.proofs.lemmas.texts.Base64Lemmas.{no_comma-append, no_comma-test}
+use Rattle.fe2o3_scram.proofs.lemmas.texts.EachByteLemmas.{all-at, each-back, each-front, without-index}
 
 pub escaped-nil : escaped [] ≡ []
 unfolding escaped
@@ -100,17 +102,9 @@ one_escaped (a ∷ name) (b ∷ other) is =
 -- one more byte of the name is escaped
 pub escaped-next : (name : List ℕ) (k : ℕ) → k < length name
     → escaped (take (k + 1) name) ≡ escaped (take k name) ++ escaped_byte (get_or name k 0)
-escaped-next name k below = let next : k + 1 ≡ suc k = omega arith in rw next (go name k below)
-  where
-    go : (name : List ℕ) (k : ℕ) → k < length name → escaped (take (suc k) name) ≡ escaped (take k name)
-        ++ escaped_byte (get_or name k 0)
-    go [] k below = absurd (omega (arith, below))
-    go (x ∷ name) zero below = escaped-one x ∙ sym (ap (λ rest. rest ++ escaped_byte x) escaped-nil)
-    go (x ∷ name) (suc k) below =
-        let less : k < length name = omega (arith, below) in
-        escaped-cons x (take (suc k) name) ∙ ap (λ rest. escaped_byte x ++ rest) (go name k less)
-        ∙ sym (append_assoc (escaped_byte x) (escaped (take k name)) (escaped_byte (get_or name k 0)))
-        ∙ sym (ap (λ rest. rest ++ escaped_byte (get_or name k 0)) (escaped-cons x (take k name)))
+escaped-next name k below = ap escaped (take_more name k 0 below)
+    ∙ escaped-append (take k name) (get_or name k 0 ∷ [])
+    ∙ ap (λ rest. escaped (take k name) ++ rest) (escaped-one (get_or name k 0))
 
 -- no byte of the name stands behind a text
 pub escaped-start : (before : List ℕ) → before ++ escaped [] ≡ before
@@ -124,21 +118,16 @@ escaped-more before name k below = ap (λ rest. before ++ rest) (escaped-next na
 
 pub ruleset escaping = (escaped-start, escaped-more, escaped_byte-plain)
 
-no_comma-back : (front back : List ℕ) → NoComma (front ++ back) → NoComma back
-no_comma-back [] back plain = plain
-no_comma-back (b ∷ front) back plain = no_comma-back front back plain.1
-
-no_comma-front : (front back : List ℕ) → NoComma (front ++ back) → NoComma front
-no_comma-front [] back plain = tt
-no_comma-front (b ∷ front) back plain = (plain.0, no_comma-front front back plain.1)
+abbrev Plain : ℕ → Type 0
+Plain byte = byte ≢ 44
 
 -- the reading of a text without commas: name was read of its front, and rest is left
 
 before_plain : (text name rest before tail : List ℕ) → NoComma text → text ≡ escaped name ++ rest → NoEquals before
     → rest ≡ before ++ tail → escaped before ≡ before
 before_plain text name rest before tail no_comma read no_equals cut =
-    escaped-plain before (no_comma-front before tail (rw cut at
-    (no_comma-back (escaped name) rest (rw read at no_comma)))) no_equals
+    escaped-plain before (each-front Plain before tail (rw cut at
+    (each-back Plain (escaped name) rest (rw read at no_comma)))) no_equals
 
 -- nothing is read yet
 pub none_read : (text name : List ℕ) → name ≡ [] → text ≡ escaped name ++ text
@@ -184,30 +173,17 @@ pub all_read : (text name rest : List ℕ) → NoComma text → text ≡ escaped
     → escaped (name ++ rest) ≡ text
 all_read text name rest no_comma read no_equals =
     escaped-append name rest ∙ ap (λ last. escaped name ++ last)
-    (escaped-plain rest (no_comma-back (escaped name) rest (rw read at no_comma)) no_equals) ∙ sym read
+    (escaped-plain rest (each-back Plain (escaped name) rest (rw read at no_comma)) no_equals) ∙ sym read
 
 pub ruleset unescaping = (no_escape, all_read)
-
-no_comma-at : (text : List ℕ) (i : ℕ) → NoComma text → i < length text → get_or text i 0 ≢ 44
-no_comma-at [] i plain below = absurd (omega (arith, below))
-no_comma-at (b ∷ text) zero plain below = plain.0
-no_comma-at (b ∷ text) (suc i) plain below = let less : i < length text = omega (arith, below) in
-    no_comma-at text i plain.1 less
 
 -- a text with a comma is no escaped name
 pub comma_refused : (text : List ℕ) (i : ℕ) → i < length text → get_or text i 0 ≡ 44 → (name : List ℕ)
     → escaped name ≢ text
-comma_refused text i below comma name is = no_comma-at text i (rw is at (no_comma-escaped name)) below comma
-
-pub no_comma-index : (text : List ℕ) → ((i : ℕ) → i < length text → get_or text i 0 ≢ 44) → NoComma text
-no_comma-index [] none = tt
-no_comma-index (b ∷ text) none =
-    (none 0 (omega arith), no_comma-index text (λ i below. none (suc i) (omega (arith, below))))
+comma_refused text i below comma name is = all-at Plain text i 0 below (rw is at (no_comma-escaped name)) comma
 
 pub no_equals-index : (text : List ℕ) → ((i : ℕ) → i < length text → get_or text i 0 ≢ 61) → NoEquals text
-no_equals-index [] none = tt
-no_equals-index (b ∷ text) none =
-    (none 0 (omega arith), no_equals-index text (λ i below. none (suc i) (omega (arith, below))))
+no_equals-index = without-index 61
 
 -- what a search that found nothing says of each byte
 pub not_contained : (text : List ℕ) (byte : ℕ) (found : Bool) → found ≡ false

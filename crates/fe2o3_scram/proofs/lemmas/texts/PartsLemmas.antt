@@ -3,6 +3,7 @@ use Rattle.std.proofs.Common.{◌≡◌, ◌≢◌, ℕ, Bool, true, false, eqb,
 use Rattle.std.specs.Prelude.{slice_get, Option, None, Some, option_map, MatchOption}
 use Rattle.std.specs.List.{slice_split, onto_first, join_with_byte, AllByRecursion}
 use Rattle.std.proofs.lemmas.Bool.{eqb-false, ne_eqb}
+use Rattle.std.proofs.lemmas.List.{append_cancel_left}
 use Rattle.std.proofs.lemmas.List.Elements.{All-from_recursion}
 use Rattle.std.proofs.lemmas.List.Splits.{join_with_byte-slice_split, slice_split_at, slice_split_none, length-slice_split}
 use Rattle.std.proofs.lemmas.Option.{none-some, same_Some}
@@ -62,6 +63,12 @@ pub one_part : (text : List ℕ) (k : ℕ) (part other : List ℕ) → Part text
 one_part text k part other is too =
     same_Some part other (sym is.2
     ∙ (ap (λ (parts : List (List ℕ)). slice_get parts k) (one_list_of_parts text is.0 too.0 is.1 too.1) ∙ too.2))
+
+-- and one text behind a key of it
+pub one_behind : (text : List ℕ) (k : ℕ) (key rest other : List ℕ) → Part text k (key ++ rest)
+    → Part text k (key ++ other) → rest ≡ other
+one_behind text k key rest other is too =
+    append_cancel_left key rest other (one_part text k (key ++ rest) (key ++ other) is too)
 
 -- what a search among the pieces found
 pub part_from_pieces : {A : Type 0} (now : A → List ℕ) (text : List ℕ) (k : ℕ) (found : Option A)

@@ -1,5 +1,6 @@
-use Rattle.fe2o3_scram.proofs.lemmas.texts.LastPartLemmas.{last_part_from}
+use Rattle.std.proofs.Common.{lit<}
+use Rattle.fe2o3_scram.proofs.lemmas.texts.CutLemmas.{last_cut_from}
 use Rattle.fe2o3_scram.proofs.texts.last_part.Goals as goal
 
 pub returns : goal.returns
-returns c = last_part_from c.args.text.now c.rsplit_once.result c.rsplit_once.ensures.cases
+returns c = last_cut_from 44 c.args.text.now c.rsplit_once.result (lit< tt) c.rsplit_once.ensures.cases

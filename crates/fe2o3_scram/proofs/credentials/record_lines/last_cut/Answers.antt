@@ -1,4 +1,4 @@
-use Rattle.fe2o3_scram.proofs.lemmas.messages.RecordLinesLemmas.{last_cut_from}
+use Rattle.fe2o3_scram.proofs.lemmas.texts.CutLemmas.{last_cut_from}
 use Rattle.fe2o3_scram.proofs.credentials.record_lines.last_cut.Goals as goal
 
 pub returns : goal.returns

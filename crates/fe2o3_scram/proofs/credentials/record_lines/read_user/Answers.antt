@@ -1,5 +1,6 @@
 use Rattle.std.proofs.Common.{rules, ◌≡◌}
-use Rattle.fe2o3_scram.proofs.lemmas.messages.RecordLinesLemmas.{user_read, without-no_last_cut}
+use Rattle.fe2o3_scram.proofs.lemmas.messages.RecordLinesLemmas.{user_read}
+use Rattle.fe2o3_scram.proofs.lemmas.texts.CutLemmas.{without-no_last_cut}
 use Rattle.fe2o3_scram.proofs.credentials.record_lines.read_user.Goals as goal
 
 pub returns-in_default-clause-err : goal.returns-in_default-clause-err

@@ -1,17 +1,18 @@
 use Rattle.std.proofs.Common.{lit<}
 use Rattle.std.proofs.lemmas.Str.Pattern.{contains_char}
-use Rattle.fe2o3_scram.proofs.lemmas.texts.EscapingLemmas.{not_contained, no_comma-index, no_equals-index, escaped-plain}
+use Rattle.fe2o3_scram.proofs.lemmas.texts.EachByteLemmas.{without-index}
+use Rattle.fe2o3_scram.proofs.lemmas.texts.EscapingLemmas.{not_contained, no_equals-index, escaped-plain}
 use Rattle.fe2o3_scram.proofs.scram_messages.escape.unescape_username.Goals as goal
 
 pub unescape-requires : goal.unescape-requires
-unescape-requires c = no_comma-index c.args.text.now
+unescape-requires c = without-index 44 c.args.text.now
     (not_contained c.args.text.now 44 c.contains.result c.if-contains.false
     (contains_char 44 c.args.text.now c.contains.result c.contains.ensures.cases (lit< tt)).1)
 
 pub returns-clause-ok : goal.returns-clause-ok
 returns-clause-ok c =
     escaped-plain c.args.text.now
-    (no_comma-index c.args.text.now (not_contained c.args.text.now 44 c.contains.result c.if-contains.false
+    (without-index 44 c.args.text.now (not_contained c.args.text.now 44 c.contains.result c.if-contains.false
     (contains_char 44 c.args.text.now c.contains.result c.contains.ensures.cases (lit< tt)).1))
     (no_equals-index c.args.text.now (not_contained c.args.text.now 61 c.contains-2.result c.if-contains-2.false
     (contains_char 61 c.args.text.now c.contains-2.result c.contains-2.ensures.cases (lit< tt)).1))

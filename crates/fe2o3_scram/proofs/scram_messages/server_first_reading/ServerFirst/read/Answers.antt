@@ -1,8 +1,7 @@
-use Rattle.std.proofs.Common.{rules}
 use Rattle.std.proofs.lemmas.Result.{err_from_is_err_and}
 use Rattle.fe2o3_scram.specs.ClientSecret.{secret_of}
-use Rattle.fe2o3_scram.specs.ServerFirst.{Client, ServerFirst, NamesServerFirst, client_of, server_first_values}
-use Rattle.fe2o3_scram.proofs.lemmas.messages.ServerFirstLemmas.{not_the_nonces, not_the_count, nonce_refused, salt_refused, count_refused, secret_refused, values_read, secret_holds, secret_first, not_the_secret}
+use Rattle.fe2o3_scram.specs.ServerFirst.{Client, client_of}
+use Rattle.fe2o3_scram.proofs.lemmas.messages.ServerFirstLemmas.{made, names_made, not_the_nonces, not_the_count, nonce_refused, salt_refused, count_refused, secret_refused, values_read, secret_holds, secret_first, not_the_secret}
 use Rattle.fe2o3_scram.proofs.scram_messages.server_first_reading.ServerFirst.read.Goals as goal
 
 pub returns-in_err-nonce-clause-reads : goal.returns-in_err-nonce-clause-reads
@@ -39,18 +38,10 @@ returns-in_err-iterations-clause-reads c =
 pub returns-in_err-test_secret-clause-reads : goal.returns-in_err-test_secret-clause-reads
 returns-in_err-test_secret-clause-reads c =
     let client : Client = client_of c.args.client_nonce.now (secret_of c.args.secret) c.args.limits in
-    let first : ServerFirst = record {
-      nonce = c.in_ok-nonce.nonce.now;
-      salt =
-          c.in_ok-salt.salt.items;
-      count = c.in_ok-iterations.iterations;
-    } in
-    let names : NamesServerFirst c.args.text.now first = record {
-      nonce = c.in_ok-nonce.ensures.named;
-      salt =
-          c.in_ok-salt.ensures.named;
-      count = c.in_ok-iterations.ensures.named;
-    } in
+    let first = made c.in_ok-nonce.nonce.now c.in_ok-salt.salt.items c.in_ok-iterations.iterations in
+    let names = names_made c.args.text.now c.in_ok-nonce.nonce.now c.in_ok-salt.salt.items
+    c.in_ok-iterations.iterations c.in_ok-nonce.ensures.named c.in_ok-salt.ensures.named
+    c.in_ok-iterations.ensures.named in
     let from = err_from_is_err_and c.from_residual-in_err-test_secret.result
     c.from_residual-in_err-test_secret.ensures.1 in
     rw (from.1, from.2) (
@@ -64,18 +55,10 @@ returns-in_err-test_secret-clause-reads c =
 pub returns-clause-reads : goal.returns-clause-reads
 returns-clause-reads c =
     let client : Client = client_of c.args.client_nonce.now (secret_of c.args.secret) c.args.limits in
-    let first : ServerFirst = record {
-      nonce = c.in_ok-nonce.nonce.now;
-      salt =
-          c.in_ok-salt.salt.items;
-      count = c.in_ok-iterations.iterations;
-    } in
-    let names : NamesServerFirst c.args.text.now first = record {
-      nonce = c.in_ok-nonce.ensures.named;
-      salt =
-          c.in_ok-salt.ensures.named;
-      count = c.in_ok-iterations.ensures.named;
-    } in
+    let first = made c.in_ok-nonce.nonce.now c.in_ok-salt.salt.items c.in_ok-iterations.iterations in
+    let names = names_made c.args.text.now c.in_ok-nonce.nonce.now c.in_ok-salt.salt.items
+    c.in_ok-iterations.iterations c.in_ok-nonce.ensures.named c.in_ok-salt.ensures.named
+    c.in_ok-iterations.ensures.named in
     values_read client c.args.text.now first c.in_ok-nonce.ensures.tested c.in_ok-salt.ensures.tested
     c.in_ok-iterations.ensures.tested
     (secret_holds client.secret c.args.text.now first names c.in_ok-test_secret.ensures) names
