@@ -1,7 +1,8 @@
 //! What two lists of frame bodies, one of a client and one of a server, say of the two sides.
 //!
-//! Both lists are run afresh. A finding is a position of the client and a position of the server that
-//! belong together: an Ok that the client reported on the verifier of an Ok of the server, or a
+//! Both lists are run afresh, with memory for each step and with the limit that is given; what the
+//! real sides replied is not told. A finding is a position of the client and a position of the server
+//! that belong together: an Ok that the client reported on the verifier of an Ok of the server, or a
 //! response of the client whose proof the server accepted. Its verdict says whether both sides mean
 //! one login, and, where not, which texts or keys of theirs collide.
 
@@ -27,7 +28,7 @@ use std::alloc::{AllocError, Global};
 use std::fmt;
 use thiserror::Error;
 
-/// Why there is no audit.
+/// Why there is no audit. It says nothing of the lists.
 #[derive(Clone, Copy, Debug, PartialEq, Eq, Error)]
 pub enum AuditError {
     /// A request for memory was refused, be it inside a step of one of the two runs. The call can be

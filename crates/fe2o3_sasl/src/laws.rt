@@ -131,9 +131,9 @@ pub fn worked_clients()
     ensures floor { FloorsRefuse }
 {}
 
-/// What holds of every mechanism: each acceptor and each profile has one reply to a frame; a server
-/// offers what a profile asks for exactly where both are of one mechanism; PLAIN lets in the same
-/// user with the same password and refuses all others, in words without zero bytes (RFC 4616,
+/// What holds of every mechanism: each acceptor and each profile has at most one reply to a frame; a
+/// server offers what a profile asks for exactly where both are of one mechanism; PLAIN lets in the
+/// same user with the same password and refuses all others, in words without zero bytes (RFC 4616,
 /// section 2); ANONYMOUS lets in whoever asks for it; a server always offers something; and the six
 /// profiles have six names.
 pub fn mechanisms()

@@ -77,15 +77,18 @@ pub enum Negotiation {
 }
 
 impl SaslProfile {
-    /// PLAIN for this user with this password. The words go out as they are.
+    /// PLAIN for this user with this password. The words go out as they are: no empty word is refused,
+    /// and no zero byte, at which the message is cut by its reader (RFC 4616, section 2, has neither).
     pub fn plain(username: String, password: String) -> SaslProfile
         ensures { profile_of result ≡ PlainProfile (string_bytes username) (string_bytes password) }
     {
         SaslProfile::Plain { username, password }
     }
 
-    /// PLAIN for the user name and the password of an address, whose percent escapes stay as they
-    /// are. NoCredentials where one of the two is empty or absent.
+    /// PLAIN for the user name and the password of an address, as `url` spells them. It turns blanks,
+    /// controls, some signs and what is not ASCII into percent escapes, and nothing turns an escape back.
+    /// The scheme is not looked at, so `amqp` sends the password as `amqps` does. NoCredentials where
+    /// one of the two is empty or absent.
     pub fn from_url(alloc: Global, url: &Url) -> Result<SaslProfile, UrlError>
         ensures ok { IfOk result (λ profile. profile_of profile ≡ PlainProfile url.now.username url.now.password) }
         ensures both { IfOk result (λ _. HasCredentials url.now) }

@@ -188,8 +188,8 @@ impl ScramVersion {
     }
 
     /// Whether the proof meets the StoredKey, that is, whether the recovered ClientKey's digest is
-    /// the StoredKey. One HMAC value. Keys are compared over the whole length, whatever the bytes
-    /// are; no claim is made about time.
+    /// the StoredKey. One HMAC value. That keys are compared over the whole length, whatever the
+    /// bytes are, is read in the code and not proved; no claim is made about time.
     ///
     /// The one refusal is `XorLengthMismatch`, of a proof that is not as long as a digest, and no HMAC
     /// value is made then. The StoredKey is any bytes.

@@ -78,7 +78,9 @@ impl Clone for User {
     }
 }
 
-/// The records of several users, all for one version. Of two with one name the first counts.
+/// The records of several users, all for one version. Of two with one name the first counts. A clone
+/// copies every record, and each step of an acceptor over frames clones its store: hand it over in an
+/// `Rc`, which is a provider too.
 #[derive(Drop)]
 pub struct ScramCredentials {
     pub(crate) scram_version: ScramVersion,

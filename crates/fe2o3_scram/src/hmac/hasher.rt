@@ -17,7 +17,7 @@ use thiserror::Error;
 pub struct XorLengthMismatch;
 
 /// A digest or an HMAC value of one of the three hashes, which may be a secret: it has no `Debug`,
-/// and is compared by its bytes, and not in constant time.
+/// and no `==`.
 #[derive(Clone, Copy)]
 pub enum DigestBytes {
     /// 20 bytes of SHA-1.

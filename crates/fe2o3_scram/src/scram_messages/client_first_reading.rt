@@ -13,7 +13,8 @@ use std::borrow::CowStr;
 /// What a client-first message names (RFC 5802, section 7).
 #[derive(Debug, Drop)]
 pub struct ClientFirst<'a> {
-    /// The plain name of the user, borrowed where the client escaped nothing.
+    /// The plain name of the user, as `unescape_username` gives it: borrowed where the client escaped
+    /// nothing. `parse` says the name in its contract, and not that it is borrowed.
     pub username: CowStr<'a>,
 
     /// The client's nonce.

@@ -62,7 +62,8 @@ pub enum ScramErrorKind {
     NormalizeError,
 
     /// The message names another salt or another iteration count than the client's keys are of, and the
-    /// client has no password.
+    /// client has no password. Whoever is on the way can bring this about: it is no reason to forget the
+    /// keys.
     #[error("The keys are of another salt or iteration count")]
     OtherKeys,
 

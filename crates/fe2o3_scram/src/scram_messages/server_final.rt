@@ -23,8 +23,8 @@ use std::alloc::Global;
 
 impl ScramVersion {
     /// Answers a client-final message (RFC 5802, sections 3 and 5), which has to fit the challenge,
-    /// and whose proof has to meet the stored key. Keys are compared over the whole length, whatever
-    /// the bytes are; no claim is made about time.
+    /// and whose proof has to meet the stored key. That keys are compared over the whole length,
+    /// whatever the bytes are, is read in the code and not proved; no claim is made about time.
     ///
     /// The texts are those of the challenge, as they were sent: the nonce of both sides, the
     /// client-first message without its GS2 header, and the server-first message. The version is

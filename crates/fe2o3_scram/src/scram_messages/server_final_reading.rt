@@ -44,8 +44,8 @@ impl ServerFinal {
 impl ScramVersion {
     /// Tests that the server-final message has this signature (RFC 5802, section 5), which is the
     /// second value of the client's answer, and not in base64. Parts after the first say nothing.
-    /// The signature is compared over its whole length, whatever the bytes are; no claim is made
-    /// about time.
+    /// That the signature is compared over its whole length, whatever the bytes are, is read in the
+    /// code and not proved; no claim is made about time.
     ///
     /// Refused are, in this order: `Utf8Error`; `ServerSignatureMismatch` where the first part does
     /// not begin with `v=`; `Base64DecodeError`; `ServerSignatureMismatch` for another signature.

@@ -23,7 +23,7 @@ const FIXED_LEN: usize = 18;
 /// A server-first message, and what the server keeps of the exchange so far.
 #[derive(Debug, Drop)]
 pub struct ServerFirstMessage<'a> {
-    /// The plain name of the user, borrowed where the client escaped nothing.
+    /// The plain name of the user, as `ClientFirst::parse` gives it.
     pub username: CowStr<'a>,
 
     /// The client-first message without its GS2 header.
