@@ -159,7 +159,8 @@ impl ScramClient {
         }
     }
 
-    /// The same client in the same state, which refuses an iteration count above the limit.
+    /// The same client in the same state, which refuses an iteration count above the limit. The limit is
+    /// one for each challenge: how many challenges are answered it does not bound.
     pub fn with_iteration_limit(self, limit: u32) -> Self
         ensures { result ≡ with_limits self (record { least = self.limits.least; most = limit }) }
     {

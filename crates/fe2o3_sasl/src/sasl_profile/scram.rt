@@ -156,7 +156,8 @@ impl<V: OfVersion> SaslScram<V> {
         Self::of_version(ScramClient::with_password_and_keys(username, password, keys))
     }
 
-    /// The same client, which refuses an iteration count above the limit.
+    /// The same client, which refuses an iteration count above the limit. The limit is one for each
+    /// challenge: how many challenges are answered it does not bound.
     pub fn with_iteration_limit(self, limit: u32) -> Self
         ensures { result ≡ with_limits self (record { least = self.limits.least; most = limit }) }
     {
