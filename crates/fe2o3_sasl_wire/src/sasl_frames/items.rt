@@ -1,6 +1,6 @@
 //! The items of a list, read from the first on. Nothing here takes memory.
 
-ghost use Rattle.std.specs.Prelude.{◌≡◌, Some, None, option_map, length, ◌==◌, ◌&&◌, if◌then◌else◌};
+ghost use Rattle.std.specs.Prelude.{◌≡◌, ◌≤◌, ◌-◌, Some, None, option_map, length, ◌==◌, ◌&&◌, if◌then◌else◌};
 ghost use Rattle.fe2o3_sasl_wire.specs.private.Reading.{required, optional_at, binary_at, symbol_at, string_at, symbols_at, code_at, list_at, null_at, ended};
 
 use crate::amqp_types::SaslCode;
@@ -59,38 +59,14 @@ pub(crate) fn list_at(bytes: &[u8]) -> Option<(Items<'_>, &[u8])>
 }
 
 impl<'a> Items<'a> {
-    /// The value that was read from the bytes. Moves past it, where an item is left.
+    /// Moves past an item, behind which these bytes stand.
     #[inline(always)]
-    #[tactic(auto, unfolding(crate::specs::private::Reading::required))]
-    fn take<T: Drop>(&mut self, read: Option<(T, &'a [u8])>) -> Option<T>
-        ensures { option_map (λ x. (x, self.new)) result
-            ≡ required (λ _. option_map (λ x. (x.0, x.1.now)) read.entry) self.old }
+    fn pass(&mut self, rest: &'a [u8])
+        requires { 1 ≤ self.old.0 }
+        ensures { self.new ≡ (self.old.0 - 1, rest.now) }
     {
-        if self.count == 0 {
-            return None;
-        }
-        let (value, rest) = read?;
         self.count -= 1;
         self.bytes = rest;
-        Some(value)
-    }
-
-    /// The value that was read from the bytes, or none where they begin with a null or no item is left.
-    /// Moves past what was there.
-    #[inline(always)]
-    #[tactic(auto, unfolding(crate::specs::private::Reading::required, crate::specs::private::Reading::optional_at))]
-    fn take_optional<T: Drop>(&mut self, read: Option<(T, &'a [u8])>) -> Option<Option<T>>
-        ensures { option_map (λ x. (x, self.new)) result
-            ≡ optional_at (λ _. option_map (λ x. (x.0, x.1.now)) read.entry) self.old }
-    {
-        if self.count == 0 {
-            return Some(None);
-        }
-        if let Some(rest) = null_at(self.bytes) {
-            return self.take(Some((None, rest)));
-        }
-        let value = self.take(read)?;
-        Some(Some(value))
     }
 
     /// The next item, which has to be a binary.
@@ -99,8 +75,12 @@ impl<'a> Items<'a> {
     pub(crate) fn binary(&mut self) -> Option<&'a [u8]>
         ensures { option_map (λ x. (x.now, self.new)) result ≡ required binary_at self.old }
     {
-        let read = binary_at(self.bytes);
-        self.take(read)
+        if self.count == 0 {
+            return None;
+        }
+        let (value, rest) = binary_at(self.bytes)?;
+        self.pass(rest);
+        Some(value)
     }
 
     /// The next item, which has to be an outcome's code.
@@ -109,8 +89,12 @@ impl<'a> Items<'a> {
     pub(crate) fn code(&mut self) -> Option<SaslCode>
         ensures { option_map (λ x. (x, self.new)) result ≡ required code_at self.old }
     {
-        let read = code_at(self.bytes);
-        self.take(read)
+        if self.count == 0 {
+            return None;
+        }
+        let (value, rest) = code_at(self.bytes)?;
+        self.pass(rest);
+        Some(value)
     }
 
     /// The next item, which has to be a symbol.
@@ -119,8 +103,12 @@ impl<'a> Items<'a> {
     pub(crate) fn symbol(&mut self) -> Option<&'a str>
         ensures { option_map (λ x. (x.now, self.new)) result ≡ required symbol_at self.old }
     {
-        let read = symbol_at(self.bytes);
-        self.take(read)
+        if self.count == 0 {
+            return None;
+        }
+        let (value, rest) = symbol_at(self.bytes)?;
+        self.pass(rest);
+        Some(value)
     }
 
     /// The next item, which has to be an array of symbols or one symbol.
@@ -129,8 +117,12 @@ impl<'a> Items<'a> {
     pub(crate) fn symbols(&mut self) -> Option<SymbolsView<'a>>
         ensures { option_map (λ x. (x, self.new)) result ≡ required symbols_at self.old }
     {
-        let read = symbols_at(self.bytes);
-        self.take(read)
+        if self.count == 0 {
+            return None;
+        }
+        let (value, rest) = symbols_at(self.bytes)?;
+        self.pass(rest);
+        Some(value)
     }
 
     /// The next item, which may be a binary, null or absent.
@@ -140,8 +132,16 @@ impl<'a> Items<'a> {
         ensures { option_map (λ x. (option_map (λ y. y.now) x, self.new)) result
             ≡ optional_at binary_at self.old }
     {
-        let read = binary_at(self.bytes);
-        self.take_optional(read)
+        if self.count == 0 {
+            return Some(None);
+        }
+        if let Some(rest) = null_at(self.bytes) {
+            self.pass(rest);
+            return Some(None);
+        }
+        let (value, rest) = binary_at(self.bytes)?;
+        self.pass(rest);
+        Some(Some(value))
     }
 
     /// The next item, which may be a string, null or absent.
@@ -151,8 +151,16 @@ impl<'a> Items<'a> {
         ensures { option_map (λ x. (option_map (λ y. y.now) x, self.new)) result
             ≡ optional_at string_at self.old }
     {
-        let read = string_at(self.bytes);
-        self.take_optional(read)
+        if self.count == 0 {
+            return Some(None);
+        }
+        if let Some(rest) = null_at(self.bytes) {
+            self.pass(rest);
+            return Some(None);
+        }
+        let (value, rest) = string_at(self.bytes)?;
+        self.pass(rest);
+        Some(Some(value))
     }
 
     /// That no item and no byte is left.
