@@ -1,18 +1,24 @@
 -- Worked examples of clients. Each is the client of the first examples but for one value: it has a hostname, or the
 -- keys of its password, or a floor.
-use Rattle.std.specs.Prelude.{ℕ, Some, None, List, [], ◌∷◌, ◌++◌, replicate, codes}
+use Rattle.std.specs.Prelude.{ℕ, Option, Some, None, List, [], ◌∷◌, ◌++◌, replicate, codes}
 use Rattle.fe2o3_sasl_wire.specs.declared.amqp_types.SaslCode.TheVariants as outcomes
 use Rattle.fe2o3_sasl_wire.specs.SaslFrames.{SaslFrame}
 use Rattle.fe2o3_sasl_wire.specs.SaslFrames as frames
 use Rattle.fe2o3_scram.specs.declared.hmac.ScramVersion.TheVariants.{Sha256}
 use Rattle.fe2o3_scram.specs.declared.scram_messages.error.ScramErrorKind.TheVariants.{IterationCountTooSmall}
 use Rattle.fe2o3_scram.specs.ClientKeys.{keys_of}
-use Rattle.fe2o3_scram.specs.ClientSecret.{Keys, no_limit}
+use Rattle.fe2o3_scram.specs.ClientSecret.{Secret, Keys, no_limit}
+use Rattle.fe2o3_scram.specs.declared.client_secret.IterationLimits.{IterationLimits}
 use Rattle.fe2o3_scram.specs.Texts.{joined}
 use Rattle.fe2o3_sasl.specs.ClientHistory.{Answering, ClientHistory}
 use Rattle.fe2o3_sasl.specs.Events.{ClientSays, Given, Login, Answered, Reported, OtherKeys, Refused, Scram, Started}
 use Rattle.fe2o3_sasl.specs.TwoSides.{proof_at}
 use Rattle.fe2o3_sasl.specs.examples.Examples.{answer_to, binds, body_of, both, client_bytes, event_of, login, names, offers, salt, salted, sends_init, sends_ok, sends_response, unaltered, values, verifier}
+
+-- the client of the first examples with this secret, these limits and this hostname
+abbrev pub changed : Secret → IterationLimits → Option (List ℕ) → Login
+changed secret limits hostname =
+    record { user = login.user; secret = secret; version = Sha256; limits = limits; hostname = hostname }
 
 -- ---- what all of them get and say
 
@@ -40,13 +46,7 @@ is_served = asks salt ∷ event_of client_bytes (sends_ok made) ∷ []
 -- ---- a hostname
 
 abbrev pub with_hostname : Login
-with_hostname = record {
-  user = login.user;
-  secret = login.secret;
-  version = Sha256;
-  limits = login.limits;
-  hostname = Some (codes "vhost");
-}
+with_hostname = changed login.secret login.limits (Some (codes "vhost"))
 
 -- the init with it
 abbrev pub names_host : SaslFrame
@@ -61,13 +61,7 @@ HostnamesAreSent = ClientHistory with_hostname (event_of client_bytes offers ∷
 -- ---- keys in place of the password
 
 abbrev pub with_keys : Login
-with_keys = record {
-  user = login.user;
-  secret = Keys (keys_of Sha256 (codes "pencil") salt 4096);
-  version = Sha256;
-  limits = login.limits;
-  hostname = None;
-}
+with_keys = changed (Keys (keys_of Sha256 (codes "pencil") salt 4096)) login.limits None
 
 -- they say what the password says
 abbrev pub KeysLogIn : Type 0
@@ -85,13 +79,7 @@ OtherKeysLogInLater = ClientHistory with_keys (event_of client_bytes offers ∷ 
 -- ---- a floor
 
 abbrev pub with_floor : Login
-with_floor = record {
-  user = login.user;
-  secret = login.secret;
-  version = Sha256;
-  limits = record { least = 10000; most = no_limit };
-  hostname = None;
-}
+with_floor = changed login.secret (record { least = 10000; most = no_limit }) None
 
 -- a challenge with the count 4096 is refused
 abbrev pub FloorsRefuse : Type 0

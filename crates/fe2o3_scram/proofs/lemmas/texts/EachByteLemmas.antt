@@ -76,7 +76,8 @@ pub without-index : (byte : ℕ) (text : List ℕ) → ((i : ℕ) → i < length
 without-index byte = each-index (λ other. other ≢ byte)
 
 -- a literal is without the byte where the test says so
-pub without-test : (byte : ℕ) (text : List ℕ) → list_all (λ other. not (eqb other byte)) text ≡ true → Without byte text
+pub without-test : (byte : ℕ) (text : List ℕ) → list_all (λ other. not (eqb other byte)) text ≡ true
+    → Without byte text
 without-test byte [] passes = tt
 without-test byte (x ∷ text) passes =
     let both = and_parts (not (eqb x byte)) (list_all (λ other. not (eqb other byte)) text) passes in
