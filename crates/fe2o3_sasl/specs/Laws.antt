@@ -1,5 +1,5 @@
 -- What holds of every history, and of every two. Each is the contract of a function of `laws`.
-use Rattle.std.specs.Prelude.{◌≡◌, ◌≢◌, ◌⊎◌, ℕ, suc, ◌<◌, ◌≤◌, Bool, true, false, Option, Some, List, length, take, slice_get, Ok}
+use Rattle.std.specs.Prelude.{◌≡◌, ◌≢◌, ◌↔◌, ◌⊎◌, ℕ, suc, ◌<◌, ◌≤◌, Bool, true, false, Option, Some, List, length, take, slice_get, Ok}
 use Rattle.std.specs.List.{Contains, filter}
 use Rattle.fe2o3_sasl_wire.specs.declared.amqp_types.SaslCode.{SaslCode}
 use Rattle.fe2o3_sasl_wire.specs.declared.amqp_types.SaslCode.TheVariants as outcomes
@@ -15,11 +15,11 @@ use Rattle.fe2o3_scram.specs.SaslprepAscii.{IsPrintable}
 use Rattle.fe2o3_scram.specs.Credentials.{Provider, Record, record_at}
 use Rattle.fe2o3_sasl.specs.Events.{Given, AreGiven, Login, IsLogin, IsRecord, IsSecret, ServerSays, Concluded, Failed, ClientSays, Refused, OtherKeys, OutOfMemory}
 use Rattle.fe2o3_sasl.specs.Runs.{Runs, AcceptorSteps, ProfileReplies, ProfileSteps}
-use Rattle.fe2o3_sasl.specs.SaslAcceptor.{acceptor_machine, Acceptor, ScramAcceptor}
+use Rattle.fe2o3_sasl.specs.SaslAcceptor.{acceptor_machine, acceptor_user, Acceptor, ScramAcceptor}
 use Rattle.fe2o3_sasl.specs.Profiles.{scram_profile, profile_name, Profile, ScramProfile}
 use Rattle.fe2o3_sasl.specs.Positions.{test_at, IsLastOpen}
 use Rattle.fe2o3_sasl.specs.Bodies.{SpellsBody}
-use Rattle.fe2o3_sasl.specs.ServerHistory.{Challenging, Accepted, AcceptsAt, Open, ServerHistory, is_challenge, is_ok, full_nonce, says_auth}
+use Rattle.fe2o3_sasl.specs.ServerHistory.{Challenging, Accepted, AcceptsAt, LoggedIn, Open, ServerHistory, is_challenge, is_ok, full_nonce, says_auth}
 use Rattle.fe2o3_scram.specs.ScramServer as server_states
 use Rattle.fe2o3_sasl.specs.TwoSides.{Sides, Histories, Takes, Shows, Agree, HasParts, IsPlainInit, client_message, server_message}
 use Rattle.fe2o3_sasl.specs.Headline.{VerifierAgrees, EveryServer, EveryClient}
@@ -44,6 +44,13 @@ abbrev pub AcceptorRunsAreHistories : Type 0
 AcceptorRunsAreHistories = (provider : Provider) (events : List Given) (replies : List ServerSays) (last : Acceptor)
     → Runs (AcceptorSteps acceptor_machine) (ScramAcceptor provider server_states.Initial) events replies last
     → ServerHistory provider events replies
+
+-- and behind it the acceptor names who has logged in by that history
+abbrev pub AcceptorRunsNameUsers : Type 0
+AcceptorRunsNameUsers = (provider : Provider) (events : List Given) (replies : List ServerSays) (last : Acceptor)
+    (user : List ℕ)
+    → Runs (AcceptorSteps acceptor_machine) (ScramAcceptor provider server_states.Initial) events replies last
+    → (acceptor_user last ≡ Some user) ↔ LoggedIn provider events replies (length replies) user
 
 -- each run of a SCRAM profile's machine from its first state is a client history
 abbrev pub ProfileRunsAreHistories : Type 0
@@ -164,6 +171,13 @@ abbrev pub OneAuditEach : Type 0
 OneAuditEach = (login : Login) (client_events : List Given) (provider : Provider) (server_events : List Given)
     (findings others : List Finding) → AuditsEvents login client_events provider server_events findings
     → AuditsEvents login client_events provider server_events others → findings ≡ others
+
+-- the user of an agreed finding has logged in behind its Ok
+abbrev pub AgreedUsersAreNamed : Type 0
+AgreedUsersAreNamed = (sides : Sides) (findings : List Finding) (finding : Finding) (user nonce : List ℕ)
+    (parameters : Option Parameters) → Audits sides findings → Contains findings finding
+    → finding.verdict ≡ Agreed user nonce parameters
+    → LoggedIn sides.provider sides.server_events sides.server_replies (suc finding.server) user
 
 -- two positions whose events carry one nonce
 abbrev pub RepeatsNonce : List Given → ℕ → ℕ → Type 0

@@ -1,6 +1,6 @@
 -- What holds of every acceptor and every profile, of SCRAM and of the other mechanisms. Each is the contract of a
 -- clause of `laws::mechanisms`.
-use Rattle.std.specs.Prelude.{◌≡◌, ◌≢◌, ℕ, Option, List, [], ◌∷◌, ◌++◌, map, Result, Ok}
+use Rattle.std.specs.Prelude.{◌≡◌, ◌≢◌, ℕ, Bool, true, Option, List, [], ◌∷◌, ◌++◌, map, Result, Ok}
 use Rattle.std.specs.List.{AllByRecursion, Contains}
 use Rattle.fe2o3_sasl_wire.specs.declared.amqp_types.SaslCode.{SaslCode}
 use Rattle.fe2o3_sasl_wire.specs.declared.amqp_types.SaslCode.TheVariants as outcomes
@@ -25,33 +25,35 @@ OneProfileReply = (profile : Profile) (hostname : Option (List ℕ)) (nonce : Li
     → (reply ≡ other) × (next ≡ last)
 
 -- the profile answers the names that the acceptor offers with an init, and the acceptor this init with an outcome
--- of this code; both stay as they are
-abbrev pub EndsWith : Acceptor → Profile → SaslCode → Type 0
-EndsWith acceptor profile code = (hostname : Option (List ℕ)) (client_nonce server_nonce : List ℕ)
+-- of this code; the profile stays as it is, and this is the acceptor behind it
+abbrev pub EndsWith : Acceptor → Profile → SaslCode → Acceptor → Type 0
+EndsWith acceptor profile code next = (hostname : Option (List ℕ)) (client_nonce server_nonce : List ℕ)
     → (init : SaslFrame)
     × profile_machine profile hostname client_nonce (frames.Mechanisms (offered (acceptor_names acceptor)))
     (Ok init) profile
-    × acceptor_machine acceptor server_nonce init (ends_with code) acceptor
+    × acceptor_machine acceptor server_nonce init (ends_with code) next
 
 -- PLAIN lets in the same user with the same password, in words without zero bytes (RFC 4616, section 2)
 abbrev pub PlainLetsIn : Type 0
-PlainLetsIn = (user password : List ℕ) → NoZero user → NoZero password
-    → EndsWith (PlainAcceptor user password) (PlainProfile user password) outcomes.Ok
+PlainLetsIn = (user password : List ℕ) (accepted : Bool) → NoZero user → NoZero password
+    → EndsWith (PlainAcceptor user password accepted) (PlainProfile user password) outcomes.Ok
+    (PlainAcceptor user password true)
 
 -- and refuses every other user and password in such words
 abbrev pub PlainRefuses : Type 0
-PlainRefuses = (user password other secret : List ℕ) → NoZero other → NoZero secret
+PlainRefuses = (user password other secret : List ℕ) (accepted : Bool) → NoZero other → NoZero secret
     → ¬ ((user ≡ other) × (password ≡ secret))
-    → EndsWith (PlainAcceptor user password) (PlainProfile other secret) outcomes.Auth
+    → EndsWith (PlainAcceptor user password accepted) (PlainProfile other secret) outcomes.Auth
+    (PlainAcceptor user password accepted)
 
 -- ANONYMOUS lets in whoever asks for it (RFC 4505, section 2)
 abbrev pub AnonymousLetsIn : Type 0
-AnonymousLetsIn = EndsWith AnonymousAcceptor AnonymousProfile outcomes.Ok
+AnonymousLetsIn = EndsWith AnonymousAcceptor AnonymousProfile outcomes.Ok AnonymousAcceptor
 
 -- both are of one mechanism; EXTERNAL has no acceptor
 abbrev pub AreOfOneMechanism : Acceptor → Profile → Type 0
 AreOfOneMechanism (ScramAcceptor provider state) (ScramProfile client) = client.version ≡ provider.version
-AreOfOneMechanism (PlainAcceptor user password) (PlainProfile other secret) = Unit {0}
+AreOfOneMechanism (PlainAcceptor user password accepted) (PlainProfile other secret) = Unit {0}
 AreOfOneMechanism AnonymousAcceptor AnonymousProfile = Unit {0}
 AreOfOneMechanism acceptor profile = ⊥
 

@@ -1,5 +1,5 @@
 -- What an acceptor answers to one frame (AMQP 1.0, part 5, section 5.3.2).
-use Rattle.std.specs.Prelude.{◌≡◌, ◌≢◌, ◌⊎◌, ℕ, Option, Some, None, List, [], ◌∷◌, codes, slice_get, string_bytes, Result, Ok}
+use Rattle.std.specs.Prelude.{◌≡◌, ◌≢◌, ◌⊎◌, ℕ, Bool, true, Option, Some, None, List, [], ◌∷◌, codes, slice_get, string_bytes, Result, Ok}
 use Rattle.std.specs.List.{AllByRecursion, join_with_byte}
 use Rattle.fe2o3_sasl_wire.specs.declared.amqp_types.SaslCode.{SaslCode}
 use Rattle.fe2o3_sasl_wire.specs.declared.amqp_types.SaslCode.TheVariants as outcomes
@@ -12,19 +12,25 @@ use Rattle.fe2o3_sasl.specs.declared.sasl_acceptor.SaslServerFrame.TheVariants a
 use Rattle.fe2o3_scram.specs.declared.scram_messages.error.ServerScramErrorKind.{ServerScramErrorKind}
 use Rattle.fe2o3_scram.specs.Credentials.{Provider}
 use Rattle.fe2o3_scram.specs.Hmac.{mechanism_name}
-use Rattle.fe2o3_scram.specs.ScramServer.{ServerState, ChallengesFrom, ConcludesFrom}
+use Rattle.fe2o3_scram.specs.ScramServer.{ServerState, logged_in, ChallengesFrom, ConcludesFrom}
 
 -- the acceptors, each with all that its answers depend on: SCRAM over a provider, in a state; PLAIN for one
--- user, and ANONYMOUS, which keep none
+-- user, which also knows whether it has accepted; and ANONYMOUS, which keeps nothing
 pub data Acceptor : Type 0 where
   ScramAcceptor : (provider : Provider) → (state : ServerState) → Acceptor
-  PlainAcceptor : (user password : List ℕ) → Acceptor
+  PlainAcceptor : (user password : List ℕ) → (accepted : Bool) → Acceptor
   AnonymousAcceptor : Acceptor
+
+-- who has logged in, from an Ok on and up to the next challenge; ANONYMOUS does not ask
+abbrev pub acceptor_user : Acceptor → Option (List ℕ)
+acceptor_user (ScramAcceptor provider state) = logged_in state
+acceptor_user (PlainAcceptor user password true) = Some user
+acceptor_user acceptor = None
 
 -- the names of its mechanisms
 abbrev pub acceptor_names : Acceptor → List (List ℕ)
 acceptor_names (ScramAcceptor provider state) = mechanism_name provider.version ∷ []
-acceptor_names (PlainAcceptor user password) = codes "PLAIN" ∷ []
+acceptor_names (PlainAcceptor user password accepted) = codes "PLAIN" ∷ []
 acceptor_names AnonymousAcceptor = codes "ANONYMOUS" ∷ []
 
 -- the names that a server offers: ANONYMOUS where it has none (AMQP 1.0, part 5, section 5.3.3.1)
@@ -69,11 +75,12 @@ acceptor_machine (ScramAcceptor provider state) nonce (frames.Response text) rep
     × ConcludesFrom state provider text answer after
     × (reply ≡ server_frame (λ message. frames.Outcome outcomes.Ok (Some message)) answer)
     × (next ≡ ScramAcceptor provider after)
-acceptor_machine (PlainAcceptor user password) nonce (frames.Init mechanism (Some text) hostname) reply next =
-    ((NamesPlain user password text × (reply ≡ ends_with outcomes.Ok))
-    ⊎ (¬ NamesPlain user password text × (reply ≡ ends_with outcomes.Auth))) × (next ≡ PlainAcceptor user password)
-acceptor_machine (PlainAcceptor user password) nonce (frames.Response text) reply next =
-    (reply ≡ ends_with outcomes.Sys) × (next ≡ PlainAcceptor user password)
+acceptor_machine (PlainAcceptor user password accepted) nonce (frames.Init mechanism (Some text) hostname) reply next =
+    (NamesPlain user password text × (reply ≡ ends_with outcomes.Ok) × (next ≡ PlainAcceptor user password true))
+    ⊎ (¬ NamesPlain user password text × (reply ≡ ends_with outcomes.Auth)
+    × (next ≡ PlainAcceptor user password accepted))
+acceptor_machine (PlainAcceptor user password accepted) nonce (frames.Response text) reply next =
+    (reply ≡ ends_with outcomes.Sys) × (next ≡ PlainAcceptor user password accepted)
 acceptor_machine AnonymousAcceptor nonce (frames.Init mechanism response hostname) reply next =
     (reply ≡ ends_with outcomes.Ok) × (next ≡ AnonymousAcceptor)
 acceptor_machine AnonymousAcceptor nonce (frames.Response text) reply next =
@@ -84,7 +91,8 @@ acceptor_machine acceptor nonce frame reply next = ⊥
 
 -- the acceptor of PLAIN that a value is
 abbrev pub plain_acceptor : SaslPlainMechanism → Acceptor
-plain_acceptor mechanism = PlainAcceptor (string_bytes mechanism.username) (string_bytes mechanism.password)
+plain_acceptor mechanism =
+    PlainAcceptor (string_bytes mechanism.username) (string_bytes mechanism.password) mechanism.accepted
 
 -- the frame that an acceptor sends
 abbrev pub sent_frame : SaslServerFrame → SaslFrame

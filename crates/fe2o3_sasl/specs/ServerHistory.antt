@@ -120,6 +120,15 @@ AcceptsAt provider events replies n accepted =
     (event : Given) × (frame : SaslFrame) × (slice_get events n ≡ Some event) × SpellsBody event.body (Ok frame)
     × FitsAsResponse provider (Open provider events replies n) frame accepted
 
+-- the response at n is accepted, and its challenge was to this user's init
+abbrev pub AcceptsUser : Provider → List Given → List ServerSays → ℕ → List ℕ → Type 0
+AcceptsUser provider events replies n user =
+    (accepted : Accepted) × AcceptsAt provider events replies n accepted × (user ≡ accepted.challenge.client.user)
+
+-- who has logged in at k: the user of the last outcome Ok before k, where no challenge stands between
+abbrev pub LoggedIn : Provider → List Given → List ServerSays → ℕ → List ℕ → Type 0
+LoggedIn provider events replies k user = OpenBy is_ok is_challenge (AcceptsUser provider events replies) replies k user
+
 -- a reply for each event: the one that the table gives, or want of memory where memory may be wanting
 pub record ServerHistory (provider : Provider) (events : List Given) (replies : List ServerSays) : Type 0 where
   pub count : length replies ≡ length events

@@ -6,7 +6,7 @@ ghost use Rattle.fe2o3_sasl.specs.MechanismLaws.{OneAcceptorReply, OneProfileRep
 ghost use Rattle.fe2o3_sasl.specs.examples.ClientExamples.{FloorsRefuse, HostnamesAreSent, KeysLogIn, OtherKeysLogInLater};
 ghost use Rattle.fe2o3_sasl.specs.examples.Examples.{PremisesCanBeMet, RefusalsAreUnaltered, ShiftedTextsPass};
 ghost use Rattle.fe2o3_sasl.specs.Headline.{EveryServer, EveryClient, AnswersOkExactly, ReportsOkExactly, TakenVerifiersAgree};
-ghost use Rattle.fe2o3_sasl.specs.Laws.{OneServerHistory, OneClientHistory, SomeServerHistory, SomeClientHistory, AcceptorRunsAreHistories, ProfileRunsAreHistories, KeyedRunsAreRuns, KeyedRunsAreHistories, OksWithinChallenges, RepeatedResponsesAreRefused, OneResponseOneNonce, RefusalsLeaveOpen, PositionsAreUsedOnce, EqualMessagesAgree, NoShortExtensions, TakenVerifiersAreJudged, ShownProofsAreJudged, OneVerdictEach, OneAuditEach, RepeatedClientPositions, RepeatedServerPositions, RepeatedClientFindings, RepeatedServerFindings, ClientsLogIn, ServersLogIn, ServersWantMemory, ClientsWantMemory, ProfilesWantMemory};
+ghost use Rattle.fe2o3_sasl.specs.Laws.{OneServerHistory, OneClientHistory, SomeServerHistory, SomeClientHistory, AcceptorRunsAreHistories, AcceptorRunsNameUsers, AgreedUsersAreNamed, ProfileRunsAreHistories, KeyedRunsAreRuns, KeyedRunsAreHistories, OksWithinChallenges, RepeatedResponsesAreRefused, OneResponseOneNonce, RefusalsLeaveOpen, PositionsAreUsedOnce, EqualMessagesAgree, NoShortExtensions, TakenVerifiersAreJudged, ShownProofsAreJudged, OneVerdictEach, OneAuditEach, RepeatedClientPositions, RepeatedServerPositions, RepeatedClientFindings, RepeatedServerFindings, ClientsLogIn, ServersLogIn, ServersWantMemory, ClientsWantMemory, ProfilesWantMemory};
 
 pub use fe2o3_scram::laws::{
     base64_texts, clone_of_version, digests, each_text_is_read, escaped_names, kept_keys,
@@ -36,6 +36,14 @@ pub fn one_history_each()
 pub fn runs_are_histories()
     ensures acceptor { AcceptorRunsAreHistories }
     ensures profile { ProfileRunsAreHistories }
+{}
+
+/// Who logged in. Behind a run over any list of bodies a SCRAM acceptor names a user exactly where an
+/// accepted response stands in it with no challenge behind it, and it is the user of the init that this
+/// response answered; and the user of an agreed finding of an audit is named behind its Ok.
+pub fn users()
+    ensures runs { AcceptorRunsNameUsers }
+    ensures agreed { AgreedUsersAreNamed }
 {}
 
 /// A client that keeps the keys of a password runs as the client with the password, as long as servers

@@ -26,7 +26,8 @@ pub use crate::runs::{
     run_profile, scram_client_run, scram_client_run_limited, scram_server_run,
 };
 pub use crate::sasl_acceptor::{
-    SaslAcceptor, SaslAcceptorExt, SaslAnonymousMechanism, SaslPlainMechanism, SaslServerFrame,
+    NamesUser, SaslAcceptor, SaslAcceptorExt, SaslAnonymousMechanism, SaslPlainMechanism,
+    SaslServerFrame,
 };
 pub use crate::sasl_profile::{
     Negotiation, ProfileError, SaslProfile, SaslScramSha1, SaslScramSha256, SaslScramSha512,

@@ -1,13 +1,14 @@
 //! The server's side of a negotiation: what it answers to an init and to a response (AMQP 1.0, part
 //! 5, section 5.3.2).
 
-ghost use Rattle.std.specs.Prelude.{◌≡◌, ◌≢◌, ◌↔◌, ⊤, Ok, Some, ℕ, List, [], ◌∷◌, true, refl, IfOk, IfErr, IsOk, OnErr, MatchOption, IsAscii, option_map, string_bytes};
+ghost use Rattle.std.specs.Prelude.{◌≡◌, ◌≢◌, ◌↔◌, ⊤, Ok, Some, None, ℕ, List, [], ◌∷◌, Option, true, false, refl, IfOk, IfErr, IsOk, OnErr, MatchOption, IsAscii, option_map, string_bytes};
 ghost use Rattle.fe2o3_sasl_wire.specs.AmqpTypes.{init_frame, response_frame, mechanisms_frame};
 ghost use Rattle.fe2o3_sasl_wire.specs.SaslFrames.{SaslFrame, Mechanisms, Challenge, Outcome};
 ghost use Rattle.fe2o3_sasl_wire.specs.declared.amqp_types.SaslCode.TheVariants.{Ok as OkCode, Auth};
 ghost use Rattle.fe2o3_scram.specs.declared.scram_messages.error.ServerScramErrorKind.TheVariants.{OutOfMemory as ScramOutOfMemory};
-ghost use Rattle.fe2o3_scram.specs.ScramServer.{provider_in, state_in};
-ghost use Rattle.fe2o3_sasl.specs.SaslAcceptor.{Acceptor, ScramAcceptor, PlainAcceptor, AnonymousAcceptor, acceptor_names, acceptor_machine, offered, NamesPlain, ZeroPart, ends_with, server_frame, plain_acceptor, sent_frame};
+ghost use Rattle.std.proofs.Common.{ap};
+ghost use Rattle.fe2o3_scram.specs.ScramServer.{provider_in, state_in, logged_in};
+ghost use Rattle.fe2o3_sasl.specs.SaslAcceptor.{Acceptor, ScramAcceptor, PlainAcceptor, AnonymousAcceptor, acceptor_names, acceptor_machine, acceptor_user, offered, NamesPlain, ZeroPart, ends_with, server_frame, plain_acceptor, sent_frame};
 
 use crate::OutOfMemory;
 use crate::mechanism_names::{ANONYMOUS, PLAIN, symbol_of};
@@ -93,6 +94,20 @@ pub trait SaslAcceptorExt: SaslAcceptor {
 
 impl<T: SaslAcceptor> SaslAcceptorExt for T {}
 
+/// An acceptor that tells who has logged in.
+pub trait NamesUser: SaslAcceptor {
+    ghost named: { Self → Option (List ℕ) };
+
+    /// The name of the user of its last Ok, and `None` before it, from the next challenge on, and where
+    /// its mechanism names nobody. A refusal leaves it as it was: read it at the Ok.
+    fn user(&self) -> Option<&str>
+        ensures { option_map (λ user. user.now) result ≡ named self.now };
+
+    /// It is told by its state.
+    ghost named_by_state: { (acceptor other : Self) → Self.state other ≡ Self.state acceptor
+        → named other ≡ named acceptor };
+}
+
 /// The list of one ASCII name.
 fn one_name(alloc: Global, name: &str) -> Result<Array<Symbol>, OutOfMemory>
     requires { IsAscii name.now }
@@ -136,14 +151,30 @@ fn has_zero_part(bytes: &[u8], k: usize, wanted: &[u8]) -> bool
 pub struct SaslPlainMechanism {
     username: String,
     password: String,
+    accepted: bool,
 }
 
 impl SaslPlainMechanism {
     /// An acceptor of this user with this password.
     pub fn new(username: String, password: String) -> Self
-        ensures { plain_acceptor result ≡ PlainAcceptor (string_bytes username) (string_bytes password) }
+        ensures { plain_acceptor result ≡ PlainAcceptor (string_bytes username) (string_bytes password) false }
     {
-        Self { username, password }
+        Self {
+            username,
+            password,
+            accepted: false,
+        }
+    }
+
+    /// The user's name, once an init was answered Ok.
+    pub fn user(&self) -> Option<&str>
+        ensures { option_map (λ user. user.now) result ≡ acceptor_user (plain_acceptor self.now) }
+    {
+        if self.accepted {
+            Some(&self.username)
+        } else {
+            None
+        }
     }
 
     /// Whether the message names the user and the password.
@@ -174,6 +205,7 @@ impl Clone for SaslPlainMechanism {
         Ok(Self {
             username: self.username.clone()?,
             password: self.password.clone()?,
+            accepted: self.accepted,
         })
     }
 }
@@ -206,11 +238,11 @@ impl SaslAcceptor for SaslPlainMechanism {
         let Some(message) = &init.initial_response else {
             return Ok(outcome(SaslCode::Auth));
         };
-        Ok(outcome(if self.is_named_by(&message.0) {
-            SaslCode::Ok
-        } else {
-            SaslCode::Auth
-        }))
+        if !self.is_named_by(&message.0) {
+            return Ok(outcome(SaslCode::Auth));
+        }
+        self.accepted = true;
+        Ok(outcome(SaslCode::Ok))
     }
 
     fn on_response(
@@ -224,6 +256,16 @@ impl SaslAcceptor for SaslPlainMechanism {
     {
         drop(response);
         Ok(outcome(SaslCode::Sys))
+    }
+}
+
+impl NamesUser for SaslPlainMechanism {
+    ghost named = { λ mechanism. acceptor_user (plain_acceptor mechanism) };
+
+    ghost named_by_state = { λ acceptor other same. ap acceptor_user same };
+
+    fn user(&self) -> Option<&str> {
+        SaslPlainMechanism::user(self)
     }
 }
 
@@ -297,6 +339,16 @@ impl SaslAcceptor for SaslAnonymousMechanism {
     }
 }
 
+impl NamesUser for SaslAnonymousMechanism {
+    ghost named = { λ _. None };
+
+    ghost named_by_state = { λ acceptor other same. refl };
+
+    fn user(&self) -> Option<&str> {
+        None
+    }
+}
+
 impl<C: ScramCredentialProvider> SaslAcceptor for ScramAuthenticator<C> {
     ghost State = { Acceptor };
 
@@ -341,6 +393,16 @@ impl<C: ScramCredentialProvider> SaslAcceptor for ScramAuthenticator<C> {
             Ok(answer) => Ok(conclusion(answer)),
             Err(kind) => refusal(kind),
         }
+    }
+}
+
+impl<C: ScramCredentialProvider> NamesUser for ScramAuthenticator<C> {
+    ghost named = { λ authenticator. logged_in (state_in authenticator) };
+
+    ghost named_by_state = { λ acceptor other same. ap acceptor_user same };
+
+    fn user(&self) -> Option<&str> {
+        ScramAuthenticator::user(self)
     }
 }
 

@@ -12,11 +12,16 @@ use Rattle.fe2o3_scram.specs.ClientFinal.{ReachesBase64, server_of}
 use Rattle.fe2o3_scram.specs.ServerFinal.{AnswersClientFinal, FinalCosts}
 use Rattle.fe2o3_scram.specs.declared.scram_server.ScramAuthenticator.{ScramAuthenticator}
 
--- what a server has sent last (RFC 5802, section 5): an open challenge, or the end of a login
+-- what a server has sent last (RFC 5802, section 5): an open challenge, or the end of the login of a user
 pub data ServerState : Type 0 where
   Initial : ServerState
   ServerFirstSent : (challenge : Challenge) → ServerState
-  ServerFinalSent : ServerState
+  ServerFinalSent : (user : List ℕ) → ServerState
+
+-- who has logged in, where no later challenge has opened the login anew
+abbrev pub logged_in : ServerState → Option (List ℕ)
+logged_in (ServerFinalSent user) = Some user
+logged_in state = None
 
 -- what a server answers to a client-first message in whatever state (RFC 5802, section 5), and its state after it: a
 -- challenge takes the place of an earlier one, an unknown user and a refusal change nothing
@@ -31,13 +36,14 @@ ChallengesFrom state provider nonce text (Err fault) next =
     AnswersClientFirst provider.records (base64_text nonce) text (Err fault) × (next ≡ state)
 
 -- what a server answers to a client-final message (RFC 5802, section 5), and its state after it: an accepted one
--- closes the challenge, a refused one changes nothing, and without an open challenge it is refused unread
+-- closes the challenge and logs its user in, a refused one changes nothing, and without an open challenge it is
+-- refused unread
 abbrev pub ConcludesFrom : ServerState → Provider → List ℕ → Result (Option (List ℕ)) ServerScramErrorKind → ServerState
     → Type 0
 ConcludesFrom (ServerFirstSent challenge) provider text (Ok (Some message)) next =
     (stored : Record) × (record_at provider.records challenge.user ≡ Some stored)
     × AnswersClientFinal (server_of provider.version challenge.bare challenge.first challenge.nonce stored) text
-    (Ok message) × (next ≡ ServerFinalSent)
+    (Ok message) × (next ≡ ServerFinalSent challenge.user)
 ConcludesFrom (ServerFirstSent challenge) provider text (Err fault) next =
     (((stored : Record) × (record_at provider.records challenge.user ≡ Some stored)
     × AnswersClientFinal (server_of provider.version challenge.bare challenge.first challenge.nonce stored) text
@@ -66,7 +72,7 @@ abbrev pub state_of : ScramAuthenticatorState → ServerState
 state_of CodeInitial = Initial
 state_of (CodeServerFirstSent user bare nonce first) =
     ServerFirstSent (record { user = string_bytes user; bare = bare; first = first; nonce = nonce })
-state_of CodeServerFinalSent = ServerFinalSent
+state_of (CodeServerFinalSent user) = ServerFinalSent (string_bytes user)
 
 -- the provider that it holds
 abbrev pub provider_in : {C : Type 0} → ScramAuthenticator C → C

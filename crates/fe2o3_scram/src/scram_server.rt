@@ -1,8 +1,8 @@
 //! The SCRAM server as a machine: one message after the other (RFC 5802, section 5).
 
 ghost use Rattle.std.specs.Prelude.{◌≡◌, ◌≤◌, ◌^◌, IfOk, OnErr, option_map};
-ghost use Rattle.fe2o3_scram.specs.ScramServer.{provider_in, state_in, Initial, ChallengesFrom, ConcludesFrom, FinalCostsFrom, ReachesBase64In, state_of};
-ghost use Rattle.fe2o3_scram.specs.ServerFirst.{ReachesChallenge};
+ghost use Rattle.fe2o3_scram.specs.ScramServer.{provider_in, state_in, Initial, ServerFirstSent, ServerFinalSent, logged_in, ChallengesFrom, ConcludesFrom, FinalCostsFrom, ReachesBase64In, state_of};
+ghost use Rattle.fe2o3_scram.specs.ServerFirst.{Challenge, ReachesChallenge};
 ghost use Rattle.fe2o3_scram.specs.Readings.{Gives};
 
 use crate::OutOfMemory;
@@ -14,6 +14,7 @@ use crate::texts::base64_of_nonce;
 use bytes::Bytes;
 use std::alloc::{AllocError, Global};
 use std::fmt;
+use std::mem;
 
 /// What a server has sent last.
 #[derive(Drop)]
@@ -25,7 +26,9 @@ enum ScramAuthenticatorState {
         client_server_nonce: Bytes,
         server_first_message: Bytes,
     },
-    ServerFinalSent,
+    ServerFinalSent {
+        username: String,
+    },
 }
 
 impl ScramAuthenticatorState {
@@ -46,8 +49,25 @@ impl ScramAuthenticatorState {
                 client_server_nonce: client_server_nonce.clone()?,
                 server_first_message: server_first_message.clone()?,
             },
-            ScramAuthenticatorState::ServerFinalSent => ScramAuthenticatorState::ServerFinalSent,
+            ScramAuthenticatorState::ServerFinalSent { username } => {
+                ScramAuthenticatorState::ServerFinalSent {
+                    username: username.clone()?,
+                }
+            }
         })
+    }
+
+    /// The state once the open challenge is accepted: its user has logged in.
+    fn accepted(self) -> ScramAuthenticatorState
+        ensures { (challenge : Challenge) → state_of self ≡ ServerFirstSent challenge
+            → state_of result ≡ ServerFinalSent challenge.user }
+    {
+        match self {
+            ScramAuthenticatorState::ServerFirstSent { username, .. } => {
+                ScramAuthenticatorState::ServerFinalSent { username }
+            }
+            other => other,
+        }
     }
 }
 
@@ -77,6 +97,19 @@ impl<C: ScramCredentialProvider> ScramAuthenticator<C> {
         ensures { result.now ≡ provider_in self.now }
     {
         &self.credentials
+    }
+
+    /// The name of the user who has logged in: that of the client-first message whose challenge the last
+    /// accepted client-final message answered. `None` before that, and from the next challenge on. A
+    /// refusal, and a client-first message of an unknown user, leave it as it was: read it where a
+    /// client-final message was accepted.
+    pub fn user(&self) -> Option<&str>
+        ensures { option_map (λ user. user.now) result ≡ logged_in (state_in self.now) }
+    {
+        match &self.state {
+            ScramAuthenticatorState::ServerFinalSent { username } => Some(username),
+            _ => None,
+        }
     }
 
     /// Answers a client-first message with the server-first message (RFC 5802, sections 5 and 7), or
@@ -192,7 +225,8 @@ impl<C: ScramCredentialProvider> ScramAuthenticator<C> {
                         &stored_password,
                         meter,
                     )?;
-                self.state = ScramAuthenticatorState::ServerFinalSent;
+                let open = mem::replace(&mut self.state, ScramAuthenticatorState::Initial);
+                self.state = open.accepted();
                 Ok(Some(server_final_message))
             }
             _ => Err(ServerScramErrorKind::IllegalAuthenticatorState),

@@ -1,14 +1,15 @@
--- Findings that repeat a position are of events with one nonce.
-use Rattle.std.proofs.Common.{◌≡◌, ◌⊎◌, ℕ, zero, suc, ◌<◌, true, false, Option, Some, None, List, [], ◌∷◌, ◌++◌, refl, sym, subst, arith, inl, inr}
+-- The user of an agreed finding has logged in, and findings that repeat a position are of events with one nonce.
+use Rattle.std.proofs.Common.{◌≡◌, ◌⊎◌, ℕ, zero, suc, ◌<◌, true, false, Option, Some, None, List, [], ◌∷◌, ◌++◌, refl, sym, ap, subst, arith, inl, inr}
 use Rattle.std.specs.Prelude.{slice_get}
 use Rattle.std.specs.List.{AllByRecursion, Contains}
 use Rattle.fe2o3_sasl.specs.Audit.{Parameters, Verdict, Agreed, AreAgreed, JudgesVerifier, JudgesProof, FindingKind, OfVerifier, OfProof, Finding, IsVerifierFinding, IsProofFinding, Audits}
 use Rattle.fe2o3_sasl.specs.ClientHistory.{Answering, OpenAnswer, is_start, is_answer, ends_answer}
 use Rattle.fe2o3_sasl.specs.Events.{IsRecord, ClientSays, Started, Answered, Reported, Refused}
-use Rattle.fe2o3_sasl.specs.Laws.{Start, FromTwoStarts, FromTwoChallenges, TakesAgreed, ShowsAgreed, HoldsRecords, RepeatedClientFindings, RepeatedServerFindings}
+use Rattle.fe2o3_sasl.specs.Laws.{AgreedUsersAreNamed, Start, FromTwoStarts, FromTwoChallenges, TakesAgreed, ShowsAgreed, HoldsRecords, RepeatedClientFindings, RepeatedServerFindings}
 use Rattle.fe2o3_sasl.specs.Positions.{test_at, IsLastOpen}
-use Rattle.fe2o3_sasl.specs.ServerHistory.{Accepted}
+use Rattle.fe2o3_sasl.specs.ServerHistory.{Accepted, LoggedIn, is_challenge, is_ok}
 use Rattle.fe2o3_sasl.specs.TwoSides.{Sides, OkAt, IsPlainInit}
+use Rattle.fe2o3_sasl.proofs.lemmas.positions.PositionLemmas.{opens_here}
 use Rattle.fe2o3_sasl.proofs.lemmas.lists.EachLemmas.{each_append, each_weaker}
 use Rattle.fe2o3_sasl.proofs.lemmas.histories.RepeatedNonceLemmas.{not_none, repeated_client_positions, repeated_server_positions}
 use Rattle.fe2o3_sasl.proofs.lemmas.two_sides.EqualMessageLemmas.{is_challenging, accepts_open}
@@ -108,6 +109,31 @@ shown_finding sides finding user nonce parameters is agreed =
       shown = (answer, is.1.2, values.0);
       plain = is_plain sides answer accepted user nonce parameters values;
     }
+
+-- ---- who has logged in
+
+-- behind an accepted response it is its user
+logged : (sides : Sides) (n : ℕ) (accepted : Accepted) (user : List ℕ) → OkAt sides n accepted
+    → user ≡ accepted.challenge.client.user
+    → LoggedIn sides.provider sides.server_events sides.server_replies (suc n) user
+logged sides n accepted user ok same = (
+  n,
+  opens_here is_ok is_challenge sides.server_replies n (ap (test_at is_ok) ok.says),
+  (accepted, ok.accepts, same),
+)
+
+pub agreed_users_are_named : AgreedUsersAreNamed
+agreed_users_are_named sides findings finding user nonce parameters audits contains agreed =
+    go (is_finding sides findings finding audits contains)
+  where
+    go : IsFinding sides finding
+        → LoggedIn sides.provider sides.server_events sides.server_replies (suc finding.server) user
+    go (inl is) =
+        let values = verifier_agrees sides is.1.0 is.1.1 finding.verdict user nonce parameters is.1.4 agreed in
+        logged sides finding.server is.1.1 user is.1.2.ok values.2
+    go (inr is) =
+        let values = proof_agrees sides is.1.0 is.1.1 finding.verdict user nonce parameters is.1.3 agreed in
+        logged sides finding.server is.1.1 user is.1.2.ok values.2
 
 -- ---- the last start before an answer is the last one before what reports on it
 

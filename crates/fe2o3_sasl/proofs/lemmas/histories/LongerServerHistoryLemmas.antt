@@ -9,7 +9,7 @@ use Rattle.fe2o3_sasl_wire.specs.SaslFrames.{SaslFrame}
 use Rattle.fe2o3_scram.specs.Credentials.{Provider}
 use Rattle.fe2o3_sasl.specs.Events.{Given, ServerSays, Failed}
 use Rattle.fe2o3_sasl.specs.Bodies.{SpellsBody}
-use Rattle.fe2o3_sasl.specs.ServerHistory.{Challenging, FitsAt, Open, ServerAnswers, ServerAllocates, ServerHistory, is_challenge, is_ok}
+use Rattle.fe2o3_sasl.specs.ServerHistory.{Challenging, Accepted, FitsAt, FitsAsResponse, AcceptsUser, Open, ServerAnswers, ServerAllocates, ServerHistory, is_challenge, is_ok}
 use Rattle.fe2o3_sasl.proofs.lemmas.positions.OpenStateLemmas.{AreSame, open_by_front}
 use Rattle.fe2o3_sasl.proofs.lemmas.positions.PositionLemmas.{slice_get-front, slice_get-behind, below_or_at}
 
@@ -35,11 +35,55 @@ fits_same provider events more k l = (
   λ c h. (h.0, h.1, sym (slice_get-front events more k l) ∙ h.2, h.3, h.4),
 )
 
-open_same : (provider : Provider) (events more : List Given) (replies others : List ServerSays) (k : ℕ)
+pub open_same : (provider : Provider) (events more : List Given) (replies others : List ServerSays) (k : ℕ)
     → length replies ≡ length events → k ≤ length replies
     → AreSame (Open provider events replies k) (Open provider (events ++ more) (replies ++ others) k)
 open_same provider events more replies others k n l = open_by_front is_challenge is_ok (FitsAt provider events)
     (FitsAt provider (events ++ more)) replies others k l (λ j b. fits_same provider events more j (omega (arith, n)))
+
+-- a response fits as it did where the same challenges are open
+pub response_moves : (provider : Provider) (IsOpen Other : Challenging → Type 0)
+    → ((challenge : Challenging) → IsOpen challenge → Other challenge) → (frame : SaslFrame) (accepted : Accepted)
+    → FitsAsResponse provider IsOpen frame accepted → FitsAsResponse provider Other frame accepted
+response_moves provider IsOpen Other to (frames.Response text) accepted fits =
+    (to accepted.challenge fits.0, fits.1)
+response_moves provider IsOpen Other to (frames.Init mechanism response hostname) accepted fits = absurd fits
+response_moves provider IsOpen Other to (frames.Mechanisms names) accepted fits = absurd fits
+response_moves provider IsOpen Other to (frames.Challenge text) accepted fits = absurd fits
+response_moves provider IsOpen Other to (frames.Outcome code more) accepted fits = absurd fits
+
+-- the user of an accepted response is the same where the list goes on
+pub users_same : (provider : Provider) (events more : List Given) (replies others : List ServerSays) (k : ℕ)
+    → length replies ≡ length events → k < length replies
+    → AreSame (AcceptsUser provider events replies k) (AcceptsUser provider (events ++ more) (replies ++ others) k)
+users_same provider events more replies others k n l =
+    let opens = open_same provider events more replies others k n (omega arith) in
+    let at = slice_get-front events more k (omega (arith, n)) in (
+      λ user h. (
+        h.0,
+        (
+          h.1.0,
+          h.1.1,
+          at ∙ h.1.2,
+          h.1.3,
+          response_moves provider (Open provider events replies k)
+              (Open provider (events ++ more) (replies ++ others) k) opens.0 h.1.1 h.0 h.1.4,
+        ),
+        h.2,
+      ),
+      λ user h. (
+        h.0,
+        (
+          h.1.0,
+          h.1.1,
+          sym at ∙ h.1.2,
+          h.1.3,
+          response_moves provider (Open provider (events ++ more) (replies ++ others) k)
+              (Open provider events replies k) opens.1 h.1.1 h.0 h.1.4,
+        ),
+        h.2,
+      ),
+    )
 
 -- what a history says of a reply
 abbrev pub Says : Provider → (Challenging → Type 0) → Given → ServerSays → Type 0

@@ -58,12 +58,12 @@ offers_agree (ScramAcceptor provider state) AnonymousProfile =
     (λ has. absurd ((other_name provider.version).1 (the_one _ _ has)), λ same. absurd same)
 offers_agree (ScramAcceptor provider state) ExternalProfile =
     (λ has. absurd ((other_name provider.version).2 (the_one _ _ has)), λ same. absurd same)
-offers_agree (PlainAcceptor user password) (ScramProfile client) =
+offers_agree (PlainAcceptor user password accepted) (ScramProfile client) =
     (λ has. absurd ((other_name client.version).0 (sym (the_one _ _ has))), λ same. absurd same)
-offers_agree (PlainAcceptor user password) (PlainProfile other secret) = (λ has. tt, λ same. contains_one _)
-offers_agree (PlainAcceptor user password) AnonymousProfile =
+offers_agree (PlainAcceptor user password accepted) (PlainProfile other secret) = (λ has. tt, λ same. contains_one _)
+offers_agree (PlainAcceptor user password accepted) AnonymousProfile =
     (λ has. absurd (differ _ _ refl (the_one _ _ has)), λ same. absurd same)
-offers_agree (PlainAcceptor user password) ExternalProfile =
+offers_agree (PlainAcceptor user password accepted) ExternalProfile =
     (λ has. absurd (differ _ _ refl (the_one _ _ has)), λ same. absurd same)
 offers_agree AnonymousAcceptor (ScramProfile client) =
     (λ has. absurd ((other_name client.version).1 (sym (the_one _ _ has))), λ same. absurd same)
@@ -93,17 +93,17 @@ names_differ login password =
 -- ---- PLAIN and ANONYMOUS
 
 pub plain_lets_in : PlainLetsIn
-plain_lets_in user password plain too hostname client_nonce server_nonce = (
+plain_lets_in user password accepted plain too hostname client_nonce server_nonce = (
   frames.Init (codes "PLAIN") (initial_response (PlainProfile user password) client_nonce) hostname,
   inl (contains_one _, refl, refl),
-  (inl (names_both user password plain too, refl), refl),
+  inl (names_both user password plain too, refl, refl),
 )
 
 pub plain_refuses : PlainRefuses
-plain_refuses user password other secret plain too apart hostname client_nonce server_nonce = (
+plain_refuses user password other secret accepted plain too apart hostname client_nonce server_nonce = (
   frames.Init (codes "PLAIN") (initial_response (PlainProfile other secret) client_nonce) hostname,
   inl (contains_one _, refl, refl),
-  (inr (λ names. apart (names_no_other user password other secret plain too names), refl), refl),
+  inr (λ names. apart (names_no_other user password other secret plain too names), refl, refl),
 )
 
 pub anonymous_lets_in : AnonymousLetsIn

@@ -71,7 +71,7 @@ challenge_made state provider nonce text (Err fault) next is = (Err fault, is.0,
 
 -- the turn to a client-final message that was read against this record
 abbrev final_turn : Challenge → Server → Result ClientFinal ServerScramErrorKind → ServerTurn
-final_turn challenge server (Ok final) = (Ok (Some (server_final_of server final)), server_states.ServerFinalSent)
+final_turn challenge server (Ok final) = (Ok (Some (server_final_of server final)), server_states.ServerFinalSent challenge.user)
 final_turn challenge server (Err fault) = (Err fault, server_states.ServerFirstSent challenge)
 
 -- the turn to a client-final message where the challenge is open: the record is there, or is not
@@ -120,9 +120,9 @@ one_conclusion server_states.Initial provider text (Ok message) other next last 
 one_conclusion server_states.Initial provider text (Err fault) (Ok message) next last is too = absurd too
 one_conclusion server_states.Initial provider text (Err fault) (Err kind) next last is too =
     λ i. (Err ((is.0 ∙ sym too.0) i), (is.1 ∙ sym too.1) i)
-one_conclusion server_states.ServerFinalSent provider text (Ok message) other next last is too = absurd is
-one_conclusion server_states.ServerFinalSent provider text (Err fault) (Ok message) next last is too = absurd too
-one_conclusion server_states.ServerFinalSent provider text (Err fault) (Err kind) next last is too =
+one_conclusion (server_states.ServerFinalSent user) provider text (Ok message) other next last is too = absurd is
+one_conclusion (server_states.ServerFinalSent user) provider text (Err fault) (Ok message) next last is too = absurd too
+one_conclusion (server_states.ServerFinalSent user) provider text (Err fault) (Err kind) next last is too =
     λ i. (Err ((is.0 ∙ sym too.0) i), (is.1 ∙ sym too.1) i)
 
 -- ---- an acceptor
@@ -163,15 +163,15 @@ one_acceptor_reply (ScramAcceptor provider state) nonce (frames.Response text) r
     let again : ServerTurn = (too.0, too.1) in
     turn_taken provider (λ message. frames.Outcome outcomes.Ok (Some message)) turn again reply other next last
     (one_conclusion state provider text is.0 too.0 is.1 too.1 is.2 too.2) is.3 is.4 too.3 too.4
-one_acceptor_reply (PlainAcceptor user password) nonce (frames.Init mechanism (Some text) hostname) reply other next
-    last (inl is, n) (inl too, l) = (is.1 ∙ sym too.1, n ∙ sym l)
-one_acceptor_reply (PlainAcceptor user password) nonce (frames.Init mechanism (Some text) hostname) reply other next
-    last (inl is, n) (inr too, l) = absurd (too.0 is.0)
-one_acceptor_reply (PlainAcceptor user password) nonce (frames.Init mechanism (Some text) hostname) reply other next
-    last (inr is, n) (inl too, l) = absurd (is.0 too.0)
-one_acceptor_reply (PlainAcceptor user password) nonce (frames.Init mechanism (Some text) hostname) reply other next
-    last (inr is, n) (inr too, l) = (is.1 ∙ sym too.1, n ∙ sym l)
-one_acceptor_reply (PlainAcceptor user password) nonce (frames.Response text) reply other next last is too =
+one_acceptor_reply (PlainAcceptor user password accepted) nonce (frames.Init mechanism (Some text) hostname) reply other
+    next last (inl is) (inl too) = (is.1 ∙ sym too.1, is.2 ∙ sym too.2)
+one_acceptor_reply (PlainAcceptor user password accepted) nonce (frames.Init mechanism (Some text) hostname) reply other
+    next last (inl is) (inr too) = absurd (too.0 is.0)
+one_acceptor_reply (PlainAcceptor user password accepted) nonce (frames.Init mechanism (Some text) hostname) reply other
+    next last (inr is) (inl too) = absurd (is.0 too.0)
+one_acceptor_reply (PlainAcceptor user password accepted) nonce (frames.Init mechanism (Some text) hostname) reply other
+    next last (inr is) (inr too) = (is.1 ∙ sym too.1, is.2 ∙ sym too.2)
+one_acceptor_reply (PlainAcceptor user password accepted) nonce (frames.Response text) reply other next last is too =
     both_are _ _ reply other next last is too
 one_acceptor_reply AnonymousAcceptor nonce (frames.Init mechanism response hostname) reply other next last is too =
     both_are _ _ reply other next last is too

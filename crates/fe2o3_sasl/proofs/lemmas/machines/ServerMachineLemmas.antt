@@ -1,4 +1,5 @@
--- A run of the SCRAM acceptor's machine is a server history: its state holds the challenge that is open.
+-- A run of the SCRAM acceptor's machine is a server history: its state holds the challenge that is open, and names who
+-- has logged in.
 use Rattle.std.proofs.Common.{◌≡◌, ◌≢◌, ◌⊎◌, ℕ, false, Option, Some, None, List, [], ◌∷◌, ◌++◌, length, refl, sym, ap, ◌∙◌, subst, arith, inl, inr, Result, Ok, Err, append_assoc}
 use Rattle.std.specs.Prelude.{slice_get}
 use Rattle.std.proofs.lemmas.List.{append-nil}
@@ -15,22 +16,22 @@ use Rattle.fe2o3_scram.specs.ServerFirst.{Challenge, challenge_of}
 use Rattle.fe2o3_scram.specs.ClientFirst.{ClientFirst}
 use Rattle.fe2o3_scram.specs.Credentials.{Record, Provider, record_at}
 use Rattle.fe2o3_sasl.specs.Events.{Given, ServerSays, Challenged, Concluded, Failed}
-use Rattle.fe2o3_sasl.specs.Laws.{AcceptorRunsAreHistories}
+use Rattle.fe2o3_sasl.specs.Laws.{AcceptorRunsAreHistories, AcceptorRunsNameUsers}
 use Rattle.fe2o3_scram.specs.Hmac.{mechanism_name}
 use Rattle.fe2o3_sasl.specs.Runs.{AcceptorGives, AcceptorSteps, Sends, server_says, Runs}
-use Rattle.fe2o3_sasl.specs.SaslAcceptor.{acceptor_machine, Acceptor, ScramAcceptor, ends_with, server_frame}
+use Rattle.fe2o3_sasl.specs.SaslAcceptor.{acceptor_machine, acceptor_user, Acceptor, ScramAcceptor, ends_with, server_frame}
 use Rattle.fe2o3_scram.specs.ClientFinal.{ReadsClientFinal, server_of}
 use Rattle.fe2o3_sasl.specs.Bodies.{SpellsBody, carried}
-use Rattle.fe2o3_sasl.specs.ServerHistory.{Challenging, Accepted, FitsAsInit, FitsAsResponse, FitsAt, Open, ServerAnswers, ServerAllocates, ServerHistory, is_challenge, is_ok, first_message, full_nonce, final_message, server_at, says_auth}
-use Rattle.fe2o3_scram.specs.ScramServer.{ServerState, Initial, ServerFirstSent, ServerFinalSent, ChallengesFrom, ConcludesFrom}
+use Rattle.fe2o3_sasl.specs.ServerHistory.{Challenging, Accepted, FitsAsInit, FitsAsResponse, FitsAt, AcceptsUser, Open, ServerAnswers, ServerAllocates, ServerHistory, is_challenge, is_ok, first_message, full_nonce, final_message, server_at, says_auth}
+use Rattle.fe2o3_scram.specs.ScramServer.{ServerState, Initial, ServerFirstSent, ServerFinalSent, logged_in, ChallengesFrom, ConcludesFrom}
 use Rattle.fe2o3_scram.proofs.lemmas.messages.ClientFinalLemmas.{one_client_final}
 use Rattle.fe2o3_scram.proofs.lemmas.messages.ClientFirstLemmas.{one_client_first}
-use Rattle.fe2o3_sasl.proofs.lemmas.positions.OpenStateLemmas.{Holds, Turns, holds_nothing, holds_push}
+use Rattle.fe2o3_sasl.proofs.lemmas.positions.OpenStateLemmas.{Holds, OfOne, Turns, holds_nothing, holds_push}
 use Rattle.fe2o3_scram.proofs.lemmas.messages.OneValueLemmas.{one_client_first_value}
 use Rattle.fe2o3_sasl.proofs.lemmas.positions.PositionLemmas.{slice_get-behind}
-use Rattle.fe2o3_sasl.proofs.lemmas.histories.OneServerHistoryLemmas.{one_fits_at}
+use Rattle.fe2o3_sasl.proofs.lemmas.histories.OneServerHistoryLemmas.{one_fits_at, one_accepted}
 use Rattle.fe2o3_sasl.proofs.lemmas.frames.SpellingLemmas.{sent}
-use Rattle.fe2o3_sasl.proofs.lemmas.histories.LongerServerHistoryLemmas.{fits_same, Says, says_moves, history_push}
+use Rattle.fe2o3_sasl.proofs.lemmas.histories.LongerServerHistoryLemmas.{fits_same, open_same, users_same, response_moves, Says, says_moves, history_push}
 
 -- ---- the state and the challenge that is open
 
@@ -43,10 +44,16 @@ Shown None state = (challenge : Challenge) → state ≢ ServerFirstSent challen
 abbrev Known : Provider → Option Challenging → Type 0
 Known provider held = (c : Challenging) → held ≡ Some c → record_at provider.records c.client.user ≡ Some c.stored
 
--- a step, as a history has it: what it says, what is open behind it, and that the state has it
+-- the frame is a response that is accepted, and this is the user of the challenge that is open
+abbrev Logs : Provider → Option Challenging → Result SaslFrame Error → List ℕ → Type 0
+Logs provider held spelled user = (frame : SaslFrame) × (spelled ≡ Ok frame) × (p : Accepted)
+    × FitsAsResponse provider (λ c. held ≡ Some c) frame p × (user ≡ p.challenge.client.user)
+
+-- a step, as a history has it: what it says, what is open behind it and who has logged in, and that the state has both
 record Stepped (provider : Provider) (held : Option Challenging) (event : Given) (spelled : Result SaslFrame Error)
-    (says : ServerSays) (next : ServerState) : Type 0 where
+    (says : ServerSays) (state next : ServerState) : Type 0 where
   after : Option Challenging
+  names : Turns is_ok is_challenge (Logs provider held spelled) (logged_in state) says (logged_in next)
   answers : (ServerAllocates spelled × (says ≡ Failed faults.OutOfMemory))
       ⊎ ServerAnswers provider (λ c. held ≡ Some c) event spelled says
   turns : Turns is_challenge is_ok (λ c. (frame : SaslFrame) × (spelled ≡ Ok frame) × FitsAsInit provider event frame c)
@@ -58,9 +65,16 @@ idle : (provider : Provider) (held : Option Challenging) (event : Given) (spelle
     (says : ServerSays) (state next : ServerState) → is_challenge says ≡ false → is_ok says ≡ false → next ≡ state
     → Shown held state
     → (ServerAllocates spelled × (says ≡ Failed faults.OutOfMemory))
-    ⊎ ServerAnswers provider (λ c. held ≡ Some c) event spelled says → Stepped provider held event spelled says next
+    ⊎ ServerAnswers provider (λ c. held ≡ Some c) event spelled says
+    → Stepped provider held event spelled says state next
 idle provider held event spelled says state next c o e shown answers =
-    record { after = held; answers = answers; turns = inr (inr (c, o, refl)); shown = subst (Shown held) (sym e) shown }
+    record {
+      after = held;
+      names = inr (inr (o, c, ap logged_in e));
+      answers = answers;
+      turns = inr (inr (c, o, refl));
+      shown = subst (Shown held) (sym e) shown;
+    }
 
 -- where the machine leaves the state, what is sent leaves it too
 stays : {S A : Type 0} (too_large : A) (says : List ℕ → A) (body : Option (List ℕ)) (state moved : S) (reply : A)
@@ -81,7 +95,7 @@ auth_init : (provider : Provider) (held : Option Challenging) (event : Given) (m
     → ((c : Challenging) → ¬ FitsAsInit provider event (frames.Init mechanism response hostname) c)
     → reply ≡ ends_with outcomes.Auth → moved ≡ state
     → Sends (Failed faults.TooLarge) (server_says reply) (canonical reply) state moved says next
-    → Stepped provider held event (Ok (frames.Init mechanism response hostname)) says next
+    → Stepped provider held event (Ok (frames.Init mechanism response hostname)) says state next
 auth_init provider held event mechanism response hostname says state moved next reply shown unfit r m h =
     let g = subst (λ (f : SaslFrame). Sends (Failed faults.TooLarge) (server_says f)
     (canonical f) state moved says next) r h in
@@ -98,7 +112,7 @@ auth_response : (provider : Provider) (held : Option Challenging) (event : Given
     → ((p : Accepted) → ¬ FitsAsResponse provider (λ c. held ≡ Some c) (frames.Response text) p)
     → reply ≡ ends_with outcomes.Auth → moved ≡ state
     → Sends (Failed faults.TooLarge) (server_says reply) (canonical reply) state moved says next
-    → Stepped provider held event (Ok (frames.Response text)) says next
+    → Stepped provider held event (Ok (frames.Response text)) says state next
 auth_response provider held event text says state moved next reply shown unfit r m h =
     let g = subst (λ (f : SaslFrame). Sends (Failed faults.TooLarge) (server_says f)
     (canonical f) state moved says next) r h in
@@ -116,12 +130,13 @@ challenge_step : (provider : Provider) (held : Option Challenging) (event : Give
     → moved ≡ ServerFirstSent (challenge_of c.client c.nonce c.stored)
     → Sends (Failed faults.TooLarge) (λ b. Challenged b) body state moved says next
     → ServerAnswers provider (λ c. held ≡ Some c) event (Ok frame) says
-    → Stepped provider held event (Ok frame) says next
+    → Stepped provider held event (Ok frame) says state next
 challenge_step provider held event frame c None says state moved next shown fits m h answers =
     idle provider held event (Ok frame) says state next (ap is_challenge h.0) (ap is_ok h.0) h.1 shown (inr answers)
 challenge_step provider held event frame c (Some body) says state moved next shown fits m h answers =
     record {
       after = Some c;
+      names = inr (inl (ap is_ok h.0, ap is_challenge h.0, ap logged_in (h.1 ∙ m)));
       answers = inr answers;
       turns =
           inl (ap is_challenge h.0, (c, (frame, refl, fits), refl));
@@ -129,16 +144,18 @@ challenge_step provider held event frame c (Some body) says state moved next sho
     }
 
 -- an Ok that is sent, or too large
-ok_step : (provider : Provider) (held : Option Challenging) (event : Given) (frame : SaslFrame) (body : Option (List ℕ))
-    (says : ServerSays) (state moved next : ServerState) → Shown held state → moved ≡ ServerFinalSent
+ok_step : (provider : Provider) (held : Option Challenging) (event : Given) (frame : SaslFrame) (p : Accepted)
+    (body : Option (List ℕ)) (says : ServerSays) (state moved next : ServerState) → Shown held state
+    → FitsAsResponse provider (λ c. held ≡ Some c) frame p → moved ≡ ServerFinalSent p.challenge.client.user
     → Sends (Failed faults.TooLarge) (λ b. Concluded outcomes.Ok b) body state moved says next
     → ServerAnswers provider (λ c. held ≡ Some c) event (Ok frame) says
-    → Stepped provider held event (Ok frame) says next
-ok_step provider held event frame None says state moved next shown m h answers =
+    → Stepped provider held event (Ok frame) says state next
+ok_step provider held event frame p None says state moved next shown fits m h answers =
     idle provider held event (Ok frame) says state next (ap is_challenge h.0) (ap is_ok h.0) h.1 shown (inr answers)
-ok_step provider held event frame (Some body) says state moved next shown m h answers =
+ok_step provider held event frame p (Some body) says state moved next shown fits m h answers =
     record {
       after = None;
+      names = inl (ap is_ok h.0, (p.challenge.client.user, (frame, refl, p, fits, refl), ap logged_in (h.1 ∙ m)));
       answers = inr answers;
       turns = inr (inl (ap is_challenge h.0, ap is_ok h.0, refl));
       shown =
@@ -154,7 +171,7 @@ init_step : (provider : Provider) (held : Option Challenging) (event : Given) (m
     → ChallengesFrom state provider event.nonce text answer moved
     → reply ≡ server_frame (λ message. frames.Challenge message) answer
     → Sends (Failed faults.TooLarge) (server_says reply) (canonical reply) state moved says next
-    → Stepped provider held event (Ok (frames.Init mechanism (Some text) hostname)) says next
+    → Stepped provider held event (Ok (frames.Init mechanism (Some text) hostname)) says state next
 init_step provider held event mechanism text hostname says state moved next reply
     (Ok (Some message)) shown name from r h =
     let challenge = from.0 in
@@ -194,7 +211,8 @@ response_step : (provider : Provider) (c : Challenging) (event : Given) (text : 
     → reply ≡ server_frame (λ message. frames.Outcome outcomes.Ok (Some message)) answer
     → Sends (Failed faults.TooLarge) (server_says reply) (canonical reply)
     (ServerFirstSent (challenge_of c.client c.nonce c.stored)) moved says next
-    → Stepped provider (Some c) event (Ok (frames.Response text)) says next
+    → Stepped provider (Some c) event (Ok (frames.Response text)) says
+    (ServerFirstSent (challenge_of c.client c.nonce c.stored)) next
 response_step provider c event text says moved next reply (Ok (Some message)) known from r h =
     let stored = same_server provider c from.0 known from.1 in
     let final = from.2.0 in
@@ -213,9 +231,9 @@ response_step provider c event text says moved next reply (Ok (Some message)) kn
     let e = (sent (Failed faults.TooLarge) (λ b. Concluded outcomes.Ok b)
     (canonical (frames.Outcome outcomes.Ok (Some (final_message provider p))))
     (ServerFirstSent (challenge_of c.client c.nonce c.stored)) moved says next g).0 in
-    ok_step provider (Some c) event (frames.Response text)
+    ok_step provider (Some c) event (frames.Response text) p
     (canonical (frames.Outcome outcomes.Ok (Some (final_message provider p))))
-    says (ServerFirstSent (challenge_of c.client c.nonce c.stored)) moved next refl from.3 g
+    says (ServerFirstSent (challenge_of c.client c.nonce c.stored)) moved next refl (refl, reads) from.3 g
     (inl (p, (refl, reads), e))
 response_step provider c event text says moved next reply (Ok None) known from r h = absurd from
 response_step provider c event text says moved next reply (Err fault) known from r h =
@@ -245,16 +263,16 @@ closed_step : (provider : Provider) (event : Given) (text : List ℕ) (says : Se
     → Shown None state → ConcludesFrom state provider text answer moved
     → reply ≡ server_frame (λ message. frames.Outcome outcomes.Ok (Some message)) answer
     → Sends (Failed faults.TooLarge) (server_says reply) (canonical reply) state moved says next
-    → Stepped provider None event (Ok (frames.Response text)) says next
+    → Stepped provider None event (Ok (frames.Response text)) says state next
 closed_step provider event text says (ServerFirstSent challenge) moved next reply answer shown from r h =
     absurd (shown challenge refl)
 closed_step provider event text says Initial moved next reply (Ok message) shown from r h = absurd from
 closed_step provider event text says Initial moved next reply (Err fault) shown from r h =
     auth_response provider None event text says Initial moved next reply shown
     (λ p fits. none-some p.challenge fits.0) r from.1 h
-closed_step provider event text says ServerFinalSent moved next reply (Ok message) shown from r h = absurd from
-closed_step provider event text says ServerFinalSent moved next reply (Err fault) shown from r h =
-    auth_response provider None event text says ServerFinalSent moved next reply shown
+closed_step provider event text says (ServerFinalSent user) moved next reply (Ok message) shown from r h = absurd from
+closed_step provider event text says (ServerFinalSent user) moved next reply (Err fault) shown from r h =
+    auth_response provider None event text says (ServerFinalSent user) moved next reply shown
     (λ p fits. none-some p.challenge fits.0) r from.1 h
 
 -- ---- one step
@@ -278,7 +296,7 @@ gives_init : (provider : Provider) (held : Option Challenging) (event : Given) (
     → Shown held state
     → machine provider state event.nonce (frames.Init mechanism response hostname) reply moved
     → Sends (Failed faults.TooLarge) (server_says reply) (canonical reply) state moved says next
-    → Stepped provider held event (Ok (frames.Init mechanism response hostname)) says next
+    → Stepped provider held event (Ok (frames.Init mechanism response hostname)) says state next
 gives_init provider held event mechanism None hostname says state moved next reply shown m h =
     auth_init provider held event mechanism None hostname says state moved next reply shown (λ c fits. fits) m.0 m.1 h
 gives_init provider held event mechanism (Some text) hostname says state moved next reply shown (inl m) h =
@@ -291,19 +309,21 @@ gives_response : (provider : Provider) (held : Option Challenging) (event : Give
     (state moved next : ServerState) (reply : SaslFrame) → Shown held state → Known provider held
     → machine provider state event.nonce (frames.Response text) reply moved
     → Sends (Failed faults.TooLarge) (server_says reply) (canonical reply) state moved says next
-    → Stepped provider held event (Ok (frames.Response text)) says next
+    → Stepped provider held event (Ok (frames.Response text)) says state next
 gives_response provider None event text says state moved next reply shown known m h =
     closed_step provider event text says state moved next reply m.0 shown m.1 m.2 h
 gives_response provider (Some c) event text says state moved next reply shown known m h =
-    response_step provider c event text says moved next reply m.0 (known c refl)
+    subst (λ (s : ServerState). Stepped provider (Some c) event (Ok (frames.Response text)) says s next) (sym shown)
+    (response_step provider c event text says moved next reply m.0 (known c refl)
     (subst (λ (s : ServerState). ConcludesFrom s provider text m.0 moved) shown m.1) m.2
     (subst (λ (s : ServerState). Sends (Failed faults.TooLarge) (server_says reply)
-    (canonical reply) s moved says next) shown h)
+    (canonical reply) s moved says next) shown h))
 
 -- what the machine gives is what the table gives
 stepped : (provider : Provider) (held : Option Challenging) (event : Given) (spelled : Result SaslFrame Error)
     (says : ServerSays) (state next : ServerState) → Shown held state → Known provider held
-    → AcceptorGives (machine provider) state event spelled says next → Stepped provider held event spelled says next
+    → AcceptorGives (machine provider) state event spelled says next
+    → Stepped provider held event spelled says state next
 stepped provider held event (Err fault) says state next shown known h =
     idle provider held event (Err fault) says state next (ap is_challenge h.0) (ap is_ok h.0) h.1 shown (inr h.0)
 stepped provider held event (Ok (frames.Mechanisms names)) says state next shown known h =
@@ -344,15 +364,28 @@ known provider events replies held holds c e = let o = holds.found c e in stored
     stored event (frames.Init mechanism None hostname) h = absurd h
     stored event (frames.Init mechanism (Some text) hostname) h = h.2
 
+-- one user is accepted at a position at most
+one_user : (provider : Provider) (events : List Given) (replies : List ServerSays) (n : ℕ)
+    → OfOne (AcceptsUser provider events replies n)
+one_user provider events replies n user other h k =
+    h.2 ∙ (ap (λ (p : Accepted). p.challenge.client.user) (one_accepted provider events replies n h.0 k.0 h.1 k.1)
+    ∙ sym k.2)
+
+-- what a run leaves: a history, and the user whom the state names is the one who has logged in
+abbrev Left : Provider → List Given → List ServerSays → ServerState → Type 0
+Left provider events replies last = ServerHistory provider events replies
+    × Holds is_ok is_challenge (AcceptsUser provider events replies) replies (logged_in last)
+
 runs_on : (provider : Provider) (events more : List Given) (replies others : List ServerSays)
-    (held : Option Challenging) (state last : ServerState) → ServerHistory provider events replies
+    (held : Option Challenging) (state last : ServerState) → Left provider events replies state
     → Holds is_challenge is_ok (FitsAt provider events) replies held → Shown held state
     → Runs (AcceptorSteps (machine provider)) state more others last
-    → ServerHistory provider (events ++ more) (replies ++ others)
+    → Left provider (events ++ more) (replies ++ others) last
 runs_on provider events [] replies others held state last h holds shown run =
-    subst (λ (x : List Given). ServerHistory provider x (replies ++ others)) (sym (append-nil events))
-    (subst (λ (x : List ServerSays). ServerHistory provider events (replies ++ x)) (sym run.0)
-    (subst (λ (x : List ServerSays). ServerHistory provider events x) (sym (append-nil replies)) h))
+    subst (λ (x : List Given). Left provider x (replies ++ others) last) (sym (append-nil events))
+    (subst (λ (x : List ServerSays). Left provider events (replies ++ x) last) (sym run.0)
+    (subst (λ (x : List ServerSays). Left provider events x last) (sym (append-nil replies))
+    (subst (λ (s : ServerState). Left provider events replies s) (sym run.1) h)))
 runs_on provider events (e ∷ more) replies others held state last h holds shown run =
     let says = run.0 in
     let spelled = run.3.0 in
@@ -362,20 +395,24 @@ runs_on provider events (e ∷ more) replies others held state last h holds show
     says_moves provider (λ c. held ≡ Some c) (Open provider events replies (length replies))
     (holds.found, holds.only) e says
     (spelled, run.3.1, step.answers) in
-    let pushed = history_push provider events replies e says h told in
+    let pushed = history_push provider events replies e says h.0 told in
     let there : slice_get (events ++ e ∷ []) (length replies) ≡ Some e =
-    ap (slice_get (events ++ e ∷ [])) h.count ∙ slice_get-behind events e [] in
+    ap (slice_get (events ++ e ∷ [])) h.0.count ∙ slice_get-behind events e [] in
     let turns = turned spelled says step.after there run.3.1 step.turns in
     let kept = holds_push is_challenge is_ok (FitsAt provider events)
     (FitsAt provider (events ++ e ∷ [])) replies says held step.after
-    (λ j b. fits_same provider events (e ∷ []) j (omega (arith, h.count)))
+    (λ j b. fits_same provider events (e ∷ []) j (omega (arith, h.0.count)))
     (one_fits_at provider (events ++ e ∷ []) (length replies)) holds turns in
-    let rest = runs_on provider (events ++ e ∷ []) more (replies ++ says ∷ []) run.2 step.after run.1 last pushed kept
-    step.shown
-    run.5 in
-    subst (λ (x : List ServerSays). ServerHistory provider (events ++ e ∷ more) (replies ++ x)) (sym run.4)
-    (subst (λ (x : List Given). ServerHistory provider x (replies ++ says ∷ run.2)) (append_assoc events (e ∷ []) more)
-    (subst (λ (x : List ServerSays). ServerHistory provider ((events ++ e ∷ []) ++ more) x)
+    let named = holds_push is_ok is_challenge (AcceptsUser provider events replies)
+    (AcceptsUser provider (events ++ e ∷ []) (replies ++ says ∷ [])) replies says (logged_in state) (logged_in run.1)
+    (λ j b. users_same provider events (e ∷ []) replies (says ∷ []) j h.0.count b)
+    (one_user provider (events ++ e ∷ []) (replies ++ says ∷ []) (length replies)) h.1
+    (logged spelled says run.1 there run.3.1 step.names) in
+    let rest = runs_on provider (events ++ e ∷ []) more (replies ++ says ∷ []) run.2 step.after run.1 last
+    (pushed, named) kept step.shown run.5 in
+    subst (λ (x : List ServerSays). Left provider (events ++ e ∷ more) (replies ++ x) last) (sym run.4)
+    (subst (λ (x : List Given). Left provider x (replies ++ says ∷ run.2) last) (append_assoc events (e ∷ []) more)
+    (subst (λ (x : List ServerSays). Left provider ((events ++ e ∷ []) ++ more) x last)
     (append_assoc replies (says ∷ []) run.2) rest))
   where
     turned : (spelled : Result SaslFrame Error) (says : ServerSays) (after : Option Challenging)
@@ -400,6 +437,37 @@ runs_on provider events (e ∷ more) replies others held state last h holds show
           ),
         )
     turned spelled says after there spells (inr t) = inr t
+
+    logged : (spelled : Result SaslFrame Error) (says : ServerSays) (next : ServerState)
+        → slice_get (events ++ e ∷ []) (length replies) ≡ Some e → SpellsBody e.body spelled
+        → Turns is_ok is_challenge (Logs provider held spelled) (logged_in state) says (logged_in next)
+        → Turns is_ok is_challenge
+        (AcceptsUser provider (events ++ e ∷ []) (replies ++ says ∷ []) (length replies)) (logged_in state) says
+        (logged_in next)
+    logged spelled says next there spells (inl t) =
+        let same = open_same provider events (e ∷ []) replies (says ∷ []) (length replies) h.0.count (omega arith) in
+        let fits = response_moves provider (λ c. held ≡ Some c)
+        (Open provider (events ++ e ∷ []) (replies ++ says ∷ []) (length replies))
+        (λ c is. same.0 c (holds.found c is)) t.1.1.0 t.1.1.2 t.1.1.3 in
+        inl (
+          t.0,
+          (
+            t.1.0,
+            (
+              t.1.1.2,
+              (
+                e,
+                t.1.1.0,
+                there,
+                subst (λ (s : Result SaslFrame Error). SpellsBody e.body s) t.1.1.1 spells,
+                fits,
+              ),
+              t.1.1.4,
+            ),
+            t.1.2,
+          ),
+        )
+    logged spelled says next there spells (inr t) = inr t
 
 -- ---- the provider stays, and the state alone moves
 
@@ -457,20 +525,38 @@ gives_back provider state event (Ok (frames.Response text)) says next (inr h) =
 
 runs_back : (provider : Provider) (state : ServerState) (events : List Given) (replies : List ServerSays)
     (last : Acceptor) → Runs (AcceptorSteps acceptor_machine) (ScramAcceptor provider state) events replies last
-    → (end : ServerState) × Runs (AcceptorSteps (machine provider)) state events replies end
-runs_back provider state [] replies last h = (state, (h.0, refl))
+    → (end : ServerState) × (last ≡ ScramAcceptor provider end)
+    × Runs (AcceptorSteps (machine provider)) state events replies end
+runs_back provider state [] replies last h = (state, h.1, (h.0, refl))
 runs_back provider state (event ∷ events) replies last h =
     let g = gives_back provider state event h.3.0 h.0 h.1 h.3.2 in
     let r = runs_back provider g.0 events h.2 last
     (subst (λ (x : Acceptor). Runs (AcceptorSteps acceptor_machine) x events h.2 last) g.1 h.5) in
-    (r.0, (h.0, g.0, h.2, (h.3.0, h.3.1, g.2), h.4, r.1))
+    (r.0, r.1, (h.0, g.0, h.2, (h.3.0, h.3.1, g.2), h.4, r.2))
+
+-- what a run from the first state leaves
+left : (provider : Provider) (events : List Given) (replies : List ServerSays) (last : Acceptor)
+    → Runs (AcceptorSteps acceptor_machine) (ScramAcceptor provider Initial) events replies last
+    → (end : ServerState) × (last ≡ ScramAcceptor provider end) × Left provider events replies end
+left provider events replies last run =
+    let back = runs_back provider Initial events replies last run in (
+      back.0,
+      back.1,
+      runs_on provider [] events [] replies None Initial back.0 (
+        record {
+          count = refl;
+          each = λ k event s at said. absurd (none-some event at);
+        },
+        holds_nothing is_ok is_challenge (AcceptsUser provider [] []),
+      )
+          (holds_nothing is_challenge is_ok (FitsAt provider [])) (λ challenge e. absurd (cc)) back.2,
+    )
 
 pub acceptor_runs_are_histories : AcceptorRunsAreHistories
-acceptor_runs_are_histories P es rs last run =
-    let back = runs_back P Initial es rs last run in
-    runs_on P [] es [] rs None Initial back.0 (record {
-      count = refl;
-      each =
-          λ k event s at said. absurd (none-some event at);
-    }) (holds_nothing is_challenge is_ok (FitsAt P []))
-    (λ challenge e. absurd (cc)) back.1
+acceptor_runs_are_histories provider events replies last run = (left provider events replies last run).2.0
+
+pub acceptor_runs_name_users : AcceptorRunsNameUsers
+acceptor_runs_name_users provider events replies last user run =
+    let end = left provider events replies last run in
+    let names : acceptor_user last ≡ logged_in end.0 = ap acceptor_user end.1 in
+    (λ is. end.2.1.found user (sym names ∙ is), λ logged. names ∙ end.2.1.only user logged)

@@ -84,7 +84,8 @@ some_conclusion : (state : ServerState) (provider : Provider) (text : List ℕ)
     → (answer : Result (Option (List ℕ)) ServerScramErrorKind) × (after : ServerState)
     × ConcludesFrom state provider text answer after
 some_conclusion Initial provider text = (Err IllegalAuthenticatorState, Initial, (refl, refl))
-some_conclusion ServerFinalSent provider text = (Err IllegalAuthenticatorState, ServerFinalSent, (refl, refl))
+some_conclusion (ServerFinalSent user) provider text =
+    (Err IllegalAuthenticatorState, ServerFinalSent user, (refl, refl))
 some_conclusion (ServerFirstSent challenge) provider text = known (record_at provider.records challenge.user) refl
   where
     read : (stored : Record) → record_at provider.records challenge.user ≡ Some stored
@@ -95,7 +96,7 @@ some_conclusion (ServerFirstSent challenge) provider text = known (record_at pro
     read stored is (Ok final) reads = (
       Ok (Some (server_final_of (server_of provider.version challenge.bare challenge.first challenge.nonce stored)
           final)),
-      ServerFinalSent,
+      ServerFinalSent challenge.user,
       (stored, is, (final, reads, refl), refl),
     )
     read stored is (Err fault) reads = (Err fault, ServerFirstSent challenge, (inl (stored, is, reads), refl))
