@@ -15,6 +15,7 @@ pub mod Audit
 pub mod UnalteredRuns
 pub mod Laws
 pub mod MechanismLaws
+pub mod StepLaws
 pub mod Headline
 pub mod examples
 pub mod private

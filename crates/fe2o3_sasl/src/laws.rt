@@ -6,6 +6,7 @@ ghost use Rattle.fe2o3_sasl.specs.MechanismLaws.{OneAcceptorReply, OneProfileRep
 ghost use Rattle.fe2o3_sasl.specs.examples.ClientExamples.{FloorsRefuse, HostnamesAreSent, KeysLogIn, OtherKeysLogInLater};
 ghost use Rattle.fe2o3_sasl.specs.examples.Examples.{PremisesCanBeMet, RefusalsAreUnaltered, ShiftedTextsPass};
 ghost use Rattle.fe2o3_sasl.specs.Headline.{EveryServer, EveryClient, AnswersOkExactly, ReportsOkExactly, TakenVerifiersAgree};
+ghost use Rattle.fe2o3_sasl.specs.StepLaws.{OksLogIn, ReportedOksAreSigned};
 ghost use Rattle.fe2o3_sasl.specs.Laws.{OneServerHistory, OneClientHistory, SomeServerHistory, SomeClientHistory, AcceptorRunsAreHistories, AcceptorRunsNameUsers, AgreedUsersAreNamed, ProfileRunsAreHistories, KeyedRunsAreRuns, KeyedRunsAreHistories, OksWithinChallenges, RepeatedResponsesAreRefused, OneResponseOneNonce, RefusalsLeaveOpen, PositionsAreUsedOnce, EqualMessagesAgree, NoShortExtensions, TakenVerifiersAreJudged, ShownProofsAreJudged, OneVerdictEach, OneAuditEach, RepeatedClientPositions, RepeatedServerPositions, RepeatedClientFindings, RepeatedServerFindings, ClientsLogIn, ServersLogIn, ServersWantMemory, ClientsWantMemory, ProfilesWantMemory};
 
 pub use fe2o3_scram::laws::{
@@ -36,6 +37,15 @@ pub fn one_history_each()
 pub fn runs_are_histories()
     ensures acceptor { AcceptorRunsAreHistories }
     ensures profile { ProfileRunsAreHistories }
+{}
+
+/// What one step means to its caller: a SCRAM acceptor answers Ok only where a challenge is open and the
+/// body is a response to it whose proof meets the record of its user, whom the acceptor then names; and a
+/// SCRAM profile reports Ok only on the signature of the answer that it waits on. A caller's own proof
+/// cites both as `oks_log_in` and `reported_oks_are_signed` of `proofs/lemmas/steps/StepLawLemmas.antt`.
+pub fn steps()
+    ensures server { OksLogIn }
+    ensures client { ReportedOksAreSigned }
 {}
 
 /// Who logged in. Behind a run over any list of bodies a SCRAM acceptor names a user exactly where an
