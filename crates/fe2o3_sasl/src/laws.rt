@@ -10,8 +10,9 @@ ghost use Rattle.fe2o3_sasl.specs.StepLaws.{OksLogIn, ReportedOksAreSigned};
 ghost use Rattle.fe2o3_sasl.specs.Laws.{OneServerHistory, OneClientHistory, SomeServerHistory, SomeClientHistory, AcceptorRunsAreHistories, AcceptorRunsNameUsers, AgreedUsersAreNamed, ProfileRunsAreHistories, KeyedRunsAreRuns, KeyedRunsAreHistories, OksWithinChallenges, RepeatedResponsesAreRefused, OneResponseOneNonce, RefusalsLeaveOpen, PositionsAreUsedOnce, EqualMessagesAgree, NoShortExtensions, TakenVerifiersAreJudged, ShownProofsAreJudged, OneVerdictEach, OneAuditEach, RepeatedClientPositions, RepeatedServerPositions, RepeatedClientFindings, RepeatedServerFindings, ClientsLogIn, ServersLogIn, ServersWantMemory, ClientsWantMemory, ProfilesWantMemory};
 
 pub use fe2o3_scram::laws::{
-    base64_texts, clone_of_version, digests, each_text_is_read, escaped_names, kept_keys,
-    mechanism_names, one_answer_each, parts, record_texts, unaltered_exchanges, users_texts,
+    accepted_messages, base64_texts, clone_of_version, digests, each_text_is_read, escaped_names,
+    kept_keys, mechanism_names, one_answer_each, parts, record_texts, unaltered_exchanges,
+    users_texts,
 };
 
 /// The headline theorem. Over every list of frame bodies, a SCRAM server answers Ok exactly when a

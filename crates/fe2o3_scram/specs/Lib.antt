@@ -20,5 +20,6 @@ pub mod ServerFinal
 pub mod ScramClient
 pub mod ScramServer
 pub mod Exchanges
+pub mod Logins
 pub mod Laws
 pub mod private

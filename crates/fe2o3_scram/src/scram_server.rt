@@ -13,8 +13,7 @@ use crate::scram_messages::{ServerFirstMessage, challenge};
 use crate::texts::base64_of_nonce;
 use bytes::Bytes;
 use std::alloc::{AllocError, Global};
-use std::fmt;
-use std::mem;
+use std::{fmt, mem};
 
 /// What a server has sent last.
 #[derive(Drop)]

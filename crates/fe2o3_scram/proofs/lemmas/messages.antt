@@ -4,6 +4,7 @@ pub mod ClientFirstLemmas
 pub mod ExchangeLemmas
 pub mod FittingKeyLemmas
 pub mod KeptKeyLemmas
+pub mod LoginLemmas
 pub mod OneValueLemmas
 pub mod RecordLawLemmas
 pub mod RecordLinesLawLemmas

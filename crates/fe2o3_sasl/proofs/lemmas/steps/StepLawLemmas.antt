@@ -10,15 +10,16 @@ use Rattle.fe2o3_sasl_wire.specs.SaslFrames as frames
 use Rattle.fe2o3_scram.specs.Credentials.{Provider}
 use Rattle.fe2o3_scram.specs.declared.scram_messages.error.ScramErrorKind.{ScramErrorKind}
 use Rattle.fe2o3_scram.specs.declared.scram_messages.error.ServerScramErrorKind.{ServerScramErrorKind}
-use Rattle.fe2o3_scram.specs.ScramClient as client_states
-use Rattle.fe2o3_scram.specs.ScramClient.{ClientSide, ClientState, BelievesIn}
-use Rattle.fe2o3_scram.specs.ScramServer.{ServerState, Initial, ServerFirstSent, ServerFinalSent, ConcludesFrom}
+use Rattle.fe2o3_scram.specs.ScramClient.{ClientSide, BelievesIn}
+use Rattle.fe2o3_scram.specs.ScramServer.{ServerState, ServerFinalSent, ConcludesFrom}
+use Rattle.fe2o3_scram.specs.Logins.{IsSigned}
+use Rattle.fe2o3_scram.proofs.lemmas.messages.LoginLemmas.{accepted_texts_log_in, believed_texts_are_signed}
 use Rattle.fe2o3_sasl.specs.Bodies.{SpellsBody, carried}
 use Rattle.fe2o3_sasl.specs.Events.{Given, ServerSays, Concluded, Failed, ClientSays, Reported, Refused, ClientFault, Frame}
 use Rattle.fe2o3_sasl.specs.Profiles.{Profile, ScramProfile, client_frame, profile_machine}
 use Rattle.fe2o3_sasl.specs.Runs.{Replies, Sends, server_says}
 use Rattle.fe2o3_sasl.specs.SaslAcceptor.{Acceptor, ScramAcceptor, acceptor_machine, ends_with, server_frame}
-use Rattle.fe2o3_sasl.specs.StepLaws.{LogsIn, OksLogIn, IsSigned, ReportedOksAreSigned}
+use Rattle.fe2o3_sasl.specs.StepLaws.{BodyLogsIn, OksLogIn, ReportedOksAreSigned}
 
 -- ---- a server
 
@@ -81,41 +82,21 @@ response_logs_in : (provider : Provider) (state after : ServerState) (event : Gi
     → ConcludesFrom state provider text answer after
     → reply ≡ server_frame (λ message. frames.Outcome outcomes.Ok (Some message)) answer
     → moved ≡ ScramAcceptor provider after → SendsOk reply (ScramAcceptor provider state) moved body next
-    → (user : List ℕ) × LogsIn provider state event.body user × (next ≡ ScramAcceptor provider (ServerFinalSent user))
-response_logs_in provider (ServerFirstSent challenge) after event text (Ok (Some message)) reply moved next body
-    spells from is to said =
-    let sent = subst
-    (λ (f : SaslFrame). SendsOk f (ScramAcceptor provider (ServerFirstSent challenge)) moved body next) is said in (
-      challenge.user,
-      record {
-        challenge = challenge;
-        stored = from.0;
-        text = text;
-        final = from.2.0;
-        opened = refl;
-        named = refl;
-        known = from.1;
-        spells = spells;
-        reads = from.2.1;
-      },
+    → (user : List ℕ) × BodyLogsIn provider state event.body user
+    × (next ≡ ScramAcceptor provider (ServerFinalSent user))
+response_logs_in provider state after event text (Ok (Some message)) reply moved next body spells from is to said =
+    let sent = subst (λ (f : SaslFrame). SendsOk f (ScramAcceptor provider state) moved body next) is said in
+    let logs = accepted_texts_log_in state after provider text (Some message) from in (
+      logs.0,
+      (text, spells, logs.1),
       sent_moves (canonical (frames.Outcome outcomes.Ok (Some message))) outcomes.Ok body
-          (ScramAcceptor provider (ServerFirstSent challenge)) moved next sent
-          ∙ (to ∙ ap (λ (s : ServerState). ScramAcceptor provider s) from.3),
+          (ScramAcceptor provider state) moved next sent
+          ∙ (to ∙ ap (λ (s : ServerState). ScramAcceptor provider s) logs.2),
     )
-response_logs_in provider (ServerFirstSent challenge) after event text (Ok None) reply moved next body
-    spells from is to said = absurd from
-response_logs_in provider (ServerFirstSent challenge) after event text (Err fault) reply moved next body
-    spells from is to said =
-    absurd (auth_is_no_ok reply (ScramAcceptor provider (ServerFirstSent challenge)) moved next body is said)
-response_logs_in provider Initial after event text (Ok message) reply moved next body spells from is to said =
-    absurd from
-response_logs_in provider Initial after event text (Err fault) reply moved next body spells from is to said =
-    absurd (auth_is_no_ok reply (ScramAcceptor provider Initial) moved next body is said)
-response_logs_in provider (ServerFinalSent user) after event text (Ok message) reply moved next body
-    spells from is to said = absurd from
-response_logs_in provider (ServerFinalSent user) after event text (Err fault) reply moved next body
-    spells from is to said =
-    absurd (auth_is_no_ok reply (ScramAcceptor provider (ServerFinalSent user)) moved next body is said)
+response_logs_in provider state after event text (Ok None) reply moved next body spells from is to said =
+    absurd (auth_is_no_ok reply (ScramAcceptor provider state) moved next body is said)
+response_logs_in provider state after event text (Err fault) reply moved next body spells from is to said =
+    absurd (auth_is_no_ok reply (ScramAcceptor provider state) moved next body is said)
 
 pub oks_log_in : OksLogIn
 oks_log_in provider state event body next (Err fault, spells, gives) = let no = gives.0 in absurd (cc)
@@ -179,24 +160,16 @@ other_code profile moved next reply code shown more is apart said =
     apart (cc)
 
 -- a verifier that is believed
-believed_is_signed : (client after : ClientSide) (state : ClientState) (event : Given) (text : List ℕ)
+believed_is_signed : (client after : ClientSide) (event : Given) (text : List ℕ)
     (answer : Result (Unit {0}) ScramErrorKind) (reply : Result SaslFrame ClientFault) (moved next : Profile)
-    (more : Option (List ℕ)) → SpellsBody event.body (Ok (frames.Outcome outcomes.Ok (Some text)))
-    → BelievesIn state client text answer after
+    (more : Option (List ℕ)) → BelievesIn client.state client text answer after
     → reply ≡ client_frame (λ believed. frames.Outcome outcomes.Ok (Some text)) answer
-    → Reports (ScramProfile client) moved reply more next
-    → (text : List ℕ) × (more ≡ Some text) × IsSigned state event.body text
-believed_is_signed client after (client_states.ClientFinalSent signature keys) event text (Ok believed) reply moved
-    next more spells from is said =
+    → Reports (ScramProfile client) moved reply more next → (more ≡ Some text) × IsSigned client.state text
+believed_is_signed client after event text (Ok tt) reply moved next more from is said =
     let same = (subst (λ (r : Result SaslFrame ClientFault). Reports (ScramProfile client) moved r more next) is
-    said).0 in (
-      text,
-      cc,
-      record { signature = signature; keys = keys; waits = refl; spells = spells; reads = from.0 },
-    )
-believed_is_signed client after state event text (Err kind) reply moved next more spells from is said =
+    said).0 in (cc, believed_texts_are_signed client after text from)
+believed_is_signed client after event text (Err kind) reply moved next more from is said =
     absurd (refusal_is_no_report (ScramProfile client) moved next reply _ more is said)
-believed_is_signed client after state event text (Ok believed) reply moved next more spells from is said = absurd from
 
 pub reported_oks_are_signed : ReportedOksAreSigned
 reported_oks_are_signed hostname client event more next (Err fault, spells, gives) = let no = gives.0 in absurd (cc)
@@ -208,7 +181,8 @@ reported_oks_are_signed hostname client event more next (Ok frame, spells, inr g
     go : (frame : SaslFrame) (reply : Result SaslFrame ClientFault) (moved : Profile)
         → SpellsBody event.body (Ok frame) → profile_machine (ScramProfile client) hostname event.nonce frame reply moved
         → Reports (ScramProfile client) moved reply more next
-        → (text : List ℕ) × (more ≡ Some text) × IsSigned client.state event.body text
+        → (text : List ℕ) × (more ≡ Some text) × SpellsBody event.body (Ok (frames.Outcome outcomes.Ok (Some text)))
+        × IsSigned client.state text
     go (frames.Mechanisms names) reply moved spells (inl m) said =
         absurd (init_is_no_report (ScramProfile client) moved next reply _ _ _ more m.1 said)
     go (frames.Mechanisms names) reply moved spells (inr m) said =
@@ -224,7 +198,8 @@ reported_oks_are_signed hostname client event more next (Ok frame, spells, inr g
     go (frames.Outcome outcomes.Ok None) reply moved spells m said =
         absurd (refusal_is_no_report (ScramProfile client) moved next reply _ more m.0 said)
     go (frames.Outcome outcomes.Ok (Some text)) reply moved spells m said =
-        believed_is_signed client m.1 client.state event text m.0 reply moved next more spells m.2 m.3 said
+        let signed = believed_is_signed client m.1 event text m.0 reply moved next more m.2 m.3 said in
+        (text, signed.0, spells, signed.1)
     go (frames.Outcome outcomes.Auth shown) reply moved spells m said =
         absurd (other_code (ScramProfile client) moved next reply outcomes.Auth shown more m.0 (λ is. absurd (cc)) said)
     go (frames.Outcome outcomes.Sys shown) reply moved spells m said =
