@@ -1,5 +1,9 @@
 //! The broker's side of a login, and a client's.
 
+ghost use Rattle.std.specs.Prelude.{◌≡◌, ℕ, List, Some, IfOk};
+ghost use Rattle.fe2o3_scram.specs.Logins.{LogsIn};
+ghost use Rattle.fe2o3_scram.specs.ScramServer.{provider_in, state_in, logged_in};
+
 use crate::accounts::{Account, Accounts};
 use anyhow::{Context, Result};
 use fe2o3_scram::{ScramAuthenticator, ScramClient, ScramRecord, ScramVersion};
@@ -48,7 +52,8 @@ pub fn log_in(alloc: Global, accounts: &Rc<Accounts>, name: &str, password: &str
     let mut server = ScramAuthenticator::new(accounts.clone()?);
     let mut client = client(alloc, name, password)?;
     exchange(alloc, &mut client, &mut server)?;
-    let account = accounts.account(name).context("no account")?;
+    let user = server.user().context("nobody")?;
+    let account = accounts.account(user).context("no account")?;
     Ok(account.sessions)
 }
 
@@ -77,8 +82,13 @@ fn challenge(alloc: Global, server: &mut Server, client_first: &[u8]) -> Result<
     challenge.context("unknown user")
 }
 
-/// The server's last message, to a client whose proof meets the stored key.
-fn conclude(alloc: Global, server: &mut Server, client_final: &[u8]) -> Result<Vec<u8>> {
+/// The server's last message, to a client whose proof meets the stored key of the user whom the server
+/// then names.
+fn conclude(alloc: Global, server: &mut Server, client_final: &[u8]) -> Result<Vec<u8>>
+    ensures { IfOk result (λ _. (user : List ℕ)
+        × LogsIn (provider_in server.old).value (state_in server.old) client_final.now user
+        × (logged_in (state_in server.new) ≡ Some user)) }
+{
     let signature = server.compute_server_final_message(alloc, client_final)?;
     signature.context("no answer")
 }

@@ -1,13 +1,13 @@
 //! A login over frame bodies in memory, which keeps what each side was given.
 
 use crate::{client, server};
-use anyhow::{Result, bail};
+use anyhow::{Context, Result, bail};
 use bytes::BytesMut;
 use fe2o3_sasl::{Event, SaslAcceptorExt, SaslProfile};
 use fe2o3_sasl_wire::{Frame, FrameCodec};
 use std::alloc::Global;
 
-/// The bodies that each side of a connection was given, in order.
+/// The bodies that each side of a connection was given, in order, and who has logged in by them.
 #[derive(Drop)]
 pub struct Transcript {
     /// Those of the client.
@@ -15,6 +15,9 @@ pub struct Transcript {
 
     /// Those of the server.
     pub server: Vec<Event>,
+
+    /// Who has logged in.
+    pub user: String,
 }
 
 /// The body that the server sends first: the names of its mechanisms.
@@ -32,6 +35,7 @@ pub fn log_in(alloc: Global) -> Result<Transcript> {
     let mut given = Transcript {
         client: Vec::new(alloc),
         server: Vec::new(alloc),
+        user: String::new(alloc),
     };
     carry(alloc, &mut client, &mut server, &mut given)?;
     Ok(given)
@@ -47,11 +51,18 @@ fn carry(
     let mut body = offer(alloc, server)?;
     for _ in 0..3 {
         let Some(answer) = to_client(alloc, client, given, body)? else {
-            return Ok(());
+            return name_user(alloc, server, given);
         };
         body = to_server(alloc, server, given, answer)?;
     }
     bail!("no outcome")
+}
+
+/// Keeps the name that the server logged in: that of the init whose challenge was answered.
+fn name_user(alloc: Global, server: &server::Server, given: &mut Transcript) -> Result<()> {
+    let user = server.user().context("nobody has logged in")?;
+    given.user = user.to_string(alloc)?;
+    Ok(())
 }
 
 /// Gives the client a body. A nonce is 32 random bytes, fresh for each event, here a fixed one, so

@@ -66,7 +66,7 @@ fn over_texts<W: Write>(alloc: Global, output: &mut W) -> Result<()> {
 /// A login over frame bodies.
 fn over_frames<W: Write>(alloc: Global, output: &mut W) -> Result<Transcript> {
     let given = login::log_in(alloc)?;
-    writeln!(output, "logged in over frames")?;
+    writeln!(output, "{} logged in over frames", given.user)?;
     Ok(given)
 }
 
