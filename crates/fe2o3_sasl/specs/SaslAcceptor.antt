@@ -12,7 +12,8 @@ use Rattle.fe2o3_sasl.specs.declared.sasl_acceptor.SaslServerFrame.TheVariants a
 use Rattle.fe2o3_scram.specs.declared.scram_messages.error.ServerScramErrorKind.{ServerScramErrorKind}
 use Rattle.fe2o3_scram.specs.Credentials.{Provider}
 use Rattle.fe2o3_scram.specs.Hmac.{mechanism_name}
-use Rattle.fe2o3_scram.specs.ScramServer.{ServerState, logged_in, ChallengesFrom, ConcludesFrom}
+use Rattle.fe2o3_scram.specs.ScramServer.{ServerState, logged_in, ChallengesFrom, ConcludesFrom, ReachesBase64In}
+use Rattle.fe2o3_scram.specs.ServerFirst.{ReachesChallenge}
 
 -- the acceptors, each with all that its answers depend on: SCRAM over a provider, in a state; PLAIN for one
 -- user, which also knows whether it has accepted; and ANONYMOUS, which keeps nothing
@@ -88,6 +89,14 @@ acceptor_machine AnonymousAcceptor nonce (frames.Response text) reply next =
 acceptor_machine acceptor nonce (frames.Init mechanism None hostname) reply next =
     (reply ≡ ends_with outcomes.Auth) × (next ≡ acceptor)
 acceptor_machine acceptor nonce frame reply next = ⊥
+
+-- where an acceptor comes to ask for memory before it has its reply: SCRAM at an init with its own name where it comes
+-- to an escaped user name or to a known user, and at a response where it comes to a base64 text; the others never
+abbrev pub acceptor_allocates : Acceptor → SaslFrame → Type 0
+acceptor_allocates (ScramAcceptor provider state) (frames.Init mechanism (Some text) hostname) =
+    (mechanism ≡ mechanism_name provider.version) × ReachesChallenge provider.records text
+acceptor_allocates (ScramAcceptor provider state) (frames.Response text) = ReachesBase64In state provider text
+acceptor_allocates acceptor frame = ⊥
 
 -- the acceptor of PLAIN that a value is
 abbrev pub plain_acceptor : SaslPlainMechanism → Acceptor

@@ -8,7 +8,7 @@ ghost use Rattle.fe2o3_sasl_wire.specs.declared.amqp_types.SaslCode.TheVariants.
 ghost use Rattle.fe2o3_scram.specs.declared.scram_messages.error.ServerScramErrorKind.TheVariants.{OutOfMemory as ScramOutOfMemory};
 ghost use Rattle.std.proofs.Common.{ap};
 ghost use Rattle.fe2o3_scram.specs.ScramServer.{provider_in, state_in, logged_in};
-ghost use Rattle.fe2o3_sasl.specs.SaslAcceptor.{Acceptor, ScramAcceptor, PlainAcceptor, AnonymousAcceptor, acceptor_names, acceptor_machine, acceptor_user, offered, NamesPlain, ZeroPart, ends_with, server_frame, plain_acceptor, sent_frame};
+ghost use Rattle.fe2o3_sasl.specs.SaslAcceptor.{Acceptor, ScramAcceptor, PlainAcceptor, AnonymousAcceptor, acceptor_names, acceptor_machine, acceptor_allocates, acceptor_user, offered, NamesPlain, ZeroPart, ends_with, server_frame, plain_acceptor, sent_frame};
 
 use crate::OutOfMemory;
 use crate::mechanism_names::{ANONYMOUS, PLAIN, symbol_of};
@@ -33,9 +33,9 @@ pub enum SaslServerFrame {
 }
 
 /// The server's side of a negotiation. An implementation says what its state is, in which all stands
-/// that its answers depend on, the names of its mechanisms in that state, and its machine: the
-/// replies to an init and to a response, and the state after each. A call that finds no memory
-/// leaves the state as it was.
+/// that its answers depend on, the names of its mechanisms in that state, its machine: the replies to
+/// an init and to a response, and the state after each; and to which of them it comes to ask for
+/// memory. A call that finds no memory leaves the state as it was.
 pub trait SaslAcceptor: Clone {
     ghost State: { Type 0 };
 
@@ -44,6 +44,8 @@ pub trait SaslAcceptor: Clone {
     ghost names: { State → List (List ℕ) };
 
     ghost machine: { State → List ℕ → SaslFrame → SaslFrame → State → Type 0 };
+
+    ghost allocates: { State → SaslFrame → Type 0 };
 
     /// The names of its mechanisms.
     fn mechanisms(&self, alloc: Global) -> Result<Array<Symbol>, OutOfMemory>
@@ -58,6 +60,7 @@ pub trait SaslAcceptor: Clone {
     ) -> Result<SaslServerFrame, OutOfMemory>
         ensures ok { IfOk result (λ reply.
             machine (state self.old) nonce.now (init_frame init) (sent_frame reply) (state self.new)) }
+        ensures memory { IfErr result (λ _. allocates (state self.old) (init_frame init)) }
         ensures err { OnErr result (state self.new ≡ state self.old) };
 
     /// Answers a response, for which no nonce counts.
@@ -68,6 +71,7 @@ pub trait SaslAcceptor: Clone {
     ) -> Result<SaslServerFrame, OutOfMemory>
         ensures ok { IfOk result (λ reply. (nonce : List ℕ) →
             machine (state self.old) nonce (response_frame response) (sent_frame reply) (state self.new)) }
+        ensures memory { IfErr result (λ _. allocates (state self.old) (response_frame response)) }
         ensures err { OnErr result (state self.new ≡ state self.old) };
 
     /// A clone is in the same state.
@@ -219,6 +223,8 @@ impl SaslAcceptor for SaslPlainMechanism {
 
     ghost machine = { acceptor_machine };
 
+    ghost allocates = { acceptor_allocates };
+
     ghost clone_keeps = { λ acceptor copy same. same };
 
     fn mechanisms(&self, alloc: Global) -> Result<Array<Symbol>, OutOfMemory> {
@@ -305,6 +311,8 @@ impl SaslAcceptor for SaslAnonymousMechanism {
 
     ghost machine = { acceptor_machine };
 
+    ghost allocates = { acceptor_allocates };
+
     ghost clone_keeps = { λ acceptor copy same. refl };
 
     fn mechanisms(&self, alloc: Global) -> Result<Array<Symbol>, OutOfMemory> {
@@ -357,6 +365,8 @@ impl<C: ScramCredentialProvider> SaslAcceptor for ScramAuthenticator<C> {
     ghost names = { acceptor_names };
 
     ghost machine = { acceptor_machine };
+
+    ghost allocates = { acceptor_allocates };
 
     ghost clone_keeps = { λ acceptor copy same.
         let kept = C.clone_keeps (provider_in acceptor) (provider_in copy) same.0 in

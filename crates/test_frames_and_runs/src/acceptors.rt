@@ -16,14 +16,18 @@ use std::alloc::{AllocError, Global};
 use std::test::Fail;
 
 /// An acceptor of PLAIN.
-fn plain(alloc: Global, username: &str, password: &str) -> Result<SaslPlainMechanism, AllocError> {
+pub fn plain(
+    alloc: Global,
+    username: &str,
+    password: &str,
+) -> Result<SaslPlainMechanism, AllocError> {
     let username = username.to_string(alloc)?;
     let password = password.to_string(alloc)?;
     Ok(SaslPlainMechanism::new(username, password))
 }
 
 /// The credential of the user of a login.
-fn credential(alloc: Global, login: &Login) -> Result<SingleScramCredential, Fail> {
+pub fn credential(alloc: Global, login: &Login) -> Result<SingleScramCredential, Fail> {
     let username = login.user.to_string(alloc)?;
     Ok(SingleScramCredential::new(alloc, username, "pencil", login.version, [3; 32])?)
 }
@@ -68,7 +72,11 @@ fn scram_offers_its_version(rt: HostRuntime) -> Result<(), Fail> {
 }
 
 /// The body of what an acceptor answers to the frame of a body, with a nonce of 32 bytes 02.
-fn answer<A: SaslAcceptor>(alloc: Global, acceptor: &mut A, given: &str) -> Result<String, Fail> {
+pub fn answer<A: SaslAcceptor>(
+    alloc: Global,
+    acceptor: &mut A,
+    given: &str,
+) -> Result<String, Fail> {
     let reply = match frame(alloc, given)? {
         Frame::Init(init) => acceptor.on_init(alloc, init, &[2; 32])?,
         Frame::Response(response) => acceptor.on_response(alloc, response)?,

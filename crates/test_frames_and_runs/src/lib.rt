@@ -25,3 +25,5 @@ mod kept_logins;
 mod own_acceptor;
 #[cfg(test)]
 mod profiles;
+#[cfg(test)]
+mod users;

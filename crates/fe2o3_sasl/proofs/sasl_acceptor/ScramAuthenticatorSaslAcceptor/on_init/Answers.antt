@@ -3,7 +3,7 @@ use Rattle.std.specs.Prelude.{option_map, string_bytes, Vec}
 use Rattle.std.specs.declared.alloc.Global.{Global}
 use Rattle.fe2o3_scram.specs.ScramServer.{provider_in, state_in}
 use Rattle.fe2o3_sasl.specs.SaslAcceptor.{sent_frame}
-use Rattle.fe2o3_sasl.proofs.lemmas.steps.AcceptorReplyLemmas.{init_answered, init_refused}
+use Rattle.fe2o3_sasl.proofs.lemmas.steps.AcceptorReplyLemmas.{init_answered, init_refused, init_wants}
 use Rattle.fe2o3_sasl.proofs.sasl_acceptor.ScramAuthenticatorSaslAcceptor.on_init.Goals as goal
 
 pub returns-in-Ok-clause-ok : goal.returns-in-Ok-clause-ok
@@ -28,3 +28,13 @@ returns-clause-ok g c =
     c.args.init.mechanism c.in-Some.client_first.0.items (option_map string_bytes c.args.init.hostname)
     c.in-Err.kind c.refusal.result (ap (λ p. m.meaning p) c.compute_server_first_message.ensures.provider)
     (search rules) answers c.refusal.ensures.auth)
+
+pub returns-clause-memory : goal.returns-clause-memory
+returns-clause-memory g c =
+    let m = g.C.ScramCredentialProvider in
+    let answers = rw c.deref.ensures.value at c.in-Err.ensures.answer in
+    rw c.in-Some.is (init_wants (option_map (λ (message : Vec ℕ Global). message.items))
+    (m.meaning (provider_in c.args.self.now)) (state_in c.args.self.now)
+    (state_in c.compute_server_first_message.new.self) c.args.nonce.now
+    c.args.init.mechanism c.in-Some.client_first.0.items (option_map string_bytes c.args.init.hostname)
+    c.in-Err.kind c.refusal.result (search rules) answers c.refusal.ensures.memory)

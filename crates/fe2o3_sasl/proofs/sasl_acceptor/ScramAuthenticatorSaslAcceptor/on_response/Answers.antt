@@ -3,7 +3,7 @@ use Rattle.std.specs.Prelude.{option_map, Vec}
 use Rattle.std.specs.declared.alloc.Global.{Global}
 use Rattle.fe2o3_scram.specs.ScramServer.{provider_in, state_in}
 use Rattle.fe2o3_sasl.specs.SaslAcceptor.{sent_frame}
-use Rattle.fe2o3_sasl.proofs.lemmas.steps.AcceptorReplyLemmas.{response_answered, response_refused}
+use Rattle.fe2o3_sasl.proofs.lemmas.steps.AcceptorReplyLemmas.{response_answered, response_refused, response_wants}
 use Rattle.fe2o3_sasl.proofs.sasl_acceptor.ScramAuthenticatorSaslAcceptor.on_response.Goals as goal
 
 pub returns-in-Ok-clause-ok : goal.returns-in-Ok-clause-ok
@@ -24,3 +24,11 @@ returns-clause-ok g c =
     (m.meaning (provider_in c.args.self.now)) (m.meaning (provider_in c.compute_server_final_message.new.self))
     (state_in c.args.self.now) (state_in c.compute_server_final_message.new.self) _ c.in-Err.kind c.refusal.result
     (ap (λ p. m.meaning p) c.compute_server_final_message.ensures.provider) answers c.refusal.ensures.auth
+
+pub returns-clause-memory : goal.returns-clause-memory
+returns-clause-memory g c =
+    let m = g.C.ScramCredentialProvider in
+    let answers = rw c.deref.ensures.value at c.in-Err.ensures.answer in
+    response_wants (option_map (λ (message : Vec ℕ Global). message.items)) (m.meaning (provider_in c.args.self.now))
+    (state_in c.args.self.now) (state_in c.compute_server_final_message.new.self) _ c.in-Err.kind c.refusal.result
+    answers c.refusal.ensures.memory
