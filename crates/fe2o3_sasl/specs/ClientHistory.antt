@@ -83,11 +83,11 @@ ClientAnswers login Due IsOpen event (Ok (frames.Outcome outcomes.Ok more)) says
 ClientAnswers login Due IsOpen event (Ok (frames.Outcome code more)) says = says ≡ Reported code more
 ClientAnswers login Due IsOpen event (Ok frame) says = says ≡ Refused NotImplemented
 
--- the replies that memory may be wanting for: those to a mechanisms list with the name, to a challenge, and to
--- an outcome with data
+-- the replies that memory may be wanting for: those to a mechanisms list with the name, to a challenge in UTF-8, and
+-- to an outcome with data
 abbrev pub ClientAllocates : Login → Result SaslFrame Error → Type 0
 ClientAllocates login (Ok (frames.Mechanisms names)) = Contains names (mechanism_name login.version)
-ClientAllocates login (Ok (frames.Challenge text)) = Unit {0}
+ClientAllocates login (Ok (frames.Challenge text)) = IsUtf8 text
 ClientAllocates login (Ok (frames.Outcome code (Some text))) = Unit {0}
 ClientAllocates login spelled = ⊥
 

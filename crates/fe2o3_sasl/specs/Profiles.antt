@@ -10,7 +10,7 @@ use Rattle.fe2o3_scram.specs.declared.scram_messages.error.ScramErrorKind.TheVar
 use Rattle.fe2o3_scram.specs.Texts.{base64_text}
 use Rattle.fe2o3_scram.specs.ClientFirst.{client_first}
 use Rattle.fe2o3_scram.specs.ScramClient as client_states
-use Rattle.fe2o3_scram.specs.ScramClient.{ClientSide, ClientState, started, AnswersIn, BelievesIn, with_state}
+use Rattle.fe2o3_scram.specs.ScramClient.{ClientSide, ClientState, started, AnswersIn, BelievesIn, ReachesSaltIn, ReachesVerifierIn, with_state}
 use Rattle.fe2o3_scram.specs.Hmac.{mechanism_name}
 use Rattle.fe2o3_sasl.specs.Events.{Login, ClientFault, NotImplemented, Scram, OutOfMemory, scram_fault}
 
@@ -68,13 +68,31 @@ profile_machine profile hostname nonce (frames.Outcome code more) reply next =
     (reply ≡ Ok (frames.Outcome code more)) × (next ≡ profile)
 profile_machine profile hostname nonce frame reply next = (reply ≡ Err NotImplemented) × (next ≡ profile)
 
--- the replies that memory may be wanting for: those to a mechanisms list with the name, to a challenge for
--- SCRAM, and to an outcome with data
-abbrev pub ProfileAllocates : Profile → SaslFrame → Type 0
-ProfileAllocates profile (frames.Mechanisms names) = Contains names (profile_name profile)
-ProfileAllocates (ScramProfile client) (frames.Challenge text) = Unit {0}
-ProfileAllocates profile (frames.Outcome code (Some text)) = Unit {0}
-ProfileAllocates profile frame = ⊥
+-- where a profile comes to ask for memory before it has its answer to a frame: for an init; for the response to a
+-- challenge in UTF-8 that comes to its salt; and for the signature of an outcome Ok
+abbrev pub FrameAllocates : Profile → SaslFrame → Type 0
+FrameAllocates profile (frames.Mechanisms names) = Contains names (profile_name profile)
+FrameAllocates (ScramProfile client) (frames.Challenge text) = IsUtf8 text × ReachesSaltIn client.state text
+FrameAllocates (ScramProfile client) (frames.Outcome outcomes.Ok (Some text)) = ReachesVerifierIn client.state text
+FrameAllocates profile frame = ⊥
+
+-- the same where the frame is a view: of an outcome the data are copied
+abbrev pub ViewAllocates : Profile → SaslFrame → Type 0
+ViewAllocates profile (frames.Mechanisms names) = Contains names (profile_name profile)
+ViewAllocates (ScramProfile client) (frames.Challenge text) = IsUtf8 text × ReachesSaltIn client.state text
+ViewAllocates profile (frames.Outcome code (Some text)) = Unit {0}
+ViewAllocates profile frame = ⊥
+
+-- a client in this state has sent its first message, so that a challenge is due
+abbrev pub IsStarted : ClientState → Type 0
+IsStarted state = (nonce : List ℕ) × (bare : List ℕ) × (state ≡ client_states.ClientFirstSent nonce bare)
+
+-- the same of a step: a profile to which a challenge in UTF-8 is due is copied
+abbrev pub StepAllocates : Profile → SaslFrame → Type 0
+StepAllocates profile (frames.Mechanisms names) = Contains names (profile_name profile)
+StepAllocates (ScramProfile client) (frames.Challenge text) = IsUtf8 text × IsStarted client.state
+StepAllocates profile (frames.Outcome code (Some text)) = Unit {0}
+StepAllocates profile frame = ⊥
 
 -- a SCRAM profile before its first message
 abbrev pub scram_profile : Login → Profile
@@ -97,7 +115,9 @@ in_state (ScramProfile client) state = ScramProfile (with_state client state)
 in_state profile state = profile
 
 -- what a profile answers to a frame: what its machine replies, or want of memory, where the profile stays
-abbrev pub ProfileAnswers : Profile → Option (List ℕ) → List ℕ → SaslFrame → Result SaslFrame ClientFault → Profile
-    → Type 0
-ProfileAnswers profile hostname nonce frame (Err OutOfMemory) next = ProfileAllocates profile frame × (next ≡ profile)
-ProfileAnswers profile hostname nonce frame answer next = profile_machine profile hostname nonce frame answer next
+abbrev pub ProfileAnswers : (Profile → SaslFrame → Type 0) → Profile → Option (List ℕ) → List ℕ → SaslFrame
+    → Result SaslFrame ClientFault → Profile → Type 0
+ProfileAnswers Allocates profile hostname nonce frame (Err OutOfMemory) next =
+    Allocates profile frame × (next ≡ profile)
+ProfileAnswers Allocates profile hostname nonce frame answer next =
+    profile_machine profile hostname nonce frame answer next

@@ -9,7 +9,7 @@ use Rattle.fe2o3_scram.specs.declared.hmac.ScramVersion.{ScramVersion}
 use Rattle.fe2o3_scram.specs.ClientSecret.{Password, up_to}
 use Rattle.fe2o3_sasl.specs.Events.{Given, Login, ServerSays, Challenged, Concluded, Failed, ClientSays, Started, Answered, Reported, Refused, ClientFault, Frame, OutOfMemory}
 use Rattle.fe2o3_sasl.specs.Bodies.{SpellsBody, carried}
-use Rattle.fe2o3_sasl.specs.Profiles.{Profile, profile_machine, scram_profile, ProfileAllocates}
+use Rattle.fe2o3_sasl.specs.Profiles.{Profile, profile_machine, scram_profile, StepAllocates}
 use Rattle.fe2o3_sasl.specs.ProfileFaults.{client_fault}
 use Rattle.fe2o3_sasl.specs.Hex.{SpellsHex}
 use Rattle.fe2o3_sasl.specs.declared.events.ClientReply.{ClientReply}
@@ -70,7 +70,7 @@ Replies profile moved (Ok frame) says next = Sends (Refused (Frame faults.TooLar
 -- what a profile replies to a frame: what its machine says, or want of memory, where the profile stays
 abbrev pub ProfileReplies : Option (List ℕ) → Profile → List ℕ → SaslFrame → ClientSays → Profile → Type 0
 ProfileReplies hostname profile nonce frame says next =
-    (ProfileAllocates profile frame × (says ≡ Refused OutOfMemory) × (next ≡ profile))
+    (StepAllocates profile frame × (says ≡ Refused OutOfMemory) × (next ≡ profile))
     ⊎ ((reply : Result SaslFrame ClientFault) × (moved : Profile)
     × profile_machine profile hostname nonce frame reply moved × Replies profile moved reply says next)
 

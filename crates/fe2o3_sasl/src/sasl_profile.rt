@@ -1,7 +1,7 @@
 //! The client's side of a negotiation: what it answers to the frames of a server (AMQP 1.0, part 5,
 //! section 5.3.2).
 
-ghost use Rattle.std.specs.Prelude.{◌≡◌, ◌≢◌, ◌↔◌, ◌++◌, ◌∷◌, Option, Some, None, ℕ, List, IfOk, IfErr, OnOk, OnErr, MatchOption, IsSome, IsTrue, IsAscii, option_map, string_bytes};
+ghost use Rattle.std.specs.Prelude.{◌≡◌, ◌≢◌, ◌↔◌, ◌++◌, ◌∷◌, Option, Some, None, false, ℕ, List, IfOk, IfErr, OnOk, OnErr, MatchOption, IsSome, IsTrue, IsAscii, option_map, string_bytes};
 ghost use Rattle.std.specs.List.{Contains};
 ghost use Rattle.fe2o3_sasl_wire.specs.AmqpTypes.{binary_bytes, init_frame, response_frame, outcome_frame};
 ghost use Rattle.fe2o3_sasl_wire.specs.FrameView.{shown, viewed_frame};
@@ -10,11 +10,11 @@ ghost use Rattle.fe2o3_sasl_wire.specs.SaslFrames.{Init, Challenge, Outcome};
 ghost use Rattle.fe2o3_scram.specs.ClientKeys.{ClientKeys};
 ghost use Rattle.fe2o3_scram.specs.ScramClient.{Initial, ClientFirstSent, ClientFinalSent, answer_keys, login_keys};
 ghost use Rattle.fe2o3_scram.specs.Texts.{base64_text};
-ghost use Rattle.fe2o3_sasl.specs.Profiles.{ScramProfile, PlainProfile, scram_profile, profile_name, profile_state, in_state, initial_response, after_init, ProfileAnswers};
-ghost use Rattle.fe2o3_sasl.specs.ProfileFaults.{answered};
+ghost use Rattle.fe2o3_sasl.specs.Profiles.{ScramProfile, PlainProfile, scram_profile, profile_name, profile_state, in_state, initial_response, after_init, FrameAllocates, ViewAllocates, StepAllocates, ProfileAnswers};
+ghost use Rattle.fe2o3_sasl.specs.ProfileFaults.{answered, client_fault};
 ghost use Rattle.fe2o3_sasl.specs.Runs.{login_of};
 ghost use Rattle.fe2o3_sasl.specs.SaslProfile.{RefusesUrl, HasCredentials, negotiated_frame, profile_of};
-ghost use Rattle.fe2o3_sasl.specs.private.Writing.{is_scram, AnswersAlways};
+ghost use Rattle.fe2o3_sasl.specs.private.Writing.{is_scram, AnswersAlways, RefusesAlways};
 
 mod error;
 mod scram;
@@ -30,7 +30,7 @@ use fe2o3_scram::client_keys::ScramClientKeys;
 use fe2o3_scram::hmac::ScramVersion;
 use fe2o3_scram::scram_client::ScramClient;
 pub use scram::{SaslScram, SaslScramSha1, SaslScramSha256, SaslScramSha512};
-use scram_frames::{answer, believe, first_message};
+use scram_frames::{answer, believe, first_message, refusal_unread};
 use std::alloc::{AllocError, Global};
 use std::fmt;
 use url::Url;
@@ -127,8 +127,10 @@ impl SaslProfile {
 
     /// The client of a profile of SCRAM.
     fn client(&self) -> Option<&ScramClient>
-        ensures { MatchOption result (profile_state (profile_of self.now) ≡ Initial)
+        ensures state { MatchOption result (profile_state (profile_of self.now) ≡ Initial)
             (λ client. profile_state (profile_of self.now) ≡ client.now.state) }
+        ensures side { MatchOption result (is_scram (profile_of self.now) ≡ false)
+            (λ client. profile_of self.now ≡ ScramProfile client.now) }
     {
         match self {
             SaslProfile::Anonymous | SaslProfile::Plain { .. } | SaslProfile::External => None,
@@ -266,8 +268,8 @@ impl SaslProfile {
         hostname: Option<&str>,
         nonce: &[u8; 32],
     ) -> Result<Negotiation, ProfileError>
-        ensures answer { ProfileAnswers (profile_of self.old) (shown hostname.entry) nonce.now (owned_frame frame)
-            (answered negotiated_frame result) (profile_of self.new) }
+        ensures answer { ProfileAnswers FrameAllocates (profile_of self.old) (shown hostname.entry) nonce.now
+            (owned_frame frame) (answered negotiated_frame result) (profile_of self.new) }
         ensures err { OnErr result (profile_of self.new ≡ profile_of self.old) }
     {
         match frame {
@@ -289,6 +291,7 @@ impl SaslProfile {
     }
 
     /// Answers a frame that is read where it stands, as `on_frame` answers the frame that it shows.
+    #[tactic(auto, using(crate::proofs::lemmas::steps::ProfileReplyLemmas::view_refuses))]
     pub fn on_view(
         &mut self,
         alloc: Global,
@@ -296,8 +299,8 @@ impl SaslProfile {
         hostname: Option<&str>,
         nonce: &[u8; 32],
     ) -> Result<Negotiation, ProfileError>
-        ensures answer { ProfileAnswers (profile_of self.old) (shown hostname.entry) nonce.now (viewed_frame view.entry)
-            (answered negotiated_frame result) (profile_of self.new) }
+        ensures answer { ProfileAnswers ViewAllocates (profile_of self.old) (shown hostname.entry) nonce.now
+            (viewed_frame view.entry) (answered negotiated_frame result) (profile_of self.new) }
         ensures err { OnErr result (profile_of self.new ≡ profile_of self.old) }
     {
         match view {
@@ -347,14 +350,15 @@ impl SaslProfile {
         })
     }
 
-    /// Whether challenges are answered.
-    pub(crate) fn is_scram(&self) -> bool
-        ensures { result ≡ is_scram (profile_of self.now) }
+    /// Why a challenge is refused before a part of it is read: the profile is not of SCRAM, or the text
+    /// is not UTF-8, or it is not due.
+    pub(crate) fn refusal_unread(&self, challenge: &[u8]) -> Option<ProfileError>
+        ensures { MatchOption result (StepAllocates (profile_of self.now) (Challenge challenge.now))
+            (λ fault. RefusesAlways (profile_of self.now) (Challenge challenge.now) (client_fault fault)) }
     {
-        match self {
-            SaslProfile::Anonymous | SaslProfile::Plain { .. } | SaslProfile::External => false,
-            SaslProfile::ScramSha1(_) | SaslProfile::ScramSha256(_) | SaslProfile::ScramSha512(_) =>
-                true,
+        match self.client() {
+            Some(client) => refusal_unread(client, challenge),
+            None => Some(ProfileError::NotImplemented),
         }
     }
 
@@ -384,8 +388,8 @@ impl SaslProfile {
         alloc: Global,
         outcome: &SaslOutcome,
     ) -> Result<(), ProfileError>
-        ensures answer { (hostname : Option (List ℕ)) (nonce : List ℕ) → ProfileAnswers (profile_of self.old) hostname
-            nonce (outcome_frame outcome.now) (answered (λ _. outcome_frame outcome.now) result)
+        ensures answer { (hostname : Option (List ℕ)) (nonce : List ℕ) → ProfileAnswers FrameAllocates
+            (profile_of self.old) hostname nonce (outcome_frame outcome.now) (answered (λ _. outcome_frame outcome.now) result)
             (profile_of self.new) }
         ensures err { OnErr result (profile_of self.new ≡ profile_of self.old) }
     {

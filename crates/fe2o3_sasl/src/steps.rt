@@ -7,10 +7,10 @@ ghost use Rattle.fe2o3_sasl_wire.specs.FrameView.{shown, viewed_frame};
 ghost use Rattle.fe2o3_sasl_wire.specs.Owned.{owned_frame};
 ghost use Rattle.fe2o3_sasl_wire.specs.SaslFrames.{canonical, RefusesFrame, Challenge as ChallengeFrame, Mechanisms as MechanismsFrame, Outcome as OutcomeFrame};
 ghost use Rattle.fe2o3_sasl.specs.SaslAcceptor.{sent_frame};
-ghost use Rattle.fe2o3_sasl.specs.Profiles.{profile_name};
+ghost use Rattle.fe2o3_sasl.specs.Profiles.{profile_name, StepAllocates};
 ghost use Rattle.fe2o3_sasl.specs.SaslProfile.{profile_of};
 ghost use Rattle.fe2o3_sasl.specs.Runs.{AcceptorAnswers, AcceptorSteps, ProfileReplies, ProfileSteps, server_says, given, server_answer, server_reply, client_answer};
-ghost use Rattle.fe2o3_sasl.specs.private.Writing.{is_scram, IsRequest, Writes, WritesBody};
+ghost use Rattle.fe2o3_sasl.specs.private.Writing.{IsRequest, Writes, WritesBody};
 
 use crate::OutOfMemory;
 use crate::events::{ClientReply, Event, ServerReply};
@@ -161,8 +161,8 @@ fn answer_view(
             start(alloc, profile, &names, hostname, nonce)
         }
         FrameView::Challenge(challenge) => {
-            if !profile.is_scram() {
-                return Err(ProfileError::NotImplemented);
+            if let Some(fault) = profile.refusal_unread(challenge) {
+                return Err(fault);
             }
             respond(alloc, profile, challenge)
         }
@@ -204,7 +204,7 @@ fn respond(
     profile: &mut SaslProfile,
     challenge: &[u8],
 ) -> Result<ClientReply, ProfileError>
-    requires { is_scram (profile_of profile.old) ≡ true }
+    requires { StepAllocates (profile_of profile.old) (ChallengeFrame challenge.now) }
     ensures { (hostname : Option (List ℕ)) (nonce : List ℕ) → ProfileReplies hostname (profile_of profile.old) nonce
         (ChallengeFrame challenge.now) (client_answer result) (profile_of profile.new) }
 {

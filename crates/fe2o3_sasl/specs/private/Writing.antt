@@ -7,7 +7,7 @@ use Rattle.fe2o3_sasl_wire.specs.declared.sasl_frames.error.Error.TheVariants as
 use Rattle.fe2o3_sasl.specs.declared.sasl_profile.error.ProfileError.{ProfileError}
 use Rattle.fe2o3_sasl.specs.declared.sasl_profile.error.ProfileError.TheVariants as profile_faults
 use Rattle.fe2o3_sasl.specs.Events.{ClientFault}
-use Rattle.fe2o3_sasl.specs.Profiles.{Profile, ScramProfile, ProfileAnswers}
+use Rattle.fe2o3_sasl.specs.Profiles.{Profile, ScramProfile, FrameAllocates, ProfileAnswers, profile_machine}
 
 -- whether a profile answers challenges
 abbrev pub is_scram : Profile → Bool
@@ -17,7 +17,13 @@ is_scram profile = false
 -- what a profile answers to a frame, whatever the hostname and the nonce are
 abbrev pub AnswersAlways : Profile → SaslFrame → Result SaslFrame ClientFault → Profile → Type 0
 AnswersAlways profile frame answer next =
-    (hostname : Option (List ℕ)) (nonce : List ℕ) → ProfileAnswers profile hostname nonce frame answer next
+    (hostname : Option (List ℕ)) (nonce : List ℕ)
+    → ProfileAnswers FrameAllocates profile hostname nonce frame answer next
+
+-- what the machine of a profile replies to a frame by which the profile stays, whatever the hostname and the nonce are
+abbrev pub RefusesAlways : Profile → SaslFrame → ClientFault → Type 0
+RefusesAlways profile frame fault = (hostname : Option (List ℕ)) (nonce : List ℕ)
+    → profile_machine profile hostname nonce frame (Err fault) profile
 
 -- an init or a response
 abbrev pub IsRequest : SaslFrame → Type 0

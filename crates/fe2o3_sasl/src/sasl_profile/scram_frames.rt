@@ -1,11 +1,11 @@
 //! What a SCRAM client answers to frames (RFC 5802, section 5).
 
-ghost use Rattle.std.specs.Prelude.{◌≡◌, Some, Option, ℕ, List, IfOk, OnOk, OnErr};
+ghost use Rattle.std.specs.Prelude.{◌≡◌, Some, Option, ℕ, List, IfOk, OnOk, OnErr, MatchOption};
 ghost use Rattle.fe2o3_sasl_wire.specs.AmqpTypes.{binary_bytes, response_frame, outcome_frame};
 ghost use Rattle.fe2o3_sasl_wire.specs.SaslFrames.{Challenge};
-ghost use Rattle.fe2o3_sasl.specs.Profiles.{ScramProfile, ProfileAnswers, initial_response, after_init};
-ghost use Rattle.fe2o3_sasl.specs.ProfileFaults.{answered};
-ghost use Rattle.fe2o3_sasl.specs.private.Writing.{AnswersAlways};
+ghost use Rattle.fe2o3_sasl.specs.Profiles.{ScramProfile, FrameAllocates, StepAllocates, ProfileAnswers, initial_response, after_init};
+ghost use Rattle.fe2o3_sasl.specs.ProfileFaults.{answered, client_fault};
+ghost use Rattle.fe2o3_sasl.specs.private.Writing.{AnswersAlways, RefusesAlways};
 
 use crate::OutOfMemory;
 use crate::sasl_profile::error::ProfileError;
@@ -30,6 +30,20 @@ pub(super) fn first_message(
     let message = text.to_vec(alloc)?;
     *client = next;
     Ok(Binary(message))
+}
+
+/// Why a challenge is refused before a part of it is read: it is not UTF-8, or it is not due.
+pub(super) fn refusal_unread(client: &ScramClient, challenge: &[u8]) -> Option<ProfileError>
+    ensures { MatchOption result (StepAllocates (ScramProfile client.now) (Challenge challenge.now))
+        (λ fault. RefusesAlways (ScramProfile client.now) (Challenge challenge.now) (client_fault fault)) }
+{
+    let Ok(_text) = str::from_utf8(challenge) else {
+        return Some(ProfileError::Scram(ScramErrorKind::Utf8Error));
+    };
+    match client.nonce() {
+        Some(_) => None,
+        None => Some(ProfileError::Scram(ScramErrorKind::IllegalClientState)),
+    }
 }
 
 /// The answer to a challenge, which is tested for UTF-8 before the client's state and its own tests.
@@ -60,8 +74,8 @@ pub(super) fn believe(
     alloc: Global,
     outcome: &SaslOutcome,
 ) -> Result<(), ProfileError>
-    ensures answer { (hostname : Option (List ℕ)) (nonce : List ℕ) → ProfileAnswers (ScramProfile client.old) hostname
-        nonce (outcome_frame outcome.now) (answered (λ _. outcome_frame outcome.now) result)
+    ensures answer { (hostname : Option (List ℕ)) (nonce : List ℕ) → ProfileAnswers FrameAllocates
+        (ScramProfile client.old) hostname nonce (outcome_frame outcome.now) (answered (λ _. outcome_frame outcome.now) result)
         (ScramProfile client.new) }
     ensures err { OnErr result (client.new ≡ client.old) }
 {

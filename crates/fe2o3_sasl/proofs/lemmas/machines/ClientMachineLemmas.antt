@@ -20,7 +20,7 @@ use Rattle.fe2o3_scram.specs.ScramClient.{ClientState, Initial, ClientFirstSent,
 use Rattle.fe2o3_sasl.specs.Events.{Given, Login, ClientSays, Started, Answered, Reported, Refused, ClientFault, NotImplemented, Scram, Frame, OutOfMemory, scram_fault}
 use Rattle.fe2o3_sasl.specs.Laws.{ProfileRunsAreHistories}
 use Rattle.fe2o3_scram.specs.Hmac.{mechanism_name}
-use Rattle.fe2o3_sasl.specs.Profiles.{Profile, ScramProfile, client_frame, profile_machine, ProfileAllocates}
+use Rattle.fe2o3_sasl.specs.Profiles.{Profile, ScramProfile, client_frame, profile_machine, StepAllocates}
 use Rattle.fe2o3_sasl.specs.Runs.{Replies, ProfileGives, ProfileSteps, Runs}
 use Rattle.fe2o3_scram.specs.ServerFinal.{ReadsServerFinal}
 use Rattle.fe2o3_sasl.specs.Bodies.{carried, SpellsBody}
@@ -307,10 +307,10 @@ machine_step login state due waits event (frames.Response text) reply moved says
     (Err NotImplemented) says next m.0 m.1 h in
     refused login state due waits event (Ok (frames.Response text)) says next NotImplemented r.0 r.1 (inr r.0)
 
-allocates : (login : Login) (state : ClientState) (frame : SaslFrame) → ProfileAllocates (profile_in login state) frame
+allocates : (login : Login) (state : ClientState) (frame : SaslFrame) → StepAllocates (profile_in login state) frame
     → ClientAllocates login (Ok frame)
 allocates login state (frames.Mechanisms names) h = h
-allocates login state (frames.Challenge text) h = h
+allocates login state (frames.Challenge text) h = h.0
 allocates login state (frames.Outcome code more) h = h
 allocates login state (frames.Init mechanism response hostname) h = absurd h
 allocates login state (frames.Response text) h = absurd h

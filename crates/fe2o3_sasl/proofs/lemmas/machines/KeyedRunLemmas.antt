@@ -19,7 +19,7 @@ use Rattle.fe2o3_scram.specs.ScramClient.{ClientSide, ClientState, Initial, Clie
 use Rattle.fe2o3_scram.proofs.lemmas.messages.KeptKeyLemmas.{keys_stand}
 use Rattle.fe2o3_sasl.specs.Events.{Given, Login, ClientSays, Refused, ClientFault, OtherKeys}
 use Rattle.fe2o3_sasl.specs.Laws.{KeysFit, KeyedRunsAreRuns, KeyedRunsAreHistories}
-use Rattle.fe2o3_sasl.specs.Profiles.{Profile, ScramProfile, ProfileAllocates, client_frame, profile_machine}
+use Rattle.fe2o3_sasl.specs.Profiles.{Profile, ScramProfile, StepAllocates, client_frame, profile_machine}
 use Rattle.fe2o3_sasl.specs.Runs.{ProfileGives, ProfileReplies, ProfileSteps, Replies, Runs, Sends}
 use Rattle.fe2o3_sasl.specs.Bodies.{SpellsBody}
 use Rattle.fe2o3_sasl.proofs.lemmas.machines.ClientMachineLemmas.{profile_runs_are_histories}
@@ -117,8 +117,8 @@ module _ (user : List ℕ) (limits : IterationLimits) (keys : ClientKeys) (passw
   machine_alike state hostname nonce frame reply moved fit is = (state, is.1, (is.0, refl))
 
   -- where memory may be wanting is the same
-  allocates_alike : (state : ClientState) (frame : SaslFrame) → ProfileAllocates (keyed state) frame
-      → ProfileAllocates (twin state) frame
+  allocates_alike : (state : ClientState) (frame : SaslFrame) → StepAllocates (keyed state) frame
+      → StepAllocates (twin state) frame
   allocates_alike state (frames.Mechanisms names) has = has
   allocates_alike state (frames.Challenge text) has = has
   allocates_alike state (frames.Outcome code (Some text)) has = has

@@ -1,29 +1,71 @@
 -- What the machine of a SCRAM profile replies, from what a SCRAM client answers.
-use Rattle.std.proofs.Common.{◌≡◌, ◌≢◌, ◌⊎◌, ℕ, Option, List, ◌+◌, ◌<◌, ◌≤◌, length, take, get_or, refl, sym, ap, ◌∙◌, subst, inl, inr, Err}
+use Rattle.std.proofs.Common.{◌≡◌, ◌≢◌, ◌⊎◌, ℕ, false, Option, Some, List, ◌+◌, ◌<◌, ◌≤◌, length, take, get_or, refl, sym, ap, ◌∙◌, subst, inl, inr, Err}
 use Rattle.std.proofs.lemmas.List.{take_more, take_all}
 use Rattle.std.proofs.lemmas.List.Elements.{Contains-push_cases}
 use Rattle.std.specs.List.{Contains}
 use Rattle.std.specs.Str.{IsUtf8}
 use Rattle.fe2o3_sasl_wire.specs.SaslFrames as frames
+use Rattle.fe2o3_sasl_wire.specs.SaslFrames.{SaslFrame}
 use Rattle.fe2o3_scram.specs.declared.scram_messages.error.ScramErrorKind.{ScramErrorKind}
 use Rattle.fe2o3_scram.specs.declared.scram_messages.error.ScramErrorKind.TheVariants as kinds
 use Rattle.fe2o3_scram.specs.Readings.{Gives}
-use Rattle.fe2o3_scram.specs.ScramClient.{ClientSide, AnswersIn}
-use Rattle.fe2o3_sasl.specs.Profiles.{ScramProfile, ProfileAnswers}
+use Rattle.fe2o3_scram.specs.ScramClient as client_states
+use Rattle.fe2o3_scram.specs.ScramClient.{ClientSide, ClientState, AnswersIn, ReachesSaltIn}
+use Rattle.fe2o3_sasl_wire.specs.declared.amqp_types.SaslCode.TheVariants as outcomes
+use Rattle.fe2o3_sasl.specs.Events.{ClientFault, NotImplemented, Scram, OtherKeys, Frame, OutOfMemory}
+use Rattle.fe2o3_sasl.specs.Profiles.{Profile, ScramProfile, PlainProfile, AnonymousProfile, ExternalProfile, FrameAllocates, ViewAllocates, ProfileAnswers}
 use Rattle.fe2o3_sasl.specs.ProfileFaults.{client_fault, fault_of_kind}
+use Rattle.fe2o3_sasl.specs.private.Writing.{is_scram, RefusesAlways}
 
 -- a challenge that the client refuses: its fault is that of the machine, or want of memory
-pub challenge_refused : {V Allocates : Type 0} (view : V → List ℕ) (client next : ClientSide)
+pub challenge_refused : {V : Type 0} (view : V → List ℕ) (client next : ClientSide)
     (hostname : Option (List ℕ)) (nonce text : List ℕ) (kind : ScramErrorKind) → IsUtf8 text → next ≡ client
-    → Gives kinds.OutOfMemory Allocates view (Err kind) (λ answer. AnswersIn client.state client text answer next)
-    → ProfileAnswers (ScramProfile client) hostname nonce (frames.Challenge text)
+    → Gives kinds.OutOfMemory (ReachesSaltIn client.state text) view (Err kind)
+    (λ answer. AnswersIn client.state client text answer next)
+    → ProfileAnswers FrameAllocates (ScramProfile client) hostname nonce (frames.Challenge text)
     (Err (client_fault (fault_of_kind kind))) (ScramProfile next)
 challenge_refused view client next hostname nonce text kinds.OutOfMemory utf8 same from =
-    (tt, ap (λ (side : ClientSide). ScramProfile side) same)
+    ((utf8, from.0 refl), ap (λ (side : ClientSide). ScramProfile side) same)
 challenge_refused view client next hostname nonce text kinds.OtherKeys utf8 same from =
     inr (utf8, (Err kinds.OtherKeys, next, from.1 (λ e. absurd (cc)), refl, refl))
 challenge_refused view client next hostname nonce text kind utf8 same from =
     inr (utf8, (Err kind, next, from.1 (λ e. absurd (cc)), refl, refl))
+
+-- where a call asks for memory so does one on a view
+view_allocates : (profile : Profile) (frame : SaslFrame) → FrameAllocates profile frame → ViewAllocates profile frame
+view_allocates profile (frames.Mechanisms names) has = has
+view_allocates (ScramProfile client) (frames.Challenge text) has = has
+view_allocates (ScramProfile client) (frames.Outcome outcomes.Ok (Some text)) has = tt
+view_allocates profile frame has = absurd has
+
+-- what a profile refuses, it refuses of a view
+pub view_refuses : (profile next : Profile) (hostname : Option (List ℕ)) (nonce : List ℕ) (frame : SaslFrame)
+    (fault : ClientFault) → ProfileAnswers FrameAllocates profile hostname nonce frame (Err fault) next
+    → ProfileAnswers ViewAllocates profile hostname nonce frame (Err fault) next
+view_refuses profile next hostname nonce frame OutOfMemory h = (view_allocates profile frame h.0, h.1)
+view_refuses profile next hostname nonce frame NotImplemented h = h
+view_refuses profile next hostname nonce frame (Scram kind) h = h
+view_refuses profile next hostname nonce frame OtherKeys h = h
+view_refuses profile next hostname nonce frame (Frame fault) h = h
+
+-- a challenge that is not due is refused
+pub undue : (client : ClientSide) (text : List ℕ)
+    → ((nonce bare : List ℕ) → client.state ≢ client_states.ClientFirstSent nonce bare)
+    → AnswersIn client.state client text (Err kinds.IllegalClientState) client
+undue client text none = go client.state none
+  where
+    go : (state : ClientState) → ((nonce bare : List ℕ) → state ≢ client_states.ClientFirstSent nonce bare)
+        → AnswersIn state client text (Err kinds.IllegalClientState) client
+    go (client_states.ClientFirstSent nonce bare) none = absurd (none nonce bare refl)
+    go state none = (refl, refl)
+
+-- a challenge to a profile that is not of SCRAM is refused
+pub unchallenged : (profile : Profile) (text : List ℕ) → is_scram profile ≡ false
+    → RefusesAlways profile (frames.Challenge text) NotImplemented
+unchallenged (ScramProfile client) text is = absurd (cc)
+unchallenged (PlainProfile user password) text is = λ hostname nonce. (refl, refl)
+unchallenged AnonymousProfile text is = λ hostname nonce. (refl, refl)
+unchallenged ExternalProfile text is = λ hostname nonce. (refl, refl)
 
 -- ---- the search for a name
 

@@ -2,23 +2,38 @@
 use Rattle.std.proofs.Common.{◌≡◌, ℕ, true, Option, Some, List, refl, sym, ap, ◌∙◌, subst, inl, inr, Ok, Err}
 use Rattle.std.specs.List.{Contains}
 use Rattle.fe2o3_sasl_wire.specs.declared.amqp_types.SaslCode.{SaslCode}
+use Rattle.fe2o3_sasl_wire.specs.declared.amqp_types.SaslCode.TheVariants as outcomes
 use Rattle.fe2o3_sasl_wire.specs.declared.sasl_frames.error.Error.{Error}
 use Rattle.fe2o3_sasl_wire.specs.declared.sasl_frames.error.Error.TheVariants as faults
 use Rattle.fe2o3_sasl_wire.specs.SaslFrames as frames
 use Rattle.fe2o3_sasl_wire.specs.SaslFrames.{SaslFrame, canonical}
 use Rattle.fe2o3_sasl.specs.Events.{ClientFault, NotImplemented, Scram, OtherKeys, Frame, OutOfMemory, Started, Answered, Reported, Refused}
 use Rattle.fe2o3_sasl.specs.Runs.{ProfileReplies, Sends}
-use Rattle.fe2o3_sasl.specs.Profiles.{Profile, ScramProfile, PlainProfile, AnonymousProfile, ExternalProfile, profile_name, initial_response, after_init, profile_machine, ProfileAllocates, ProfileAnswers}
+use Rattle.fe2o3_sasl.specs.Profiles.{Profile, ScramProfile, PlainProfile, AnonymousProfile, ExternalProfile, profile_name, initial_response, after_init, profile_machine, FrameAllocates, StepAllocates, IsStarted, ProfileAnswers}
+use Rattle.fe2o3_scram.specs.ScramClient as client_states
+use Rattle.fe2o3_scram.specs.ScramClient.{ClientState, ReachesSaltIn}
 use Rattle.fe2o3_sasl.specs.ProfileFaults.{client_fault}
 use Rattle.fe2o3_sasl.specs.declared.sasl_profile.error.ProfileError.{ProfileError}
 use Rattle.fe2o3_sasl.specs.declared.sasl_profile.error.ProfileError.TheVariants as profile_faults
-use Rattle.fe2o3_sasl.specs.private.Writing.{is_scram, WritesBody}
+use Rattle.fe2o3_sasl.specs.private.Writing.{RefusesAlways, WritesBody}
+
+-- a client that comes to the salt has been started
+started : (state : ClientState) (text : List ℕ) → ReachesSaltIn state text → IsStarted state
+started (client_states.ClientFirstSent nonce bare) text reaches = (nonce, bare, refl)
+started state text reaches = absurd reaches
+
+-- where a call asks for memory a step does
+step_allocates : (profile : Profile) (frame : SaslFrame) → FrameAllocates profile frame → StepAllocates profile frame
+step_allocates profile (frames.Mechanisms names) has = has
+step_allocates (ScramProfile client) (frames.Challenge text) has = (has.0, started client.state text has.1)
+step_allocates (ScramProfile client) (frames.Outcome outcomes.Ok (Some text)) has = tt
+step_allocates profile frame has = absurd has
 
 -- a refusal of the profile is what it replies
 pub refusal_replies : (hostname : Option (List ℕ)) (profile : Profile) (nonce : List ℕ) (frame : SaslFrame)
-    (fault : ClientFault) (next : Profile) → ProfileAnswers profile hostname nonce frame (Err fault) next
+    (fault : ClientFault) (next : Profile) → ProfileAnswers FrameAllocates profile hostname nonce frame (Err fault) next
     → ProfileReplies hostname profile nonce frame (Refused fault) next
-refusal_replies hostname profile nonce frame OutOfMemory next h = inl (h.0, refl, h.1)
+refusal_replies hostname profile nonce frame OutOfMemory next h = inl (step_allocates profile frame h.0, refl, h.1)
 refusal_replies hostname profile nonce frame NotImplemented next h = inr (Err NotImplemented, next, h, (refl, refl))
 refusal_replies hostname profile nonce frame (Scram kind) next h = inr (Err (Scram kind), next, h, (refl, refl))
 refusal_replies hostname profile nonce frame OtherKeys next h = inr (Err OtherKeys, next, h, (refl, refl))
@@ -27,19 +42,20 @@ refusal_replies hostname profile nonce frame (Frame fault) next h = inr (Err (Fr
 -- one on a copy leaves the profile
 pub refused_on_copy : (hostname : Option (List ℕ)) (profile begun moved : Profile) (nonce : List ℕ) (frame : SaslFrame)
     (fault : ClientFault) → begun ≡ profile → moved ≡ begun
-    → ProfileAnswers begun hostname nonce frame (Err fault) moved
+    → ProfileAnswers FrameAllocates begun hostname nonce frame (Err fault) moved
     → ProfileReplies hostname profile nonce frame (Refused fault) profile
 refused_on_copy hostname profile begun moved nonce frame fault same kept h =
     refusal_replies hostname profile nonce frame fault profile
-    (subst (λ (p : Profile). ProfileAnswers p hostname nonce frame (Err fault) profile) same
-    (subst (λ (p : Profile). ProfileAnswers begun hostname nonce frame (Err fault) p) (kept ∙ same) h))
+    (subst (λ (p : Profile). ProfileAnswers FrameAllocates p hostname nonce frame (Err fault) profile) same
+    (subst (λ (p : Profile). ProfileAnswers FrameAllocates begun hostname nonce frame (Err fault) p)
+    (kept ∙ same) h))
 
 -- ---- outcomes
 
 -- an outcome that is reported
 pub reported : (hostname : Option (List ℕ)) (profile next : Profile) (nonce : List ℕ) (frame : SaslFrame)
     (code : SaslCode) (more : Option (List ℕ)) → frame ≡ frames.Outcome code more
-    → ProfileAnswers profile hostname nonce frame (Ok frame) next
+    → ProfileAnswers FrameAllocates profile hostname nonce frame (Ok frame) next
     → ProfileReplies hostname profile nonce (frames.Outcome code more) (Reported code more) next
 reported hostname profile next nonce frame code more is h =
     inr (
@@ -95,22 +111,17 @@ started_err view hostname profile begun nonce names init profile_faults.OtherKey
 
 -- ---- answers
 
-scram_allocates : (profile : Profile) (text : List ℕ) → is_scram profile ≡ true
-    → ProfileAllocates profile (frames.Challenge text)
-scram_allocates (ScramProfile client) text is = tt
-scram_allocates (PlainProfile user password) text is = absurd (cc)
-scram_allocates AnonymousProfile text is = absurd (cc)
-scram_allocates ExternalProfile text is = absurd (cc)
-
--- where there is no memory for the copy
-pub uncloned : (hostname : Option (List ℕ)) (profile : Profile) (nonce text : List ℕ) → is_scram profile ≡ true
-    → ProfileReplies hostname profile nonce (frames.Challenge text) (Refused OutOfMemory) profile
-uncloned hostname profile nonce text is = inl (scram_allocates profile text is, refl, refl)
+-- a challenge that is refused unread
+pub refused_unread : (hostname : Option (List ℕ)) (profile : Profile) (nonce text : List ℕ) (fault : ClientFault)
+    → RefusesAlways profile (frames.Challenge text) fault
+    → ProfileReplies hostname profile nonce (frames.Challenge text) (Refused fault) profile
+refused_unread hostname profile nonce text fault refuses =
+    inr (Err fault, profile, refuses hostname nonce, (refl, refl))
 
 -- a response that is written
 pub responded_ok : (hostname : Option (List ℕ)) (profile begun moved : Profile) (nonce text response body : List ℕ)
     → begun ≡ profile
-    → ProfileAnswers begun hostname nonce (frames.Challenge text) (Ok (frames.Response response)) moved
+    → ProfileAnswers FrameAllocates begun hostname nonce (frames.Challenge text) (Ok (frames.Response response)) moved
     → canonical (frames.Response response) ≡ Some body
     → ProfileReplies hostname profile nonce (frames.Challenge text) (Answered body) moved
 responded_ok hostname profile begun moved nonce text response body same made written =
@@ -125,12 +136,13 @@ responded_ok hostname profile begun moved nonce text response body same made wri
 
 -- a response that is not
 pub responded_err : {X : Type 0} (view : X → List ℕ) (hostname : Option (List ℕ)) (profile begun moved : Profile)
-    (nonce text response : List ℕ) (fault : ProfileError) → begun ≡ profile → is_scram profile ≡ true
-    → ProfileAnswers begun hostname nonce (frames.Challenge text) (Ok (frames.Response response)) moved
+    (nonce text response : List ℕ) (fault : ProfileError) → begun ≡ profile
+    → StepAllocates profile (frames.Challenge text)
+    → ProfileAnswers FrameAllocates begun hostname nonce (frames.Challenge text) (Ok (frames.Response response)) moved
     → WritesBody view (canonical (frames.Response response)) (Err fault)
     → ProfileReplies hostname profile nonce (frames.Challenge text) (Refused (client_fault fault)) profile
 responded_err view hostname profile begun moved nonce text response profile_faults.OutOfMemory same is made w =
-    uncloned hostname profile nonce text is
+    inl (is, refl, refl)
 responded_err view hostname profile begun moved nonce text response (profile_faults.Frame fault) same is made w =
     inr (
       Ok (frames.Response response),

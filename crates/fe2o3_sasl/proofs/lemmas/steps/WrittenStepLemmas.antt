@@ -10,7 +10,7 @@ use Rattle.fe2o3_sasl_wire.proofs.lemmas.frames.LawLemmas.{spelled_mechanisms_ar
 use Rattle.fe2o3_sasl.specs.Events.{Given, ServerSays, Failed, NotImplemented, Frame, ClientSays, Refused}
 use Rattle.fe2o3_sasl.specs.Runs.{AcceptorAnswers, AcceptorGives, AcceptorSteps, ProfileReplies, ProfileSteps}
 use Rattle.fe2o3_sasl.specs.Profiles.{Profile, ScramProfile, PlainProfile, AnonymousProfile, ExternalProfile, profile_name}
-use Rattle.fe2o3_sasl.specs.private.Writing.{is_scram, IsRequest}
+use Rattle.fe2o3_sasl.specs.private.Writing.{IsRequest}
 
 -- ---- acceptors
 
@@ -81,14 +81,3 @@ pub unnamed : (hostname : Option (List ℕ)) (profile : Profile) (nonce : List �
     → ¬ Contains names (profile_name profile)
     → ProfileReplies hostname profile nonce (frames.Mechanisms names) (Refused NotImplemented) profile
 unnamed hostname profile nonce names none = inr (Err NotImplemented, profile, inr (none, refl, refl), (refl, refl))
-
--- a challenge for a profile that is not SCRAM
-pub unchallenged : (hostname : Option (List ℕ)) (profile : Profile) (nonce text : List ℕ) → is_scram profile ≡ false
-    → ProfileReplies hostname profile nonce (frames.Challenge text) (Refused NotImplemented) profile
-unchallenged hostname (ScramProfile client) nonce text is = absurd (cc)
-unchallenged hostname (PlainProfile user password) nonce text is =
-    inr (Err NotImplemented, PlainProfile user password, (refl, refl), (refl, refl))
-unchallenged hostname AnonymousProfile nonce text is =
-    inr (Err NotImplemented, AnonymousProfile, (refl, refl), (refl, refl))
-unchallenged hostname ExternalProfile nonce text is =
-    inr (Err NotImplemented, ExternalProfile, (refl, refl), (refl, refl))

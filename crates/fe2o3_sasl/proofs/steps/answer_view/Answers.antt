@@ -1,8 +1,10 @@
 use Rattle.std.proofs.Common.{◌≡◌, ◌∙◌, Bool, true, false, refl, sym, inr, Err}
 use Rattle.fe2o3_sasl_wire.specs.FrameView.{shown}
 use Rattle.fe2o3_sasl.specs.Events.{NotImplemented}
+use Rattle.fe2o3_sasl.specs.ProfileFaults.{client_fault}
 use Rattle.fe2o3_sasl.specs.SaslProfile.{profile_of}
-use Rattle.fe2o3_sasl.proofs.lemmas.steps.WrittenStepLemmas.{unnamed, unchallenged}
+use Rattle.fe2o3_sasl.proofs.lemmas.steps.WrittenReplyLemmas.{refused_unread}
+use Rattle.fe2o3_sasl.proofs.lemmas.steps.WrittenStepLemmas.{unnamed}
 use Rattle.fe2o3_sasl.proofs.steps.answer_view.Goals as goal
 
 pub returns-then-not-contains : goal.returns-then-not-contains
@@ -14,13 +16,13 @@ returns-then-not-contains c =
     apart : (b : Bool) → b ≡ true → b ≡ false → ⊥
     apart b is_true is_false = cc
 
-pub returns-then-not-is_scram : goal.returns-then-not-is_scram
-returns-then-not-is_scram c =
-    rw c.in-Challenge.is (unchallenged (shown c.args.hostname) (profile_of c.args.profile.now) c.args.nonce.now
-    c.in-Challenge.challenge.now (sym c.is_scram.ensures ∙ c.if-not-is_scram.true))
+pub returns-in-Some : goal.returns-in-Some
+returns-in-Some c =
+    rw c.in-Challenge.is (refused_unread (shown c.args.hostname) (profile_of c.args.profile.now) c.args.nonce.now
+    c.in-Challenge.challenge.now (client_fault c.in-Some.fault) c.in-Some.ensures)
 
-pub returns-else-not-is_scram : goal.returns-else-not-is_scram
-returns-else-not-is_scram c =
+pub returns-in_default : goal.returns-in_default
+returns-in_default c =
     rw c.in-Challenge.is (c.respond.ensures (shown c.args.hostname) c.args.nonce.now)
 
 pub returns-in-Outcome : goal.returns-in-Outcome
