@@ -57,6 +57,8 @@ impl SaslAcceptor for Closed {
 
     ghost machine = { λ asked nonce frame reply next. (reply ≡ ends_with Sys) × (next ≡ true) };
 
+    ghost allocates = { λ asked frame. ⊥ };
+
     ghost clone_keeps = { λ closed copy same i. (same i).asked };
 
     fn mechanisms(&self, alloc: Global) -> Result<Array<Symbol>, OutOfMemory> {
