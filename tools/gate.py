@@ -2,19 +2,25 @@
 """The two long parts of the gate side by side: `rt ci`, and the wrong bodies that have to be refused.
 
 Prints what `rt ci` says as it says it, behind it what `tools/wrong_bodies.py` says, and last the sum of what
-both counted, `N passed, M failed`. Where `rt ci` refuses, its last lines, which name what failed, stand once
+both counted, `N passed, M failed`. A library that `rt ci` has proved is handed over to the wrong bodies of
+those above it. Where `rt ci` refuses, its last lines, which name what failed, stand once
 more above the sums, since the end of a log is what is read first. The exit status is 0 only where both ended
 with 0 and told their count, and nothing failed.
 """
 import os
 import re
+import shutil
 import signal
 import subprocess
 import sys
 import tempfile
 from collections import deque
 
+sys.dont_write_bytecode = True
+import wrong_bodies
+
 COUNT = re.compile(r"(\d+) passed, (\d+) failed")
+PROVED = re.compile(r"rt: (\w+) (NOT PROVED|proved)\b")
 
 
 def counted(name, status, last):
@@ -31,14 +37,29 @@ def counted(name, status, last):
     return passed, failed + (passed == 0 and failed == 0)
 
 
+def hand_over(libraries, folder, line):
+    """Puts a library into the folder, as `rt ci` has just proved it, or a file that says it is not proved."""
+    told = PROVED.match(line)
+    if not told or told[1] not in libraries:
+        return
+    name, made = told[1], f"{wrong_bodies.ROOT}/crates/{told[1]}/out/rlib"
+    libraries.remove(name)
+    if told[2] == "proved" and os.path.exists(f"{made}/{name}.rlib"):
+        shutil.copytree(made, f"{folder}/{name}.part")
+        os.rename(f"{folder}/{name}.part", f"{folder}/{name}")
+    else:
+        open(f"{folder}/{name}.failed", "w", encoding="utf-8").close()
+
+
 def main():
     # (an end from outside ends both parts: `finally` below)
     signal.signal(signal.SIGTERM, lambda *_: sys.exit(143))
     how = {"stdin": subprocess.DEVNULL, "text": True, "errors": "replace"}
-    with tempfile.TemporaryFile("w+", errors="replace") as told:
+    libraries = {*wrong_bodies.libraries([])}
+    with tempfile.TemporaryFile("w+", errors="replace") as told, tempfile.TemporaryDirectory(prefix="gate-") as built:
         # (each in a group of its own, which can be ended whole)
         how |= {"stderr": subprocess.STDOUT, "start_new_session": True}
-        bodies = subprocess.Popen([sys.executable, "tools/wrong_bodies.py"], stdout=told, **how)
+        bodies = subprocess.Popen([sys.executable, "tools/wrong_bodies.py", "--built", built], stdout=told, **how)
         proofs = subprocess.Popen(["rt", "ci"], stdout=subprocess.PIPE, **how)
         try:
             last, named = "", deque(maxlen=6)
@@ -47,6 +68,9 @@ def main():
                     print(last, end="", flush=True)
                     named.append(last)
                 last = line
+                hand_over(libraries, built, line)
+            for name in [*libraries]:
+                hand_over(libraries, built, f"rt: {name} NOT PROVED")
             proofs.wait()
             bodies.wait()
         finally:

@@ -1,7 +1,7 @@
 #!/usr/bin/env python3
 """Plants the wrong bodies of the libraries, and demands that the prover refuses each where it stands.
 
-    tools/wrong_bodies.py [--kept] [--lanes N] [--only WORD] [--logs FOLDER] [CRATE..]
+    tools/wrong_bodies.py [--kept] [--built FOLDER] [--lanes N] [--only WORD] [--logs FOLDER] [CRATE..]
 
 A wrong body is a file crates/NAME/wrong-bodies/BODY.edit: a sentence that says what it turns and which
 clause refuses it, and then lines `file:`, `old:` and `new:`, whose old text stands once in that file. A
@@ -9,17 +9,27 @@ line `law: NAME` says that the refusal comes from a law of the impl, `ghost NAME
 of the function.
 
 Bodies of different functions do not disturb each other, since a caller knows a function by its contract
-alone. So each crate is proved once, from nothing, and then its wrong bodies are planted in rounds, all of a
-round in one check over what that proof kept; no two of a round turn one function. Of each body it is
-demanded that
+alone. So the wrong bodies of a crate are planted in rounds, all of a round in one check; no two of a round
+turn one function. A check is asked, by `--only`, for the functions that the round turns, and so for those
+that they call; the first of a crate works from nothing, and those behind it over what it kept. A round
+that has a body with a law, or a function whose path the text does not tell, is a whole check. Of each body
+it is demanded that
 
-- the check leaves a goal open inside the function that the body turns, at a clause and not of safety alone, and
-- no other function and no impl falls: the others are proved, or wait for one that is turned.
+- the check leaves a goal open inside the function that the body turns, at a clause and not of safety alone,
+- the check tells of the function by its path, as one that is not proved, and
+- nothing else falls of what is checked: the others are proved, or wait for one that is turned.
+
+What a round is not asked for cannot fall by its bodies: a body with no law changes what stands inside a
+function, and neither its head nor a clause, which is tested here; the proofs of all others rest on its
+contract, and that stays as it is. That they are proved, and the turned ones as they stand, is not told
+here: `rt ci` proves the crate as it stands, and tools/gate.py, which runs both, fails where either does.
 
 The work is done in a copy, so the tree and its out/ stay as they are. With --kept the copy starts from what
-earlier checks kept in out/, for who works on an edit; the gate starts from nothing. It prints a line for each
-body, and last `N passed, M failed`. The exit status is 0 where none failed, 1 where one did, and 2 where the
-bodies could not be tried.
+earlier checks kept in out/, for who works on an edit; the gate starts from nothing. The libraries below a
+crate are proved first, or taken as `rt ci` proved them: with --built from FOLDER/NAME, which stands there
+once that library is proved, and FOLDER/NAME.failed where it is not. It prints a line for each body, and
+last `N passed, M failed`. The exit status is 0 where none failed, 1 where one did, and 2 where the bodies
+could not be tried.
 """
 import argparse
 import os
@@ -33,9 +43,12 @@ import threading
 import time
 from concurrent.futures import ThreadPoolExecutor
 from dataclasses import dataclass, field
+from functools import lru_cache
 
 ROOT = os.path.dirname(os.path.dirname(os.path.realpath(__file__)))
 FOLDER = "wrong-bodies"
+# The folder of the kit, whose bin/ holds `rt` and `rattle`.
+KIT = os.path.dirname(os.path.dirname(os.path.realpath(shutil.which("rt") or "/opt/rattle/bin/rt")))
 
 # What a check says of a goal that is left open, of an error, of a function and of an impl.
 OPEN = re.compile(r"(?:\S+ )?note: (src/\S+?):(\d+):\d+: it is not proved that (.*)")
@@ -46,8 +59,13 @@ FUNCTION = re.compile(r"fn (\S+?): (no proof|not proved|could not tell)\b:?(.*)"
 IMPL = re.compile(r"impl (\S+?): (not proved|could not tell)\b(.*)")
 # What is said of one that would be proved if those were that it calls.
 WAITS = re.compile(r"it (calls|passes the block|waits for|rests on|has)\b")
+# The last line of a check that was asked for some functions.
+ASKED = re.compile(r"only=(\d+) proved=(\d+)$")
 
 HEAD = re.compile(r"^( *)(?:pub(?:\([a-z]+\))? )?(?:const )?(?:unsafe )?fn (\w+)", re.M)
+TYPE = re.compile(r"^(?:pub(?:\([a-z]+\))? )?(?:struct|enum) (\w+)", re.M)
+# The head of an impl whose functions have a path that the text tells: the trait, its one argument, and the type.
+TOLD_IMPL = re.compile(r"^impl(?:<[^{]*?>)? (?:([\w:]+)(?:<(\w+)>)? for )?(\w+)(?:<[^{]*>)?\s*(?:where[^{]*)?\{$", re.M)
 IMPL_HEAD = re.compile(r"^impl\b[^{]*?(?:\bfor )?(\w+)(?:<[^{]*>)?\s*(?:where[^{]*)?\{", re.M)
 
 
@@ -57,12 +75,13 @@ class BadEdit(Exception):
 
 @dataclass(frozen=True)
 class Place:
-    """A function or a law: its file, its first and its last line, and its name."""
+    """A function or a law: its file, its first and last line, its name, and a function's path, if the text tells it."""
 
     path: str
     first: int
     last: int
     name: str
+    told: str = ""
 
     def holds(self, path, line):
         return self.path == path and self.first <= line <= self.last
@@ -77,16 +96,53 @@ class Body:
     pairs: list = field(default_factory=list)
     law: str = ""
     places: set = field(default_factory=set)
+    is_inside: bool = True
 
     def __str__(self):
         return f"wrong body {self.crate}/{self.name}"
+
+    def asked(self):
+        """The paths of the functions that it turns, or nothing where a whole check has to try it."""
+        told = sorted(it.told for it in self.places)
+        return told if self.is_inside and not self.law and all(told) else []
 
 
 def line_of(text, at):
     return text.count("\n", 0, at) + 1
 
 
-def function_around(path, text, at):
+@lru_cache(maxsize=None)
+def modules_of_types(root, crate):
+    """The modules in which a struct or an enum of each name stands."""
+    found = {}
+    for at, _, names in os.walk(f"{root}/crates/{crate}/src"):
+        for path in [os.path.relpath(f"{at}/{it}", f"{root}/crates/{crate}") for it in names if it.endswith(".rt")]:
+            for it in TYPE.finditer(source(crate, path)):
+                found.setdefault(it[1], set()).add(module_of(path))
+    return found
+
+
+def module_of(path):
+    return tuple(it for it in path.removeprefix("src/").removesuffix(".rt").split("/") if it not in ("lib", "main"))
+
+
+def told_path(crate, path, text, head):
+    """The path of a function as a check prints it, for a method by its type's module; or nothing."""
+    module = module_of(path)
+    if not head[1]:
+        return "::".join([crate, *module, head[2]])
+    blocks = [it for it in re.finditer(r"^\S.*\{$", text, re.M) if it.start() < head.start()]
+    impl = TOLD_IMPL.match(text, blocks[-1].start()) if blocks else None
+    if not impl or len(head[1]) != 4:
+        return ""
+    modules = modules_of_types(ROOT, crate).get(impl[3], {module})
+    if len(modules) != 1:
+        return ""
+    trait = (impl[1] or "").rpartition("::")[2] + (impl[2] or "")[:1].upper() + (impl[2] or "")[1:]
+    return "::".join([crate, *[*modules][0], impl[3] + trait, head[2]])
+
+
+def function_around(crate, path, text, at):
     """The function whose body has this place, or None where it stands between functions."""
     heads = [it for it in HEAD.finditer(text) if it.start() <= at]
     if not heads:
@@ -103,7 +159,7 @@ def function_around(path, text, at):
     # (a check tells the place of a function by its first attribute)
     while first > 1 and not re.search(r"^\s*(///.*)?$|[{};]$", lines[first - 2]):
         first -= 1
-    return Place(path, first, line_of(text, end.end()), head[2])
+    return Place(path, first, line_of(text, end.end()), head[2], told_path(crate, path, text, head))
 
 
 def law_of(path, text, at, law):
@@ -159,9 +215,12 @@ def places_of(body):
         if old == new:
             raise BadEdit("it changes nothing")
         at = text.find(old)
-        place = function_around(path, text, at) if at >= 0 else None
+        place = function_around(body.crate, path, text, at) if at >= 0 else None
         if place:
             found.add(law_of(path, text, at, body.law) if body.law else place)
+        elif at >= 0 and not (new.startswith("fn ") and new.endswith(old)):
+            # (between functions it may only add one)
+            body.is_inside = False
     if not found:
         raise BadEdit("it stands in no function")
     return found
@@ -208,16 +267,17 @@ def planted(bodies):
 
 @dataclass
 class Said:
-    """What a check said: goals that are left open, errors, and the functions and impls that fell of themselves."""
+    """What a check said: goals left open, errors, functions that are not proved, and what fell of itself."""
 
     goals: list
     errors: list
+    unproved: set
     fallen: list
     ended: str
 
 
 def understood(log):
-    said, has_goals = Said([], [], [], ""), False
+    said, has_goals = Said([], [], set(), [], ""), False
     for line in log.splitlines():
         goal, error = OPEN.match(line), ERROR.match(line)
         function, impl = FUNCTION.match(line), IMPL.match(line)
@@ -227,6 +287,7 @@ def understood(log):
         elif error:
             said.errors.append((error[1], int(error[2]), error[3]))
         elif function:
+            said.unproved.add(function[1])
             # (the goals of a function stand right above its line)
             if not has_goals and not all(WAITS.match(it.strip()) for it in function[3].split(";")):
                 said.fallen.append((function[1], False))
@@ -236,6 +297,20 @@ def understood(log):
         if line.startswith(("logic=", "only=", "rattle:")):
             said.ended = line
     return said
+
+
+def is_refused(ended, asked):
+    """Whether the last line of a check refuses the crate, or some of the functions that it was asked for."""
+    told = ASKED.match(ended)
+    if not asked:
+        return ended.startswith("logic=not-proved")
+    return bool(told) and asked <= int(told[1]) and int(told[2]) < int(told[1])
+
+
+def asked_of(bodies):
+    """The functions that a round asks for, by their paths, or nothing where it is a whole check."""
+    asked = [it.asked() for it in bodies]
+    return sorted({path for it in asked for path in it}) if all(asked) else []
 
 
 def judge(crate, bodies, log, status):
@@ -262,7 +337,9 @@ def judge(crate, bodies, log, status):
     for name, is_impl in said.fallen:
         if not (lawful if is_impl else name.rpartition("::")[2] in names):
             stray.append(f"{name} falls")
-    if status != 1 or not said.ended.startswith("logic=not-proved"):
+    asked = asked_of(bodies)
+    stray += [f"the check does not say that {it} is not proved" for it in asked if it not in said.unproved]
+    if status != 1 or not is_refused(said.ended, len(asked)):
         stray.append(f"the check ended with status {status}: {said.ended or 'no verdict'}")
         if not said.ended:
             # (a text that does not compile, for example)
@@ -290,16 +367,17 @@ def bodies_of(crate, word):
 class Copy:
     """A copy of crates with their lines of crates.txt, in which they are proved or turned."""
 
-    def __init__(self, room, lines, kept):
-        self.room = room
+    def __init__(self, room, lines, names, kept):
+        self.room, self.lines = room, lines
         os.makedirs(f"{room}/crates")
         shutil.copy(f"{ROOT}/HANDLES", room)
         with open(f"{room}/crates.txt", "w", encoding="utf-8") as it:
-            it.writelines(lines.values())
-        for name in lines:
+            it.writelines(lines[name] for name in names)
+        for name in names:
             for part in ("src", "specs", "proofs", *(["out"] if kept else [])):
                 if os.path.isdir(f"{ROOT}/crates/{name}/{part}"):
-                    shutil.copytree(f"{ROOT}/crates/{name}/{part}", f"{room}/crates/{name}/{part}")
+                    shutil.copytree(f"{ROOT}/crates/{name}/{part}", f"{self.folder(name)}/{part}")
+            os.makedirs(f"{self.folder(name)}/out", exist_ok=True)
 
     def folder(self, crate):
         return f"{self.room}/crates/{crate}"
@@ -309,14 +387,35 @@ class Copy:
             with open(f"{self.folder(crate)}/{path}", "w", encoding="utf-8") as it:
                 it.write(text)
 
+    def proved(self, crate):
+        """The command that proves a library, and builds it for those above."""
+        return checked(self.folder(crate), "rt", "lib", "--jobs", "1")
+
+    def turned(self, crate, asked):
+        """The command that checks a crate whose texts are turned: the functions asked for, or all where none is."""
+        words = ["--crate-name", crate, "src/lib.rt", "-L", f"dependency={KIT}/rlibs"]
+        for it in ["std", *used_by(self.lines, crate)]:
+            built = f"{self.folder(it)}/out/rlib" if it in self.lines else f"{KIT}/rlibs"
+            words += ["--extern", f"{it}={built}/{it}.rlib"]
+        for it in below(self.lines, crate):
+            words += ["-L", f"dependency={self.folder(it)}/out/rlib"]
+        words += ["--antt-project", f"{KIT}/rattle/logic/antt-project.json", "--logic-built", f"{KIT}/logic_built"]
+        words += ["--incremental", "out/incremental", "--jobs", "1"]
+        for it in asked:
+            words += ["--only", it]
+        return checked(self.folder(crate), f"{KIT}/bin/rattle", "check", *words)
+
 
 class Trial:
-    """Proves each crate as it stands, and then plants its wrong bodies in rounds."""
+    """Plants the wrong bodies of each crate in rounds, over the libraries below it."""
 
     def __init__(self, room, lines, asked):
         self.room, self.lines, self.asked = room, lines, asked.crates or [*lines]
-        self.word, self.logs = asked.only, asked.logs
-        self.base = Copy(f"{room}/base", lines, asked.kept)
+        self.word, self.logs, self.kept, self.given = asked.only, asked.logs, asked.kept, asked.built
+        # (of a library that another one here uses what its proof kept is at hand)
+        self.is_below = {under for it in self.asked for under in below(lines, it)}
+        based = [] if self.given else [it for it in lines if it in self.is_below]
+        self.base = Copy(f"{room}/base", lines, based, asked.kept)
         self.lane = threading.Semaphore(asked.lanes)
         self.proved = {name: threading.Event() for name in lines}
         self.built = set()
@@ -330,11 +429,6 @@ class Trial:
         # (once more, so that the end of a long log tells what failed)
         print("\n".join([*self.failed, f"{self.passed} passed, {len(self.failed)} failed"]), flush=True)
         return 1 if self.failed or not self.passed else 0
-
-    def below(self, crate):
-        """The crates here that this one uses, lowest first."""
-        used = self.lines[crate].partition(":")[2].split()
-        return [it for it in self.lines if it in used]
 
     def say(self, failed, *lines):
         with self.printing:
@@ -350,46 +444,52 @@ class Trial:
             bodies, bad = bodies_of(crate, self.word) if crate in self.asked else ([], [])
             if bad:
                 self.fail(*bad)
-            for it in self.below(crate):
-                self.proved[it].wait()
-            if not all(it in self.built for it in self.below(crate)):
+            if not all(self.has(it) for it in below(self.lines, crate)):
                 return self.fail(f"wrong bodies of {crate}: not tried, since a library below is not proved")
-            log = self.prove(crate)
+            log = self.prove(crate) if crate in self.is_below and not self.given else ""
             if log:
                 return self.fail(f"wrong bodies of {crate}: not tried, since it is not proved as it stands:\n{log}")
         finally:
             self.proved[crate].set()
-        copy = self.turned(crate) if bodies else None
+        copy = self.copied(crate) if bodies else None
         for bodies in rounds_of(bodies):
             self.round(copy, crate, bodies)
 
+    def has(self, library):
+        """Waits for a library, and returns whether it is proved."""
+        if not self.given:
+            self.proved[library].wait()
+            return library in self.built
+        while not os.path.isdir(f"{self.given}/{library}"):
+            if os.path.exists(f"{self.given}/{library}.failed"):
+                return False
+            time.sleep(1)
+        return True
+
     def prove(self, crate):
         """Proves the crate as it stands, and builds it for those above. Returns what is wrong, if anything is."""
-        is_used = any(crate in self.below(it) for it in self.lines)
         with self.lane:
-            status, log = checked(self.base.folder(crate), "lib" if is_used else "check")
+            status, log = self.base.proved(crate)
         if status == 0:
             self.built.add(crate)
         return "\n".join(log.splitlines()[-12:]) if status else ""
 
-    def turned(self, crate):
-        """A copy in which to turn the crate, with what its proof kept and the libraries below as they were built."""
-        lines = {it: self.lines[it] for it in [*self.all_below(crate), crate]}
-        copy = Copy(f"{self.room}/{crate}", lines, kept=False)
-        os.makedirs(f"{copy.folder(crate)}/out")
-        shutil.move(f"{self.base.folder(crate)}/out/incremental", f"{copy.folder(crate)}/out/incremental")
-        for it in self.all_below(crate):
-            shutil.copytree(f"{self.base.folder(it)}/out/rlib", f"{copy.folder(it)}/out/rlib", copy_function=os.link)
+    def copied(self, crate):
+        """A copy in which to turn the crate, with what was kept of it and the libraries below as they were built."""
+        is_proved = crate in self.built
+        copy = Copy(f"{self.room}/{crate}", self.lines, [crate], self.kept and not is_proved)
+        if is_proved:
+            shutil.move(f"{self.base.folder(crate)}/out/incremental", f"{copy.folder(crate)}/out/incremental")
+        for it in below(self.lines, crate):
+            built = f"{self.given}/{it}" if self.given else f"{self.base.folder(it)}/out/rlib"
+            shutil.copytree(built, f"{copy.folder(it)}/out/rlib")
         return copy
-
-    def all_below(self, crate):
-        return [it for it in self.lines if it in self.below(crate) or any(it in self.below(on) for on in self.below(crate))]
 
     def round(self, copy, crate, bodies):
         texts = planted(bodies)
         copy.write(crate, texts)
         with self.lane:
-            status, log = checked(copy.folder(crate), "check")
+            status, log = copy.turned(crate, asked_of(bodies))
         copy.write(crate, {path: source(crate, path) for path in texts})
         if self.logs:
             os.makedirs(self.logs, exist_ok=True)
@@ -405,25 +505,37 @@ class Trial:
             self.fail("\n".join([f"wrong bodies of {crate}: beside {names} there falls what no edit turns:", *more]))
 
 
-def checked(folder, verb):
-    """The status of a check, and what it said. One that ends without a verdict, for want of memory for example, is tried again."""
+# The checks at work, which end with this process.
+AT_WORK = set()
+
+
+def checked(folder, *command):
+    """The status of a check, and what it said. One without a verdict, as for want of memory, is tried again."""
     for wait in (20, 60, 0):
-        ran = subprocess.run(
-            ["rt", verb, "--jobs", "1"],
-            cwd=folder,
-            stdin=subprocess.DEVNULL,
-            stdout=subprocess.PIPE,
-            stderr=subprocess.STDOUT,
-            text=True,
-            errors="replace",
-        )
+        how = {"stdin": subprocess.DEVNULL, "stdout": subprocess.PIPE, "stderr": subprocess.STDOUT}
+        how |= {"text": True, "errors": "replace"}
+        with subprocess.Popen(command, cwd=folder, **how) as ran:
+            AT_WORK.add(ran)
+            log = ran.communicate()[0]
+            AT_WORK.discard(ran)
         # (a text that does not compile has no verdict, and is told at once)
         if ran.returncode in (0, 1) or not wait:
             break
-        last = (ran.stdout.splitlines() or [""])[-1]
-        print(f"wrong bodies: rt {verb} of {os.path.basename(folder)} ended with status {ran.returncode}: {last}", flush=True)
+        last = (log.splitlines() or [""])[-1]
+        crate = os.path.basename(folder)
+        print(f"wrong bodies: {command[1]} of {crate} ended with status {ran.returncode}: {last}", flush=True)
         time.sleep(wait)
-    return ran.returncode, ran.stdout
+    return ran.returncode, log
+
+
+def used_by(lines, crate):
+    return lines[crate].partition(":")[2].split()
+
+
+def below(lines, crate):
+    """The crates of these lines that a crate uses, and those below them, lowest first."""
+    found = {it for it in used_by(lines, crate) if it in lines}
+    return [it for it in lines if it in found or any(it in below(lines, on) for on in found)]
 
 
 def libraries(names):
@@ -444,6 +556,7 @@ def main():
     parser = argparse.ArgumentParser(description=__doc__, formatter_class=argparse.RawDescriptionHelpFormatter)
     parser.add_argument("crates", metavar="CRATE", nargs="*", help="a crate to try (all that have wrong bodies)")
     parser.add_argument("--kept", action="store_true", help="start from what earlier checks kept in out/")
+    parser.add_argument("--built", metavar="FOLDER", help="take the libraries below as they are put there")
     parser.add_argument("--lanes", type=int, default=2, help="how many checks at a time (2)")
     parser.add_argument("--only", metavar="WORD", default="", help="only the bodies whose name has this word")
     parser.add_argument("--logs", metavar="FOLDER", help="write what each round's check said into this folder")
@@ -453,7 +566,14 @@ def main():
         print("0 passed, 1 failed: no crate has wrong bodies")
         return 2
     with tempfile.TemporaryDirectory(prefix="wrong-bodies-") as room:
-        signal.signal(signal.SIGTERM, lambda *_: (shutil.rmtree(room, ignore_errors=True), os._exit(143)))
+
+        def end(*_):
+            for it in [*AT_WORK]:
+                it.terminate()
+            shutil.rmtree(room, ignore_errors=True)
+            os._exit(143)
+
+        signal.signal(signal.SIGTERM, end)
         return Trial(room, lines, asked).run()
 
 

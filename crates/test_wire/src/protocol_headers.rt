@@ -2,6 +2,7 @@
 
 use bytes::{Bytes, BytesMut};
 use fe2o3_sasl_wire::{NegotiationError, ProtocolHeader, ProtocolHeaderCodec, ProtocolId};
+use std::process::Abort;
 
 const SASL_BYTES: [u8; 8] = *b"AMQP\x03\x01\x00\x00";
 
@@ -34,6 +35,13 @@ fn reads_a_header_by_all_conversions(rt: HostRuntime) {
     assert!(rt; <[u8; 8]>::from(header) == bytes);
 }
 
+/// Whether these bytes are no header, and are handed back.
+fn are_handed_back<R: Abort + AllocGlobal>(rt: &R, bytes: &[u8]) -> bool {
+    let shared = Bytes::copy_from_slice(rt.alloc(), bytes).expect(rt, "memory");
+    let back = ProtocolHeader::try_from(shared).expect_err(rt, "no header");
+    back.as_slice() == bytes && ProtocolHeader::try_from(bytes) == Err(bytes)
+}
+
 #[test]
 fn hands_back_what_is_no_header(rt: HostRuntime) {
     let bytes = *b"AMQQ\x00\x01\x00\x00";
@@ -44,11 +52,23 @@ fn hands_back_what_is_no_header(rt: HostRuntime) {
         b"AMQP\x03\x01\x00\x00\x00".as_slice(),
         b"".as_slice(),
     ] {
-        assert!(rt; ProtocolHeader::try_from(bytes) == Err(bytes), "{bytes:?}");
-        let shared = Bytes::copy_from_slice(rt.alloc(), bytes).expect(&rt, "memory");
-        let back = ProtocolHeader::try_from(shared).expect_err(&rt, "no header");
-        assert!(rt; back.as_slice() == bytes, "{bytes:?}");
+        assert!(rt; are_handed_back(&rt, bytes), "{bytes:?}");
     }
+}
+
+/// Whether a header is of these bytes and of the one kind, and equals its clone.
+fn is_made<R: Abort + AllocGlobal>(
+    rt: &R,
+    header: ProtocolHeader,
+    bytes: [u8; 8],
+    is: (bool, bool, bool),
+) -> bool {
+    let shared = header.to_bytes(rt.alloc()).expect(rt, "memory");
+    shared.as_slice() == bytes.as_slice()
+        && <[u8; 8]>::from(header) == bytes
+        && (header.is_amqp(), header.is_tls(), header.is_sasl()) == is
+        && header.clone().unwrap() == header
+        && header.id.clone().unwrap() == header.id
 }
 
 #[test]
@@ -59,13 +79,7 @@ fn makes_the_three_headers(rt: HostRuntime) {
         (ProtocolHeader::sasl(), SASL_BYTES, (false, false, true)),
         (ProtocolHeader::default(), AMQP_BYTES, (true, false, false)),
     ] {
-        assert!(rt; <[u8; 8]>::from(header) == bytes, "{bytes:?}");
-        let shared = header.to_bytes(rt.alloc()).expect(&rt, "memory");
-        assert!(rt; shared.as_slice() == bytes.as_slice(), "{bytes:?}");
-        let kinds = (header.is_amqp(), header.is_tls(), header.is_sasl());
-        assert!(rt; kinds == is, "{bytes:?}");
-        assert!(rt; header.clone().unwrap() == header, "{bytes:?}");
-        assert!(rt; header.id.clone().unwrap() == header.id, "{bytes:?}");
+        assert!(rt; is_made(&rt, header, bytes, is), "{bytes:?}");
     }
 }
 
@@ -87,20 +101,26 @@ fn takes_eight_bytes_a_header(rt: HostRuntime) {
     assert!(rt; buffer.is_empty());
 }
 
+/// Whether a codec answers a buffer of these bytes so, and leaves those.
+fn decodes<R: Abort + AllocGlobal>(
+    rt: &R,
+    codec: &mut ProtocolHeaderCodec,
+    bytes: &[u8],
+    answer: Result<Option<ProtocolHeader>, NegotiationError>,
+    left: &[u8],
+) -> bool {
+    let mut buffer = BytesMut::copy_from_slice(rt.alloc(), bytes).expect(rt, "memory");
+    codec.decode(&mut buffer) == answer && buffer.as_slice() == left
+}
+
 #[test]
 fn keeps_seven_bytes_and_takes_a_mismatch(rt: HostRuntime) {
     let mut codec = ProtocolHeaderCodec::default();
-    let mut buffer = BytesMut::copy_from_slice(rt.alloc(), b"AMQP\x03\x01\x00").expect(
-        &rt, "memory",
-    );
-    assert!(rt; codec.decode(&mut buffer) == Ok(None));
-    assert!(rt; buffer.as_slice() == b"AMQP\x03\x01\x00".as_slice());
-    let mut buffer = BytesMut::copy_from_slice(rt.alloc(), b"AMQP\x01\x01\x00\x00\xff").expect(
-        &rt, "memory",
-    );
+    let seven = b"AMQP\x03\x01\x00".as_slice();
+    assert!(rt; decodes(&rt, &mut codec, seven, Ok(None), seven));
     let mismatch = NegotiationError::ProtocolHeaderMismatch(*b"AMQP\x01\x01\x00\x00");
-    assert!(rt; codec.decode(&mut buffer) == Err(mismatch));
-    assert!(rt; buffer.as_slice() == b"\xff".as_slice());
+    let nine = b"AMQP\x01\x01\x00\x00\xff".as_slice();
+    assert!(rt; decodes(&rt, &mut codec, nine, Err(mismatch), b"\xff".as_slice()));
     let told = mismatch.to_string(rt.alloc()).expect(&rt, "memory");
     assert!(rt; told.as_str() == "Protocol header mismatch");
 }
