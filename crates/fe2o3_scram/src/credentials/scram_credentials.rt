@@ -1,17 +1,19 @@
 //! The records of several users as a provider.
 
-ghost use Rattle.std.specs.Prelude.{◌≡◌, ◌≢◌, ◌↔◌, ◌++◌, [], ◌∷◌, OnErr, OnOk, option_map, nat_eq};
-ghost use Rattle.std.specs.Cmp.Lexicographic.{pointwise};
+ghost use Rattle.std.specs.Prelude.{◌≡◌, ◌≢◌, ◌↔◌, ◌++◌, [], ◌∷◌, IfOk, OnErr, OnOk, is_some, option_map};
 ghost use Rattle.std.specs.String.{string_bytes};
-ghost use Rattle.fe2o3_scram.specs.Credentials.{kept, record_at};
-ghost use Rattle.fe2o3_scram.specs.declared.credentials.scram_credentials.AddRecordError.TheVariants.{OutOfMemory};
+ghost use Rattle.fe2o3_scram.specs.Credentials.{record_at, records_without, versioned};
+ghost use Rattle.fe2o3_scram.specs.declared.credentials.scram_credentials.AddRecordError.TheVariants.{OutOfMemory as OutOfMemoryError};
 
+use crate::OutOfMemory;
 use crate::credentials::scram_record::ScramRecord;
+use crate::credentials::users::{User, Users};
 use crate::hmac::ScramVersion;
 use crate::provider::{ScramCredentialProvider, StoredPassword};
 use std::alloc::{AllocError, AllocFailed, Global};
 use std::fmt;
 use std::marker::Model;
+use std::sync::Arc;
 use thiserror::Error;
 
 /// Why a record is not added.
@@ -26,73 +28,48 @@ pub enum AddRecordError {
     OutOfMemory,
 }
 
+impl From<AllocError> for AddRecordError {
+    ghost from_gives = { λ _ error. error ≡ OutOfMemoryError };
+
+    fn from(_error: AllocError) -> Self {
+        AddRecordError::OutOfMemory
+    }
+}
+
 impl<T: Drop> From<AllocFailed<T>> for AddRecordError {
-    ghost from_gives = { λ _ error. error ≡ OutOfMemory };
+    ghost from_gives = { λ _ error. error ≡ OutOfMemoryError };
 
     fn from(_error: AllocFailed<T>) -> Self {
         AddRecordError::OutOfMemory
     }
 }
 
-/// A user and the record of the user's password.
-#[derive(Drop)]
-pub(crate) struct User {
-    pub(crate) username: String,
-    pub(crate) kept: ScramRecord,
-}
-
-impl Model for User {
-    ghost use Rattle.std.specs.Prelude.{ℕ, List};
-    ghost use Rattle.std.specs.String.{string_bytes};
-    ghost use Rattle.fe2o3_scram.specs.Credentials.{Record};
-
-    ghost Value = { List ℕ × Record };
-
-    ghost view = { λ user. (string_bytes user.username, user.kept.stored) };
-}
-
-impl User {
-    /// Whether this is the user's name.
-    fn is_named(&self, username: &str) -> bool
-        ensures { result ≡ pointwise nat_eq self.now.0 username.now }
-    {
-        self.username.as_str() == username
-    }
-
-    /// What is kept of the user's password.
-    pub(crate) fn stored_password(&self) -> StoredPassword<'_>
-        ensures { kept result ≡ self.now.1 }
-    {
-        self.kept.as_stored_password()
-    }
-}
-
-impl Clone for User {
-    ghost is_clone = { λ user copy. copy ≡ user };
-
-    fn clone(&self) -> Result<Self, AllocError> {
-        Ok(Self {
-            username: self.username.clone()?,
-            kept: self.kept.clone()?,
-        })
-    }
-}
-
-/// The records of several users, all for one version. Of two with one name the first counts. A clone
-/// copies every record, and each step of an acceptor over frames clones its store: hand it over in an
-/// `Rc`, which is a provider too.
+/// The records of several users, all for one version. Of two with one name the first counts.
+///
+/// The look-up of a name compares it with about log2 n of n names. A clone asks for no memory: it
+/// shares the users, in threads too. Who changes a store while its users are shared copies them
+/// once, names and pointers to their records, and has them alone from then on; the others see what
+/// they saw.
 #[derive(Drop)]
 pub struct ScramCredentials {
-    pub(crate) scram_version: ScramVersion,
-    pub(crate) users: Vec<User>,
+    alloc: Global,
+    scram_version: ScramVersion,
+    users: Option<Arc<Users>>,
 }
 
 impl Model for ScramCredentials {
+    ghost use Rattle.std.specs.Prelude.{[], ◌≡◌};
+    ghost use Rattle.std.specs.Option.{ForSome, option_map_or};
     ghost use Rattle.fe2o3_scram.specs.Credentials.{Provider};
 
     ghost Value = { Provider };
 
-    ghost view = { λ store. record { version = store.scram_version; records = store.users.items } };
+    ghost view = { λ store. record {
+      version = store.scram_version;
+      records = option_map_or (λ shared. shared.value.records) store.users [];
+    } };
+
+    ghost invariant = { λ store. ForSome store.users (λ shared. shared.value.version ≡ store.scram_version) };
 }
 
 impl ScramCredentials {
@@ -101,8 +78,9 @@ impl ScramCredentials {
         ensures { result ≡ record { version = scram_version; records = [] } }
     {
         Self {
+            alloc,
             scram_version,
-            users: Vec::new(alloc),
+            users: None,
         }
     }
 
@@ -121,8 +99,74 @@ impl ScramCredentials {
         if *kept.scram_version() != self.scram_version {
             return Err(AddRecordError::VersionMismatch);
         }
-        self.users.push(User { username, kept })?;
+        self.add_of_version(username, kept)?;
         Ok(())
+    }
+
+    /// Adds a user behind the others, whose record is for the store's version.
+    pub(crate) fn add_of_version(
+        &mut self,
+        username: String,
+        kept: ScramRecord,
+    ) -> Result<(), OutOfMemory>
+        requires { kept.version ≡ self.old.version }
+        ensures ok { OnOk result (self.new ≡ record {
+          version = self.old.version;
+          records = self.old.records ++ ((string_bytes username, kept.stored) ∷ []);
+        }) }
+        ensures err { OnErr result (self.new ≡ self.old) }
+    {
+        if let Some(shared) = &mut self.users {
+            return Arc::make_mut(shared)?.add(self.alloc, username, kept);
+        }
+        let mut users = Users::new(self.alloc, self.scram_version);
+        users.add(self.alloc, username, kept)?;
+        self.users = Some(Arc::new(self.alloc, users)?);
+        Ok(())
+    }
+
+    /// Takes out every record of the name, which is plain, and not escaped, and says whether there
+    /// was one. The others stay, in their order. Each user's name is compared, and no memory is
+    /// asked for where the users are not shared.
+    ///
+    /// Refused is `OutOfMemory`, which leaves the store as it was.
+    pub fn remove(&mut self, username: &str) -> Result<bool, OutOfMemory>
+        ensures ok { IfOk result (λ found. (found ≡ is_some (record_at self.old.records username.now))
+            × (self.new ≡ record {
+              version = self.old.version;
+              records = records_without self.old.records username.now;
+            })) }
+        ensures err { OnErr result (self.new ≡ self.old) }
+    {
+        if self.record(username).is_none() {
+            return Ok(false);
+        }
+        if let Some(shared) = &mut self.users {
+            Arc::make_mut(shared)?.remove(username);
+        }
+        Ok(true)
+    }
+
+    /// The record of the name, which is plain, and not escaped: that of the first user who has it, or
+    /// `None` where nobody does.
+    pub fn record(&self, username: &str) -> Option<&ScramRecord>
+        ensures { option_map (λ found. found.now) result
+            ≡ option_map (versioned self.now.version) (record_at self.now.records username.now) }
+    {
+        match &self.users {
+            Some(shared) => shared.record(username),
+            None => None,
+        }
+    }
+
+    /// The users in the order in which they came.
+    pub(crate) fn users(&self) -> &[User]
+        ensures { result.now ≡ self.now.records }
+    {
+        match &self.users {
+            Some(shared) => shared.in_order(),
+            None => &[],
+        }
     }
 }
 
@@ -140,11 +184,15 @@ impl fmt::Debug for ScramCredentials {
 impl Clone for ScramCredentials {
     ghost is_clone = { λ store copy. copy ≡ store };
 
-    #[tactic(auto, using(std::proofs::lemmas::List::Elements::same_from_all_zip))]
     fn clone(&self) -> Result<Self, AllocError> {
+        let users = match &self.users {
+            Some(shared) => Some(shared.clone()?),
+            None => None,
+        };
         Ok(Self {
+            alloc: self.alloc,
             scram_version: self.scram_version,
-            users: self.users.clone()?,
+            users,
         })
     }
 }
@@ -159,16 +207,9 @@ impl ScramCredentialProvider for ScramCredentials {
     }
 
     fn get_stored_password<'a>(&'a self, username: &str) -> Option<StoredPassword<'a>> {
-        match first_named(&self.users, username) {
-            Some(user) => Some(user.stored_password()),
+        match self.record(username) {
+            Some(kept) => Some(kept.as_stored_password()),
             None => None,
         }
     }
-}
-
-/// The first user with this name.
-fn first_named<'a>(users: &'a [User], username: &str) -> Option<&'a User>
-    ensures { option_map (λ user. user.now.1) result ≡ record_at users.now username.now }
-{
-    users.iter().find(|user| user.is_named(username))
 }
