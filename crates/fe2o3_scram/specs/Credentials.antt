@@ -63,6 +63,12 @@ abbrev pub record_at : Records → List ℕ → Option Record
 record_at [] name = None
 record_at (entry ∷ records) name = if pointwise nat_eq entry.0 name then Some entry.1 else record_at records name
 
+-- with this record in the place of the first of the name, where there is one
+abbrev pub records_with : Records → List ℕ → Record → Records
+records_with [] name stored = []
+records_with (entry ∷ records) name stored =
+    if pointwise nat_eq entry.0 name then (entry.0, stored) ∷ records else entry ∷ records_with records name stored
+
 -- the records of every other name, in their order
 abbrev pub records_without : Records → List ℕ → Records
 records_without records name = filter (λ (entry : List ℕ × Record). not (pointwise nat_eq entry.0 name)) records

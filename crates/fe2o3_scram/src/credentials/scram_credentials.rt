@@ -2,7 +2,7 @@
 
 ghost use Rattle.std.specs.Prelude.{◌≡◌, ◌≢◌, ◌↔◌, ◌++◌, [], ◌∷◌, IfOk, OnErr, OnOk, is_some, option_map};
 ghost use Rattle.std.specs.String.{string_bytes};
-ghost use Rattle.fe2o3_scram.specs.Credentials.{record_at, records_without, versioned};
+ghost use Rattle.fe2o3_scram.specs.Credentials.{record_at, records_with, records_without, versioned};
 ghost use Rattle.fe2o3_scram.specs.declared.credentials.scram_credentials.AddRecordError.TheVariants.{OutOfMemory as OutOfMemoryError};
 
 use crate::OutOfMemory;
@@ -125,11 +125,39 @@ impl ScramCredentials {
         Ok(())
     }
 
+    /// Puts this record in the place of the first record of the name, which is plain, and not escaped,
+    /// and says whether there was one. The others stay as they were, those of the same name too.
+    ///
+    /// Refused are, in this order: `VersionMismatch` where the record is for another version, and
+    /// `OutOfMemory`. A refusal leaves the store as it was.
+    #[tactic(auto, using(crate::proofs::lemmas::providers::ByNameLemmas::with_nobody))]
+    pub fn replace(&mut self, username: &str, kept: ScramRecord) -> Result<bool, AddRecordError>
+        ensures ok { IfOk result (λ found. (found ≡ is_some (record_at self.old.records username.now))
+            × (self.new ≡ record {
+              version = self.old.version;
+              records = records_with self.old.records username.now kept.stored;
+            })) }
+        ensures mismatch { (result ≡ Err AddRecordError.VersionMismatch) ↔ (kept.version ≢ self.old.version) }
+        ensures err { OnErr result (self.new ≡ self.old) }
+    {
+        if *kept.scram_version() != self.scram_version {
+            return Err(AddRecordError::VersionMismatch);
+        }
+        if !self.has(username) {
+            return Ok(false);
+        }
+        if let Some(shared) = &mut self.users {
+            Arc::make_mut(shared)?.replace(self.alloc, username, kept)?;
+        }
+        Ok(true)
+    }
+
     /// Takes out every record of the name, which is plain, and not escaped, and says whether there
     /// was one. The others stay, in their order. Each user's name is compared, and no memory is
     /// asked for where the users are not shared.
     ///
     /// Refused is `OutOfMemory`, which leaves the store as it was.
+    #[tactic(auto, using(crate::proofs::lemmas::providers::ByNameLemmas::without_nobody))]
     pub fn remove(&mut self, username: &str) -> Result<bool, OutOfMemory>
         ensures ok { IfOk result (λ found. (found ≡ is_some (record_at self.old.records username.now))
             × (self.new ≡ record {
@@ -138,7 +166,7 @@ impl ScramCredentials {
             })) }
         ensures err { OnErr result (self.new ≡ self.old) }
     {
-        if self.record(username).is_none() {
+        if !self.has(username) {
             return Ok(false);
         }
         if let Some(shared) = &mut self.users {
@@ -157,6 +185,13 @@ impl ScramCredentials {
             Some(shared) => shared.record(username),
             None => None,
         }
+    }
+
+    /// Whether somebody has this name.
+    fn has(&self, username: &str) -> bool
+        ensures { result ≡ is_some (record_at self.now.records username.now) }
+    {
+        self.record(username).is_some()
     }
 
     /// The users in the order in which they came.

@@ -1,9 +1,9 @@
 //! The users of a store, in the order in which they came, and by name.
 
-ghost use Rattle.std.specs.Prelude.{◌≡◌, ◌++◌, ◌∷◌, [], OnErr, OnOk, is_some, option_map, not, nat_eq};
+ghost use Rattle.std.specs.Prelude.{◌≡◌, ◌++◌, ◌∷◌, [], OnErr, OnOk, is_some, option_map, true, not, nat_eq};
 ghost use Rattle.std.specs.Cmp.Lexicographic.{pointwise};
 ghost use Rattle.std.specs.String.{string_bytes};
-ghost use Rattle.fe2o3_scram.specs.Credentials.{kept, record_at, records_without, versioned};
+ghost use Rattle.fe2o3_scram.specs.Credentials.{kept, record_at, records_with, records_without, versioned};
 
 use crate::OutOfMemory;
 use crate::credentials::scram_record::ScramRecord;
@@ -141,6 +141,30 @@ impl Users {
         }
     }
 
+    /// Puts this record, which is for the users' version, in the place of the first of the name, which
+    /// somebody has.
+    pub(crate) fn replace(
+        &mut self,
+        alloc: Global,
+        username: &str,
+        kept: ScramRecord,
+    ) -> Result<(), OutOfMemory>
+        requires version { kept.version ≡ self.old.version }
+        requires named { is_some (record_at self.old.records username.now) ≡ true }
+        ensures ok { OnOk result (self.new ≡ record {
+          version = self.old.version;
+          records = records_with self.old.records username.now kept.stored;
+        }) }
+        ensures err { OnErr result (self.new ≡ self.old) }
+    {
+        let name = username.to_string(alloc)?;
+        let kept = Arc::new(alloc, kept)?;
+        let shared = kept.clone()?;
+        let _ = self.by_name.insert(name, shared)?;
+        put_first(&mut self.in_order, username, kept);
+        Ok(())
+    }
+
     /// Takes out every user of the name.
     pub(crate) fn remove(&mut self, username: &str)
         ensures { self.new ≡ record {
@@ -163,5 +187,17 @@ impl Clone for Users {
             in_order: self.in_order.clone()?,
             by_name: self.by_name.clone()?,
         })
+    }
+}
+
+/// Puts this record in the place of the first of the name.
+fn put_first(users: &mut [User], username: &str, kept: Arc<ScramRecord>)
+    ensures { users.new ≡ records_with users.old username.now kept.value.stored }
+{
+    for user in users.iter_mut() {
+        if user.is_named(username) {
+            user.kept = kept;
+            return;
+        }
     }
 }

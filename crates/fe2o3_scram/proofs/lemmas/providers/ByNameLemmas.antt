@@ -1,7 +1,8 @@
 -- The records of a store by name, as users come and go.
-use Rattle.std.proofs.Common.{◌≡◌, ◌⊎◌, ℕ, Bool, true, false, cond, List, [], ◌∷◌, ◌++◌, bytes_eq, refl, sym, ◌∙◌, ap, subst, inl, inr}
+use Rattle.std.proofs.Common.{◌≡◌, ◌⊎◌, ◌+◌, ◌<◌, ℕ, zero, suc, Bool, true, false, cond, List, [], ◌∷◌, ◌++◌, length, get_or, set, take, arith, bytes_eq, refl, sym, ◌∙◌, ap, subst, inl, inr}
 use Rattle.std.proofs.lemmas.Bool.{cond-false, cond-true}
 use Rattle.std.proofs.lemmas.Cmp.{nat_list_eq_equiv}
+use Rattle.std.proofs.lemmas.List.{take_more}
 use Rattle.std.proofs.lemmas.Slice.Eq.{bytes_eq-Decides}
 use Rattle.std.specs.BTreeMap.{BTreeMap, get_by_text}
 use Rattle.std.specs.Cmp.Lexicographic.{pointwise, slice_cmp}
@@ -10,7 +11,7 @@ use Rattle.std.specs.Map.{lookup}
 use Rattle.std.specs.Ordering.{is_eq, nat_cmp}
 use Rattle.std.specs.Prelude.{Option, None, Some, String, is_some, nat_eq, not, option_map, string_bytes}
 use Rattle.fe2o3_scram.specs.declared.hmac.ScramVersion.{ScramVersion}
-use Rattle.fe2o3_scram.specs.Credentials.{Record, Records, VersionedRecord, record_at, records_without, versioned}
+use Rattle.fe2o3_scram.specs.Credentials.{Record, Records, VersionedRecord, record_at, records_with, records_without, versioned}
 use Rattle.fe2o3_scram.specs.private.ByName.{IsByName}
 
 -- two names are one, or the test tells them apart
@@ -64,7 +65,7 @@ not_none : {X Z W : Type 0} (f : X → Z) (g : W → Z) (in_map : Option X) → 
 not_none f g None same has = absurd (cc)
 not_none f g (Some value) same has = absurd (cc)
 
-pub none_too : {X Z W : Type 0} (f : X → Z) (g : W → Z) (in_map : Option X) (in_list : Option W)
+none_too : {X Z W : Type 0} (f : X → Z) (g : W → Z) (in_map : Option X) (in_list : Option W)
     → option_map f in_map ≡ option_map g in_list → is_some in_map ≡ false → in_list ≡ None
 none_too f g None None same has = refl
 none_too f g None (Some value) same has = absurd (cc)
@@ -157,17 +158,17 @@ without-other (entry ∷ records) user name other =
         ap (λ (found : Option Record). cond (pointwise nat_eq entry.0 name) (Some entry.1) found) behind
 
 -- a name that nobody has
-pub without-none : (records : Records) (user : List ℕ) → record_at records user ≡ None
+pub without_nobody : (records : Records) (user : List ℕ) → is_some (record_at records user) ≡ false
     → records_without records user ≡ records
-without-none [] user none = refl
-without-none (entry ∷ records) user none =
-    go (pointwise nat_eq entry.0 user) none (without-none records user)
+without_nobody [] user nobody = refl
+without_nobody (entry ∷ records) user nobody =
+    go (pointwise nat_eq entry.0 user) nobody (without_nobody records user)
   where
-    go : (test : Bool) → cond test (Some entry.1) (record_at records user) ≡ None
-        → (record_at records user ≡ None → records_without records user ≡ records)
+    go : (test : Bool) → is_some (cond test (Some entry.1) (record_at records user)) ≡ false
+        → (is_some (record_at records user) ≡ false → records_without records user ≡ records)
         → cond (not test) (entry ∷ records_without records user) (records_without records user) ≡ entry ∷ records
-    go true none behind = absurd (cc)
-    go false none behind = ap (λ (rest : Records). entry ∷ rest) (behind none)
+    go true nobody behind = absurd (cc)
+    go false nobody behind = ap (λ (rest : Records). entry ∷ rest) (behind nobody)
 
 module _ {X Y : Type 0} (record_of : X → VersionedRecord) (version : ScramVersion) where
   -- the name leaves the map
@@ -190,6 +191,117 @@ module _ {X Y : Type 0} (record_of : X → VersionedRecord) (version : ScramVers
           ap (option_map record_of) (looked_up name
           ∙ cond-false (bytes_eq user name) None (get_by_text map name) other)
           ∙ is name ∙ ap (option_map (versioned version)) (sym (without-other records user name other))
+
+-- ---- another record
+
+-- the name itself
+with-own : (records : Records) (user : List ℕ) (stored : Record) → is_some (record_at records user) ≡ true
+    → record_at (records_with records user stored) user ≡ Some stored
+with-own [] user stored has = absurd (cc)
+with-own (entry ∷ records) user stored has =
+    go (pointwise nat_eq entry.0 user) refl has (with-own records user stored)
+  where
+    go : (test : Bool) → pointwise nat_eq entry.0 user ≡ test
+        → is_some (cond test (Some entry.1) (record_at records user)) ≡ true
+        → (is_some (record_at records user) ≡ true → record_at (records_with records user stored) user ≡ Some stored)
+        → record_at (cond test ((entry.0, stored) ∷ records) (entry ∷ records_with records user stored)) user
+        ≡ Some stored
+    go true is has behind =
+        cond-true (pointwise nat_eq entry.0 user) (Some stored) (record_at records user) is
+    go false is has behind =
+        cond-false (pointwise nat_eq entry.0 user) (Some entry.1) (record_at (records_with records user stored) user) is
+        ∙ behind has
+
+-- another name
+with-other : (records : Records) (user name : List ℕ) (stored : Record) → pointwise nat_eq user name ≡ false
+    → record_at (records_with records user stored) name ≡ record_at records name
+with-other [] user name stored other = refl
+with-other (entry ∷ records) user name stored other =
+    go (pointwise nat_eq entry.0 user) refl (with-other records user name stored other)
+  where
+    go : (test : Bool) → pointwise nat_eq entry.0 user ≡ test
+        → record_at (records_with records user stored) name ≡ record_at records name
+        → record_at (cond test ((entry.0, stored) ∷ records) (entry ∷ records_with records user stored)) name
+        ≡ record_at (entry ∷ records) name
+    go true is behind =
+        let apart : pointwise nat_eq entry.0 name ≡ false =
+        ap (λ (of : List ℕ). pointwise nat_eq of name) ((bytes_eq-Decides entry.0 user).0 is) ∙ other in
+        cond-false (pointwise nat_eq entry.0 name) (Some stored) (record_at records name) apart
+        ∙ sym (cond-false (pointwise nat_eq entry.0 name) (Some entry.1) (record_at records name) apart)
+    go false is behind =
+        ap (λ (found : Option Record). cond (pointwise nat_eq entry.0 name) (Some entry.1) found) behind
+
+-- a name that nobody has
+pub with_nobody : (records : Records) (user : List ℕ) (stored : Record) → is_some (record_at records user) ≡ false
+    → records_with records user stored ≡ records
+with_nobody [] user stored nobody = refl
+with_nobody (entry ∷ records) user stored nobody =
+    go (pointwise nat_eq entry.0 user) nobody (with_nobody records user stored)
+  where
+    go : (test : Bool) → is_some (cond test (Some entry.1) (record_at records user)) ≡ false
+        → (is_some (record_at records user) ≡ false → records_with records user stored ≡ records)
+        → cond test ((entry.0, stored) ∷ records) (entry ∷ records_with records user stored) ≡ entry ∷ records
+    go true nobody behind = absurd (cc)
+    go false nobody behind = ap (λ (rest : Records). entry ∷ rest) (behind nobody)
+
+-- the first of the name, with those before it
+pub with-at : (records : Records) (user : List ℕ) (stored : Record) (k : ℕ) (default : List ℕ × Record)
+    → is_some (record_at (take k records) user) ≡ false → k < length records
+    → pointwise nat_eq (get_or records k default).0 user ≡ true
+    → set records k ((get_or records k default).0, stored) ≡ records_with records user stored
+with-at [] user stored k default before below here = absurd (omega arith)
+with-at (entry ∷ records) user stored zero default before below here =
+    sym (cond-true (pointwise nat_eq entry.0 user) ((entry.0, stored) ∷ records)
+    (entry ∷ records_with records user stored) here)
+with-at (entry ∷ records) user stored (suc k) default before below here =
+    go (pointwise nat_eq entry.0 user) before
+    (λ before. with-at records user stored k default before (omega arith) here)
+  where
+    go : (test : Bool) → is_some (cond test (Some entry.1) (record_at (take k records) user)) ≡ false
+        → (is_some (record_at (take k records) user) ≡ false
+        → set records k ((get_or records k default).0, stored) ≡ records_with records user stored)
+        → entry ∷ set records k ((get_or records k default).0, stored)
+        ≡ cond test ((entry.0, stored) ∷ records) (entry ∷ records_with records user stored)
+    go true before behind = absurd (cc)
+    go false before behind = ap (λ (rest : Records). entry ∷ rest) (behind before)
+
+-- one user more without the name
+pub nobody-more : (records : Records) (user : List ℕ) (k : ℕ) (default : List ℕ × Record) → k < length records
+    → is_some (record_at (take k records) user) ≡ false
+    → pointwise nat_eq (get_or records k default).0 user ≡ false
+    → is_some (record_at (take (k + 1) records) user) ≡ false
+nobody-more records user k default below before here =
+    ap (λ (front : Records). is_some (record_at front user)) (take_more records k default below)
+    ∙ ap (λ (found : Option Record). is_some found)
+    (record_at-other (take k records) (get_or records k default) user here) ∙ before
+
+module _ {X Y : Type 0} (record_of : X → VersionedRecord) (version : ScramVersion) where
+  -- a name has another record in both
+  pub by_name-with : (map after : BTreeMap (String Y) X) (records : Records) (user : List ℕ) (stored : Record)
+      (value : X) → IsByName record_of map version records → is_some (record_at records user) ≡ true
+      → record_of value ≡ versioned version stored
+      → ((name : List ℕ) → get_by_text after name ≡ cond (bytes_eq user name) (Some value) (get_by_text map name))
+      → IsByName record_of after version (records_with records user stored)
+  by_name-with map after records user stored value is has same_record looked_up name = go (apart user name)
+    where
+      at_own : option_map record_of (get_by_text after user)
+          ≡ option_map (versioned version) (record_at (records_with records user stored) user)
+      at_own =
+          ap (option_map record_of) (looked_up user
+          ∙ cond-true (bytes_eq user user) (Some value) (get_by_text map user) (nat_list_eq_equiv.refl user))
+          ∙ ap Some same_record
+          ∙ ap (option_map (versioned version)) (sym (with-own records user stored has))
+
+      go : (user ≡ name) ⊎ (pointwise nat_eq user name ≡ false)
+          → option_map record_of (get_by_text after name)
+          ≡ option_map (versioned version) (record_at (records_with records user stored) name)
+      go (inl same) =
+          subst (λ (name : List ℕ). option_map record_of (get_by_text after name)
+          ≡ option_map (versioned version) (record_at (records_with records user stored) name)) same at_own
+      go (inr other) =
+          ap (option_map record_of) (looked_up name
+          ∙ cond-false (bytes_eq user name) (Some value) (get_by_text map name) other)
+          ∙ is name ∙ ap (option_map (versioned version)) (sym (with-other records user name stored other))
 
   -- ---- a copy
 
