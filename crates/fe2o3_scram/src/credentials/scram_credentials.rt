@@ -46,10 +46,13 @@ impl<T: Drop> From<AllocFailed<T>> for AddRecordError {
 
 /// The records of several users, all for one version. Of two with one name the first counts.
 ///
-/// The look-up of a name compares it with about log2 n of n names. A clone asks for no memory: it
-/// shares the users, in threads too. Who changes a store while its users are shared copies them
-/// once, names and pointers to their records, and has them alone from then on; the others see what
-/// they saw.
+/// A clone shares the users and asks for no memory; it may stand in another thread. A change of a
+/// store whose users are shared copies them first, once, for about two requests for memory a user:
+/// their names and the places in which they stand, while their records stay shared. From then on
+/// the store has its users alone, and the others stay as they were.
+///
+/// A name is found by a map, in a time that grows with the logarithm of the number of users. Each
+/// name is kept twice for it.
 #[derive(Drop)]
 pub struct ScramCredentials {
     alloc: Global,
@@ -69,7 +72,8 @@ impl Model for ScramCredentials {
       records = option_map_or (λ shared. shared.value.records) store.users [];
     } };
 
-    ghost invariant = { λ store. ForSome store.users (λ shared. shared.value.version ≡ store.scram_version) };
+    ghost invariant = { λ store.
+        ForSome store.users (λ shared. shared.value.version ≡ store.scram_version) };
 }
 
 impl ScramCredentials {
@@ -84,7 +88,8 @@ impl ScramCredentials {
         }
     }
 
-    /// Adds a user behind the others. The name is plain, and not escaped.
+    /// Adds a user behind the others. The name is plain, and not escaped. Where an earlier user has
+    /// the same name, that one's record counts.
     ///
     /// Refused are, in this order: `VersionMismatch` where the record is for another version, and
     /// `OutOfMemory`. A refusal leaves the store as it was.
@@ -125,19 +130,23 @@ impl ScramCredentials {
         Ok(())
     }
 
-    /// Puts this record in the place of the first record of the name, which is plain, and not escaped,
-    /// and says whether there was one. The others stay as they were, those of the same name too.
+    /// Puts this record in the place of the one that counts for the name, and says whether there
+    /// was one; where there was none, nothing changes. The name is plain, and not escaped. The
+    /// others stay as they were, in their order, those of the same name too. Names are compared up
+    /// to the first of this one.
     ///
     /// Refused are, in this order: `VersionMismatch` where the record is for another version, and
     /// `OutOfMemory`. A refusal leaves the store as it was.
     #[tactic(auto, using(crate::proofs::lemmas::providers::ByNameLemmas::with_nobody))]
     pub fn replace(&mut self, username: &str, kept: ScramRecord) -> Result<bool, AddRecordError>
-        ensures ok { IfOk result (λ found. (found ≡ is_some (record_at self.old.records username.now))
+        ensures ok { IfOk result (λ found.
+            (found ≡ is_some (record_at self.old.records username.now))
             × (self.new ≡ record {
               version = self.old.version;
               records = records_with self.old.records username.now kept.stored;
             })) }
-        ensures mismatch { (result ≡ Err AddRecordError.VersionMismatch) ↔ (kept.version ≢ self.old.version) }
+        ensures mismatch { (result ≡ Err AddRecordError.VersionMismatch)
+            ↔ (kept.version ≢ self.old.version) }
         ensures err { OnErr result (self.new ≡ self.old) }
     {
         if *kept.scram_version() != self.scram_version {
@@ -152,14 +161,16 @@ impl ScramCredentials {
         Ok(true)
     }
 
-    /// Takes out every record of the name, which is plain, and not escaped, and says whether there
-    /// was one. The others stay, in their order. Each user's name is compared, and no memory is
-    /// asked for where the users are not shared.
+    /// Takes out every record of the name, so that no later one comes to count, and says whether
+    /// there was one. The name is plain, and not escaped. The others stay, in their order. Each
+    /// user's name is compared where there is one to take out.
     ///
-    /// Refused is `OutOfMemory`, which leaves the store as it was.
+    /// Refused is `OutOfMemory`, only where the users are shared, since memory is asked for only to
+    /// copy them. A refusal leaves the store as it was.
     #[tactic(auto, using(crate::proofs::lemmas::providers::ByNameLemmas::without_nobody))]
     pub fn remove(&mut self, username: &str) -> Result<bool, OutOfMemory>
-        ensures ok { IfOk result (λ found. (found ≡ is_some (record_at self.old.records username.now))
+        ensures ok { IfOk result (λ found.
+            (found ≡ is_some (record_at self.old.records username.now))
             × (self.new ≡ record {
               version = self.old.version;
               records = records_without self.old.records username.now;
@@ -175,8 +186,9 @@ impl ScramCredentials {
         Ok(true)
     }
 
-    /// The record of the name, which is plain, and not escaped: that of the first user who has it, or
-    /// `None` where nobody does.
+    /// The record that counts for the name, or `None` where nobody has the name, which is plain,
+    /// and not escaped. To move a user, add a clone of the record to another store, and remove the
+    /// name here.
     pub fn record(&self, username: &str) -> Option<&ScramRecord>
         ensures { option_map (λ found. found.now) result
             ≡ option_map (versioned self.now.version) (record_at self.now.records username.now) }

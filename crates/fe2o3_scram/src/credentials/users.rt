@@ -74,7 +74,10 @@ impl Model for Users {
 
     ghost Value = { Provider };
 
-    ghost view = { λ users. record { version = users.scram_version; records = users.in_order.items } };
+    ghost view = { λ users. record {
+      version = users.scram_version;
+      records = users.in_order.items;
+    } };
 
     ghost invariant = { λ users.
         IsByName arc_value users.by_name users.scram_version users.in_order.items };
@@ -141,8 +144,8 @@ impl Users {
         }
     }
 
-    /// Puts this record, which is for the users' version, in the place of the first of the name, which
-    /// somebody has.
+    /// Puts this record, which is for the users' version, in the place of the first of the name,
+    /// which somebody has.
     pub(crate) fn replace(
         &mut self,
         alloc: Global,

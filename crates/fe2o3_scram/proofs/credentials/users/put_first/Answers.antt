@@ -13,9 +13,11 @@ returns-then-is_named c =
     let name = c.args.username.now in
     let stored = c.args.kept.value.stored in
     let below : k < length users = omega arith in
-    let here : pointwise nat_eq (get_or users k c.user-item.result).0 name ≡ true = sym c.is_named.ensures ∙ c.if-is_named.true in
+    let other = c.user-item.result in
+    let here : pointwise nat_eq (get_or users k other).0 name ≡ true =
+    sym c.is_named.ensures ∙ c.if-is_named.true in
     ap (λ (user : List ℕ × Record). set users k (user.0, stored)) c.user.view_is
-    ∙ with-at users name stored k c.user-item.result c.loop-user.invariant.nobody below here
+    ∙ with-at users name stored k other c.loop-user.invariant.nobody below here
     ∙ ap (λ (users : Records). records_with users name stored) c.loop-user.invariant.same
 
 pub loop-user-preserved : goal.loop-user-preserved
@@ -25,7 +27,8 @@ loop-user-preserved c =
     let name = c.args.username.now in
     let other = c.user-item.result in
     let below : k < length users = omega arith in
-    let here : pointwise nat_eq (get_or users k other).0 name ≡ false = sym c.is_named.ensures ∙ c.if-is_named.false in
+    let here : pointwise nat_eq (get_or users k other).0 name ≡ false =
+    sym c.is_named.ensures ∙ c.if-is_named.false in
     let same : set users k (get_or users k other) ≡ users = set-get_or users k other in record {
       same = same ∙ c.loop-user.invariant.same;
       nobody =
