@@ -1,5 +1,5 @@
 -- What a server keeps of its users (RFC 5802, section 3).
-use Rattle.std.specs.Prelude.{ℕ, List, [], ◌∷◌, ◌≡◌, ◌≤◌, ◌+◌, Option, Some, None, Result, Ok, Err, if◌then◌else◌, nat_eq}
+use Rattle.std.specs.Prelude.{ℕ, List, [], ◌∷◌, ◌≡◌, ◌≤◌, ◌+◌, Option, Some, None, Result, Ok, Err, if◌then◌else◌, filter, nat_eq, not}
 use Rattle.std.specs.Cmp.Lexicographic.{pointwise}
 use Rattle.fe2o3_scram.specs.declared.hmac.ScramVersion.{ScramVersion}
 use Rattle.fe2o3_scram.specs.declared.provider.StoredPassword.{StoredPassword}
@@ -34,6 +34,10 @@ pub record VersionedRecord : Type 0 where
   pub version : ScramVersion
   pub stored : Record
 
+-- a record, for this version
+abbrev pub versioned : ScramVersion → Record → VersionedRecord
+versioned version stored = record { version = version; stored = stored }
+
 -- the tests before a record is made of a password (RFC 4013, section 2; RFC 5802, section 5.1), in their order
 abbrev pub making_tests : List ℕ → ℕ → List (RecordError × Type 0)
 making_tests password count = (NormalizeError, ¬ IsPrintable password) ∷ (ZeroIterations, count ≡ 0) ∷ []
@@ -58,6 +62,16 @@ Records = List (List ℕ × Record)
 abbrev pub record_at : Records → List ℕ → Option Record
 record_at [] name = None
 record_at (entry ∷ records) name = if pointwise nat_eq entry.0 name then Some entry.1 else record_at records name
+
+-- with this record in the place of the first of the name, where there is one
+abbrev pub records_with : Records → List ℕ → Record → Records
+records_with [] name stored = []
+records_with (entry ∷ records) name stored =
+    if pointwise nat_eq entry.0 name then (entry.0, stored) ∷ records else entry ∷ records_with records name stored
+
+-- the records of every other name, in their order
+abbrev pub records_without : Records → List ℕ → Records
+records_without records name = filter (λ (entry : List ℕ × Record). not (pointwise nat_eq entry.0 name)) records
 
 -- what a provider means: a version, and a record for each of its users (RFC 5802, section 3)
 pub record Provider : Type 0 where

@@ -10,6 +10,7 @@ pub mod record_text;
 pub mod scram_credentials;
 pub mod scram_record;
 pub mod stored_credential;
+mod users;
 
 pub use crate::credentials::record_lines::{ReadLinesError, ReadLinesErrorKind, WriteLinesError};
 pub use crate::credentials::record_text::RecordTextError;

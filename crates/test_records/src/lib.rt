@@ -5,6 +5,8 @@
 #[cfg(test)]
 mod broker;
 #[cfg(test)]
+mod changes;
+#[cfg(test)]
 mod lines;
 #[cfg(test)]
 mod lines_broker;

@@ -1,4 +1,4 @@
-//! The loop of a server that reads its store from lines, and shares it among its exchanges.
+//! The loop of a server that reads its store from lines, and hands a clone to each exchange.
 
 use crate::logins::{Login, client, exchange};
 use fe2o3_scram::credentials::ScramCredentials;
@@ -6,7 +6,6 @@ use fe2o3_scram::hmac::ScramVersion;
 use fe2o3_scram::scram_messages::ServerScramErrorKind;
 use fe2o3_scram::scram_server::ScramAuthenticator;
 use std::alloc::Global;
-use std::rc::Rc;
 use std::test::Fail;
 
 /// The store's file: records as PostgreSQL 15 writes them, of `pencil` and of `x`.
@@ -19,16 +18,18 @@ const FILE: &str =
 /// The version of all records.
 const VERSION: ScramVersion = ScramVersion::Sha256;
 
-/// The store, as exchanges share it.
-type Store = Rc<ScramCredentials>;
-
 /// The store that the file holds.
-fn store(alloc: Global) -> Result<Store, Fail> {
-    Ok(Rc::new(alloc, ScramCredentials::parse_lines(alloc, VERSION, FILE)?)?)
+fn store(alloc: Global) -> Result<ScramCredentials, Fail> {
+    Ok(ScramCredentials::parse_lines(alloc, VERSION, FILE)?)
 }
 
-/// One exchange over the shared store.
-fn log_in(alloc: Global, store: &Store, name: &str, password: &str) -> Result<Login, Fail> {
+/// One exchange over a clone of the store.
+fn log_in(
+    alloc: Global,
+    store: &ScramCredentials,
+    name: &str,
+    password: &str,
+) -> Result<Login, Fail> {
     let mut server = Box::new(alloc, ScramAuthenticator::new(store.clone()?))?;
     let mut client = client(alloc, name, password)?;
     exchange(alloc, &mut server, &mut client)
@@ -47,6 +48,23 @@ fn serves_the_users_of_its_file(rt: HostRuntime) -> Result<(), Fail> {
         ("nobody", "pencil", Login::Unknown),
     ] {
         let login = log_in(rt.alloc(), &store, name, password)?;
+        assert!(rt; login == wanted, "{name}: {login:?}");
+    }
+    Ok(())
+}
+
+#[test]
+fn serves_no_user_who_was_removed(rt: HostRuntime) -> Result<(), Fail> {
+    let mut store = store(rt.alloc())?;
+    let before = store.clone()?;
+    let found = store.remove("user")?;
+    assert!(rt; found);
+    for (users, name, password, wanted) in [
+        (&store, "user", "pencil", Login::Unknown),
+        (&store, "a,b=c", "x", Login::Accepted),
+        (&before, "user", "pencil", Login::Accepted),
+    ] {
+        let login = log_in(rt.alloc(), users, name, password)?;
         assert!(rt; login == wanted, "{name}: {login:?}");
     }
     Ok(())

@@ -1,1 +1,2 @@
+pub mod ByNameLemmas
 pub mod LookUpLemmas

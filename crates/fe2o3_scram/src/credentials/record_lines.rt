@@ -12,9 +12,11 @@ ghost use Rattle.fe2o3_scram.specs.declared.credentials.record_lines.WriteLinesE
 
 use crate::OutOfMemory;
 use crate::credentials::record_text::{RecordTextError, record_text};
-use crate::credentials::scram_credentials::{ScramCredentials, User};
+use crate::credentials::scram_credentials::ScramCredentials;
 use crate::credentials::scram_record::ScramRecord;
+use crate::credentials::users::User;
 use crate::hmac::ScramVersion;
+use crate::provider::ScramCredentialProvider;
 use crate::scram_messages::escape::{UnescapeError, push_escaped, unescape_username};
 use crate::texts::cut;
 use std::alloc::{AllocError, AllocFailed, Global};
@@ -124,7 +126,7 @@ impl ScramCredentials {
             match store.read_line(alloc, rest) {
                 Ok(more) => rest = more,
                 Err(kind) => {
-                    let line = store.users.len() + 1;
+                    let line = store.users().len() + 1;
                     return Err(ReadLinesError { line, kind });
                 }
             }
@@ -147,8 +149,8 @@ impl ScramCredentials {
         let Some((line, rest)) = cut(text, '\n') else {
             return Err(ReadLinesErrorKind::LineFeedMissing);
         };
-        let user = read_user(alloc, self.scram_version, line)?;
-        self.users.push(user)?;
+        let (username, kept) = read_user(alloc, *self.scram_version(), line)?;
+        self.add_of_version(username, kept)?;
         Ok(rest)
     }
 
@@ -161,11 +163,12 @@ impl ScramCredentials {
         ensures refused { (result ≡ Err WriteLinesError.UserNotWritable)
             ↔ ¬ AllByRecursion (IsWritable self.now.version) self.now.records }
     {
-        if !are_writable(&self.users, self.scram_version) {
+        let scram_version = *self.scram_version();
+        if !are_writable(self.users(), scram_version) {
             return Err(WriteLinesError::UserNotWritable);
         }
         let mut text = Vec::new(alloc);
-        push_users(alloc, &mut text, &self.users, self.scram_version)?;
+        push_users(alloc, &mut text, self.users(), scram_version)?;
         Ok(text)
     }
 }
@@ -179,14 +182,16 @@ fn last_cut(text: &str, separator: char) -> Option<(&str, &str)>
     text.rsplit_once(separator)
 }
 
-/// The user of a line, which stands here without its line feed.
+/// The name and the record of a line, which stands here without its line feed.
 fn read_user(
     alloc: Global,
     scram_version: ScramVersion,
     line: &str,
-) -> Result<User, ReadLinesErrorKind>
+) -> Result<(String, ScramRecord), ReadLinesErrorKind>
     requires { Without 10 line.now }
-    ensures ok { IfOk result (λ user. IsLineReadable scram_version user × (line.now ≡ user_line scram_version user)) }
+    ensures ok { IfOk result (λ user. IsLineReadable scram_version (string_bytes user.0, user.1.stored)
+        × (line.now ≡ user_line scram_version (string_bytes user.0, user.1.stored))) }
+    ensures version { IfOk result (λ user. user.1.version ≡ scram_version) }
     ensures err { IfErr result (λ kind. kind ≢ ReadLinesErrorKind.OutOfMemory → LineFault scram_version line.now kind) }
     ensures memory { IfErr result (λ kind. kind ≡ ReadLinesErrorKind.OutOfMemory
         → (name : List ℕ) × (kept : List ℕ) × LastCut 32 line.now name kept) }
@@ -200,7 +205,7 @@ fn read_user(
     if *kept.scram_version() != scram_version {
         return Err(ReadLinesErrorKind::VersionMismatch);
     }
-    Ok(User { username, kept })
+    Ok((username, kept))
 }
 
 /// The name that is escaped so.

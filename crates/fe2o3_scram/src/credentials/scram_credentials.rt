@@ -1,17 +1,19 @@
 //! The records of several users as a provider.
 
-ghost use Rattle.std.specs.Prelude.{◌≡◌, ◌≢◌, ◌↔◌, ◌++◌, [], ◌∷◌, OnErr, OnOk, option_map, nat_eq};
-ghost use Rattle.std.specs.Cmp.Lexicographic.{pointwise};
+ghost use Rattle.std.specs.Prelude.{◌≡◌, ◌≢◌, ◌↔◌, ◌++◌, [], ◌∷◌, IfOk, OnErr, OnOk, is_some, option_map};
 ghost use Rattle.std.specs.String.{string_bytes};
-ghost use Rattle.fe2o3_scram.specs.Credentials.{kept, record_at};
-ghost use Rattle.fe2o3_scram.specs.declared.credentials.scram_credentials.AddRecordError.TheVariants.{OutOfMemory};
+ghost use Rattle.fe2o3_scram.specs.Credentials.{record_at, records_with, records_without, versioned};
+ghost use Rattle.fe2o3_scram.specs.declared.credentials.scram_credentials.AddRecordError.TheVariants.{OutOfMemory as OutOfMemoryError};
 
+use crate::OutOfMemory;
 use crate::credentials::scram_record::ScramRecord;
+use crate::credentials::users::{User, Users};
 use crate::hmac::ScramVersion;
 use crate::provider::{ScramCredentialProvider, StoredPassword};
 use std::alloc::{AllocError, AllocFailed, Global};
 use std::fmt;
 use std::marker::Model;
+use std::sync::Arc;
 use thiserror::Error;
 
 /// Why a record is not added.
@@ -26,73 +28,52 @@ pub enum AddRecordError {
     OutOfMemory,
 }
 
+impl From<AllocError> for AddRecordError {
+    ghost from_gives = { λ _ error. error ≡ OutOfMemoryError };
+
+    fn from(_error: AllocError) -> Self {
+        AddRecordError::OutOfMemory
+    }
+}
+
 impl<T: Drop> From<AllocFailed<T>> for AddRecordError {
-    ghost from_gives = { λ _ error. error ≡ OutOfMemory };
+    ghost from_gives = { λ _ error. error ≡ OutOfMemoryError };
 
     fn from(_error: AllocFailed<T>) -> Self {
         AddRecordError::OutOfMemory
     }
 }
 
-/// A user and the record of the user's password.
-#[derive(Drop)]
-pub(crate) struct User {
-    pub(crate) username: String,
-    pub(crate) kept: ScramRecord,
-}
-
-impl Model for User {
-    ghost use Rattle.std.specs.Prelude.{ℕ, List};
-    ghost use Rattle.std.specs.String.{string_bytes};
-    ghost use Rattle.fe2o3_scram.specs.Credentials.{Record};
-
-    ghost Value = { List ℕ × Record };
-
-    ghost view = { λ user. (string_bytes user.username, user.kept.stored) };
-}
-
-impl User {
-    /// Whether this is the user's name.
-    fn is_named(&self, username: &str) -> bool
-        ensures { result ≡ pointwise nat_eq self.now.0 username.now }
-    {
-        self.username.as_str() == username
-    }
-
-    /// What is kept of the user's password.
-    pub(crate) fn stored_password(&self) -> StoredPassword<'_>
-        ensures { kept result ≡ self.now.1 }
-    {
-        self.kept.as_stored_password()
-    }
-}
-
-impl Clone for User {
-    ghost is_clone = { λ user copy. copy ≡ user };
-
-    fn clone(&self) -> Result<Self, AllocError> {
-        Ok(Self {
-            username: self.username.clone()?,
-            kept: self.kept.clone()?,
-        })
-    }
-}
-
-/// The records of several users, all for one version. Of two with one name the first counts. A clone
-/// copies every record, and each step of an acceptor over frames clones its store: hand it over in an
-/// `Rc`, which is a provider too.
+/// The records of several users, all for one version. Of two with one name the first counts.
+///
+/// A clone shares the users and asks for no memory; it may stand in another thread. A change of a
+/// store whose users are shared copies them first, once, for about two requests for memory a user:
+/// their names and the places in which they stand, while their records stay shared. From then on
+/// the store has its users alone, and the others stay as they were.
+///
+/// A name is found by a map, in a time that grows with the logarithm of the number of users. Each
+/// name is kept twice for it.
 #[derive(Drop)]
 pub struct ScramCredentials {
-    pub(crate) scram_version: ScramVersion,
-    pub(crate) users: Vec<User>,
+    alloc: Global,
+    scram_version: ScramVersion,
+    users: Option<Arc<Users>>,
 }
 
 impl Model for ScramCredentials {
+    ghost use Rattle.std.specs.Prelude.{[], ◌≡◌};
+    ghost use Rattle.std.specs.Option.{ForSome, option_map_or};
     ghost use Rattle.fe2o3_scram.specs.Credentials.{Provider};
 
     ghost Value = { Provider };
 
-    ghost view = { λ store. record { version = store.scram_version; records = store.users.items } };
+    ghost view = { λ store. record {
+      version = store.scram_version;
+      records = option_map_or (λ shared. shared.value.records) store.users [];
+    } };
+
+    ghost invariant = { λ store.
+        ForSome store.users (λ shared. shared.value.version ≡ store.scram_version) };
 }
 
 impl ScramCredentials {
@@ -101,12 +82,14 @@ impl ScramCredentials {
         ensures { result ≡ record { version = scram_version; records = [] } }
     {
         Self {
+            alloc,
             scram_version,
-            users: Vec::new(alloc),
+            users: None,
         }
     }
 
-    /// Adds a user behind the others. The name is plain, and not escaped.
+    /// Adds a user behind the others. The name is plain, and not escaped. Where an earlier user has
+    /// the same name, that one's record counts.
     ///
     /// Refused are, in this order: `VersionMismatch` where the record is for another version, and
     /// `OutOfMemory`. A refusal leaves the store as it was.
@@ -121,8 +104,116 @@ impl ScramCredentials {
         if *kept.scram_version() != self.scram_version {
             return Err(AddRecordError::VersionMismatch);
         }
-        self.users.push(User { username, kept })?;
+        self.add_of_version(username, kept)?;
         Ok(())
+    }
+
+    /// Adds a user behind the others, whose record is for the store's version.
+    pub(crate) fn add_of_version(
+        &mut self,
+        username: String,
+        kept: ScramRecord,
+    ) -> Result<(), OutOfMemory>
+        requires { kept.version ≡ self.old.version }
+        ensures ok { OnOk result (self.new ≡ record {
+          version = self.old.version;
+          records = self.old.records ++ ((string_bytes username, kept.stored) ∷ []);
+        }) }
+        ensures err { OnErr result (self.new ≡ self.old) }
+    {
+        if let Some(shared) = &mut self.users {
+            return Arc::make_mut(shared)?.add(self.alloc, username, kept);
+        }
+        let mut users = Users::new(self.alloc, self.scram_version);
+        users.add(self.alloc, username, kept)?;
+        self.users = Some(Arc::new(self.alloc, users)?);
+        Ok(())
+    }
+
+    /// Puts this record in the place of the one that counts for the name, and says whether there
+    /// was one; where there was none, nothing changes. The name is plain, and not escaped. The
+    /// others stay as they were, in their order, those of the same name too. Names are compared up
+    /// to the first of this one.
+    ///
+    /// Refused are, in this order: `VersionMismatch` where the record is for another version, and
+    /// `OutOfMemory`. A refusal leaves the store as it was.
+    #[tactic(auto, using(crate::proofs::lemmas::providers::ByNameLemmas::with_nobody))]
+    pub fn replace(&mut self, username: &str, kept: ScramRecord) -> Result<bool, AddRecordError>
+        ensures ok { IfOk result (λ found.
+            (found ≡ is_some (record_at self.old.records username.now))
+            × (self.new ≡ record {
+              version = self.old.version;
+              records = records_with self.old.records username.now kept.stored;
+            })) }
+        ensures mismatch { (result ≡ Err AddRecordError.VersionMismatch)
+            ↔ (kept.version ≢ self.old.version) }
+        ensures err { OnErr result (self.new ≡ self.old) }
+    {
+        if *kept.scram_version() != self.scram_version {
+            return Err(AddRecordError::VersionMismatch);
+        }
+        if !self.has(username) {
+            return Ok(false);
+        }
+        if let Some(shared) = &mut self.users {
+            Arc::make_mut(shared)?.replace(self.alloc, username, kept)?;
+        }
+        Ok(true)
+    }
+
+    /// Takes out every record of the name, so that no later one comes to count, and says whether
+    /// there was one. The name is plain, and not escaped. The others stay, in their order. Each
+    /// user's name is compared where there is one to take out.
+    ///
+    /// Refused is `OutOfMemory`, only where the users are shared, since memory is asked for only to
+    /// copy them. A refusal leaves the store as it was.
+    #[tactic(auto, using(crate::proofs::lemmas::providers::ByNameLemmas::without_nobody))]
+    pub fn remove(&mut self, username: &str) -> Result<bool, OutOfMemory>
+        ensures ok { IfOk result (λ found.
+            (found ≡ is_some (record_at self.old.records username.now))
+            × (self.new ≡ record {
+              version = self.old.version;
+              records = records_without self.old.records username.now;
+            })) }
+        ensures err { OnErr result (self.new ≡ self.old) }
+    {
+        if !self.has(username) {
+            return Ok(false);
+        }
+        if let Some(shared) = &mut self.users {
+            Arc::make_mut(shared)?.remove(username);
+        }
+        Ok(true)
+    }
+
+    /// The record that counts for the name, or `None` where nobody has the name, which is plain,
+    /// and not escaped. To move a user, add a clone of the record to another store, and remove the
+    /// name here.
+    pub fn record(&self, username: &str) -> Option<&ScramRecord>
+        ensures { option_map (λ found. found.now) result
+            ≡ option_map (versioned self.now.version) (record_at self.now.records username.now) }
+    {
+        match &self.users {
+            Some(shared) => shared.record(username),
+            None => None,
+        }
+    }
+
+    /// Whether somebody has this name.
+    fn has(&self, username: &str) -> bool
+        ensures { result ≡ is_some (record_at self.now.records username.now) }
+    {
+        self.record(username).is_some()
+    }
+
+    /// The users in the order in which they came.
+    pub(crate) fn users(&self) -> &[User]
+        ensures { result.now ≡ self.now.records }
+    {
+        match &self.users {
+            Some(shared) => shared.in_order(),
+            None => &[],
+        }
     }
 }
 
@@ -140,11 +231,15 @@ impl fmt::Debug for ScramCredentials {
 impl Clone for ScramCredentials {
     ghost is_clone = { λ store copy. copy ≡ store };
 
-    #[tactic(auto, using(std::proofs::lemmas::List::Elements::same_from_all_zip))]
     fn clone(&self) -> Result<Self, AllocError> {
+        let users = match &self.users {
+            Some(shared) => Some(shared.clone()?),
+            None => None,
+        };
         Ok(Self {
+            alloc: self.alloc,
             scram_version: self.scram_version,
-            users: self.users.clone()?,
+            users,
         })
     }
 }
@@ -159,16 +254,9 @@ impl ScramCredentialProvider for ScramCredentials {
     }
 
     fn get_stored_password<'a>(&'a self, username: &str) -> Option<StoredPassword<'a>> {
-        match first_named(&self.users, username) {
-            Some(user) => Some(user.stored_password()),
+        match self.record(username) {
+            Some(kept) => Some(kept.as_stored_password()),
             None => None,
         }
     }
-}
-
-/// The first user with this name.
-fn first_named<'a>(users: &'a [User], username: &str) -> Option<&'a User>
-    ensures { option_map (λ user. user.now.1) result ≡ record_at users.now username.now }
-{
-    users.iter().find(|user| user.is_named(username))
 }
