@@ -41,3 +41,4 @@ pub use Rattle.fe2o3_scram.specs.ClientSecret
 pub use Rattle.fe2o3_scram.specs.ScramClient
 pub use Rattle.fe2o3_scram.specs.ScramServer
 pub use Rattle.fe2o3_scram.specs.Exchanges
+pub use Rattle.fe2o3_scram.specs.Logins

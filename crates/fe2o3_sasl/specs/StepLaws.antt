@@ -3,7 +3,7 @@ use Rattle.std.specs.Prelude.{◌≡◌, ℕ, Option, Some, List, Ok}
 use Rattle.fe2o3_sasl_wire.specs.declared.amqp_types.SaslCode.TheVariants as outcomes
 use Rattle.fe2o3_sasl_wire.specs.SaslFrames as frames
 use Rattle.fe2o3_scram.specs.Credentials.{Provider}
-use Rattle.fe2o3_scram.specs.Logins.{LogsIn, IsSigned}
+use Rattle.fe2o3_scram.specs.Logins.{TextLogsIn, IsSigned}
 use Rattle.fe2o3_scram.specs.ScramClient.{ClientSide}
 use Rattle.fe2o3_scram.specs.ScramServer.{ServerState, ServerFinalSent}
 use Rattle.fe2o3_sasl.specs.Bodies.{SpellsBody}
@@ -15,7 +15,7 @@ use Rattle.fe2o3_sasl.specs.SaslAcceptor.{Acceptor, ScramAcceptor, acceptor_mach
 -- the body is a response that logs this user in (RFC 5802, section 5)
 abbrev pub BodyLogsIn : Provider → ServerState → List ℕ → List ℕ → Type 0
 BodyLogsIn provider state body user =
-    (text : List ℕ) × SpellsBody body (Ok (frames.Response text)) × LogsIn provider state text user
+    (text : List ℕ) × SpellsBody body (Ok (frames.Response text)) × TextLogsIn provider state text user
 
 -- a SCRAM acceptor answers Ok only to such a body, and names that user behind it
 abbrev pub OksLogIn : Type 0

@@ -11,7 +11,7 @@ use Rattle.fe2o3_scram.specs.ServerFirst.{Challenge}
 
 -- the text logs this user in: a challenge to this user is open, whom the provider has, and the text is a client-final
 -- message to it that passes every test, the last being that its proof meets the stored key
-pub record LogsIn (provider : Provider) (state : ServerState) (text user : List ℕ) : Type 0 where
+pub record TextLogsIn (provider : Provider) (state : ServerState) (text user : List ℕ) : Type 0 where
   pub challenge : Challenge
   pub stored : Record
   pub final : ClientFinal
@@ -25,7 +25,7 @@ pub record LogsIn (provider : Provider) (state : ServerState) (text user : List 
 abbrev pub AcceptedTextsLogIn : Type 0
 AcceptedTextsLogIn = (state next : ServerState) (provider : Provider) (text : List ℕ) (answer : Option (List ℕ))
     → ConcludesFrom state provider text (Ok answer) next
-    → (user : List ℕ) × LogsIn provider state text user × (next ≡ ServerFinalSent user)
+    → (user : List ℕ) × TextLogsIn provider state text user × (next ≡ ServerFinalSent user)
 
 -- the text shows the signature that a client waits for: the client has answered a challenge, and the first part of the
 -- text is the signature of that answer

@@ -1,7 +1,7 @@
 //! The broker's side of a login, and a client's.
 
 ghost use Rattle.std.specs.Prelude.{◌≡◌, ℕ, List, Some, IfOk};
-ghost use Rattle.fe2o3_scram.specs.Logins.{LogsIn};
+ghost use Rattle.fe2o3_scram.specs.Logins.{TextLogsIn};
 ghost use Rattle.fe2o3_scram.specs.ScramServer.{provider_in, state_in, logged_in};
 
 use crate::accounts::{Account, Accounts};
@@ -86,7 +86,7 @@ fn challenge(alloc: Global, server: &mut Server, client_first: &[u8]) -> Result<
 /// then names.
 fn conclude(alloc: Global, server: &mut Server, client_final: &[u8]) -> Result<Vec<u8>>
     ensures { IfOk result (λ _. (user : List ℕ)
-        × LogsIn (provider_in server.old).value (state_in server.old) client_final.now user
+        × TextLogsIn (provider_in server.old).value (state_in server.old) client_final.now user
         × (logged_in (state_in server.new) ≡ Some user)) }
 {
     let signature = server.compute_server_final_message(alloc, client_final)?;

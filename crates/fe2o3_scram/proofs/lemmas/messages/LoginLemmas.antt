@@ -2,7 +2,7 @@
 -- `believed_texts_are_signed` of a client.
 use Rattle.std.proofs.Common.{◌≡◌, ℕ, Option, Some, None, List, refl, Ok}
 use Rattle.fe2o3_scram.specs.Credentials.{Provider}
-use Rattle.fe2o3_scram.specs.Logins.{LogsIn, AcceptedTextsLogIn, IsSigned, BelievedTextsAreSigned}
+use Rattle.fe2o3_scram.specs.Logins.{TextLogsIn, AcceptedTextsLogIn, IsSigned, BelievedTextsAreSigned}
 use Rattle.fe2o3_scram.specs.ScramClient as client_states
 use Rattle.fe2o3_scram.specs.ScramClient.{ClientSide, ClientState, BelievesIn}
 use Rattle.fe2o3_scram.specs.ScramServer.{ServerFirstSent}
