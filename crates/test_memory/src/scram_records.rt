@@ -10,7 +10,7 @@ use fe2o3_scram::credentials::{
 };
 use fe2o3_scram::hmac::{Meter, ScramVersion};
 use fe2o3_scram::scram_messages::ServerScramErrorKind;
-use help_memory::{Answer, Call, right, stand, told};
+use help_memory::{Answer, Call, and, right, stand, take_none, told};
 use std::alloc::Global;
 use std::test::Fail;
 
@@ -261,7 +261,7 @@ fn lines_want_memory(rt: HostRuntime) -> Result<(), Fail> {
     stand(rt.alloc(), &[OfLines::Parse, OfLines::Write])
 }
 
-/// A copy of a provider of this type.
+/// A copy of a provider of this type. That of a store shares its users.
 #[derive(Debug, Clone, Copy)]
 enum Copied {
     Single,
@@ -329,5 +329,119 @@ impl Call for Copied {
 
 #[test]
 fn copies_of_providers_want_memory(rt: HostRuntime) -> Result<(), Fail> {
-    stand(rt.alloc(), &[Copied::Single, Copied::Stored, Copied::Many])
+    stand(rt.alloc(), &[Copied::Single, Copied::Stored])
+}
+
+#[test]
+fn copies_of_a_store_take_none(rt: HostRuntime) -> Result<(), Fail> {
+    take_none(rt.alloc(), &[Copied::Many])
+}
+
+/// A store of the user and another is changed, by itself or while a clone has the same users.
+#[derive(Debug, Clone, Copy)]
+enum Change {
+    Remove,
+    RemoveShared,
+    Replace,
+    ReplaceShared,
+    AddShared,
+}
+
+/// A store, its clone, and records to add or to put into it, one for each call.
+#[derive(Drop)]
+struct Changed {
+    users: ScramCredentials,
+    clone: Option<ScramCredentials>,
+    new: Vec<(String, ScramRecord)>,
+}
+
+/// Whether the store has the user and the other, or the other alone.
+fn has_both(users: &ScramCredentials) -> bool {
+    has_record(users, USER) && has_record(users, OTHER_USER)
+}
+
+/// Whether the clone, if there is one, has both users.
+fn is_untouched(clone: &Option<ScramCredentials>) -> bool {
+    match clone {
+        Some(users) => has_both(users),
+        None => true,
+    }
+}
+
+fn user_is_removed(changed: &mut Changed) -> Result<bool, OutOfMemory> {
+    let found = changed.users.remove(USER)?;
+    Ok(found && !has_record(&changed.users, USER) && has_record(&changed.users, OTHER_USER))
+}
+
+fn record_is_replaced(changed: &mut Changed) -> Result<bool, AddRecordError> {
+    let Some((_, record)) = changed.new.pop() else {
+        return Ok(false);
+    };
+    Ok(changed.users.replace(OTHER_USER, record)? && has_both(&changed.users))
+}
+
+fn is_added(changed: &mut Changed) -> Result<bool, AddRecordError> {
+    let Some((name, record)) = changed.new.pop() else {
+        return Ok(false);
+    };
+    changed.users.add(name, record)?;
+    Ok(has_both(&changed.users))
+}
+
+impl Change {
+    /// Whether a clone has the same users.
+    fn is_shared(self) -> bool {
+        match self {
+            Change::Remove | Change::Replace => false,
+            Change::RemoveShared | Change::ReplaceShared | Change::AddShared => true,
+        }
+    }
+}
+
+impl Call for Change {
+    type Subject = Changed;
+
+    fn subject(&self, alloc: Global) -> Result<Changed, Fail> {
+        let users = two_users(alloc)?;
+        let clone = if self.is_shared() {
+            Some(users.clone()?)
+        } else {
+            None
+        };
+        let new = new_users(alloc)?;
+        Ok(Changed { users, clone, new })
+    }
+
+    fn answer(&self, _alloc: Global, changed: &mut Changed) -> Answer {
+        let answer = match self {
+            Change::Remove | Change::RemoveShared => told(user_is_removed(changed), OutOfMemory),
+            Change::Replace | Change::ReplaceShared => {
+                told(record_is_replaced(changed), AddRecordError::OutOfMemory)
+            }
+            Change::AddShared => told(is_added(changed), AddRecordError::OutOfMemory),
+        };
+        and(answer, is_untouched(&changed.clone))
+    }
+
+    fn stays(&self, _alloc: Global, changed: &mut Changed) -> Answer {
+        right(has_both(&changed.users) && is_untouched(&changed.clone))
+    }
+}
+
+#[test]
+fn changes_of_shared_users_want_memory(rt: HostRuntime) -> Result<(), Fail> {
+    stand(
+        rt.alloc(),
+        &[
+            Change::RemoveShared,
+            Change::ReplaceShared,
+            Change::AddShared,
+            Change::Replace,
+        ],
+    )
+}
+
+#[test]
+fn removals_of_users_that_nobody_shares_take_none(rt: HostRuntime) -> Result<(), Fail> {
+    take_none(rt.alloc(), &[Change::Remove])
 }
