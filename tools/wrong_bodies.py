@@ -48,7 +48,7 @@ from functools import lru_cache
 ROOT = os.path.dirname(os.path.dirname(os.path.realpath(__file__)))
 FOLDER = "wrong-bodies"
 # The folder of the kit, whose bin/ holds `rt` and `rattle`.
-KIT = os.path.dirname(os.path.dirname(os.path.realpath(shutil.which("rt") or "/opt/rattle/bin/rt")))
+KIT = os.path.dirname(os.path.dirname(os.path.realpath(shutil.which("rt") or "rt")))
 
 # What a check says of a goal that is left open, of an error, of a function and of an impl.
 OPEN = re.compile(r"(?:\S+ )?note: (src/\S+?):(\d+):\d+: it is not proved that (.*)")
