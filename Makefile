@@ -21,14 +21,16 @@ check:
 	cd crates/fe2o3_sasl && rt check
 	for crate in crates/*/; do (cd $$crate && rt fmt) || exit 1; done
 
-# The merge gate: what the pages quote and list; that no modules use each other in a circle; the programs
-# that the borrow checker has to refuse; then every proof from nothing, the tests and the programs, and
-# beside these the wrong bodies.
+# The merge gate: what the pages quote and list; that no modules use each other in a circle; who makes a
+# meter of its own or hashes; the programs that the borrow checker has to refuse; then every proof from
+# nothing, the tests and the programs, and beside these the wrong bodies.
 test:
 	@tools/progress $$PPID 60 'a whole run took 30 minutes on 4 processors, and 5,650 s of processor' &
 	sh tools/quoted.sh
 	python3 tools/signatures.py --check
 	python3 tools/circles.py
+	python3 tools/meters.py
+	python3 tools/meters_test.py
 	python3 tools/wrong_bodies_test.py
 	sh tools/refused.sh
 	python3 tools/gate.py

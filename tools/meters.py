@@ -1,0 +1,272 @@
+#!/usr/bin/env python3
+"""Pins the work that no meter of a caller sees: who makes a meter, who works on one of its own, and who hashes.
+
+    tools/meters.py             compares the sources with tools/meters.txt
+    tools/meters.py --list      prints that list as the sources would have it, under the reasons that it has
+
+It reads the .rt files of src/ of the three libraries, without comments, strings, attributes, contracts and
+ghost code. The list has a line `PLACE: USE, USE` for each function that has uses, with the type of its impl. A
+use is
+
+    Meter::new      the making of a meter, by that call or by a literal
+    NAME            the call of a function that takes a meter, in one that makes one;
+                    of a function that takes none, and makes one, hashes, or calls one that does;
+                    or a name of the kit's hashes
+
+with ` in a loop` behind it where it stands in `for`, `while`, `loop` or a closure, and ` x2` where there are two.
+It fails on a use, or a number of them, that the list does not have; on one of the list that is not there; on
+another name for what it looks for (`as`, `type`); and on a Meter that is a constant or can be copied.
+
+Calls are found by name: `.name(` is every method of that name, `Type::name` those of the type, or every one
+where it is a trait or one letter, `name(` every free function. So it refuses more than it has to. It does not
+see the arguments of a call, nor in what order or on which branch it stands (an allowed call that is made where
+it was spared before is not seen), a free function that is handed on as a value, code that a macro makes, a hash
+that is written out by hand, nor a loop around a metered call on the caller's meter, which its contract counts.
+"""
+import re
+import sys
+import textwrap
+from collections import Counter, defaultdict
+from pathlib import Path
+
+TOP = Path(__file__).resolve().parent.parent
+LIBRARIES = ("fe2o3_sasl_wire", "fe2o3_scram", "fe2o3_sasl")
+LIST = "tools/meters.txt"
+UNSORTED = "# Put each of these under its reason."
+NO_CODE = re.compile(
+    r"""//[^\n]*|/\*.*?\*/|b?'(?:\\.[^']*|[^'\\])'|b?"(?:\\.|[^"\\])*"|#!?\[[^\n]*?\]\n|\bghost use\b[^;]*;""", re.S)
+GHOST = re.compile(r"\bghost\s+\w+\s*[=:]\s*(?=\{)|\bghost\s*(?=\{)"
+                   r"|^[ \t]*(?:ensures|requires|invariant|decreases|terminates|proof)(?:[ \t]+\w+)?\s*(?=\{)", re.M)
+BRACKET = re.compile(r"[({\[]|[)}\]]|;")
+HEAD = re.compile(r"\bfn\s+(\w+)")
+IMPL = re.compile(r"^(?:impl|(?:pub(?:\(\w+\))? )?trait)\b([^{;]*)\{", re.M)
+LOOP = re.compile(r"\b(?:for|while|loop)\b|(?<=[(,])\s*(?:move\s*)?\|[^|]*\|")
+MAKES = re.compile(r"\bMeter\s*>?\s*::\s*(?:new|default)\b|\bMeter\s*\{")
+OWN = re.compile(r"\bSelf\s*(?:\{|::\s*(?:new|default)\b)")
+KIT = re.compile(r"\bsha[12]\s*::|(?<!::)\bSha(?:1|256|512)\b|\.\s*(?:update|finalize)(?=\s*\()")
+WORD = re.compile(r"\b([a-z_]\w*)\s*(?:::\s*<[^(){};]*?>\s*)?(\(?)")
+BEFORE = re.compile(r"(\.)\s*$|(\w+)(?:\s*::\s*<[^()]*?>)?\s*>?\s*::\s*$")
+SOURCES = "Meter|Sha1|Sha256|Sha512|sha1|sha2|Digest|Hasher|HmacKey|PaddedKey"
+RENAMED = re.compile(r"^[ \t]*(?:pub )?use\b[^;]*?\b(?!AllocError\b)([A-Z]\w+|sha[12])\s+as\s+\w"
+                     rf"|\btype\s+\w+[^;=]*=[^;]*\b(?:{SOURCES})\b", re.M)
+COPIED = re.compile(r"derive\([^)]*(?:Clone|Copy|Default)[^)]*\)\]\s*(?:pub\s+)?struct Meter\b"
+                    r"|\bimpl\s+(?:Clone|Copy|Default)\s+for\s+Meter\b"
+                    r"|^[ \t]*(?:pub(?:\(\w+\))? )?(?:const|static)\s+\w+\s*:[^=;]*\bMeter\b", re.M)
+
+
+def lines_only(found):
+    return "\n" * found[0].count("\n")
+
+
+def closing(text, at):
+    """The place behind the bracket that closes the one at a place."""
+    depth = 0
+    for found in BRACKET.finditer(text, at):
+        depth += {"(": 1, "{": 1, "[": 1, ";": 0}.get(found[0], -1)
+        if depth == 0:
+            return found.end()
+    return len(text)
+
+
+def code_of(text):
+    """The code alone, with as many lines."""
+    text, pieces, at = NO_CODE.sub(lines_only, text), [], 0
+    while found := GHOST.search(text, at):
+        end = closing(text, found.end())
+        pieces += [text[at:found.start()], "\n" * text.count("\n", found.start(), end)]
+        at = end
+    return "".join(pieces) + text[at:]
+
+
+def owner_of(head):
+    """The name of the type of an impl, or of a trait."""
+    head, count = re.split(r"\bwhere\b", head)[0], 1
+    while count:
+        head, count = re.subn(r"<[^<>]*>", "", head)
+    return re.findall(r"\w+", re.split(r"(?<!:):(?!:)", head.rpartition(" for ")[2])[0])[-1]
+
+
+def body_of(text, at):
+    """Where the body begins of a function whose head begins at a place, or None."""
+    depth = 0
+    for found in BRACKET.finditer(text, at):
+        if depth == 0 and found[0] in "{;":
+            return found.start() if found[0] == "{" else None
+        depth += {"(": 1, "{": 1, "[": 1, ";": 0}.get(found[0], -1)
+    return None
+
+
+class Function:
+    """A function with a body."""
+
+    def __init__(self, file, crate, place, owner, name, head, body, line):
+        self.file, self.crate, self.place, self.owner, self.name = file, crate, place, owner, name
+        self.body, self.line, arguments = body, line, head.split("->")[0]
+        self.takes, self.of_self = bool(re.search(r"\bMeter\b", arguments)), bool(re.search(r"\bself\b", arguments))
+        own = OWN.finditer(body) if owner == "Meter" else ()
+        self.makes = [found.start() for places in (MAKES.finditer(body), own) for found in places]
+        self.kit = [(found.start(), re.sub(r"[\s:.]", "", found[0])) for found in KIT.finditer(body)]
+        self.loops = [(found.start(), self.loop_end(found)) for found in LOOP.finditer(body)]
+
+    def calls(self, names):
+        """The calls of these names: their place, the type before the name, the name, and whether it is a method's."""
+        for found in WORD.finditer(self.body):
+            if found[1] not in names:
+                continue
+            before = BEFORE.search(self.body[max(0, found.start() - 80):found.start()])
+            method, qualifier = bool(before and before[1]), before[2] or "" if before else ""
+            qualifier = self.owner if qualifier == "Self" else qualifier
+            if found[2] or qualifier[:1].isupper():
+                yield found.start(), qualifier if qualifier[:1].isupper() else "", found[1], method
+
+    def loop_end(self, found):
+        """Where a loop ends: at its block's brace, or at the end of a closure's arguments."""
+        at = found.end()
+        if "|" in found[0]:
+            return closing(self.body, max(self.body.rfind("(", 0, found.start() + 1), 0))
+        block = self.body.find("{", at)
+        return closing(self.body, block) if block >= 0 else at
+
+    def use(self, at, name):
+        looped = any(start < at < end for start, end in self.loops)
+        return self.place, name + " in a loop" * looped, f"{self.file}:{self.line + self.body.count(chr(10), 0, at)}"
+
+
+def functions_of(file, crate, path, text):
+    """The functions of a file."""
+    impls = [(found.start(), closing(text, found.end() - 1), owner_of(found[1])) for found in IMPL.finditer(text)]
+    for found in HEAD.finditer(text):
+        begin = body_of(text, found.end())
+        if begin is None:
+            continue
+        owner = next((name for start, stop, name in impls if start < found.start() < stop), "")
+        place = "::".join(part for part in (path, owner, found[1]) if part)
+        yield Function(file, crate, place, owner, found[1], text[found.end():begin],
+                       text[begin:closing(text, begin)], text.count("\n", 0, begin) + 1)
+
+
+class Sources:
+    """The functions of the libraries by their texts, and which of them work where no meter is handed in."""
+
+    def __init__(self, texts):
+        self.functions, self.faults, self.traits = [], [], set()
+        for file, text in texts.items():
+            self.read(file, text)
+        self.by_name, self.callers = defaultdict(list), defaultdict(list)
+        for function in self.functions:
+            self.by_name[function.name].append(function)
+        for function in self.functions:
+            for call in function.calls(self.by_name):
+                self.callers[call[2]].append((function, call))
+        self.takers = {function for function in self.functions if function.takes}
+        self.unseen = self.reached()
+
+    def read(self, file, text):
+        crate, _, path = file.split("/", 3)[1:]
+        code = code_of(text)
+        self.functions += functions_of(file, crate, f"{crate}::{path.removesuffix('.rt').replace('/', '::')}", code)
+        self.traits |= set(re.findall(r"\b(?:trait|type) (\w+)", code))
+        self.faults += [f"{file}: another name: {found[0].strip()}" for found in RENAMED.finditer(code)]
+        self.faults += [f"{file}: a Meter can be copied: {found[0].strip()}" for found in COPIED.finditer(text)]
+
+    def reached(self):
+        """The functions that take no meter, and make one, hash, or call one of them."""
+        order = [function for function in self.functions if not function.takes
+                 and (function.kit or function.makes and function.owner != "Meter")]
+        found = set(order)
+        for callee in order:
+            for caller, call in self.callers[callee.name]:
+                if not caller.takes and caller not in found and self.is_of(caller, call, callee):
+                    found.add(caller)
+                    order.append(caller)
+        return found
+
+    def is_of(self, caller, call, callee):
+        """Whether a call of its name may be one of a function."""
+        _, qualifier, _, method = call
+        if LIBRARIES.index(caller.crate) < LIBRARIES.index(callee.crate):
+            return False
+        if method:
+            return bool(callee.owner) and callee.of_self
+        if qualifier:
+            return bool(callee.owner) and (len(qualifier) == 1 or qualifier in self.traits or qualifier == callee.owner)
+        return not callee.owner
+
+    def uses(self):
+        """Each use that has to stand in the list: its function, its name, and its file and line."""
+        for function in self.functions:
+            yield from (function.use(at, "Meter::new") for at in function.makes)
+            yield from (function.use(at, name) for at, name in function.kit)
+        for name, calls in self.callers.items():
+            for caller, call in calls:
+                pinned = self.unseen | self.takers if caller.makes else self.unseen
+                if any(callee in pinned and self.is_of(caller, call, callee) for callee in self.by_name[name]):
+                    yield caller.use(call[0], f"{call[1]}::{name}" if len(call[1]) > 1 else name)
+
+
+def found_in(sources):
+    """The uses of each place, as the list writes them, each with the file and line of its last."""
+    uses = list(sources.uses())
+    counts, last = Counter(use[:2] for use in uses), {use[:2]: use[2] for use in uses}
+    found = defaultdict(dict)
+    for place, name in sorted(counts):
+        count = counts[place, name]
+        found[place][name + (f" x{count}" if count > 1 else "")] = last[place, name]
+    return found
+
+
+def line_of(place, uses):
+    return textwrap.fill(f"{place}: {', '.join(uses)}", 120, subsequent_indent="    ", break_long_words=False)
+
+
+def listed_in(text):
+    lines = [line.rsplit(": ", 1) for line in text.replace("\n    ", " ").splitlines() if re.match(r"\w.*: ", line)]
+    return {place: uses.split(", ") for place, uses in lines}
+
+
+def faults_of(texts, text):
+    """What is refused in sources, by their texts, and in a list."""
+    sources = Sources(texts)
+    found, listed = found_in(sources), listed_in(text)
+    faults = sources.faults + [f"{LIST} says: {UNSORTED}"] * (UNSORTED in text)
+    for place in sorted(set(found) | set(listed)):
+        has, may = found.get(place, {}), listed.get(place, [])
+        faults += [f"{has[use]}: {place}: {use}: {LIST} has no such use" for use in has if use not in may]
+        faults += [f"{LIST}: {place}: {use}: no such use is left" for use in may if use not in has]
+    return faults
+
+
+def renewed(texts, text):
+    """The list as the sources would have it, under the reasons that it has."""
+    found, out = found_in(Sources(texts)), []
+    for line in text.replace("\n    ", " ").splitlines():
+        place = line.rsplit(": ", 1)[0]
+        if line[:1] in ("", "#"):
+            out.append(line)
+        elif place in found:
+            out.append(line_of(place, found.pop(place)))
+    rest = [line_of(place, uses) for place, uses in found.items()]
+    return "\n".join(out + ["", UNSORTED] * bool(rest) + rest) + "\n"
+
+
+def texts_of(top):
+    """The sources of the libraries, by their paths from the folder of the repository."""
+    return {file.relative_to(top).as_posix(): file.read_text(encoding="utf-8") for crate in LIBRARIES
+            for file in sorted((top / "crates" / crate / "src").rglob("*.rt"))}
+
+
+def main():
+    texts, text = texts_of(TOP), (TOP / LIST).read_text(encoding="utf-8")
+    if "--list" in sys.argv:
+        print(renewed(texts, text), end="")
+        return 0
+    faults = faults_of(texts, text)
+    for fault in faults:
+        print(f"meters: {fault}", file=sys.stderr)
+    if not faults:
+        print(f"meters: {len(listed_in(text))} functions have the uses that {LIST} allows")
+    return 1 if faults else 0
+
+
+if __name__ == "__main__":
+    sys.exit(main())
