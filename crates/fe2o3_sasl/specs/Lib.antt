@@ -8,6 +8,7 @@ pub mod SaslAcceptor
 pub mod ProfileFaults
 pub mod Profiles
 pub mod SaslProfile
+pub mod Costs
 pub mod Runs
 pub mod Hex
 pub mod TwoSides
