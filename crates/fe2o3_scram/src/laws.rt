@@ -3,7 +3,7 @@
 
 ghost use Rattle.std.specs.Prelude.{◌≡◌};
 ghost use Rattle.fe2o3_scram.specs.Logins.{AcceptedTextsLogIn, BelievedTextsAreSigned};
-ghost use Rattle.fe2o3_scram.specs.Laws.{OneVersion, OneFinalText, OneSignature, DigestsAreSized, MacsAreSized, OneBytesOfBase64, Base64IsReadAgain, NoCommaInBase64, PartsExist, OneListOfParts, OneEscapedName, NoCommaInEscapedNames, OneClientFirst, OneServerFirst, OneClientFinal, OneServerFinal, SomeClientFirst, SomeServerFirst, SomeClientFinal, SomeServerFinal, UnalteredExchangesSucceed, MadeRecordsAreReadable, OneRecord, OneSpelling, RecordsAreReadAgain, SomeRecord, OneUsersAnswer, UsersAreReadAgain, KeysStandForPassword, KeysAnswerAsPassword, BothAnswerAsPassword};
+ghost use Rattle.fe2o3_scram.specs.Laws.{OneVersion, OneFinalText, OneSignature, DigestsAreSized, MacsAreSized, OneBytesOfBase64, Base64IsReadAgain, NoCommaInBase64, PartsExist, OneListOfParts, OneEscapedName, NoCommaInEscapedNames, OneClientFirst, OneServerFirst, OneClientFinal, OneServerFinal, SomeClientFirst, SomeServerFirst, SomeClientFinal, SomeServerFinal, UnalteredExchangesSucceed, MadeRecordsAreReadable, OneRecord, OneSpelling, RecordsAreReadAgain, SomeRecord, OneUsersAnswer, SomeUsersAnswer, UsersAreReadAgain, KeysStandForPassword, KeysAnswerAsPassword, BothAnswerAsPassword};
 
 use crate::hmac::ScramVersion;
 
@@ -95,9 +95,10 @@ pub fn kept_keys()
     ensures both { BothAnswerAsPassword }
 {}
 
-/// Users who can be written are read again from their lines. Each text of lines has at most one
-/// answer: the users that it spells, or its first line that is not read and the fault of that.
+/// Users who can be written are read again from their lines. Each text of lines has one answer: the
+/// users that it spells, or its first line that is not read and the fault of that.
 pub fn users_texts()
     ensures again { UsersAreReadAgain }
     ensures one { OneUsersAnswer }
+    ensures some { SomeUsersAnswer }
 {}

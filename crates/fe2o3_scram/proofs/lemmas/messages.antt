@@ -13,4 +13,5 @@ pub mod RecordTextLemmas
 pub mod ServerFinalLemmas
 pub mod ServerFirstLemmas
 pub mod SomeReadingLemmas
+pub mod SomeUsersLemmas
 pub mod TestListLemmas
