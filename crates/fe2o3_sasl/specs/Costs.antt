@@ -19,7 +19,7 @@ use Rattle.fe2o3_sasl.specs.SaslAcceptor.{Acceptor, ScramAcceptor}
 abbrev pub acceptor_hmacs : Acceptor → SaslFrame → ℕ → Type 0
 acceptor_hmacs (ScramAcceptor provider state) (frames.Response text) n =
     (answer : Result (Option (List ℕ)) ServerScramErrorKind) × (after : ServerState)
-    × ConcludesFrom state provider text answer after × FinalCostsFrom state provider answer 0 n
+    × ConcludesFrom state provider text answer after × FinalCostsFrom state provider text answer 0 n
 acceptor_hmacs acceptor frame n = n ≡ 0
 
 -- no more were made than an answer takes, also where memory ran out

@@ -301,8 +301,10 @@ impl SaslProfile {
                 Ok(Negotiation::Init(self.start(alloc, hostname, nonce)?))
             }
             Frame::Challenge(challenge) => {
-                let response = self.respond(alloc, &challenge.challenge.0, meter)?;
-                Ok(Negotiation::Response(response))
+                match self.respond(alloc, &challenge.challenge.0, meter) {
+                    Ok(response) => Ok(Negotiation::Response(response)),
+                    Err(fault) => Err(fault),
+                }
             }
             Frame::Outcome(outcome) => {
                 self.conclude(alloc, &outcome)?;

@@ -6,3 +6,4 @@ pub mod OneReplyLemmas
 pub mod ServerMachineLemmas
 pub mod ZeroPartLemmas
 pub mod SomeRunLemmas
+pub mod ResponseCostLemmas
