@@ -2,7 +2,7 @@
 //! statement about every list of bytes, which the check has proved.
 
 ghost use Rattle.fe2o3_sasl.specs.Hex.{OneBytesOfHex, HexIsReadAgain};
-ghost use Rattle.fe2o3_sasl.specs.MechanismLaws.{OneAcceptorReply, OneProfileReply, OffersAgree, PlainLetsIn, PlainRefuses, AnonymousLetsIn, SomethingIsOffered, NamesDiffer};
+ghost use Rattle.fe2o3_sasl.specs.MechanismLaws.{OneAcceptorReply, OneProfileReply, PlainRunsNameUsers, OffersAgree, PlainLetsIn, PlainRefuses, AnonymousLetsIn, SomethingIsOffered, NamesDiffer};
 ghost use Rattle.fe2o3_sasl.specs.examples.ClientExamples.{FloorsRefuse, HostnamesAreSent, KeysLogIn, OtherKeysLogInLater};
 ghost use Rattle.fe2o3_sasl.specs.examples.Examples.{PremisesCanBeMet, RefusalsAreUnaltered, ShiftedTextsPass};
 ghost use Rattle.fe2o3_sasl.specs.Headline.{EveryServer, EveryClient, AnswersOkExactly, ReportsOkExactly, TakenVerifiersAgree};
@@ -51,9 +51,11 @@ pub fn steps()
 
 /// Who logged in. Behind a run over any list of bodies a SCRAM acceptor names a user exactly where an
 /// accepted response stands in it with no challenge behind it, and it is the user of the init that this
-/// response answered; and the user of an agreed finding of an audit is named behind its Ok.
+/// response answered; the acceptor of PLAIN names its user exactly where some body of the run was answered
+/// Ok; and the user of an agreed finding of an audit is named behind its Ok.
 pub fn users()
     ensures runs { AcceptorRunsNameUsers }
+    ensures plain { PlainRunsNameUsers }
     ensures agreed { AgreedUsersAreNamed }
 {}
 

@@ -4,5 +4,6 @@ pub mod MechanismLemmas
 pub mod MemoryLemmas
 pub mod OneReplyLemmas
 pub mod ServerMachineLemmas
+pub mod PlainRunLemmas
 pub mod ZeroPartLemmas
 pub mod SomeRunLemmas
