@@ -1,5 +1,5 @@
 -- What holds of every acceptor and every profile, of SCRAM and of the other mechanisms. Each is the contract of a
--- clause of `laws::mechanisms` or `laws::users`.
+-- clause of `laws::mechanisms`, `laws::replies` or `laws::users`.
 use Rattle.std.specs.Prelude.{◌≡◌, ◌≢◌, ◌⊎◌, ℕ, Bool, true, false, Option, Some, None, List, [], ◌∷◌, ◌++◌, map, slice_get, Result, Ok}
 use Rattle.std.specs.List.{AllByRecursion, Contains}
 use Rattle.fe2o3_sasl_wire.specs.declared.amqp_types.SaslCode.{SaslCode}
@@ -24,6 +24,23 @@ OneProfileReply = (profile : Profile) (hostname : Option (List ℕ)) (nonce : Li
     (reply other : Result SaslFrame ClientFault) (next last : Profile)
     → profile_machine profile hostname nonce frame reply next → profile_machine profile hostname nonce frame other last
     → (reply ≡ other) × (next ≡ last)
+
+-- a server is sent inits and responses (AMQP 1.0, part 5, section 5.3.2)
+abbrev pub IsSentToServers : SaslFrame → Type 0
+IsSentToServers (frames.Init mechanism response hostname) = Unit {0}
+IsSentToServers (frames.Response text) = Unit {0}
+IsSentToServers frame = ⊥
+
+-- an acceptor has a reply to each of them, in each state and with each nonce
+abbrev pub SomeAcceptorReply : Type 0
+SomeAcceptorReply = (acceptor : Acceptor) (nonce : List ℕ) (frame : SaslFrame) → IsSentToServers frame
+    → (reply : SaslFrame) × (next : Acceptor) × acceptor_machine acceptor nonce frame reply next
+
+-- a profile has one to every frame, also to those that only a server is sent
+abbrev pub SomeProfileReply : Type 0
+SomeProfileReply = (profile : Profile) (hostname : Option (List ℕ)) (nonce : List ℕ) (frame : SaslFrame)
+    → (reply : Result SaslFrame ClientFault) × (next : Profile)
+    × profile_machine profile hostname nonce frame reply next
 
 -- some reply is an outcome Ok
 abbrev pub SaysOk : List ServerSays → Type 0

@@ -2,7 +2,7 @@
 //! statement about every list of bytes, which the check has proved.
 
 ghost use Rattle.fe2o3_sasl.specs.Hex.{OneBytesOfHex, HexIsReadAgain};
-ghost use Rattle.fe2o3_sasl.specs.MechanismLaws.{OneAcceptorReply, OneProfileReply, PlainRunsNameUsers, OffersAgree, PlainLetsIn, PlainRefuses, AnonymousLetsIn, SomethingIsOffered, NamesDiffer};
+ghost use Rattle.fe2o3_sasl.specs.MechanismLaws.{OneAcceptorReply, OneProfileReply, SomeAcceptorReply, SomeProfileReply, PlainRunsNameUsers, OffersAgree, PlainLetsIn, PlainRefuses, AnonymousLetsIn, SomethingIsOffered, NamesDiffer};
 ghost use Rattle.fe2o3_sasl.specs.examples.ClientExamples.{FloorsRefuse, HostnamesAreSent, KeysLogIn, OtherKeysLogInLater};
 ghost use Rattle.fe2o3_sasl.specs.examples.Examples.{PremisesCanBeMet, RefusalsAreUnaltered, ShiftedTextsPass};
 ghost use Rattle.fe2o3_sasl.specs.Headline.{EveryServer, EveryClient, AnswersOkExactly, ReportsOkExactly, TakenVerifiersAgree};
@@ -166,6 +166,13 @@ pub fn mechanisms()
     ensures anonymous_lets_in { AnonymousLetsIn }
     ensures something_is_offered { SomethingIsOffered }
     ensures names_differ { NamesDiffer }
+{}
+
+/// Each acceptor has a reply to each init and to each response, and each profile to every frame, in each
+/// state and with each nonce: with `mechanisms` it has exactly one.
+pub fn replies()
+    ensures acceptors { SomeAcceptorReply }
+    ensures profiles { SomeProfileReply }
 {}
 
 /// A hexadecimal text spells at most one list of bytes, and each list of bytes is spelled by one in

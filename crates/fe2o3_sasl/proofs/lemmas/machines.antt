@@ -6,4 +6,5 @@ pub mod OneReplyLemmas
 pub mod ServerMachineLemmas
 pub mod PlainRunLemmas
 pub mod ZeroPartLemmas
+pub mod SomeReplyLemmas
 pub mod SomeRunLemmas
