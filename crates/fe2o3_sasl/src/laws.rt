@@ -5,6 +5,8 @@ ghost use Rattle.fe2o3_sasl.specs.Hex.{OneBytesOfHex, HexIsReadAgain};
 ghost use Rattle.fe2o3_sasl.specs.MechanismLaws.{OneAcceptorReply, OneProfileReply, SomeAcceptorReply, SomeProfileReply, PlainRunsNameUsers, OffersAgree, PlainLetsIn, PlainRefuses, AnonymousLetsIn, SomethingIsOffered, NamesDiffer};
 ghost use Rattle.fe2o3_sasl.specs.examples.ClientExamples.{FloorsRefuse, HostnamesAreSent, KeysLogIn, OtherKeysLogInLater};
 ghost use Rattle.fe2o3_sasl.specs.examples.Examples.{PremisesCanBeMet, RefusalsAreUnaltered, ShiftedTextsPass};
+ghost use Rattle.fe2o3_sasl.specs.examples.MemoryExamples.{AcceptorsAskForNone, AskForNone, OwnedAskForNone, ServersWantNone, ClientsWantNone};
+ghost use Rattle.fe2o3_sasl.specs.Profiles.{StepAllocates, ViewAllocates};
 ghost use Rattle.fe2o3_sasl.specs.Headline.{EveryServer, EveryClient, AnswersOkExactly, ReportsOkExactly, TakenVerifiersAgree};
 ghost use Rattle.fe2o3_sasl.specs.StepLaws.{OksLogIn, ReportedOksAreSigned};
 ghost use Rattle.fe2o3_sasl.specs.Laws.{OneServerHistory, OneClientHistory, SomeServerHistory, SomeClientHistory, AcceptorRunsAreHistories, AcceptorRunsNameUsers, AgreedUsersAreNamed, ProfileRunsAreHistories, KeyedRunsAreRuns, KeyedRunsAreHistories, OksWithinChallenges, RepeatedResponsesAreRefused, OneResponseOneNonce, RefusalsLeaveOpen, PositionsAreUsedOnce, EqualMessagesAgree, NoShortExtensions, TakenVerifiersAreJudged, ShownProofsAreJudged, OneVerdictEach, OneAuditEach, RepeatedClientPositions, RepeatedServerPositions, RepeatedClientFindings, RepeatedServerFindings, ClientsLogIn, ServersLogIn, ServersWantMemory, ClientsWantMemory, ProfilesWantMemory};
@@ -196,4 +198,17 @@ pub fn want_of_memory()
     ensures server { ServersWantMemory }
     ensures client { ClientsWantMemory }
     ensures profile { ProfilesWantMemory }
+{}
+
+/// Worked examples of frames at which no memory is asked for, so that want of memory is no answer to them,
+/// each of the words that say where it is one: an acceptor at an init of another mechanism and at a response
+/// that is not due, and that of PLAIN always; a profile at a list without its name, a challenge that is not
+/// UTF-8, not due or not for SCRAM, and an outcome without data; and the like in histories.
+pub fn no_want_of_memory()
+    ensures acceptors { AcceptorsAskForNone }
+    ensures owned { OwnedAskForNone }
+    ensures views { AskForNone ViewAllocates }
+    ensures steps { AskForNone StepAllocates }
+    ensures servers { ServersWantNone }
+    ensures clients { ClientsWantNone }
 {}
