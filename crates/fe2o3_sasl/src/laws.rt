@@ -2,9 +2,11 @@
 //! statement about every list of bytes, which the check has proved.
 
 ghost use Rattle.fe2o3_sasl.specs.Hex.{OneBytesOfHex, HexIsReadAgain};
-ghost use Rattle.fe2o3_sasl.specs.MechanismLaws.{OneAcceptorReply, OneProfileReply, OffersAgree, PlainLetsIn, PlainRefuses, AnonymousLetsIn, SomethingIsOffered, NamesDiffer};
+ghost use Rattle.fe2o3_sasl.specs.MechanismLaws.{OneAcceptorReply, OneProfileReply, SomeAcceptorReply, SomeProfileReply, PlainRunsNameUsers, OffersAgree, PlainLetsIn, PlainRefuses, AnonymousLetsIn, SomethingIsOffered, NamesDiffer};
 ghost use Rattle.fe2o3_sasl.specs.examples.ClientExamples.{FloorsRefuse, HostnamesAreSent, KeysLogIn, OtherKeysLogInLater};
 ghost use Rattle.fe2o3_sasl.specs.examples.Examples.{PremisesCanBeMet, RefusalsAreUnaltered, ShiftedTextsPass};
+ghost use Rattle.fe2o3_sasl.specs.examples.MemoryExamples.{AcceptorsAskForNone, AskForNone, OwnedAskForNone, ServersWantNone, ClientsWantNone};
+ghost use Rattle.fe2o3_sasl.specs.Profiles.{StepAllocates, ViewAllocates};
 ghost use Rattle.fe2o3_sasl.specs.Headline.{EveryServer, EveryClient, AnswersOkExactly, ReportsOkExactly, TakenVerifiersAgree};
 ghost use Rattle.fe2o3_sasl.specs.StepLaws.{OksLogIn, ReportedOksAreSigned};
 ghost use Rattle.fe2o3_sasl.specs.Laws.{OneServerHistory, OneClientHistory, SomeServerHistory, SomeClientHistory, AcceptorRunsAreHistories, AcceptorRunsNameUsers, AgreedUsersAreNamed, ProfileRunsAreHistories, KeyedRunsAreRuns, KeyedRunsAreHistories, OksWithinChallenges, RepeatedResponsesAreRefused, OneResponseOneNonce, RefusalsLeaveOpen, PositionsAreUsedOnce, EqualMessagesAgree, NoShortExtensions, TakenVerifiersAreJudged, ShownProofsAreJudged, OneVerdictEach, OneAuditEach, RepeatedClientPositions, RepeatedServerPositions, RepeatedClientFindings, RepeatedServerFindings, ClientsLogIn, ServersLogIn, ServersWantMemory, ClientsWantMemory, ProfilesWantMemory};
@@ -51,9 +53,11 @@ pub fn steps()
 
 /// Who logged in. Behind a run over any list of bodies a SCRAM acceptor names a user exactly where an
 /// accepted response stands in it with no challenge behind it, and it is the user of the init that this
-/// response answered; and the user of an agreed finding of an audit is named behind its Ok.
+/// response answered; the acceptor of PLAIN names its user exactly where some body of the run was answered
+/// Ok; and the user of an agreed finding of an audit is named behind its Ok.
 pub fn users()
     ensures runs { AcceptorRunsNameUsers }
+    ensures plain { PlainRunsNameUsers }
     ensures agreed { AgreedUsersAreNamed }
 {}
 
@@ -166,6 +170,13 @@ pub fn mechanisms()
     ensures names_differ { NamesDiffer }
 {}
 
+/// Each acceptor has a reply to each init and to each response, and each profile to every frame, in each
+/// state and with each nonce: with `mechanisms` it has exactly one.
+pub fn replies()
+    ensures acceptors { SomeAcceptorReply }
+    ensures profiles { SomeProfileReply }
+{}
+
 /// A hexadecimal text spells at most one list of bytes, and each list of bytes is spelled by one in
 /// digits of either case.
 pub fn hex_texts()
@@ -187,4 +198,17 @@ pub fn want_of_memory()
     ensures server { ServersWantMemory }
     ensures client { ClientsWantMemory }
     ensures profile { ProfilesWantMemory }
+{}
+
+/// Worked examples of frames at which no memory is asked for, so that want of memory is no answer to them,
+/// each of the words that say where it is one: an acceptor at an init of another mechanism and at a response
+/// that is not due, and that of PLAIN always; a profile at a list without its name, a challenge that is not
+/// UTF-8, not due or not for SCRAM, and an outcome without data; and the like in histories.
+pub fn no_want_of_memory()
+    ensures acceptors { AcceptorsAskForNone }
+    ensures owned { OwnedAskForNone }
+    ensures views { AskForNone ViewAllocates }
+    ensures steps { AskForNone StepAllocates }
+    ensures servers { ServersWantNone }
+    ensures clients { ClientsWantNone }
 {}
