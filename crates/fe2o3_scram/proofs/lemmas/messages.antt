@@ -1,3 +1,4 @@
+pub mod AgreementLemmas
 pub mod AnswerCostLemmas
 pub mod ClientFinalLemmas
 pub mod ClientFirstLemmas
