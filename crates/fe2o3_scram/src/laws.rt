@@ -5,6 +5,7 @@ ghost use Rattle.std.specs.Prelude.{◌≡◌};
 ghost use Rattle.fe2o3_scram.specs.Agreement.{BelievedTextsAgree};
 ghost use Rattle.fe2o3_scram.specs.Logins.{AcceptedTextsLogIn, BelievedTextsAreSigned};
 ghost use Rattle.fe2o3_scram.specs.Laws.{OneVersion, OneFinalText, OneSignature, DigestsAreSized, MacsAreSized, OneBytesOfBase64, Base64IsReadAgain, NoCommaInBase64, PartsExist, OneListOfParts, OneEscapedName, NoCommaInEscapedNames, OneClientFirst, OneServerFirst, OneClientFinal, OneServerFinal, SomeClientFirst, SomeServerFirst, SomeClientFinal, SomeServerFinal, UnalteredExchangesSucceed, MadeRecordsAreReadable, OneRecord, OneSpelling, RecordsAreReadAgain, SomeRecord, OneUsersAnswer, SomeUsersAnswer, UsersAreReadAgain, KeysStandForPassword, KeysAnswerAsPassword, BothAnswerAsPassword};
+ghost use Rattle.fe2o3_scram.specs.MemoryExamples.{AnsweredClientsTakeNone, CommasTakeNone, ErrorsTakeNone, OtherNoncesTakeNone, UnboundTextsTakeNone, UnknownMechanismsTakeNone, UnknownUsersTakeNone};
 
 use crate::hmac::ScramVersion;
 
@@ -106,4 +107,19 @@ pub fn users_texts()
     ensures again { UsersAreReadAgain }
     ensures one { OneUsersAnswer }
     ensures some { SomeUsersAnswer }
+{}
+
+/// Worked examples of the words of memory: of each of these texts want of memory is no answer, since it is
+/// refused before a call comes to ask for any. A server-final message that is an error; a server-first
+/// message to a client that has answered one; a client-first message of an unknown user; a client-final
+/// message with another nonce, and one without a channel binding; a record of an unknown mechanism; and a
+/// line whose name has a comma.
+pub fn texts_without_memory()
+    ensures errors { ErrorsTakeNone }
+    ensures answered { AnsweredClientsTakeNone }
+    ensures unknown_users { UnknownUsersTakeNone }
+    ensures other_nonces { OtherNoncesTakeNone }
+    ensures unbound { UnboundTextsTakeNone }
+    ensures unknown_mechanisms { UnknownMechanismsTakeNone }
+    ensures commas { CommasTakeNone }
 {}

@@ -6,6 +6,7 @@ pub mod ExchangeLemmas
 pub mod FittingKeyLemmas
 pub mod KeptKeyLemmas
 pub mod LoginLemmas
+pub mod MemoryExampleLemmas
 pub mod OneValueLemmas
 pub mod RecordLawLemmas
 pub mod RecordLinesLawLemmas
