@@ -1,3 +1,4 @@
+pub mod AgreementLemmas
 pub mod AnswerCostLemmas
 pub mod ClientFinalLemmas
 pub mod ClientFirstLemmas
@@ -5,6 +6,7 @@ pub mod ExchangeLemmas
 pub mod FittingKeyLemmas
 pub mod KeptKeyLemmas
 pub mod LoginLemmas
+pub mod MemoryExampleLemmas
 pub mod OneValueLemmas
 pub mod RecordLawLemmas
 pub mod RecordLinesLawLemmas
