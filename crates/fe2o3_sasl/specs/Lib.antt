@@ -17,6 +17,7 @@ pub mod UnalteredRuns
 pub mod Laws
 pub mod MechanismLaws
 pub mod StepLaws
+pub mod CostLaws
 pub mod Headline
 pub mod examples
 pub mod private

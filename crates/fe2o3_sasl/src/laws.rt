@@ -8,6 +8,7 @@ ghost use Rattle.fe2o3_sasl.specs.examples.Examples.{PremisesCanBeMet, RefusalsA
 ghost use Rattle.fe2o3_sasl.specs.examples.MemoryExamples.{AcceptorsAskForNone, AskForNone, OwnedAskForNone, ServersWantNone, ClientsWantNone};
 ghost use Rattle.fe2o3_sasl.specs.Profiles.{StepAllocates, ViewAllocates};
 ghost use Rattle.fe2o3_sasl.specs.Headline.{EveryServer, EveryClient, AnswersOkExactly, ReportsOkExactly, TakenVerifiersAgree};
+ghost use Rattle.fe2o3_sasl.specs.CostLaws.{ServerRunsCost, ClientRunsCost};
 ghost use Rattle.fe2o3_sasl.specs.StepLaws.{OksLogIn, ReportedOksAreSigned};
 ghost use Rattle.fe2o3_sasl.specs.Laws.{OneServerHistory, OneClientHistory, SomeServerHistory, SomeClientHistory, AcceptorRunsAreHistories, AcceptorRunsNameUsers, AgreedUsersAreNamed, ProfileRunsAreHistories, KeyedRunsAreRuns, KeyedRunsAreHistories, OksWithinChallenges, RepeatedResponsesAreRefused, OneResponseOneNonce, RefusalsLeaveOpen, PositionsAreUsedOnce, EqualMessagesAgree, NoShortExtensions, TakenVerifiersAreJudged, ShownProofsAreJudged, OneVerdictEach, OneAuditEach, RepeatedClientPositions, RepeatedServerPositions, RepeatedClientFindings, RepeatedServerFindings, ClientsLogIn, ServersLogIn, ServersWantMemory, ClientsWantMemory, ProfilesWantMemory};
 
@@ -49,6 +50,14 @@ pub fn runs_are_histories()
 pub fn steps()
     ensures server { OksLogIn }
     ensures client { ReportedOksAreSigned }
+{}
+
+/// What a run costs, whoever takes its steps with one meter: no more HMAC values than the sum over its
+/// bodies, of a SCRAM acceptor two for each response, and of a SCRAM profile as many as its limit and four
+/// more for each challenge. What a step costs stands in its own contract.
+pub fn run_costs()
+    ensures server { ServerRunsCost }
+    ensures client { ClientRunsCost }
 {}
 
 /// Who logged in. Behind a run over any list of bodies a SCRAM acceptor names a user exactly where an

@@ -9,3 +9,4 @@ pub mod ZeroPartLemmas
 pub mod SomeReplyLemmas
 pub mod SomeRunLemmas
 pub mod ResponseCostLemmas
+pub mod RunCostLemmas
