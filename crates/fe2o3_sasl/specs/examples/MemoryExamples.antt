@@ -44,7 +44,8 @@ AskForNone Allocates = ((profile : Profile) → ¬ Allocates profile (frames.Mec
     × ((user password text : List ℕ) → ¬ Allocates (PlainProfile user password) (frames.Challenge text))
     × ((profile : Profile) (code : SaslCode) → ¬ Allocates profile (frames.Outcome code None))
 
--- where the frame is owned, also at an outcome Ok that is not due, at one of code Auth, and at one that is not for SCRAM
+-- where the frame is owned, also at an outcome Ok that is not due, at one of code Auth, and at one that is not for
+-- SCRAM
 abbrev pub OwnedAskForNone : Type 0
 OwnedAskForNone = AskForNone FrameAllocates
     × ((client : ClientSide) (text : List ℕ) → client.state ≡ client_states.Initial
@@ -57,7 +58,8 @@ OwnedAskForNone = AskForNone FrameAllocates
 -- in a server's history it is wanting at no fault of a body, at no list, at no challenge and at no outcome
 abbrev pub ServersWantNone : Type 0
 ServersWantNone = ((fault : Error) → ¬ ServerAllocates (Err fault))
-    × ((names : List (List ℕ)) → ¬ ServerAllocates (Ok (frames.Mechanisms names)) × ¬ WantsAtServer (frames.Mechanisms names))
+    × ((names : List (List ℕ)) → ¬ ServerAllocates (Ok (frames.Mechanisms names))
+    × ¬ WantsAtServer (frames.Mechanisms names))
     × ((text : List ℕ) → ¬ ServerAllocates (Ok (frames.Challenge text)) × ¬ WantsAtServer (frames.Challenge text))
     × ((code : SaslCode) (more : Option (List ℕ)) → ¬ ServerAllocates (Ok (frames.Outcome code more))
     × ¬ WantsAtServer (frames.Outcome code more))

@@ -76,7 +76,8 @@ sys_apart is = absurd (cc)
 
 init_turns : (user password : List ℕ) (accepted : Bool) (nonce mechanism : List ℕ) (response hostname : Option (List ℕ))
     (reply : SaslFrame) (moved next : Acceptor) (says : ServerSays)
-    → acceptor_machine (PlainAcceptor user password accepted) nonce (frames.Init mechanism response hostname) reply moved
+    → acceptor_machine (PlainAcceptor user password accepted) nonce (frames.Init mechanism response hostname) reply
+    moved
     → Sends (Failed faults.TooLarge) (server_says reply) (canonical reply) (PlainAcceptor user password accepted) moved
     says next → Turns user password accepted says next
 init_turns user password accepted nonce mechanism None hostname reply moved next says m said =
