@@ -160,7 +160,8 @@ no_extra text p q (x ∷ more) are has = absurd (let same : length (p ∷ q ∷ 
 
 -- where the AuthMessages are equal, both sides agree
 agree : (side : ClientSide) (provider : Provider) (own text its init response : List ℕ)
-    (client : ClientKnows side own text) (server : ServerKnows provider its init response) → HoldsBytes (server.client.user, server.stored)
+    (client : ClientKnows side own text) (server : ServerKnows provider its init response)
+    → HoldsBytes (server.client.user, server.stored)
     → (keys_known client).version ≡ provider.version → client_message client ≡ server_message server
     → Agree client server
 agree side provider own text its init response client server holds version same =
