@@ -1,6 +1,6 @@
 -- What runs cost: the sum over their bodies bounds it.
 use Rattle.std.proofs.Common.{◌≡◌, ℕ, ◌+◌, ◌≤◌, Option, Some, None, List, [], ◌∷◌, refl, sym, ap, ◌∙◌, subst, inl, inr, Result, Ok, Err, arith}
-use Rattle.std.specs.Prelude.{MatchOption}
+use Rattle.std.specs.Prelude.{MatchOption, IsUtf8}
 use Rattle.fe2o3_sasl_wire.specs.declared.amqp_types.SaslCode.{SaslCode}
 use Rattle.fe2o3_sasl_wire.specs.declared.amqp_types.SaslCode.TheVariants as outcomes
 use Rattle.fe2o3_sasl_wire.specs.declared.sasl_frames.error.Error.{Error}
@@ -18,6 +18,7 @@ use Rattle.fe2o3_scram.specs.ScramClient.{ClientSide, ClientState, AnswerCostsIn
 use Rattle.fe2o3_scram.specs.ScramServer as server_states
 use Rattle.fe2o3_scram.specs.ScramServer.{ServerState, FinalCostsFrom}
 use Rattle.fe2o3_scram.specs.ServerFinal.{FinalCosts}
+use Rattle.fe2o3_scram.proofs.lemmas.texts.DecisionLemmas.{Decided, utf8_or}
 use Rattle.fe2o3_sasl.specs.Bodies.{SpellsBody, carried}
 use Rattle.fe2o3_sasl.specs.CostLaws.{MeteredAcceptorSteps, MeteredProfileSteps, server_most, client_most, SumsUp, ServerRunsCost, ClientRunsCost, reply_of}
 use Rattle.fe2o3_sasl.specs.Costs.{acceptor_hmacs, CostsAtMost, AcceptorCostsOf, ProfileCosts, ProfileCostsOf}
@@ -36,7 +37,7 @@ some_final : (server : Server) (text : List ℕ) (answer : Result (Option (List 
     → (n : ℕ) × (n ≤ 2) × FinalCosts server text answer 0 n
 some_final server text (Ok message) = (2, omega (arith), refl)
 some_final server text (Err AuthenticationFailed) = (1, omega (arith), refl)
-some_final server text (Err NoMemory) = (0, omega (arith), omega (arith), omega (arith), λ fault reads. refl)
+some_final server text (Err NoMemory) = (0, omega (arith), (omega (arith), omega (arith), λ fault reads. refl))
 some_final server text (Err fault) = (0, omega (arith), refl)
 
 some_takes : (state : ServerState) (provider : Provider) (text : List ℕ)
@@ -93,7 +94,7 @@ server_runs_cost provider state (event ∷ events) replies before after sum last
     let first = server_costs provider state costs.0 before next.1 costs.2 in
     let begin : ◌≡◌ {A = Acceptor × ℕ} next (ScramAcceptor provider kept.0, next.1) = λ i. (kept.1 i, next.1) in
     let others = server_runs_cost provider kept.0 events runs.2 next.1 after sums.1 last
-        (subst (λ (p : Acceptor × ℕ). Runs MeteredAcceptorSteps p events runs.2 (last, after)) begin runs.5) sums.3 in
+    (subst (λ (p : Acceptor × ℕ). Runs MeteredAcceptorSteps p events runs.2 (last, after)) begin runs.5) sums.3 in
     added before next.1 after (server_most costs.0) sums.1 sum first others
     (sums.4 ∙ ap (λ (s : Result SaslFrame Error). server_most s + sums.1) (sym same))
 
@@ -115,9 +116,9 @@ in_state_costs (client_states.Complete keys) client text result before after cos
 client_costs : {A F : Type 0} (client : ClientSide) (spelled : Result SaslFrame Error) (result : Result A F)
     (before after : ℕ) → ProfileCostsOf spelled (ScramProfile client) result before after
     → (before ≤ after) × (after ≤ before + client_most client.limits.most spelled)
-client_costs client (Ok (frames.Challenge text)) result before after costs = go (utf8_or_not text)
+client_costs client (Ok (frames.Challenge text)) result before after costs = go (utf8_or text)
   where
-    go : IsUtf8 text ⊎ ¬ IsUtf8 text → (before ≤ after) × (after ≤ before + (client.limits.most + 4))
+    go : Decided (IsUtf8 text) → (before ≤ after) × (after ≤ before + (client.limits.most + 4))
     go (inl is) = in_state_costs client.state client text result before after (costs.1 is)
     go (inr not) = let same = costs.0 not in (omega (arith, same), omega (arith, same))
 client_costs client (Ok (frames.Mechanisms names)) result before after costs =
@@ -224,7 +225,7 @@ client_runs_cost hostname client (event ∷ events) replies before after sum las
     let begin : ◌≡◌ {A = Profile × ℕ} next (ScramProfile kept.0, next.1) = λ i. (kept.1 i, next.1) in
     let limit : kept.0.limits.most ≡ client.limits.most = ap (λ (l : IterationLimits). l.most) kept.2 in
     let others = client_runs_cost hostname kept.0 events runs.2 next.1 after sums.1 last
-        (subst (λ (p : Profile × ℕ). Runs (MeteredProfileSteps hostname) p events runs.2 (last, after)) begin runs.5)
-        (subst (λ (l : ℕ). SumsUp (client_most l) events sums.1) (sym limit) sums.3) in
+    (subst (λ (p : Profile × ℕ). Runs (MeteredProfileSteps hostname) p events runs.2 (last, after)) begin runs.5)
+    (subst (λ (l : ℕ). SumsUp (client_most l) events sums.1) (sym limit) sums.3) in
     added before next.1 after (client_most client.limits.most costs.0) sums.1 sum first others
     (sums.4 ∙ ap (λ (s : Result SaslFrame Error). client_most client.limits.most s + sums.1) (sym same))
