@@ -1,7 +1,7 @@
 //! The client's side of a negotiation: what it answers to the frames of a server (AMQP 1.0, part 5,
 //! section 5.3.2).
 
-ghost use Rattle.std.specs.Prelude.{◌≡◌, ◌≢◌, ◌↔◌, ◌≤◌, ◌^◌, ◌++◌, ◌∷◌, Option, Some, None, false, ℕ, List, IfOk, IfErr, OnOk, OnErr, MatchOption, IsSome, IsTrue, IsAscii, option_map, string_bytes};
+ghost use Rattle.std.specs.Prelude.{◌≡◌, ◌≢◌, ◌↔◌, ◌≤◌, ◌^◌, ◌++◌, ◌∷◌, Option, Some, None, false, ℕ, List, IfOk, IfErr, OnOk, OnErr, MatchOption, IsTrue, IsAscii, option_map, string_bytes};
 ghost use Rattle.std.specs.List.{Contains};
 ghost use Rattle.fe2o3_sasl_wire.specs.AmqpTypes.{binary_bytes, init_frame, response_frame, outcome_frame};
 ghost use Rattle.fe2o3_sasl_wire.specs.FrameView.{shown, viewed_frame};
@@ -12,6 +12,7 @@ ghost use Rattle.fe2o3_scram.specs.ScramClient.{Initial, ClientFirstSent, Client
 ghost use Rattle.fe2o3_scram.specs.Texts.{base64_text};
 ghost use Rattle.fe2o3_sasl.specs.Costs.{ProfileCosts};
 ghost use Rattle.fe2o3_sasl.specs.Profiles.{ScramProfile, PlainProfile, scram_profile, profile_name, profile_state, in_state, initial_response, after_init, FrameAllocates, ViewAllocates, StepAllocates, ProfileAnswers};
+ghost use Rattle.fe2o3_sasl.specs.Events.{Scram};
 ghost use Rattle.fe2o3_sasl.specs.ProfileFaults.{answered, client_fault};
 ghost use Rattle.fe2o3_sasl.specs.Runs.{login_of};
 ghost use Rattle.fe2o3_sasl.specs.SaslProfile.{RefusesUrl, HasCredentials, negotiated_frame, profile_of};
@@ -30,8 +31,9 @@ use fe2o3_sasl_wire::{
 use fe2o3_scram::client_keys::ScramClientKeys;
 use fe2o3_scram::hmac::{Meter, ScramVersion};
 use fe2o3_scram::scram_client::ScramClient;
+use fe2o3_scram::scram_messages::ScramErrorKind;
 pub use scram::{SaslScram, SaslScramSha1, SaslScramSha256, SaslScramSha512};
-use scram_frames::{answer, believe, first_message, refusal_unread};
+use scram_frames::{answer, believe, first_message, outcome_refusal_unread, refusal_unread};
 use std::alloc::{AllocError, Global};
 use std::fmt;
 use url::Url;
@@ -360,9 +362,16 @@ impl SaslProfile {
                 code,
                 additional_data,
             } => {
-                let outcome = outcome_of(alloc, code, additional_data)?;
-                self.conclude(alloc, &outcome)?;
-                Ok(Negotiation::Outcome(outcome))
+                if let Some(kind) = self.outcome_refusal_unread(code, additional_data) {
+                    return Err(ProfileError::Scram(kind));
+                }
+                match outcome_of(alloc, code, additional_data) {
+                    Ok(outcome) => {
+                        self.conclude(alloc, &outcome)?;
+                        Ok(Negotiation::Outcome(outcome))
+                    }
+                    Err(_) => Err(ProfileError::OutOfMemory),
+                }
             }
             FrameView::Init { .. } | FrameView::Response(_) => Err(ProfileError::NotImplemented),
         }
@@ -402,6 +411,23 @@ impl SaslProfile {
         match self.client() {
             Some(client) => refusal_unread(client, challenge),
             None => Some(ProfileError::NotImplemented),
+        }
+    }
+
+    /// Why an outcome is refused before its data are copied: SCRAM reads them, and they are not due, or not
+    /// UTF-8.
+    pub(crate) fn outcome_refusal_unread(
+        &self,
+        code: SaslCode,
+        additional_data: Option<&[u8]>,
+    ) -> Option<ScramErrorKind>
+        ensures { MatchOption result ((text : List ℕ) → shown additional_data.entry ≡ Some text
+            → StepAllocates (profile_of self.now) (Outcome code (Some text)))
+            (λ kind. RefusesAlways (profile_of self.now) (Outcome code (shown additional_data.entry)) (Scram kind)) }
+    {
+        match self.client() {
+            Some(client) => outcome_refusal_unread(client, code, additional_data),
+            None => None,
         }
     }
 
@@ -559,7 +585,7 @@ pub(crate) fn outcome_of(
     additional_data: Option<&[u8]>,
 ) -> Result<SaslOutcome, OutOfMemory>
     ensures ok { IfOk result (λ outcome. outcome_frame outcome ≡ Outcome code (shown additional_data.entry)) }
-    ensures err { IfErr result (λ _. IsSome (shown additional_data.entry)) }
+    ensures err { IfErr result (λ _. (text : List ℕ) × (shown additional_data.entry ≡ Some text)) }
 {
     let additional_data = match additional_data {
         Some(data) => Some(Binary(Vec::from_slice(alloc, data)?)),

@@ -280,6 +280,9 @@ fn report(
     ensures { (hostname : Option (List ℕ)) (nonce : List ℕ) → ProfileReplies hostname (profile_of profile.old) nonce
         (OutcomeFrame code (shown additional_data.entry)) (client_answer result) (profile_of profile.new) }
 {
+    if let Some(kind) = profile.outcome_refusal_unread(code, additional_data) {
+        return Err(ProfileError::Scram(kind));
+    }
     match outcome_of(alloc, code, additional_data) {
         Ok(outcome) => match profile.conclude(alloc, &outcome) {
             Ok(()) => Ok(ClientReply::Outcome(outcome)),

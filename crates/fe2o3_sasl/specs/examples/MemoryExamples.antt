@@ -14,7 +14,7 @@ use Rattle.fe2o3_scram.specs.ScramServer as server_states
 use Rattle.fe2o3_scram.specs.ScramServer.{ServerState}
 use Rattle.fe2o3_sasl.specs.ClientHistory.{ClientAllocates}
 use Rattle.fe2o3_sasl.specs.Events.{Login}
-use Rattle.fe2o3_sasl.specs.Laws.{WantsAtServer, WantsAtProfile}
+use Rattle.fe2o3_sasl.specs.Laws.{WantsAtServer}
 use Rattle.fe2o3_sasl.specs.Profiles.{Profile, ScramProfile, PlainProfile, FrameAllocates}
 use Rattle.fe2o3_sasl.specs.SaslAcceptor.{ScramAcceptor, PlainAcceptor, AnonymousAcceptor, acceptor_allocates}
 use Rattle.fe2o3_sasl.specs.ServerHistory.{ServerAllocates}
@@ -35,7 +35,7 @@ AcceptorsAskForNone = ((provider : Provider) (state : ServerState) (text : List 
     × ((frame : SaslFrame) → ¬ acceptor_allocates AnonymousAcceptor frame)
 
 -- a profile asks for none at an empty list, at a challenge that is not UTF-8, at one that is not due, at one that is
--- not for SCRAM, and at an outcome without data
+-- not for SCRAM, at an outcome without data, and at one of code Ok whose data are not UTF-8, or which is not due
 abbrev pub AskForNone : (Profile → SaslFrame → Type 0) → Type 0
 AskForNone Allocates = ((profile : Profile) → ¬ Allocates profile (frames.Mechanisms []))
     × ((client : ClientSide) → ¬ Allocates (ScramProfile client) (frames.Challenge (0xff ∷ [])))
@@ -43,13 +43,13 @@ AskForNone Allocates = ((profile : Profile) → ¬ Allocates profile (frames.Mec
     → ¬ Allocates (ScramProfile client) (frames.Challenge text))
     × ((user password text : List ℕ) → ¬ Allocates (PlainProfile user password) (frames.Challenge text))
     × ((profile : Profile) (code : SaslCode) → ¬ Allocates profile (frames.Outcome code None))
+    × ((client : ClientSide) → ¬ Allocates (ScramProfile client) (frames.Outcome outcomes.Ok (Some (0xff ∷ []))))
+    × ((client : ClientSide) (text : List ℕ) → client.state ≡ client_states.Initial
+    → ¬ Allocates (ScramProfile client) (frames.Outcome outcomes.Ok (Some text)))
 
--- where the frame is owned, also at an outcome Ok that is not due, at one of code Auth, and at one that is not for
--- SCRAM
+-- where the frame is owned, also at an outcome of code Auth, and at one that is not for SCRAM
 abbrev pub OwnedAskForNone : Type 0
 OwnedAskForNone = AskForNone FrameAllocates
-    × ((client : ClientSide) (text : List ℕ) → client.state ≡ client_states.Initial
-    → ¬ FrameAllocates (ScramProfile client) (frames.Outcome outcomes.Ok (Some text)))
     × ((client : ClientSide) (more : Option (List ℕ))
     → ¬ FrameAllocates (ScramProfile client) (frames.Outcome outcomes.Auth more))
     × ((user password : List ℕ) (code : SaslCode) (more : Option (List ℕ))
@@ -65,13 +65,10 @@ ServersWantNone = ((fault : Error) → ¬ ServerAllocates (Err fault))
     × ¬ WantsAtServer (frames.Outcome code more))
 
 -- in a client's history at no fault of a body, not at an empty list, at a challenge that is not UTF-8, at an outcome
--- without data, or at a response; and for PLAIN at no challenge
+-- without data, or at a response
 abbrev pub ClientsWantNone : Type 0
 ClientsWantNone = (login : Login) → ((fault : Error) → ¬ ClientAllocates login (Err fault))
     × (¬ ClientAllocates login (Ok (frames.Mechanisms [])))
     × (¬ ClientAllocates login (Ok (frames.Challenge (0xff ∷ []))))
     × ((code : SaslCode) → ¬ ClientAllocates login (Ok (frames.Outcome code None)))
     × ((text : List ℕ) → ¬ ClientAllocates login (Ok (frames.Response text)))
-    × ((profile : Profile) → ¬ WantsAtProfile profile (frames.Mechanisms []))
-    × ((profile : Profile) (code : SaslCode) → ¬ WantsAtProfile profile (frames.Outcome code None))
-    × ((user password text : List ℕ) → ¬ WantsAtProfile (PlainProfile user password) (frames.Challenge text))

@@ -2,9 +2,11 @@
 
 ghost use Rattle.std.specs.Prelude.{◌≡◌, ◌≤◌, ◌^◌, Some, Option, ℕ, List, IfOk, OnOk, OnErr, MatchOption};
 ghost use Rattle.fe2o3_sasl_wire.specs.AmqpTypes.{binary_bytes, response_frame, outcome_frame};
-ghost use Rattle.fe2o3_sasl_wire.specs.SaslFrames.{Challenge};
+ghost use Rattle.fe2o3_sasl_wire.specs.FrameView.{shown};
+ghost use Rattle.fe2o3_sasl_wire.specs.SaslFrames.{Challenge, Outcome};
 ghost use Rattle.fe2o3_sasl.specs.Costs.{ProfileCosts};
 ghost use Rattle.fe2o3_sasl.specs.Profiles.{ScramProfile, FrameAllocates, StepAllocates, ProfileAnswers, initial_response, after_init};
+ghost use Rattle.fe2o3_sasl.specs.Events.{Scram};
 ghost use Rattle.fe2o3_sasl.specs.ProfileFaults.{answered, client_fault};
 ghost use Rattle.fe2o3_sasl.specs.private.Writing.{AnswersAlways, RefusesAlways};
 
@@ -45,6 +47,32 @@ pub(super) fn refusal_unread(client: &ScramClient, challenge: &[u8]) -> Option<P
     match client.nonce() {
         Some(_) => None,
         None => Some(ProfileError::Scram(ScramErrorKind::IllegalClientState)),
+    }
+}
+
+/// Why an outcome is refused before its data are read: they are what SCRAM reads of code Ok, and are not
+/// due, or not UTF-8.
+pub(super) fn outcome_refusal_unread(
+    client: &ScramClient,
+    code: SaslCode,
+    additional_data: Option<&[u8]>,
+) -> Option<ScramErrorKind>
+    ensures { MatchOption result ((text : List ℕ) → shown additional_data.entry ≡ Some text
+        → StepAllocates (ScramProfile client.now) (Outcome code (Some text)))
+        (λ kind. RefusesAlways (ScramProfile client.now) (Outcome code (shown additional_data.entry)) (Scram kind)) }
+{
+    let Some(data) = additional_data else {
+        return None;
+    };
+    if code != SaslCode::Ok {
+        return None;
+    }
+    match client.server_signature() {
+        None => Some(ScramErrorKind::IllegalClientState),
+        Some(_) => match str::from_utf8(data) {
+            Ok(_) => None,
+            Err(_) => Some(ScramErrorKind::Utf8Error),
+        },
     }
 }
 

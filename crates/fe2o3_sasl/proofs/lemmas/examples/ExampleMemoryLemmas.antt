@@ -1,5 +1,5 @@
 -- Worked examples of frames at which no memory is asked for.
-use Rattle.std.proofs.Common.{◌≡◌, ℕ, true≢false, Option, Some, None, List, [], ◌∷◌, sym, ◌∙◌, subst, arith, inl, inr}
+use Rattle.std.proofs.Common.{◌≡◌, ℕ, true≢false, Option, Some, None, List, [], ◌∷◌, sym, ◌∙◌, subst, arith, inl, inr, Ok}
 use Rattle.std.specs.List.{Contains}
 use Rattle.std.specs.Str.{IsUtf8, is_utf8, chars}
 use Rattle.std.proofs.lemmas.Str.{is_utf8-from_IsUtf8}
@@ -9,8 +9,10 @@ use Rattle.fe2o3_sasl_wire.specs.SaslFrames as frames
 use Rattle.fe2o3_sasl_wire.specs.SaslFrames.{SaslFrame}
 use Rattle.fe2o3_scram.specs.ScramClient as client_states
 use Rattle.fe2o3_scram.specs.ScramClient.{ClientState, ReachesSaltIn, ReachesVerifierIn}
-use Rattle.fe2o3_sasl.specs.Laws.{WantsAtServer, WantsAtProfile}
-use Rattle.fe2o3_sasl.specs.Profiles.{Profile, ScramProfile, PlainProfile, AnonymousProfile, ExternalProfile, FrameAllocates, ViewAllocates, StepAllocates, IsStarted}
+use Rattle.fe2o3_sasl.specs.ClientHistory.{ClientAllocates}
+use Rattle.fe2o3_sasl.specs.Events.{Login}
+use Rattle.fe2o3_sasl.specs.Laws.{WantsAtServer}
+use Rattle.fe2o3_sasl.specs.Profiles.{Profile, ScramProfile, PlainProfile, AnonymousProfile, ExternalProfile, FrameAllocates, ViewAllocates, StepAllocates, IsStarted, IsAnswered}
 use Rattle.fe2o3_sasl.specs.examples.MemoryExamples.{AcceptorsAskForNone, AskForNone, OwnedAskForNone, ServersWantNone, ClientsWantNone}
 use Rattle.fe2o3_sasl.proofs.lemmas.machines.MechanismLemmas.{other_name}
 
@@ -26,6 +28,13 @@ not_due state text is reaches = subst (λ (s : ClientState). ReachesSaltIn s tex
 
 not_started : (state : ClientState) → state ≡ client_states.Initial → ¬ IsStarted state
 not_started state is started = let same = sym is ∙ started.2 in absurd (cc)
+
+not_answered : (state : ClientState) → state ≡ client_states.Initial → ¬ IsAnswered state
+not_answered state is answered = let same = sym is ∙ answered.2 in absurd (cc)
+
+no_signature : (state : ClientState) → ¬ ReachesVerifierIn state (0xff ∷ [])
+no_signature (client_states.ClientFinalSent signature keys) reaches = no_text reaches.0
+no_signature state reaches = reaches
 
 pub acceptors_ask_for_none : AcceptorsAskForNone
 acceptors_ask_for_none = (
@@ -55,11 +64,22 @@ owned_ask_for_none = (
     λ client text is asks. not_due client.state text is asks.1,
     λ user password text asks. asks,
     no_data,
+    λ client asks. no_signature client.state asks,
+    λ client text is asks. subst (λ (s : ClientState). ReachesVerifierIn s text) is asks,
   ),
-  λ client text is asks. subst (λ (s : ClientState). ReachesVerifierIn s text) is asks,
   λ client more asks. asks,
   λ user password code more asks. asks,
 )
+
+no_data_in_view : (profile : Profile) (code : SaslCode) → ¬ ViewAllocates profile (frames.Outcome code None)
+no_data_in_view (ScramProfile client) outcomes.Ok asks = asks
+no_data_in_view (ScramProfile client) outcomes.Auth asks = asks
+no_data_in_view (ScramProfile client) outcomes.Sys asks = asks
+no_data_in_view (ScramProfile client) outcomes.SysPerm asks = asks
+no_data_in_view (ScramProfile client) outcomes.SysTemp asks = asks
+no_data_in_view (PlainProfile user password) code asks = asks
+no_data_in_view AnonymousProfile code asks = asks
+no_data_in_view ExternalProfile code asks = asks
 
 pub views_ask_for_none : AskForNone ViewAllocates
 views_ask_for_none = (
@@ -67,8 +87,20 @@ views_ask_for_none = (
   λ client asks. no_text asks.0,
   λ client text is asks. not_due client.state text is asks.1,
   λ user password text asks. asks,
-  λ profile code asks. asks,
+  no_data_in_view,
+  λ client asks. no_text asks.0,
+  λ client text is asks. not_answered client.state is asks.1,
 )
+
+no_data_in_step : (profile : Profile) (code : SaslCode) → ¬ StepAllocates profile (frames.Outcome code None)
+no_data_in_step (ScramProfile client) outcomes.Ok asks = asks
+no_data_in_step (ScramProfile client) outcomes.Auth asks = asks
+no_data_in_step (ScramProfile client) outcomes.Sys asks = asks
+no_data_in_step (ScramProfile client) outcomes.SysPerm asks = asks
+no_data_in_step (ScramProfile client) outcomes.SysTemp asks = asks
+no_data_in_step (PlainProfile user password) code asks = asks
+no_data_in_step AnonymousProfile code asks = asks
+no_data_in_step ExternalProfile code asks = asks
 
 pub steps_ask_for_none : AskForNone StepAllocates
 steps_ask_for_none = (
@@ -76,7 +108,9 @@ steps_ask_for_none = (
   λ client asks. no_text asks.0,
   λ client text is asks. not_started client.state is asks.1,
   λ user password text asks. asks,
-  λ profile code asks. asks,
+  no_data_in_step,
+  λ client asks. no_text asks.0,
+  λ client text is asks. not_answered client.state is asks.1,
 )
 
 no_list : (names : List (List ℕ)) → ¬ WantsAtServer (frames.Mechanisms names)
@@ -99,36 +133,18 @@ servers_want_none = (
   λ code more. (λ wants. wants, no_outcome code more),
 )
 
-empty_list : (profile : Profile) → ¬ WantsAtProfile profile (frames.Mechanisms [])
-empty_list profile (inl wants) =
-    no_name _ (subst (λ (names : List (List ℕ)). Contains names _) (sym (same wants.0 wants.2)) wants.1)
-  where
-    same : (names : List (List ℕ)) → frames.Mechanisms [] ≡ frames.Mechanisms names → [] ≡ names
-    same names is = cc
-empty_list profile (inr (inl wants)) = let other = wants.3 in absurd (cc)
-empty_list profile (inr (inr wants)) = let other = wants.2 in absurd (cc)
-
-empty_outcome : (profile : Profile) (code : SaslCode) → ¬ WantsAtProfile profile (frames.Outcome code None)
-empty_outcome profile code (inl wants) = let other = wants.2 in absurd (cc)
-empty_outcome profile code (inr (inl wants)) = let other = wants.3 in absurd (cc)
-empty_outcome profile code (inr (inr wants)) = differs wants.0 wants.1 wants.2
-  where
-    differs : (other : SaslCode) (text : List ℕ) → frames.Outcome code None ≡ frames.Outcome other (Some text) → ⊥
-    differs other text is = absurd (cc)
-
-plain_challenge : (user password text : List ℕ) → ¬ WantsAtProfile (PlainProfile user password) (frames.Challenge text)
-plain_challenge user password text (inl wants) = let other = wants.2 in absurd (cc)
-plain_challenge user password text (inr (inl wants)) = let other = wants.2 in absurd (cc)
-plain_challenge user password text (inr (inr wants)) = let other = wants.2 in absurd (cc)
+no_client_data : (login : Login) (code : SaslCode) → ¬ ClientAllocates login (Ok (frames.Outcome code None))
+no_client_data login outcomes.Ok wants = wants
+no_client_data login outcomes.Auth wants = wants
+no_client_data login outcomes.Sys wants = wants
+no_client_data login outcomes.SysPerm wants = wants
+no_client_data login outcomes.SysTemp wants = wants
 
 pub clients_want_none : ClientsWantNone
 clients_want_none login = (
   λ fault wants. wants,
   λ wants. no_name _ wants,
   λ wants. no_text wants,
-  λ code wants. wants,
+  no_client_data login,
   λ text wants. wants,
-  empty_list,
-  empty_outcome,
-  plain_challenge,
 )

@@ -1,5 +1,6 @@
 use Rattle.std.proofs.Common.{◌≡◌, ◌∙◌, Bool, true, false, refl, sym, inr, Err}
 use Rattle.fe2o3_sasl_wire.specs.FrameView.{shown}
+use Rattle.fe2o3_sasl_wire.specs.SaslFrames as frames
 use Rattle.fe2o3_sasl.specs.Events.{NotImplemented}
 use Rattle.fe2o3_sasl.specs.ProfileFaults.{client_fault}
 use Rattle.fe2o3_sasl.specs.SaslProfile.{profile_of}
@@ -19,7 +20,7 @@ returns-then-not-contains-clause-answer c =
 pub returns-in-Some-clause-answer : goal.returns-in-Some-clause-answer
 returns-in-Some-clause-answer c =
     rw c.in-Challenge.is (refused_unread (shown c.args.hostname) (profile_of c.args.profile.now) c.args.nonce.now
-    c.in-Challenge.challenge.now (client_fault c.in-Some.fault) c.in-Some.ensures)
+    (frames.Challenge c.in-Challenge.challenge.now) (client_fault c.in-Some.fault) c.in-Some.ensures)
 
 pub returns-in_default-clause-answer : goal.returns-in_default-clause-answer
 returns-in_default-clause-answer c =
