@@ -84,10 +84,11 @@ ClientAnswers login Due IsOpen event (Ok (frames.Outcome code more)) says = says
 ClientAnswers login Due IsOpen event (Ok frame) says = says ≡ Refused NotImplemented
 
 -- the replies that memory may be wanting for: those to a mechanisms list with the name, to a challenge in UTF-8, and
--- to an outcome with data
+-- to an outcome with data, which in one of code Ok are UTF-8
 abbrev pub ClientAllocates : Login → Result SaslFrame Error → Type 0
 ClientAllocates login (Ok (frames.Mechanisms names)) = Contains names (mechanism_name login.version)
 ClientAllocates login (Ok (frames.Challenge text)) = IsUtf8 text
+ClientAllocates login (Ok (frames.Outcome outcomes.Ok (Some text))) = IsUtf8 text
 ClientAllocates login (Ok (frames.Outcome code (Some text))) = Unit {0}
 ClientAllocates login spelled = ⊥
 

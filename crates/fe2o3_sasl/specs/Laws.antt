@@ -6,7 +6,7 @@ use Rattle.fe2o3_sasl_wire.specs.declared.amqp_types.SaslCode.TheVariants as out
 use Rattle.fe2o3_sasl_wire.specs.declared.sasl_frames.error.Error.TheVariants as faults
 use Rattle.fe2o3_sasl_wire.specs.SaslFrames.{IsBytes, SaslFrame}
 use Rattle.fe2o3_sasl_wire.specs.SaslFrames as frames
-use Rattle.fe2o3_sasl.specs.ClientHistory.{Answering, AnswersAt, OpenAnswer, ClientHistory, is_start, is_answer, ends_answer}
+use Rattle.fe2o3_sasl.specs.ClientHistory.{Answering, AnswersAt, OpenAnswer, ClientAllocates, ClientHistory, is_start, is_answer, ends_answer}
 use Rattle.fe2o3_scram.specs.ClientKeys.{ClientKeys}
 use Rattle.fe2o3_scram.specs.ClientSecret.{Password, Keys}
 use Rattle.fe2o3_scram.specs.Laws.{AreKeysOf}
@@ -16,7 +16,7 @@ use Rattle.fe2o3_scram.specs.Credentials.{Provider, Record, record_at}
 use Rattle.fe2o3_sasl.specs.Events.{Given, AreGiven, Login, IsLogin, IsRecord, IsSecret, ServerSays, Concluded, Failed, ClientSays, Refused, OtherKeys, OutOfMemory}
 use Rattle.fe2o3_sasl.specs.Runs.{Runs, AcceptorSteps, ProfileReplies, ProfileSteps}
 use Rattle.fe2o3_sasl.specs.SaslAcceptor.{acceptor_machine, acceptor_user, Acceptor, ScramAcceptor}
-use Rattle.fe2o3_sasl.specs.Profiles.{scram_profile, profile_name, Profile, ScramProfile}
+use Rattle.fe2o3_sasl.specs.Profiles.{scram_profile, profile_name, Profile, ScramProfile, StepAllocates}
 use Rattle.fe2o3_sasl.specs.Positions.{test_at, IsLastOpen}
 use Rattle.fe2o3_sasl.specs.Bodies.{SpellsBody}
 use Rattle.fe2o3_sasl.specs.ServerHistory.{Challenging, Accepted, AcceptsAt, LoggedIn, Open, ServerHistory, is_challenge, is_ok, full_nonce, says_auth}
@@ -305,22 +305,14 @@ ServersWantMemory = (provider : Provider) (events : List Given) (replies : List 
     → (event : Given) × (frame : SaslFrame) × (slice_get events k ≡ Some event) × SpellsBody event.body (Ok frame)
     × WantsAtServer frame
 
--- a frame at which memory may be wanting for a profile's reply: a list with its name, a challenge for SCRAM, or an
--- outcome with data
-abbrev pub WantsAtProfile : Profile → SaslFrame → Type 0
-WantsAtProfile profile frame =
-    ((names : List (List ℕ)) × Contains names (profile_name profile) × (frame ≡ frames.Mechanisms names))
-    ⊎ (((client : ClientSide) × (text : List ℕ) × (profile ≡ ScramProfile client) × (frame ≡ frames.Challenge text))
-    ⊎ ((code : SaslCode) × (text : List ℕ) × (frame ≡ frames.Outcome code (Some text))))
-
--- likewise of a client's history
+-- likewise of a client's history: it stands only where memory is asked for
 abbrev pub ClientsWantMemory : Type 0
 ClientsWantMemory = (login : Login) (events : List Given) (replies : List ClientSays) (k : ℕ)
     → ClientHistory login events replies → slice_get replies k ≡ Some (Refused OutOfMemory)
     → (event : Given) × (frame : SaslFrame) × (slice_get events k ≡ Some event) × SpellsBody event.body (Ok frame)
-    × WantsAtProfile (scram_profile login) frame
+    × ClientAllocates login (Ok frame)
 
 -- and of what any profile replies
 abbrev pub ProfilesWantMemory : Type 0
 ProfilesWantMemory = (hostname : Option (List ℕ)) (profile next : Profile) (nonce : List ℕ) (frame : SaslFrame)
-    → ProfileReplies hostname profile nonce frame (Refused OutOfMemory) next → WantsAtProfile profile frame
+    → ProfileReplies hostname profile nonce frame (Refused OutOfMemory) next → StepAllocates profile frame

@@ -8,6 +8,7 @@ pub mod SaslAcceptor
 pub mod ProfileFaults
 pub mod Profiles
 pub mod SaslProfile
+pub mod Costs
 pub mod Runs
 pub mod Hex
 pub mod TwoSides
@@ -16,6 +17,7 @@ pub mod UnalteredRuns
 pub mod Laws
 pub mod MechanismLaws
 pub mod StepLaws
+pub mod CostLaws
 pub mod Headline
 pub mod examples
 pub mod private

@@ -1,14 +1,15 @@
 -- What holds of every acceptor and every profile, of SCRAM and of the other mechanisms. Each is the contract of a
--- clause of `laws::mechanisms`.
-use Rattle.std.specs.Prelude.{◌≡◌, ◌≢◌, ℕ, Bool, true, Option, List, [], ◌∷◌, ◌++◌, map, Result, Ok}
+-- clause of `laws::mechanisms`, `laws::replies` or `laws::users`.
+use Rattle.std.specs.Prelude.{◌≡◌, ◌≢◌, ◌⊎◌, ℕ, Bool, true, false, Option, Some, None, List, [], ◌∷◌, ◌++◌, map, slice_get, Result, Ok}
 use Rattle.std.specs.List.{AllByRecursion, Contains}
 use Rattle.fe2o3_sasl_wire.specs.declared.amqp_types.SaslCode.{SaslCode}
 use Rattle.fe2o3_sasl_wire.specs.declared.amqp_types.SaslCode.TheVariants as outcomes
 use Rattle.fe2o3_sasl_wire.specs.SaslFrames as frames
 use Rattle.fe2o3_sasl_wire.specs.SaslFrames.{SaslFrame}
 use Rattle.fe2o3_scram.specs.declared.hmac.ScramVersion.TheVariants.{Sha1, Sha256, Sha512}
-use Rattle.fe2o3_sasl.specs.Events.{Login, ClientFault}
-use Rattle.fe2o3_sasl.specs.SaslAcceptor.{Acceptor, ScramAcceptor, PlainAcceptor, AnonymousAcceptor, acceptor_machine, acceptor_names, offered, ends_with, NoZero}
+use Rattle.fe2o3_sasl.specs.Events.{Given, Login, ServerSays, Concluded, ClientFault}
+use Rattle.fe2o3_sasl.specs.Runs.{Runs, AcceptorSteps}
+use Rattle.fe2o3_sasl.specs.SaslAcceptor.{Acceptor, ScramAcceptor, PlainAcceptor, AnonymousAcceptor, acceptor_machine, acceptor_names, acceptor_user, offered, ends_with, NoZero}
 use Rattle.fe2o3_sasl.specs.Profiles.{Profile, ScramProfile, PlainProfile, AnonymousProfile, ExternalProfile, profile_machine, profile_name, scram_profile}
 
 -- an acceptor has one reply to each frame, and one acceptor after it
@@ -23,6 +24,34 @@ OneProfileReply = (profile : Profile) (hostname : Option (List ℕ)) (nonce : Li
     (reply other : Result SaslFrame ClientFault) (next last : Profile)
     → profile_machine profile hostname nonce frame reply next → profile_machine profile hostname nonce frame other last
     → (reply ≡ other) × (next ≡ last)
+
+-- a server is sent inits and responses (AMQP 1.0, part 5, section 5.3.2)
+abbrev pub IsSentToServers : SaslFrame → Type 0
+IsSentToServers (frames.Init mechanism response hostname) = Unit {0}
+IsSentToServers (frames.Response text) = Unit {0}
+IsSentToServers frame = ⊥
+
+-- an acceptor has a reply to each of them, in each state and with each nonce
+abbrev pub SomeAcceptorReply : Type 0
+SomeAcceptorReply = (acceptor : Acceptor) (nonce : List ℕ) (frame : SaslFrame) → IsSentToServers frame
+    → (reply : SaslFrame) × (next : Acceptor) × acceptor_machine acceptor nonce frame reply next
+
+-- a profile has one to every frame, also to those that only a server is sent
+abbrev pub SomeProfileReply : Type 0
+SomeProfileReply = (profile : Profile) (hostname : Option (List ℕ)) (nonce : List ℕ) (frame : SaslFrame)
+    → (reply : Result SaslFrame ClientFault) × (next : Profile)
+    × profile_machine profile hostname nonce frame reply next
+
+-- some reply is an outcome Ok
+abbrev pub SaysOk : List ServerSays → Type 0
+SaysOk replies = (k : ℕ) × (body : List ℕ) × (slice_get replies k ≡ Some (Concluded outcomes.Ok body))
+
+-- behind a run of PLAIN's acceptor from its first state, over any list of bodies, its user has logged in where some
+-- reply is an outcome Ok, and nobody has where none is (RFC 4616, section 2)
+abbrev pub PlainRunsNameUsers : Type 0
+PlainRunsNameUsers = (user password : List ℕ) (events : List Given) (replies : List ServerSays) (last : Acceptor)
+    → Runs (AcceptorSteps acceptor_machine) (PlainAcceptor user password false) events replies last
+    → (SaysOk replies × (acceptor_user last ≡ Some user)) ⊎ (¬ SaysOk replies × (acceptor_user last ≡ None))
 
 -- the profile answers the names that the acceptor offers with an init, and the acceptor this init with an outcome
 -- of this code; the profile stays as it is, and this is the acceptor behind it

@@ -9,6 +9,7 @@ use Rattle.fe2o3_scram.specs.declared.scram_messages.error.ScramErrorKind.{Scram
 use Rattle.fe2o3_scram.specs.declared.scram_messages.error.ScramErrorKind.TheVariants.{Utf8Error, ServerSignatureMismatch}
 use Rattle.fe2o3_scram.specs.Texts.{base64_text}
 use Rattle.fe2o3_scram.specs.ClientFirst.{client_first}
+use Rattle.fe2o3_scram.specs.ClientKeys.{ClientKeys}
 use Rattle.fe2o3_scram.specs.ScramClient as client_states
 use Rattle.fe2o3_scram.specs.ScramClient.{ClientSide, ClientState, started, AnswersIn, BelievesIn, ReachesSaltIn, ReachesVerifierIn, with_state}
 use Rattle.fe2o3_scram.specs.Hmac.{mechanism_name}
@@ -76,21 +77,29 @@ FrameAllocates (ScramProfile client) (frames.Challenge text) = IsUtf8 text × Re
 FrameAllocates (ScramProfile client) (frames.Outcome outcomes.Ok (Some text)) = ReachesVerifierIn client.state text
 FrameAllocates profile frame = ⊥
 
--- the same where the frame is a view: of an outcome the data are copied
-abbrev pub ViewAllocates : Profile → SaslFrame → Type 0
-ViewAllocates profile (frames.Mechanisms names) = Contains names (profile_name profile)
-ViewAllocates (ScramProfile client) (frames.Challenge text) = IsUtf8 text × ReachesSaltIn client.state text
-ViewAllocates profile (frames.Outcome code (Some text)) = Unit {0}
-ViewAllocates profile frame = ⊥
-
 -- a client in this state has sent its first message, so that a challenge is due
 abbrev pub IsStarted : ClientState → Type 0
 IsStarted state = (nonce : List ℕ) × (bare : List ℕ) × (state ≡ client_states.ClientFirstSent nonce bare)
+
+-- a client in this state waits for a signature, so that an outcome is due
+abbrev pub IsAnswered : ClientState → Type 0
+IsAnswered state = (signature : List ℕ) × (keys : Option ClientKeys)
+    × (state ≡ client_states.ClientFinalSent signature keys)
+
+-- the same where the frame is a view: the data of an outcome are copied, of one that SCRAM reads where they are UTF-8
+-- and due
+abbrev pub ViewAllocates : Profile → SaslFrame → Type 0
+ViewAllocates profile (frames.Mechanisms names) = Contains names (profile_name profile)
+ViewAllocates (ScramProfile client) (frames.Challenge text) = IsUtf8 text × ReachesSaltIn client.state text
+ViewAllocates (ScramProfile client) (frames.Outcome outcomes.Ok (Some text)) = IsUtf8 text × IsAnswered client.state
+ViewAllocates profile (frames.Outcome code (Some text)) = Unit {0}
+ViewAllocates profile frame = ⊥
 
 -- the same of a step: a profile to which a challenge in UTF-8 is due is copied
 abbrev pub StepAllocates : Profile → SaslFrame → Type 0
 StepAllocates profile (frames.Mechanisms names) = Contains names (profile_name profile)
 StepAllocates (ScramProfile client) (frames.Challenge text) = IsUtf8 text × IsStarted client.state
+StepAllocates (ScramProfile client) (frames.Outcome outcomes.Ok (Some text)) = IsUtf8 text × IsAnswered client.state
 StepAllocates profile (frames.Outcome code (Some text)) = Unit {0}
 StepAllocates profile frame = ⊥
 

@@ -22,7 +22,8 @@ pub data Acceptor : Type 0 where
   PlainAcceptor : (user password : List ℕ) → (accepted : Bool) → Acceptor
   AnonymousAcceptor : Acceptor
 
--- who has logged in, from an Ok on and up to the next challenge; ANONYMOUS does not ask
+-- who has logged in, from an outcome Ok on and up to the next challenge (AMQP 1.0, part 5, sections 5.3.2 and
+-- 5.3.3.5; RFC 5802, section 5; RFC 4616, section 2); ANONYMOUS does not ask (RFC 4505, section 2)
 abbrev pub acceptor_user : Acceptor → Option (List ℕ)
 acceptor_user (ScramAcceptor provider state) = logged_in state
 acceptor_user (PlainAcceptor user password true) = Some user
@@ -90,8 +91,9 @@ acceptor_machine acceptor nonce (frames.Init mechanism None hostname) reply next
     (reply ≡ ends_with outcomes.Auth) × (next ≡ acceptor)
 acceptor_machine acceptor nonce frame reply next = ⊥
 
--- where an acceptor comes to ask for memory before it has its reply: SCRAM at an init with its own name where it comes
--- to an escaped user name or to a known user, and at a response where it comes to a base64 text; the others never
+-- where an acceptor comes to ask for memory before it has its reply to a frame (AMQP 1.0, part 5, section 5.3.2):
+-- SCRAM at an init with its own name where it comes to an escaped user name or to a known user (RFC 5802, section 5.1),
+-- and at a response where it comes to a base64 text (RFC 5802, section 7); the others never
 abbrev pub acceptor_allocates : Acceptor → SaslFrame → Type 0
 acceptor_allocates (ScramAcceptor provider state) (frames.Init mechanism (Some text) hostname) =
     (mechanism ≡ mechanism_name provider.version) × ReachesChallenge provider.records text

@@ -125,7 +125,8 @@ abbrev pub AcceptsUser : Provider → List Given → List ServerSays → ℕ →
 AcceptsUser provider events replies n user =
     (accepted : Accepted) × AcceptsAt provider events replies n accepted × (user ≡ accepted.challenge.client.user)
 
--- who has logged in at k: the user of the last outcome Ok before k, where no challenge stands between
+-- who has logged in at k (RFC 5802, section 5; AMQP 1.0, part 5, section 5.3.3.5): the user of the last outcome Ok
+-- before k, where no challenge stands between
 abbrev pub LoggedIn : Provider → List Given → List ServerSays → ℕ → List ℕ → Type 0
 LoggedIn provider events replies k user = OpenBy is_ok is_challenge (AcceptsUser provider events replies) replies k user
 

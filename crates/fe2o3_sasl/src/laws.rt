@@ -2,17 +2,20 @@
 //! statement about every list of bytes, which the check has proved.
 
 ghost use Rattle.fe2o3_sasl.specs.Hex.{OneBytesOfHex, HexIsReadAgain};
-ghost use Rattle.fe2o3_sasl.specs.MechanismLaws.{OneAcceptorReply, OneProfileReply, OffersAgree, PlainLetsIn, PlainRefuses, AnonymousLetsIn, SomethingIsOffered, NamesDiffer};
+ghost use Rattle.fe2o3_sasl.specs.MechanismLaws.{OneAcceptorReply, OneProfileReply, SomeAcceptorReply, SomeProfileReply, PlainRunsNameUsers, OffersAgree, PlainLetsIn, PlainRefuses, AnonymousLetsIn, SomethingIsOffered, NamesDiffer};
 ghost use Rattle.fe2o3_sasl.specs.examples.ClientExamples.{FloorsRefuse, HostnamesAreSent, KeysLogIn, OtherKeysLogInLater};
 ghost use Rattle.fe2o3_sasl.specs.examples.Examples.{PremisesCanBeMet, RefusalsAreUnaltered, ShiftedTextsPass};
+ghost use Rattle.fe2o3_sasl.specs.examples.MemoryExamples.{AcceptorsAskForNone, AskForNone, OwnedAskForNone, ServersWantNone, ClientsWantNone};
+ghost use Rattle.fe2o3_sasl.specs.Profiles.{StepAllocates, ViewAllocates};
 ghost use Rattle.fe2o3_sasl.specs.Headline.{EveryServer, EveryClient, AnswersOkExactly, ReportsOkExactly, TakenVerifiersAgree};
+ghost use Rattle.fe2o3_sasl.specs.CostLaws.{ServerRunsCost, ClientRunsCost};
 ghost use Rattle.fe2o3_sasl.specs.StepLaws.{OksLogIn, ReportedOksAreSigned};
 ghost use Rattle.fe2o3_sasl.specs.Laws.{OneServerHistory, OneClientHistory, SomeServerHistory, SomeClientHistory, AcceptorRunsAreHistories, AcceptorRunsNameUsers, AgreedUsersAreNamed, ProfileRunsAreHistories, KeyedRunsAreRuns, KeyedRunsAreHistories, OksWithinChallenges, RepeatedResponsesAreRefused, OneResponseOneNonce, RefusalsLeaveOpen, PositionsAreUsedOnce, EqualMessagesAgree, NoShortExtensions, TakenVerifiersAreJudged, ShownProofsAreJudged, OneVerdictEach, OneAuditEach, RepeatedClientPositions, RepeatedServerPositions, RepeatedClientFindings, RepeatedServerFindings, ClientsLogIn, ServersLogIn, ServersWantMemory, ClientsWantMemory, ProfilesWantMemory};
 
 pub use fe2o3_scram::laws::{
     accepted_messages, base64_texts, clone_of_version, digests, each_text_is_read, escaped_names,
-    kept_keys, mechanism_names, one_answer_each, parts, record_texts, unaltered_exchanges,
-    users_texts,
+    kept_keys, mechanism_names, one_answer_each, parts, record_texts, texts_without_memory,
+    unaltered_exchanges, users_texts,
 };
 
 /// The headline theorem. Over every list of frame bodies, a SCRAM server answers Ok exactly when a
@@ -49,11 +52,21 @@ pub fn steps()
     ensures client { ReportedOksAreSigned }
 {}
 
+/// What a run costs, whoever takes its steps with one meter: no more HMAC values than the sum over its
+/// bodies, of a SCRAM acceptor two for each response, and of a SCRAM profile as many as its limit and four
+/// more for each challenge. What a step costs stands in its own contract.
+pub fn run_costs()
+    ensures server { ServerRunsCost }
+    ensures client { ClientRunsCost }
+{}
+
 /// Who logged in. Behind a run over any list of bodies a SCRAM acceptor names a user exactly where an
 /// accepted response stands in it with no challenge behind it, and it is the user of the init that this
-/// response answered; and the user of an agreed finding of an audit is named behind its Ok.
+/// response answered; the acceptor of PLAIN names its user exactly where some body of the run was answered
+/// Ok; and the user of an agreed finding of an audit is named behind its Ok.
 pub fn users()
     ensures runs { AcceptorRunsNameUsers }
+    ensures plain { PlainRunsNameUsers }
     ensures agreed { AgreedUsersAreNamed }
 {}
 
@@ -166,6 +179,13 @@ pub fn mechanisms()
     ensures names_differ { NamesDiffer }
 {}
 
+/// Each acceptor has a reply to each init and to each response, and each profile to every frame, in each
+/// state and with each nonce: with `mechanisms` it has exactly one.
+pub fn replies()
+    ensures acceptors { SomeAcceptorReply }
+    ensures profiles { SomeProfileReply }
+{}
+
 /// A hexadecimal text spells at most one list of bytes, and each list of bytes is spelled by one in
 /// digits of either case.
 pub fn hex_texts()
@@ -187,4 +207,17 @@ pub fn want_of_memory()
     ensures server { ServersWantMemory }
     ensures client { ClientsWantMemory }
     ensures profile { ProfilesWantMemory }
+{}
+
+/// Worked examples of frames at which no memory is asked for, so that want of memory is no answer to them,
+/// each of the words that say where it is one: an acceptor at an init of another mechanism and at a response
+/// that is not due, and that of PLAIN always; a profile at a list without its name, a challenge that is not
+/// UTF-8, not due or not for SCRAM, and an outcome without data; and the like in histories.
+pub fn no_want_of_memory()
+    ensures acceptors { AcceptorsAskForNone }
+    ensures owned { OwnedAskForNone }
+    ensures views { AskForNone ViewAllocates }
+    ensures steps { AskForNone StepAllocates }
+    ensures servers { ServersWantNone }
+    ensures clients { ClientsWantNone }
 {}

@@ -1,13 +1,14 @@
 //! The server's side of a negotiation: what it answers to an init and to a response (AMQP 1.0, part
 //! 5, section 5.3.2).
 
-ghost use Rattle.std.specs.Prelude.{◌≡◌, ◌≢◌, ◌↔◌, ⊤, Ok, Some, None, ℕ, List, [], ◌∷◌, Option, true, false, refl, IfOk, IfErr, IsOk, OnErr, MatchOption, IsAscii, option_map, string_bytes};
+ghost use Rattle.std.specs.Prelude.{◌≡◌, ◌≢◌, ◌↔◌, ◌≤◌, ◌^◌, ⊤, Ok, Some, None, ℕ, List, [], ◌∷◌, Option, true, false, refl, IfOk, IfErr, IsOk, OnErr, MatchOption, IsAscii, option_map, string_bytes};
 ghost use Rattle.fe2o3_sasl_wire.specs.AmqpTypes.{init_frame, response_frame, mechanisms_frame};
 ghost use Rattle.fe2o3_sasl_wire.specs.SaslFrames.{SaslFrame, Mechanisms, Challenge, Outcome};
 ghost use Rattle.fe2o3_sasl_wire.specs.declared.amqp_types.SaslCode.TheVariants.{Ok as OkCode, Auth};
 ghost use Rattle.fe2o3_scram.specs.declared.scram_messages.error.ServerScramErrorKind.TheVariants.{OutOfMemory as ScramOutOfMemory};
 ghost use Rattle.std.proofs.Common.{ap};
 ghost use Rattle.fe2o3_scram.specs.ScramServer.{provider_in, state_in, logged_in};
+ghost use Rattle.fe2o3_sasl.specs.Costs.{acceptor_hmacs, CostsAtMost};
 ghost use Rattle.fe2o3_sasl.specs.SaslAcceptor.{Acceptor, ScramAcceptor, PlainAcceptor, AnonymousAcceptor, acceptor_names, acceptor_machine, acceptor_allocates, acceptor_user, offered, NamesPlain, ZeroPart, ends_with, server_frame, plain_acceptor, sent_frame};
 
 use crate::OutOfMemory;
@@ -17,6 +18,7 @@ use fe2o3_sasl_wire::{
     Symbol,
 };
 use fe2o3_scram::credentials::ScramCredentialProvider;
+use fe2o3_scram::hmac::Meter;
 use fe2o3_scram::scram_messages::ServerScramErrorKind;
 use fe2o3_scram::scram_server::ScramAuthenticator;
 use std::alloc::{AllocError, Global};
@@ -34,8 +36,8 @@ pub enum SaslServerFrame {
 
 /// The server's side of a negotiation. An implementation says what its state is, in which all stands
 /// that its answers depend on, the names of its mechanisms in that state, its machine: the replies to
-/// an init and to a response, and the state after each; and to which of them it comes to ask for
-/// memory. A call that finds no memory leaves the state as it was.
+/// an init and to a response, and the state after each; to which of them it comes to ask for memory;
+/// and how many HMAC values each takes. A call that finds no memory leaves the state as it was.
 pub trait SaslAcceptor: Clone {
     ghost State: { Type 0 };
 
@@ -46,6 +48,8 @@ pub trait SaslAcceptor: Clone {
     ghost machine: { State → List ℕ → SaslFrame → SaslFrame → State → Type 0 };
 
     ghost allocates: { State → SaslFrame → Type 0 };
+
+    ghost hmacs: { State → SaslFrame → ℕ → Type 0 };
 
     /// The names of its mechanisms.
     fn mechanisms(&self, alloc: Global) -> Result<Array<Symbol>, OutOfMemory>
@@ -73,6 +77,42 @@ pub trait SaslAcceptor: Clone {
             machine (state self.old) nonce (response_frame response) (sent_frame reply) (state self.new)) }
         ensures memory { IfErr result (λ _. allocates (state self.old) (response_frame response)) }
         ensures err { OnErr result (state self.new ≡ state self.old) };
+
+    /// As `on_init`. The meter, of at most 2^63, counts the HMAC values, also of a refusal. An acceptor
+    /// that makes none leaves it as it is written here.
+    fn on_init_metered(
+        &mut self,
+        alloc: Global,
+        init: SaslInit,
+        nonce: &[u8; 32],
+        meter: &mut Meter,
+    ) -> Result<SaslServerFrame, OutOfMemory>
+        requires { meter.old ≤ 2 ^ 63 }
+        ensures ok { IfOk result (λ reply.
+            machine (state self.old) nonce.now (init_frame init) (sent_frame reply) (state self.new)) }
+        ensures memory { IfErr result (λ _. allocates (state self.old) (init_frame init)) }
+        ensures err { OnErr result (state self.new ≡ state self.old) }
+        ensures cost { CostsAtMost hmacs (state self.old) (init_frame init) meter.old meter.new }
+    {
+        self.on_init(alloc, init, nonce)
+    }
+
+    /// As `on_response`, with a meter as that of `on_init_metered`.
+    fn on_response_metered(
+        &mut self,
+        alloc: Global,
+        response: SaslResponse,
+        meter: &mut Meter,
+    ) -> Result<SaslServerFrame, OutOfMemory>
+        requires { meter.old ≤ 2 ^ 63 }
+        ensures ok { IfOk result (λ reply. (nonce : List ℕ) →
+            machine (state self.old) nonce (response_frame response) (sent_frame reply) (state self.new)) }
+        ensures memory { IfErr result (λ _. allocates (state self.old) (response_frame response)) }
+        ensures err { OnErr result (state self.new ≡ state self.old) }
+        ensures cost { CostsAtMost hmacs (state self.old) (response_frame response) meter.old meter.new }
+    {
+        self.on_response(alloc, response)
+    }
 
     /// A clone is in the same state.
     ghost clone_keeps: { (acceptor copy : Self) → Self.is_clone acceptor copy → state copy ≡ state acceptor };
@@ -225,6 +265,8 @@ impl SaslAcceptor for SaslPlainMechanism {
 
     ghost allocates = { acceptor_allocates };
 
+    ghost hmacs = { acceptor_hmacs };
+
     ghost clone_keeps = { λ acceptor copy same. same };
 
     fn mechanisms(&self, alloc: Global) -> Result<Array<Symbol>, OutOfMemory> {
@@ -313,6 +355,8 @@ impl SaslAcceptor for SaslAnonymousMechanism {
 
     ghost allocates = { acceptor_allocates };
 
+    ghost hmacs = { acceptor_hmacs };
+
     ghost clone_keeps = { λ acceptor copy same. refl };
 
     fn mechanisms(&self, alloc: Global) -> Result<Array<Symbol>, OutOfMemory> {
@@ -368,6 +412,8 @@ impl<C: ScramCredentialProvider> SaslAcceptor for ScramAuthenticator<C> {
 
     ghost allocates = { acceptor_allocates };
 
+    ghost hmacs = { acceptor_hmacs };
+
     ghost clone_keeps = { λ acceptor copy same.
         let kept = C.clone_keeps (provider_in acceptor) (provider_in copy) same.0 in
         λ i. ScramAcceptor (kept i) (same.1 i) };
@@ -382,6 +428,24 @@ impl<C: ScramCredentialProvider> SaslAcceptor for ScramAuthenticator<C> {
         init: SaslInit,
         nonce: &[u8; 32],
     ) -> Result<SaslServerFrame, OutOfMemory> {
+        self.on_init_metered(alloc, init, nonce, &mut Meter::new())
+    }
+
+    fn on_response(
+        &mut self,
+        alloc: Global,
+        response: SaslResponse,
+    ) -> Result<SaslServerFrame, OutOfMemory> {
+        self.on_response_metered(alloc, response, &mut Meter::new())
+    }
+
+    fn on_init_metered(
+        &mut self,
+        alloc: Global,
+        init: SaslInit,
+        nonce: &[u8; 32],
+        _meter: &mut Meter,
+    ) -> Result<SaslServerFrame, OutOfMemory> {
         let Some(client_first) = &init.initial_response else {
             return Ok(outcome(SaslCode::Auth));
         };
@@ -394,12 +458,13 @@ impl<C: ScramCredentialProvider> SaslAcceptor for ScramAuthenticator<C> {
         }
     }
 
-    fn on_response(
+    fn on_response_metered(
         &mut self,
         alloc: Global,
         response: SaslResponse,
+        meter: &mut Meter,
     ) -> Result<SaslServerFrame, OutOfMemory> {
-        match self.compute_server_final_message(alloc, &response.response.0) {
+        match self.compute_server_final_message_metered(alloc, &response.response.0, meter) {
             Ok(answer) => Ok(conclusion(answer)),
             Err(kind) => refusal(kind),
         }

@@ -1,7 +1,7 @@
 //! The client's side of a negotiation: what it answers to the frames of a server (AMQP 1.0, part 5,
 //! section 5.3.2).
 
-ghost use Rattle.std.specs.Prelude.{◌≡◌, ◌≢◌, ◌↔◌, ◌++◌, ◌∷◌, Option, Some, None, false, ℕ, List, IfOk, IfErr, OnOk, OnErr, MatchOption, IsSome, IsTrue, IsAscii, option_map, string_bytes};
+ghost use Rattle.std.specs.Prelude.{◌≡◌, ◌≢◌, ◌↔◌, ◌≤◌, ◌^◌, ◌++◌, ◌∷◌, Option, Some, None, false, ℕ, List, IfOk, IfErr, OnOk, OnErr, MatchOption, IsTrue, IsAscii, option_map, string_bytes};
 ghost use Rattle.std.specs.List.{Contains};
 ghost use Rattle.fe2o3_sasl_wire.specs.AmqpTypes.{binary_bytes, init_frame, response_frame, outcome_frame};
 ghost use Rattle.fe2o3_sasl_wire.specs.FrameView.{shown, viewed_frame};
@@ -10,7 +10,9 @@ ghost use Rattle.fe2o3_sasl_wire.specs.SaslFrames.{Init, Challenge, Outcome};
 ghost use Rattle.fe2o3_scram.specs.ClientKeys.{ClientKeys};
 ghost use Rattle.fe2o3_scram.specs.ScramClient.{Initial, ClientFirstSent, ClientFinalSent, answer_keys, login_keys};
 ghost use Rattle.fe2o3_scram.specs.Texts.{base64_text};
+ghost use Rattle.fe2o3_sasl.specs.Costs.{ProfileCosts};
 ghost use Rattle.fe2o3_sasl.specs.Profiles.{ScramProfile, PlainProfile, scram_profile, profile_name, profile_state, in_state, initial_response, after_init, FrameAllocates, ViewAllocates, StepAllocates, ProfileAnswers};
+ghost use Rattle.fe2o3_sasl.specs.Events.{Scram};
 ghost use Rattle.fe2o3_sasl.specs.ProfileFaults.{answered, client_fault};
 ghost use Rattle.fe2o3_sasl.specs.Runs.{login_of};
 ghost use Rattle.fe2o3_sasl.specs.SaslProfile.{RefusesUrl, HasCredentials, negotiated_frame, profile_of};
@@ -27,10 +29,11 @@ use fe2o3_sasl_wire::{
     Binary, Frame, FrameView, SaslCode, SaslInit, SaslMechanisms, SaslOutcome, SaslResponse, Symbol,
 };
 use fe2o3_scram::client_keys::ScramClientKeys;
-use fe2o3_scram::hmac::ScramVersion;
+use fe2o3_scram::hmac::{Meter, ScramVersion};
 use fe2o3_scram::scram_client::ScramClient;
+use fe2o3_scram::scram_messages::ScramErrorKind;
 pub use scram::{SaslScram, SaslScramSha1, SaslScramSha256, SaslScramSha512};
-use scram_frames::{answer, believe, first_message, refusal_unread};
+use scram_frames::{answer, believe, first_message, outcome_refusal_unread, refusal_unread};
 use std::alloc::{AllocError, Global};
 use std::fmt;
 use url::Url;
@@ -272,6 +275,26 @@ impl SaslProfile {
             (owned_frame frame) (answered negotiated_frame result) (profile_of self.new) }
         ensures err { OnErr result (profile_of self.new ≡ profile_of self.old) }
     {
+        self.on_frame_metered(alloc, frame, hostname, nonce, &mut Meter::new())
+    }
+
+    /// As `on_frame`. The meter, of at most 2^63, counts the HMAC values: of SCRAM's answer to a challenge
+    /// two by keys, by the password four and those of the iteration count, and none for a refusal; none
+    /// for any other frame.
+    pub fn on_frame_metered(
+        &mut self,
+        alloc: Global,
+        frame: Frame,
+        hostname: Option<&str>,
+        nonce: &[u8; 32],
+        meter: &mut Meter,
+    ) -> Result<Negotiation, ProfileError>
+        requires { meter.old ≤ 2 ^ 63 }
+        ensures answer { ProfileAnswers FrameAllocates (profile_of self.old) (shown hostname.entry) nonce.now
+            (owned_frame frame) (answered negotiated_frame result) (profile_of self.new) }
+        ensures err { OnErr result (profile_of self.new ≡ profile_of self.old) }
+        ensures cost { ProfileCosts (owned_frame frame) (profile_of self.old) result meter.old meter.new }
+    {
         match frame {
             Frame::Mechanisms(mechanisms) => {
                 if !has_name(&mechanisms, self.name()) {
@@ -280,7 +303,10 @@ impl SaslProfile {
                 Ok(Negotiation::Init(self.start(alloc, hostname, nonce)?))
             }
             Frame::Challenge(challenge) => {
-                Ok(Negotiation::Response(self.respond(alloc, &challenge.challenge.0)?))
+                match self.respond(alloc, &challenge.challenge.0, meter) {
+                    Ok(response) => Ok(Negotiation::Response(response)),
+                    Err(fault) => Err(fault),
+                }
             }
             Frame::Outcome(outcome) => {
                 self.conclude(alloc, &outcome)?;
@@ -291,7 +317,6 @@ impl SaslProfile {
     }
 
     /// Answers a frame that is read where it stands, as `on_frame` answers the frame that it shows.
-    #[tactic(auto, using(crate::proofs::lemmas::steps::ProfileReplyLemmas::view_refuses))]
     pub fn on_view(
         &mut self,
         alloc: Global,
@@ -303,6 +328,25 @@ impl SaslProfile {
             (viewed_frame view.entry) (answered negotiated_frame result) (profile_of self.new) }
         ensures err { OnErr result (profile_of self.new ≡ profile_of self.old) }
     {
+        self.on_view_metered(alloc, view, hostname, nonce, &mut Meter::new())
+    }
+
+    /// As `on_view`, with a meter as that of `on_frame_metered`.
+    #[tactic(auto, using(crate::proofs::lemmas::steps::ProfileReplyLemmas::view_refuses))]
+    pub fn on_view_metered(
+        &mut self,
+        alloc: Global,
+        view: FrameView<'_>,
+        hostname: Option<&str>,
+        nonce: &[u8; 32],
+        meter: &mut Meter,
+    ) -> Result<Negotiation, ProfileError>
+        requires { meter.old ≤ 2 ^ 63 }
+        ensures answer { ProfileAnswers ViewAllocates (profile_of self.old) (shown hostname.entry) nonce.now
+            (viewed_frame view.entry) (answered negotiated_frame result) (profile_of self.new) }
+        ensures err { OnErr result (profile_of self.new ≡ profile_of self.old) }
+        ensures cost { ProfileCosts (viewed_frame view.entry) (profile_of self.old) result meter.old meter.new }
+    {
         match view {
             FrameView::Mechanisms(names) => {
                 if !names.contains(self.name()) {
@@ -311,15 +355,23 @@ impl SaslProfile {
                 Ok(Negotiation::Init(self.start(alloc, hostname, nonce)?))
             }
             FrameView::Challenge(challenge) => {
-                Ok(Negotiation::Response(self.respond(alloc, challenge)?))
+                let response = self.respond(alloc, challenge, meter)?;
+                Ok(Negotiation::Response(response))
             }
             FrameView::Outcome {
                 code,
                 additional_data,
             } => {
-                let outcome = outcome_of(alloc, code, additional_data)?;
-                self.conclude(alloc, &outcome)?;
-                Ok(Negotiation::Outcome(outcome))
+                if let Some(kind) = self.outcome_refusal_unread(code, additional_data) {
+                    return Err(ProfileError::Scram(kind));
+                }
+                match outcome_of(alloc, code, additional_data) {
+                    Ok(outcome) => {
+                        self.conclude(alloc, &outcome)?;
+                        Ok(Negotiation::Outcome(outcome))
+                    }
+                    Err(_) => Err(ProfileError::OutOfMemory),
+                }
             }
             FrameView::Init { .. } | FrameView::Response(_) => Err(ProfileError::NotImplemented),
         }
@@ -362,23 +414,43 @@ impl SaslProfile {
         }
     }
 
+    /// Why an outcome is refused before its data are copied: SCRAM reads them, and they are not due, or not
+    /// UTF-8.
+    pub(crate) fn outcome_refusal_unread(
+        &self,
+        code: SaslCode,
+        additional_data: Option<&[u8]>,
+    ) -> Option<ScramErrorKind>
+        ensures { MatchOption result ((text : List ℕ) → shown additional_data.entry ≡ Some text
+            → StepAllocates (profile_of self.now) (Outcome code (Some text)))
+            (λ kind. RefusesAlways (profile_of self.now) (Outcome code (shown additional_data.entry)) (Scram kind)) }
+    {
+        match self.client() {
+            Some(client) => outcome_refusal_unread(client, code, additional_data),
+            None => None,
+        }
+    }
+
     /// The response to a challenge.
     pub(crate) fn respond(
         &mut self,
         alloc: Global,
         challenge: &[u8],
+        meter: &mut Meter,
     ) -> Result<SaslResponse, ProfileError>
+        requires { meter.old ≤ 2 ^ 63 }
         ensures answer { AnswersAlways (profile_of self.old) (Challenge challenge.now) (answered response_frame result)
             (profile_of self.new) }
         ensures err { OnErr result (profile_of self.new ≡ profile_of self.old) }
+        ensures cost { ProfileCosts (Challenge challenge.now) (profile_of self.old) result meter.old meter.new }
     {
         match self {
             SaslProfile::Anonymous | SaslProfile::Plain { .. } | SaslProfile::External => {
                 Err(ProfileError::NotImplemented)
             }
-            SaslProfile::ScramSha1(scram) => answer(&mut scram.client, alloc, challenge),
-            SaslProfile::ScramSha256(scram) => answer(&mut scram.client, alloc, challenge),
-            SaslProfile::ScramSha512(scram) => answer(&mut scram.client, alloc, challenge),
+            SaslProfile::ScramSha1(scram) => answer(&mut scram.client, alloc, challenge, meter),
+            SaslProfile::ScramSha256(scram) => answer(&mut scram.client, alloc, challenge, meter),
+            SaslProfile::ScramSha512(scram) => answer(&mut scram.client, alloc, challenge, meter),
         }
     }
 
@@ -513,7 +585,7 @@ pub(crate) fn outcome_of(
     additional_data: Option<&[u8]>,
 ) -> Result<SaslOutcome, OutOfMemory>
     ensures ok { IfOk result (λ outcome. outcome_frame outcome ≡ Outcome code (shown additional_data.entry)) }
-    ensures err { IfErr result (λ _. IsSome (shown additional_data.entry)) }
+    ensures err { IfErr result (λ _. (text : List ℕ) × (shown additional_data.entry ≡ Some text)) }
 {
     let additional_data = match additional_data {
         Some(data) => Some(Binary(Vec::from_slice(alloc, data)?)),

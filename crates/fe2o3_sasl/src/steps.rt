@@ -1,11 +1,12 @@
 //! Steps over bodies of frames. Each reads the body where it stands, works on a copy of the state,
 //! writes the answer, and keeps the new state last.
 
-ghost use Rattle.std.specs.Prelude.{◌≡◌, ◌↔◌, true, ℕ, List, Option, Some, IfOk, IfErr, OnErr};
+ghost use Rattle.std.specs.Prelude.{◌≡◌, ◌↔◌, ◌≤◌, ◌^◌, true, ℕ, List, Option, Some, IfOk, IfErr, OnErr};
 ghost use Rattle.std.specs.List.{Contains};
 ghost use Rattle.fe2o3_sasl_wire.specs.FrameView.{shown, viewed_frame};
 ghost use Rattle.fe2o3_sasl_wire.specs.Owned.{owned_frame};
 ghost use Rattle.fe2o3_sasl_wire.specs.SaslFrames.{canonical, RefusesFrame, Challenge as ChallengeFrame, Mechanisms as MechanismsFrame, Outcome as OutcomeFrame};
+ghost use Rattle.fe2o3_sasl.specs.Costs.{CostsAtMost, AcceptorStepCosts, ProfileCosts, ProfileStepCosts};
 ghost use Rattle.fe2o3_sasl.specs.SaslAcceptor.{sent_frame};
 ghost use Rattle.fe2o3_sasl.specs.Profiles.{profile_name, StepAllocates};
 ghost use Rattle.fe2o3_sasl.specs.SaslProfile.{profile_of};
@@ -18,6 +19,7 @@ use crate::sasl_acceptor::{SaslAcceptor, SaslServerFrame};
 use crate::sasl_profile::{ProfileError, SaslProfile, outcome_of};
 use bytes::BytesMut;
 use fe2o3_sasl_wire::{Error, Frame, FrameCodec, FrameView, SaslCode, SymbolsView, view_frame};
+use fe2o3_scram::hmac::Meter;
 use std::alloc::Global;
 
 /// The canonical body of a frame.
@@ -67,6 +69,23 @@ pub fn acceptor_step<A: SaslAcceptor>(
     ensures { AcceptorSteps A.machine (A.state acceptor.old) (given event.now) (server_answer result)
         (A.state acceptor.new) }
 {
+    acceptor_step_metered(alloc, acceptor, event, &mut Meter::new())
+}
+
+/// As `acceptor_step`. The meter, of at most 2^63, counts the HMAC values, also of a refusal: no more than
+/// the acceptor says of the frame (SCRAM of a response two where it is accepted, one where its proof alone
+/// is refused, and none otherwise), and none for a body that is not read.
+pub fn acceptor_step_metered<A: SaslAcceptor>(
+    alloc: Global,
+    acceptor: &mut A,
+    event: &Event,
+    meter: &mut Meter,
+) -> Result<ServerReply, Error>
+    requires { meter.old ≤ 2 ^ 63 }
+    ensures step { AcceptorSteps A.machine (A.state acceptor.old) (given event.now) (server_answer result)
+        (A.state acceptor.new) }
+    ensures cost { AcceptorStepCosts A.hmacs (A.state acceptor.old) (given event.now) meter.old meter.new }
+{
     let (view, _) = match view_frame(&event.body) {
         Ok(read) => read,
         Err(fault) => return Err(fault),
@@ -75,7 +94,7 @@ pub fn acceptor_step<A: SaslAcceptor>(
         return Err(Error::NotImplemented);
     }
     match view.to_frame(alloc) {
-        Ok(frame) => answer(alloc, acceptor, frame, &event.nonce),
+        Ok(frame) => answer(alloc, acceptor, frame, &event.nonce, meter),
         Err(fault) => Err(fault),
     }
 }
@@ -86,13 +105,16 @@ fn answer<A: SaslAcceptor>(
     acceptor: &mut A,
     frame: Frame,
     nonce: &[u8; 32],
+    meter: &mut Meter,
 ) -> Result<ServerReply, Error>
-    requires { IsRequest (owned_frame frame) }
-    ensures { AcceptorAnswers A.machine (A.state acceptor.old) nonce.now (owned_frame frame) (server_answer result)
-        (A.state acceptor.new) }
+    requires request { IsRequest (owned_frame frame) }
+    requires meter { meter.old ≤ 2 ^ 63 }
+    ensures answer { AcceptorAnswers A.machine (A.state acceptor.old) nonce.now (owned_frame frame)
+        (server_answer result) (A.state acceptor.new) }
+    ensures cost { CostsAtMost A.hmacs (A.state acceptor.old) (owned_frame frame) meter.old meter.new }
 {
     let mut next = acceptor.clone()?;
-    let reply = ask(alloc, &mut next, frame, nonce)?;
+    let reply = ask(alloc, &mut next, frame, nonce, meter)?;
     match write_reply(alloc, reply) {
         Ok(says) => {
             *acceptor = next;
@@ -108,15 +130,18 @@ fn ask<A: SaslAcceptor>(
     acceptor: &mut A,
     frame: Frame,
     nonce: &[u8; 32],
+    meter: &mut Meter,
 ) -> Result<SaslServerFrame, OutOfMemory>
-    requires { IsRequest (owned_frame frame) }
+    requires request { IsRequest (owned_frame frame) }
+    requires meter { meter.old ≤ 2 ^ 63 }
     ensures ok { IfOk result (λ reply. A.machine (A.state acceptor.old) nonce.now (owned_frame frame)
         (sent_frame reply) (A.state acceptor.new)) }
     ensures err { OnErr result (A.state acceptor.new ≡ A.state acceptor.old) }
+    ensures cost { CostsAtMost A.hmacs (A.state acceptor.old) (owned_frame frame) meter.old meter.new }
 {
     match frame {
-        Frame::Init(init) => acceptor.on_init(alloc, init, nonce),
-        Frame::Response(response) => acceptor.on_response(alloc, response),
+        Frame::Init(init) => acceptor.on_init_metered(alloc, init, nonce, meter),
+        Frame::Response(response) => acceptor.on_response_metered(alloc, response, meter),
         Frame::Mechanisms(_) | Frame::Challenge(_) | Frame::Outcome(_) => unreachable!(),
     }
 }
@@ -135,11 +160,29 @@ pub fn profile_step(
     ensures { ProfileSteps (shown hostname.entry) (profile_of profile.old) (given event.now) (client_answer result)
         (profile_of profile.new) }
 {
+    profile_step_metered(alloc, profile, event, hostname, &mut Meter::new())
+}
+
+/// As `profile_step`. The meter, of at most 2^63, counts the HMAC values: of SCRAM's answer to a challenge
+/// two by keys, by the password four and those of the iteration count, no more where the answer is not
+/// sent, and none for a challenge that is refused; none for any other body.
+pub fn profile_step_metered(
+    alloc: Global,
+    profile: &mut SaslProfile,
+    event: &Event,
+    hostname: Option<&str>,
+    meter: &mut Meter,
+) -> Result<ClientReply, ProfileError>
+    requires { meter.old ≤ 2 ^ 63 }
+    ensures step { ProfileSteps (shown hostname.entry) (profile_of profile.old) (given event.now)
+        (client_answer result) (profile_of profile.new) }
+    ensures cost { ProfileStepCosts (profile_of profile.old) (given event.now) result meter.old meter.new }
+{
     let (view, _) = match view_frame(&event.body) {
         Ok(read) => read,
         Err(fault) => return Err(ProfileError::Frame(fault)),
     };
-    answer_view(alloc, profile, view, hostname, &event.nonce)
+    answer_view(alloc, profile, view, hostname, &event.nonce, meter)
 }
 
 /// The answer to a frame, in its body.
@@ -149,9 +192,12 @@ fn answer_view(
     view: FrameView<'_>,
     hostname: Option<&str>,
     nonce: &[u8; 32],
+    meter: &mut Meter,
 ) -> Result<ClientReply, ProfileError>
-    ensures { ProfileReplies (shown hostname.entry) (profile_of profile.old) nonce.now (viewed_frame view.entry)
+    requires { meter.old ≤ 2 ^ 63 }
+    ensures answer { ProfileReplies (shown hostname.entry) (profile_of profile.old) nonce.now (viewed_frame view.entry)
         (client_answer result) (profile_of profile.new) }
+    ensures cost { ProfileCosts (viewed_frame view.entry) (profile_of profile.old) result meter.old meter.new }
 {
     match view {
         FrameView::Mechanisms(names) => {
@@ -164,7 +210,7 @@ fn answer_view(
             if let Some(fault) = profile.refusal_unread(challenge) {
                 return Err(fault);
             }
-            respond(alloc, profile, challenge)
+            respond(alloc, profile, challenge, meter)
         }
         FrameView::Outcome {
             code,
@@ -203,13 +249,16 @@ fn respond(
     alloc: Global,
     profile: &mut SaslProfile,
     challenge: &[u8],
+    meter: &mut Meter,
 ) -> Result<ClientReply, ProfileError>
-    requires { StepAllocates (profile_of profile.old) (ChallengeFrame challenge.now) }
-    ensures { (hostname : Option (List ℕ)) (nonce : List ℕ) → ProfileReplies hostname (profile_of profile.old) nonce
-        (ChallengeFrame challenge.now) (client_answer result) (profile_of profile.new) }
+    requires due { StepAllocates (profile_of profile.old) (ChallengeFrame challenge.now) }
+    requires meter { meter.old ≤ 2 ^ 63 }
+    ensures answer { (hostname : Option (List ℕ)) (nonce : List ℕ) → ProfileReplies hostname (profile_of profile.old)
+        nonce (ChallengeFrame challenge.now) (client_answer result) (profile_of profile.new) }
+    ensures cost { ProfileCosts (ChallengeFrame challenge.now) (profile_of profile.old) result meter.old meter.new }
 {
     let mut next = profile.clone()?;
-    match next.respond(alloc, challenge) {
+    match next.respond(alloc, challenge, meter) {
         Ok(response) => match client_body_of(alloc, Frame::Response(response)) {
             Ok(body) => {
                 *profile = next;
@@ -231,6 +280,9 @@ fn report(
     ensures { (hostname : Option (List ℕ)) (nonce : List ℕ) → ProfileReplies hostname (profile_of profile.old) nonce
         (OutcomeFrame code (shown additional_data.entry)) (client_answer result) (profile_of profile.new) }
 {
+    if let Some(kind) = profile.outcome_refusal_unread(code, additional_data) {
+        return Err(ProfileError::Scram(kind));
+    }
     match outcome_of(alloc, code, additional_data) {
         Ok(outcome) => match profile.conclude(alloc, &outcome) {
             Ok(()) => Ok(ClientReply::Outcome(outcome)),

@@ -184,3 +184,8 @@ UsersAreReadAgain = (version : ScramVersion) (users : Records) → AllByRecursio
 abbrev pub OneUsersAnswer : Type 0
 OneUsersAnswer = (version : ScramVersion) (text : List ℕ) (answer other : Result Records ReadLinesError)
     → ReadsUsers version text answer → ReadsUsers version text other → answer ≡ other
+
+-- and it has one, whatever the text
+abbrev pub SomeUsersAnswer : Type 0
+SomeUsersAnswer = (version : ScramVersion) (text : List ℕ)
+    → (answer : Result Records ReadLinesError) × ReadsUsers version text answer

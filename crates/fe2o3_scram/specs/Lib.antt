@@ -21,5 +21,7 @@ pub mod ScramClient
 pub mod ScramServer
 pub mod Exchanges
 pub mod Logins
+pub mod Agreement
 pub mod Laws
+pub mod MemoryExamples
 pub mod private

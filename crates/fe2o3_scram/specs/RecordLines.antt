@@ -10,7 +10,7 @@ use Rattle.fe2o3_scram.specs.Credentials.{Record, Records, VersionedRecord}
 use Rattle.fe2o3_scram.specs.Escape.{escaped}
 use Rattle.fe2o3_scram.specs.Hmac.{digest_len}
 use Rattle.fe2o3_scram.specs.RecordText.{IsReadable, ReadsRecord, record_text}
-use Rattle.fe2o3_scram.specs.Texts.{Cut, Without}
+use Rattle.fe2o3_scram.specs.Texts.{Cut, NoComma, Without}
 
 -- the text is cut at the last of these bytes
 abbrev pub LastCut : ℕ → List ℕ → List ℕ → List ℕ → Type 0
@@ -70,10 +70,14 @@ ReadsUsers version text (Ok users) = SpellsUsers version text users
 ReadsUsers version text (Err error) =
     UpToLine version text error.line (λ (rest : List ℕ). HeadFault version rest error.kind)
 
--- the text begins with a line that has a space, so that the reader asks for memory
-abbrev pub HasSpacedLine : List ℕ → Type 0
-HasSpacedLine text = (line : List ℕ) × (rest : List ℕ) × Cut 10 text line rest
-    × ((name : List ℕ) × (kept : List ℕ) × LastCut 32 line name kept)
+-- the reader of a line comes to ask for memory, for its name: the line has a space, and no comma stands before its
+-- last one
+abbrev pub ReachesName : List ℕ → Type 0
+ReachesName line = (name : List ℕ) × (kept : List ℕ) × LastCut 32 line name kept × NoComma name
+
+-- the text begins with such a line
+abbrev pub ReachesUser : List ℕ → Type 0
+ReachesUser text = (line : List ℕ) × (rest : List ℕ) × Cut 10 text line rest × ReachesName line
 
 -- a user whose line is written: no line feed stands in the name, the record has a count, and its keys are as long as
 -- a digest

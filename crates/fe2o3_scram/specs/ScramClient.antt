@@ -81,7 +81,7 @@ ReachesSaltIn state text = ⊥
 
 -- the HMAC values of that answer (RFC 5802, section 3), as a meter shows them before and after the call: those of
 -- its answer where the client has sent its first message, and none in another state
-abbrev pub AnswerCostsIn : {A : Type 0} → ClientState → ClientSide → List ℕ → Result A ScramErrorKind → ℕ → ℕ → Type 0
+abbrev pub AnswerCostsIn : {A F : Type 0} → ClientState → ClientSide → List ℕ → Result A F → ℕ → ℕ → Type 0
 AnswerCostsIn (ClientFirstSent nonce bare) side text result before after =
     AnswerCosts (holding side nonce) text result before after
 AnswerCostsIn state side text result before after = after ≡ before

@@ -62,10 +62,13 @@ ReachesBase64In state provider text = ⊥
 
 -- the HMAC values of that answer (RFC 5802, section 3), as a meter shows them before and after the call: those of the
 -- proof and the signature where a challenge is open and the provider has its user, and none elsewhere
-abbrev pub FinalCostsFrom : {A : Type 0} → ServerState → Provider → Result A ServerScramErrorKind → ℕ → ℕ → Type 0
-FinalCostsFrom (ServerFirstSent challenge) provider result before after =
-    MatchOption (record_at provider.records challenge.user) (after ≡ before) (λ _. FinalCosts result before after)
-FinalCostsFrom state provider result before after = after ≡ before
+abbrev pub FinalCostsFrom : {A : Type 0} → ServerState → Provider → List ℕ → Result A ServerScramErrorKind → ℕ → ℕ
+    → Type 0
+FinalCostsFrom (ServerFirstSent challenge) provider text result before after =
+    MatchOption (record_at provider.records challenge.user) (after ≡ before)
+    (λ stored. FinalCosts (server_of provider.version challenge.bare challenge.first challenge.nonce stored) text
+    result before after)
+FinalCostsFrom state provider text result before after = after ≡ before
 
 -- the state that the code's state is
 abbrev pub state_of : ScramAuthenticatorState → ServerState

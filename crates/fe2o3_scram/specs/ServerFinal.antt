@@ -24,12 +24,14 @@ AnswersClientFinal server text (Ok message) = (final : ClientFinal) × ReadsClie
 AnswersClientFinal server text (Err fault) = ReadsClientFinal server text (Err fault)
 
 -- the HMAC values of the answer (RFC 5802, section 3), as a meter shows them before and after: two where the proof is
--- accepted, one where it alone is refused, none for another refusal, and from none to two where memory ran out
-abbrev pub FinalCosts : {A : Type 0} → Result A ServerScramErrorKind → ℕ → ℕ → Type 0
-FinalCosts (Ok message) before after = after ≡ before + 2
-FinalCosts (Err AuthenticationFailed) before after = after ≡ before + 1
-FinalCosts (Err OutOfMemory) before after = (before ≤ after) × (after ≤ before + 2)
-FinalCosts (Err fault) before after = after ≡ before
+-- accepted, one where it alone is refused, none for another refusal; where memory ran out none for a text that is
+-- refused, and from none to two for one that is accepted
+abbrev pub FinalCosts : {A : Type 0} → Server → List ℕ → Result A ServerScramErrorKind → ℕ → ℕ → Type 0
+FinalCosts server text (Ok message) before after = after ≡ before + 2
+FinalCosts server text (Err AuthenticationFailed) before after = after ≡ before + 1
+FinalCosts server text (Err OutOfMemory) before after = (before ≤ after) × (after ≤ before + 2)
+    × ((fault : ServerScramErrorKind) → ReadsClientFinal server text (Err fault) → after ≡ before)
+FinalCosts server text (Err fault) before after = after ≡ before
 
 -- the first part is this signature (RFC 5802, section 5.1)
 abbrev pub HasSignature : List ℕ → List ℕ → Type 0

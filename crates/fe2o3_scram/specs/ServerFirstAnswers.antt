@@ -36,7 +36,7 @@ hmac_count (Both password keys) first = if fit keys first then 2 else first.coun
 
 -- they are made, as a meter shows them before and after the call: none for a message that is refused, those of the
 -- answer for one that is answered, no more than that where memory ran out, and never fewer than before
-pub record AnswerCosts {A : Type 0} (client : Client) (text : List ℕ) (result : Result A ScramErrorKind)
+pub record AnswerCosts {A F : Type 0} (client : Client) (text : List ℕ) (result : Result A F)
     (before after : ℕ) : Type 0 where
   pub refused : (fault : ScramErrorKind) → ReadsServerFirst client text (Err fault) → after ≡ before
   pub answered : (first : ServerFirst) → ReadsServerFirst client text (Ok first)

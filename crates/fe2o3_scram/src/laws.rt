@@ -2,8 +2,10 @@
 //! statement about every list of bytes, which the check has proved.
 
 ghost use Rattle.std.specs.Prelude.{◌≡◌};
+ghost use Rattle.fe2o3_scram.specs.Agreement.{BelievedTextsAgree};
 ghost use Rattle.fe2o3_scram.specs.Logins.{AcceptedTextsLogIn, BelievedTextsAreSigned};
-ghost use Rattle.fe2o3_scram.specs.Laws.{OneVersion, OneFinalText, OneSignature, DigestsAreSized, MacsAreSized, OneBytesOfBase64, Base64IsReadAgain, NoCommaInBase64, PartsExist, OneListOfParts, OneEscapedName, NoCommaInEscapedNames, OneClientFirst, OneServerFirst, OneClientFinal, OneServerFinal, SomeClientFirst, SomeServerFirst, SomeClientFinal, SomeServerFinal, UnalteredExchangesSucceed, MadeRecordsAreReadable, OneRecord, OneSpelling, RecordsAreReadAgain, SomeRecord, OneUsersAnswer, UsersAreReadAgain, KeysStandForPassword, KeysAnswerAsPassword, BothAnswerAsPassword};
+ghost use Rattle.fe2o3_scram.specs.Laws.{OneVersion, OneFinalText, OneSignature, DigestsAreSized, MacsAreSized, OneBytesOfBase64, Base64IsReadAgain, NoCommaInBase64, PartsExist, OneListOfParts, OneEscapedName, NoCommaInEscapedNames, OneClientFirst, OneServerFirst, OneClientFinal, OneServerFinal, SomeClientFirst, SomeServerFirst, SomeClientFinal, SomeServerFinal, UnalteredExchangesSucceed, MadeRecordsAreReadable, OneRecord, OneSpelling, RecordsAreReadAgain, SomeRecord, OneUsersAnswer, SomeUsersAnswer, UsersAreReadAgain, KeysStandForPassword, KeysAnswerAsPassword, BothAnswerAsPassword};
+ghost use Rattle.fe2o3_scram.specs.MemoryExamples.{AnsweredClientsTakeNone, CommasTakeNone, ErrorsTakeNone, OtherNoncesTakeNone, UnboundTextsTakeNone, UnknownMechanismsTakeNone, UnknownUsersTakeNone};
 
 use crate::hmac::ScramVersion;
 
@@ -58,10 +60,14 @@ pub fn one_answer_each()
 /// What an accepted message means to its caller: a server accepts a client-final message only where a
 /// challenge is open and the proof meets the record of its user, whom it then names; and a client believes
 /// a server-final message only on the signature of the answer that it waits on. A caller's own proof cites
-/// both from `proofs/lemmas/messages/LoginLemmas.antt`.
+/// both from `proofs/lemmas/messages/LoginLemmas.antt`. And where a client believed the message by which a
+/// server accepted, both agree on version, user name and client nonce (and, where the client-first message
+/// had two parts, on the nonce of both sides, salt and count), or their own differing AuthMessages share one
+/// HMAC value.
 pub fn accepted_messages()
     ensures server { AcceptedTextsLogIn }
     ensures client { BelievedTextsAreSigned }
+    ensures agreement { BelievedTextsAgree }
 {}
 
 /// A client and a server that hold the same password log in where nothing is altered on the way.
@@ -95,9 +101,25 @@ pub fn kept_keys()
     ensures both { BothAnswerAsPassword }
 {}
 
-/// Users who can be written are read again from their lines. Each text of lines has at most one
-/// answer: the users that it spells, or its first line that is not read and the fault of that.
+/// Users who can be written are read again from their lines. Each text of lines has one answer: the
+/// users that it spells, or its first line that is not read and the fault of that.
 pub fn users_texts()
     ensures again { UsersAreReadAgain }
     ensures one { OneUsersAnswer }
+    ensures some { SomeUsersAnswer }
+{}
+
+/// Worked examples of the words of memory: of each of these texts want of memory is no answer, since it is
+/// refused before a call comes to ask for any. A server-final message that is an error; a server-first
+/// message to a client that has answered one; a client-first message of an unknown user; a client-final
+/// message with another nonce, and one without a channel binding; a record of an unknown mechanism; and a
+/// line whose name has a comma.
+pub fn texts_without_memory()
+    ensures errors { ErrorsTakeNone }
+    ensures answered { AnsweredClientsTakeNone }
+    ensures unknown_users { UnknownUsersTakeNone }
+    ensures other_nonces { OtherNoncesTakeNone }
+    ensures unbound { UnboundTextsTakeNone }
+    ensures unknown_mechanisms { UnknownMechanismsTakeNone }
+    ensures commas { CommasTakeNone }
 {}

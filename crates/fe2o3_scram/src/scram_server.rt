@@ -199,8 +199,8 @@ impl<C: ScramCredentialProvider> ScramAuthenticator<C> {
             client_final_message.now answer (state_in self.new)) }
         ensures provider { provider_in self.new ≡ provider_in self.old }
         ensures err { OnErr result (state_in self.new ≡ state_in self.old) }
-        ensures cost { FinalCostsFrom (state_in self.old) (C.meaning (provider_in self.old)) result
-            meter.old meter.new }
+        ensures cost { FinalCostsFrom (state_in self.old) (C.meaning (provider_in self.old))
+            client_final_message.now result meter.old meter.new }
     {
         match &self.state {
             ScramAuthenticatorState::ServerFirstSent {

@@ -2,7 +2,7 @@
 
 use crate::Unconfirmed;
 use bytes::BytesMut;
-use fe2o3_sasl_wire::{Error, FrameCodec, FrameView, SaslCode, SymbolsView, view_frame};
+use fe2o3_sasl_wire::{Error, Frame, FrameCodec, FrameView, SaslCode, SymbolsView, view_frame};
 use std::alloc::{AllocError, AllocFailed, Global};
 
 impl From<AllocError> for Unconfirmed {
@@ -39,32 +39,62 @@ pub fn check(alloc: Global, line: &str) -> Result<(), Unconfirmed> {
     }
 }
 
+/// The body that is written for a frame, in hexadecimal digits.
+fn written(alloc: Global, frame: Frame) -> Result<String, Unconfirmed> {
+    let mut body = BytesMut::new(alloc);
+    FrameCodec {}.encode(frame, &mut body)?;
+    Ok(hex::encode(alloc, body.as_slice())?)
+}
+
+/// The answer for a body that is read: its view, how long it is, whether `decode` takes as much, and
+/// what is written for its frame.
+fn read_answer(
+    alloc: Global,
+    view: FrameView<'_>,
+    len: usize,
+    takes_as_much: bool,
+    written: &str,
+) -> Result<String, Unconfirmed> {
+    let mut text = format!(in alloc; "read {len} ")?;
+    push_fields(alloc, &mut text, view)?;
+    if !takes_as_much {
+        text.push_str(" but decode takes another length")?;
+    }
+    text.push_str(" written ")?;
+    text.push_str(written)?;
+    Ok(text)
+}
+
+/// The answer for a body that is refused, and whether `decode` refuses it alike.
+fn refused_answer(alloc: Global, fault: Error, is_alike: bool) -> Result<String, Unconfirmed> {
+    let mut text = String::from_str(alloc, "refused ")?;
+    text.push_str(name_of(fault))?;
+    if !is_alike {
+        text.push_str(" but not by decode")?;
+    }
+    Ok(text)
+}
+
+/// The answer for a body that is read in one way and refused in the other.
+fn differing_answer(alloc: Global) -> Result<String, Unconfirmed> {
+    Ok(String::from_str(alloc, "view_frame and decode differ")?)
+}
+
 /// The answer for a body, in the words of the file.
 fn answer_of(alloc: Global, body: &[u8]) -> Result<String, Unconfirmed> {
     let mut buffer = BytesMut::copy_from_slice(alloc, body)?;
     let decoded = FrameCodec {}.decode(alloc, &mut buffer);
     match (view_frame(body), decoded) {
         (Ok((view, len)), Ok(frame)) => {
-            let mut text = format!(in alloc; "read {len} ")?;
-            push_fields(alloc, &mut text, view)?;
-            if buffer.as_slice().len().saturating_add(len) != body.len() {
-                text.push_str(" but decode takes another length")?;
-            }
-            let mut written = BytesMut::new(alloc);
-            FrameCodec {}.encode(frame, &mut written)?;
-            text.push_str(" written ")?;
-            text.push_str(hex::encode(alloc, written.as_slice())?.as_str())?;
-            Ok(text)
+            let takes_as_much = buffer.as_slice().len().saturating_add(len) == body.len();
+            let written = written(alloc, frame)?;
+            read_answer(alloc, view, len, takes_as_much, written.as_str())
         }
         (Err(viewed), Err(refused)) => {
-            let mut text = String::from_str(alloc, "refused ")?;
-            text.push_str(name_of(viewed))?;
-            if viewed != refused || buffer.as_slice() != body {
-                text.push_str(" but not by decode")?;
-            }
-            Ok(text)
+            let is_alike = viewed == refused && buffer.as_slice() == body;
+            refused_answer(alloc, viewed, is_alike)
         }
-        _ => Ok(String::from_str(alloc, "view_frame and decode differ")?),
+        _ => differing_answer(alloc),
     }
 }
 

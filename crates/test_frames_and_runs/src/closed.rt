@@ -59,6 +59,8 @@ impl SaslAcceptor for Closed {
 
     ghost allocates = { λ asked frame. ⊥ };
 
+    ghost hmacs = { λ asked frame n. n ≡ 0 };
+
     ghost clone_keeps = { λ closed copy same i. (same i).asked };
 
     fn mechanisms(&self, alloc: Global) -> Result<Array<Symbol>, OutOfMemory> {

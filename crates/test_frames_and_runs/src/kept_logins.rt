@@ -27,7 +27,7 @@ const OTHER_OUTCOME: &str =
     347163526e46553d";
 
 /// A profile with the password.
-fn by_password(alloc: Global) -> Result<Box<SaslProfile>, Fail> {
+pub fn by_password(alloc: Global) -> Result<Box<SaslProfile>, Fail> {
     let username = USER.to_string(alloc)?;
     let scram = SaslScramSha256::new(username, PASSWORD.to_string(alloc)?);
     Ok(Box::new(alloc, SaslProfile::from(scram))?)

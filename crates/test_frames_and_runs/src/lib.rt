@@ -22,6 +22,8 @@ mod kept_keys;
 #[cfg(test)]
 mod kept_logins;
 #[cfg(test)]
+mod metered;
+#[cfg(test)]
 mod own_acceptor;
 #[cfg(test)]
 mod profiles;

@@ -1,7 +1,11 @@
-//! What `Debug` prints of what holds a password or a key: neither of them.
+//! What `Debug` prints of what holds a password or a key: neither of them. A row for each type of
+//! `fe2o3_scram` whose `Debug` is written by hand; the texts are those that its docstring tells.
 
 use crate::kept_keys::KEPT;
-use fe2o3_scram::credentials::{ScramCredentialProvider, SingleScramCredential};
+use fe2o3_scram::credentials::{
+    ScramCredentialProvider, ScramCredentials, ScramRecord, SingleScramCredential, StoredPassword,
+    StoredScramCredential,
+};
 use fe2o3_scram::hmac::ScramVersion;
 use fe2o3_scram::scram_client::ScramClient;
 use fe2o3_scram::scram_server::ScramAuthenticator;
@@ -9,10 +13,22 @@ use std::alloc::Global;
 use std::fmt::Debug;
 use std::test::Fail;
 
-/// Whether this is what `Debug` prints.
+/// The bytes of a secret, as a list of numbers prints them.
+const SECRET: [u8; 32] = [211; 32];
+
+/// Whether this is what `Debug` prints, with neither the password nor a byte of a secret in it.
 fn shows<T: Debug>(alloc: Global, value: &T, wanted: &str) -> Result<bool, Fail> {
     let text = format!(in alloc; "{value:?}")?;
-    Ok(text.as_str() == wanted)
+    Ok(text.as_str() == wanted && !text.contains("pencil") && !text.contains("211"))
+}
+
+/// A record whose salt and keys are those bytes.
+fn record(alloc: Global) -> Result<ScramRecord, Fail> {
+    let salt = SECRET.to_vec(alloc)?;
+    let stored_key = SECRET.to_vec(alloc)?;
+    let server_key = SECRET.to_vec(alloc)?;
+    let version = ScramVersion::Sha256;
+    Ok(ScramRecord::from_parts(version, salt, 4096, stored_key, server_key))
 }
 
 #[test]
@@ -26,11 +42,11 @@ fn hides_the_password_of_a_client(rt: HostRuntime) -> Result<(), Fail> {
     Ok(())
 }
 
-/// The credential of `user`, with a salt of bytes 03.
+/// The credential of `user`, with a salt of bytes 211.
 fn credential(alloc: Global) -> Result<SingleScramCredential, Fail> {
     let username = "user".to_string(alloc)?;
     let version = ScramVersion::Sha1;
-    Ok(SingleScramCredential::new(alloc, username, "pencil", version, [3; 32])?)
+    Ok(SingleScramCredential::new(alloc, username, "pencil", version, SECRET)?)
 }
 
 #[test]
@@ -39,9 +55,50 @@ fn hides_the_keys_of_a_credential(rt: HostRuntime) -> Result<(), Fail> {
     let wanted =
         "SingleScramCredential { scram_version: Sha1, username: \"user\", iterations: 4096, .. }";
     assert!(rt; shows(rt.alloc(), &credential, wanted)?);
+    Ok(())
+}
+
+#[test]
+fn hides_the_keys_of_a_stored_password(rt: HostRuntime) -> Result<(), Fail> {
+    let stored = StoredPassword {
+        salt: &SECRET,
+        iterations: 4096,
+        stored_key: &SECRET,
+        server_key: &SECRET,
+    };
+    assert!(rt;
+        shows(
+            rt.alloc(),
+            &stored,
+            "StoredPassword { iterations: 4096, .. }"
+        )?
+    );
+    let credential = credential(rt.alloc())?;
     let stored = credential.get_stored_password("user");
     let wanted = "Some(StoredPassword { iterations: 4096, .. })";
     assert!(rt; shows(rt.alloc(), &stored, wanted)?);
+    Ok(())
+}
+
+#[test]
+fn hides_the_keys_of_a_record(rt: HostRuntime) -> Result<(), Fail> {
+    let record = record(rt.alloc())?;
+    let wanted = "ScramRecord { scram_version: Sha256, iterations: 4096, .. }";
+    assert!(rt; shows(rt.alloc(), &record, wanted)?);
+    let username = "user".to_string(rt.alloc())?;
+    let credential = StoredScramCredential::new(username, record);
+    let wanted = "StoredScramCredential { username: \"user\", \
+        record: ScramRecord { scram_version: Sha256, iterations: 4096, .. } }";
+    assert!(rt; shows(rt.alloc(), &credential, wanted)?);
+    Ok(())
+}
+
+#[test]
+fn hides_what_a_store_holds(rt: HostRuntime) -> Result<(), Fail> {
+    let mut store = ScramCredentials::new(rt.alloc(), ScramVersion::Sha256);
+    store.add("user".to_string(rt.alloc())?, record(rt.alloc())?)?;
+    let wanted = "ScramCredentials { scram_version: Sha256, .. }";
+    assert!(rt; shows(rt.alloc(), &store, wanted)?);
     Ok(())
 }
 

@@ -1,8 +1,14 @@
 //! Tests of what `fe2o3_scram` does with the texts of a login: its messages, its keys, its clients and
-//! its servers. Expected values come from the standards and from other programs. The rows of values
-//! and refusals stand in the data of `scram_vectors`.
+//! its servers; and of what a server keeps of its users: records, their lines, the providers made of
+//! them, and brokers over these. Expected values come from the standards and from other programs. The
+//! rows of values and refusals, and the texts that are read or refused, stand in the data of
+//! `scram_vectors`.
 #![tactic(auto)]
 
+#[cfg(test)]
+mod broker;
+#[cfg(test)]
+mod changes;
 #[cfg(test)]
 mod debug_texts;
 #[cfg(test)]
@@ -16,11 +22,23 @@ mod kept_logins;
 #[cfg(test)]
 mod keyed_clients;
 #[cfg(test)]
+mod lines;
+#[cfg(test)]
+mod lines_broker;
+#[cfg(test)]
+mod logins;
+#[cfg(test)]
 mod machines;
+#[cfg(test)]
+mod map_store;
+#[cfg(test)]
+mod providers;
 #[cfg(test)]
 mod published;
 #[cfg(test)]
 mod readings;
+#[cfg(test)]
+mod records;
 #[cfg(test)]
 mod short_logins;
 #[cfg(test)]

@@ -4,5 +4,9 @@ pub mod MechanismLemmas
 pub mod MemoryLemmas
 pub mod OneReplyLemmas
 pub mod ServerMachineLemmas
+pub mod PlainRunLemmas
 pub mod ZeroPartLemmas
+pub mod SomeReplyLemmas
 pub mod SomeRunLemmas
+pub mod ResponseCostLemmas
+pub mod RunCostLemmas

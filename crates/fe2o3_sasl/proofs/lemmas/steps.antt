@@ -6,3 +6,4 @@ pub mod ProfileReplyLemmas
 pub mod StepLawLemmas
 pub mod WrittenReplyLemmas
 pub mod WrittenStepLemmas
+pub mod CostLemmas

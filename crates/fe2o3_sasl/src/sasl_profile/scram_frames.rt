@@ -1,15 +1,19 @@
 //! What a SCRAM client answers to frames (RFC 5802, section 5).
 
-ghost use Rattle.std.specs.Prelude.{◌≡◌, Some, Option, ℕ, List, IfOk, OnOk, OnErr, MatchOption};
+ghost use Rattle.std.specs.Prelude.{◌≡◌, ◌≤◌, ◌^◌, Some, Option, ℕ, List, IfOk, OnOk, OnErr, MatchOption};
 ghost use Rattle.fe2o3_sasl_wire.specs.AmqpTypes.{binary_bytes, response_frame, outcome_frame};
-ghost use Rattle.fe2o3_sasl_wire.specs.SaslFrames.{Challenge};
+ghost use Rattle.fe2o3_sasl_wire.specs.FrameView.{shown};
+ghost use Rattle.fe2o3_sasl_wire.specs.SaslFrames.{Challenge, Outcome};
+ghost use Rattle.fe2o3_sasl.specs.Costs.{ProfileCosts};
 ghost use Rattle.fe2o3_sasl.specs.Profiles.{ScramProfile, FrameAllocates, StepAllocates, ProfileAnswers, initial_response, after_init};
+ghost use Rattle.fe2o3_sasl.specs.Events.{Scram};
 ghost use Rattle.fe2o3_sasl.specs.ProfileFaults.{answered, client_fault};
 ghost use Rattle.fe2o3_sasl.specs.private.Writing.{AnswersAlways, RefusesAlways};
 
 use crate::OutOfMemory;
 use crate::sasl_profile::error::ProfileError;
 use fe2o3_sasl_wire::{Binary, SaslCode, SaslOutcome, SaslResponse};
+use fe2o3_scram::hmac::Meter;
 use fe2o3_scram::scram_client::ScramClient;
 use fe2o3_scram::scram_messages::ScramErrorKind;
 use std::alloc::Global;
@@ -46,20 +50,49 @@ pub(super) fn refusal_unread(client: &ScramClient, challenge: &[u8]) -> Option<P
     }
 }
 
+/// Why an outcome is refused before its data are read: they are what SCRAM reads of code Ok, and are not
+/// due, or not UTF-8.
+pub(super) fn outcome_refusal_unread(
+    client: &ScramClient,
+    code: SaslCode,
+    additional_data: Option<&[u8]>,
+) -> Option<ScramErrorKind>
+    ensures { MatchOption result ((text : List ℕ) → shown additional_data.entry ≡ Some text
+        → StepAllocates (ScramProfile client.now) (Outcome code (Some text)))
+        (λ kind. RefusesAlways (ScramProfile client.now) (Outcome code (shown additional_data.entry)) (Scram kind)) }
+{
+    let Some(data) = additional_data else {
+        return None;
+    };
+    if code != SaslCode::Ok {
+        return None;
+    }
+    match client.server_signature() {
+        None => Some(ScramErrorKind::IllegalClientState),
+        Some(_) => match str::from_utf8(data) {
+            Ok(_) => None,
+            Err(_) => Some(ScramErrorKind::Utf8Error),
+        },
+    }
+}
+
 /// The answer to a challenge, which is tested for UTF-8 before the client's state and its own tests.
 pub(super) fn answer(
     client: &mut ScramClient,
     alloc: Global,
     challenge: &[u8],
+    meter: &mut Meter,
 ) -> Result<SaslResponse, ProfileError>
+    requires { meter.old ≤ 2 ^ 63 }
     ensures answer { AnswersAlways (ScramProfile client.old) (Challenge challenge.now)
         (answered response_frame result) (ScramProfile client.new) }
     ensures err { OnErr result (client.new ≡ client.old) }
+    ensures cost { ProfileCosts (Challenge challenge.now) (ScramProfile client.old) result meter.old meter.new }
 {
     let Ok(server_first) = str::from_utf8(challenge) else {
         return Err(ProfileError::Scram(ScramErrorKind::Utf8Error));
     };
-    match client.compute_client_final_message(alloc, server_first) {
+    match client.compute_client_final_message_metered(alloc, server_first, meter) {
         Ok(client_final) => Ok(SaslResponse {
             response: Binary(client_final),
         }),

@@ -1,3 +1,4 @@
+pub mod AgreementLemmas
 pub mod AnswerCostLemmas
 pub mod ClientFinalLemmas
 pub mod ClientFirstLemmas
@@ -5,6 +6,7 @@ pub mod ExchangeLemmas
 pub mod FittingKeyLemmas
 pub mod KeptKeyLemmas
 pub mod LoginLemmas
+pub mod MemoryExampleLemmas
 pub mod OneValueLemmas
 pub mod RecordLawLemmas
 pub mod RecordLinesLawLemmas
@@ -13,4 +15,5 @@ pub mod RecordTextLemmas
 pub mod ServerFinalLemmas
 pub mod ServerFirstLemmas
 pub mod SomeReadingLemmas
+pub mod SomeUsersLemmas
 pub mod TestListLemmas

@@ -4,9 +4,9 @@ ghost use Rattle.std.specs.Prelude.{◌≡◌, ◌≢◌, ◌↔◌, ◌⊎◌, 
 ghost use Rattle.std.specs.List.{AllByRecursion};
 ghost use Rattle.fe2o3_scram.specs.Credentials.{Record, VersionedRecord};
 ghost use Rattle.fe2o3_scram.specs.Escape.{escaped};
-ghost use Rattle.fe2o3_scram.specs.RecordLines.{HasSpacedLine, HeadFault, IsLineReadable, IsWritable, LastCut, LineFault, ReadsUsers, SpellsUsers, UpToLine, UserFault, user_line, users_text};
-ghost use Rattle.fe2o3_scram.specs.RecordText.{ReadsRecord};
-ghost use Rattle.fe2o3_scram.specs.Texts.{Without};
+ghost use Rattle.fe2o3_scram.specs.RecordLines.{HeadFault, IsLineReadable, IsWritable, LastCut, LineFault, ReachesName, ReachesUser, ReadsUsers, SpellsUsers, UpToLine, UserFault, user_line, users_text};
+ghost use Rattle.fe2o3_scram.specs.RecordText.{ReachesValues, ReadsRecord};
+ghost use Rattle.fe2o3_scram.specs.Texts.{NoComma, Without};
 ghost use Rattle.fe2o3_scram.specs.declared.credentials.record_lines.ReadLinesErrorKind.TheVariants.{OutOfMemory as OutOfMemoryKind};
 ghost use Rattle.fe2o3_scram.specs.declared.credentials.record_lines.WriteLinesError.TheVariants.{OutOfMemory as OutOfMemoryError};
 
@@ -107,7 +107,8 @@ impl ScramCredentials {
     /// Refused is the first line that is not such a line, by its number from 1 and the first of:
     /// `LineFeedMissing`, `SpaceMissing`, `InvalidName`, `InvalidRecord` with what `ScramRecord::parse`
     /// refuses, `VersionMismatch` where the record is for another version than this. `OutOfMemory`
-    /// is answered only for a line with a line feed and a space, behind lines that are read.
+    /// is answered only for a line with a line feed and a space, and no comma before its last space,
+    /// behind lines that are read.
     pub fn parse_lines(
         alloc: Global,
         scram_version: ScramVersion,
@@ -118,7 +119,7 @@ impl ScramCredentials {
         ensures err { IfErr result (λ error. error.kind ≢ ReadLinesErrorKind.OutOfMemory
             → ReadsUsers scram_version text.now (Err error)) }
         ensures memory { IfErr result (λ error. error.kind ≡ ReadLinesErrorKind.OutOfMemory
-            → UpToLine scram_version text.now error.line HasSpacedLine) }
+            → UpToLine scram_version text.now error.line ReachesUser) }
     {
         let mut store = Self::new(alloc, scram_version);
         let mut rest = text;
@@ -143,7 +144,7 @@ impl ScramCredentials {
             × (self.new ≡ record { version = self.old.version; records = self.old.records ++ (user ∷ []) })) }
         ensures err { IfErr result (λ kind. kind ≢ ReadLinesErrorKind.OutOfMemory
             → HeadFault self.old.version text.now kind) }
-        ensures memory { IfErr result (λ kind. kind ≡ ReadLinesErrorKind.OutOfMemory → HasSpacedLine text.now) }
+        ensures memory { IfErr result (λ kind. kind ≡ ReadLinesErrorKind.OutOfMemory → ReachesUser text.now) }
         ensures unchanged { IfErr result (λ _. self.new ≡ self.old) }
     {
         let Some((line, rest)) = cut(text, '\n') else {
@@ -193,9 +194,8 @@ fn read_user(
         × (line.now ≡ user_line scram_version (string_bytes user.0, user.1.stored))) }
     ensures version { IfOk result (λ user. user.1.version ≡ scram_version) }
     ensures err { IfErr result (λ kind. kind ≢ ReadLinesErrorKind.OutOfMemory → LineFault scram_version line.now kind) }
-    ensures memory { IfErr result (λ kind. kind ≡ ReadLinesErrorKind.OutOfMemory
-        → (name : List ℕ) × (kept : List ℕ) × LastCut 32 line.now name kept) }
-    ensures spaced { IfOk result (λ _. (name : List ℕ) × (kept : List ℕ) × LastCut 32 line.now name kept) }
+    ensures memory { IfErr result (λ kind. kind ≡ ReadLinesErrorKind.OutOfMemory → ReachesName line.now) }
+    ensures reached { IfOk result (λ _. ReachesName line.now) }
 {
     let Some((name, kept)) = last_cut(line, ' ') else {
         return Err(ReadLinesErrorKind::SpaceMissing);
@@ -209,10 +209,13 @@ fn read_user(
 }
 
 /// The name that is escaped so.
+#[tactic(auto, using(crate::proofs::lemmas::messages::RecordLinesLemmas::read_names))]
 fn read_name(alloc: Global, name: &str) -> Result<String, ReadLinesErrorKind>
     ensures ok { IfOk result (λ plain. escaped (string_bytes plain) ≡ name.now) }
+    ensures plain { IfOk result (λ _. NoComma name.now) }
     ensures err { IfErr result (λ kind. (kind ≡ ReadLinesErrorKind.OutOfMemory)
         ⊎ ((kind ≡ ReadLinesErrorKind.InvalidName) × ((plain : List ℕ) → escaped plain ≢ name.now))) }
+    ensures memory { IfErr result (λ kind. kind ≡ ReadLinesErrorKind.OutOfMemory → NoComma name.now) }
 {
     match unescape_username(alloc, name) {
         Ok(plain) => Ok(plain.into_owned(alloc)?),
@@ -227,6 +230,7 @@ fn read_record(alloc: Global, text: &str) -> Result<ScramRecord, ReadLinesErrorK
     ensures err { IfErr result (λ kind. (kind ≡ ReadLinesErrorKind.OutOfMemory)
         ⊎ ((fault : RecordTextError) × (kind ≡ ReadLinesErrorKind.InvalidRecord fault)
         × ReadsRecord text.now (Err fault))) }
+    ensures memory { IfErr result (λ kind. kind ≡ ReadLinesErrorKind.OutOfMemory → ReachesValues text.now) }
 {
     match ScramRecord::parse(alloc, text) {
         Ok(read) => Ok(read),

@@ -75,7 +75,7 @@ pub(crate) fn escaped_len(username: &[u8]) -> usize {
 ///
 /// Refused is, with `Invalid`, a text with a comma, or with an equals sign that neither `2C` nor
 /// `3D` follows in these very letters: `=2c` is invalid. `OutOfMemory` is answered only for a text
-/// with an equals sign.
+/// with an equals sign and without commas.
 #[tactic(auto, using(crate::proofs::lemmas::texts::EscapingLemmas::names))]
 pub fn unescape_username(alloc: Global, text: &str) -> Result<CowStr<'_>, UnescapeError>
     ensures ok { IfOk result (λ name. escaped (cow_str_bytes name) ≡ text.now) }
@@ -84,6 +84,9 @@ pub fn unescape_username(alloc: Global, text: &str) -> Result<CowStr<'_>, Unesca
     // A text without an equals sign takes no memory.
     ensures err { IfErr result (λ error. ((error ≡ UnescapeError.Invalid) × ((name : List ℕ) → escaped name ≢ text.now))
         ⊎ ((error ≡ UnescapeError.OutOfMemory) × ¬ NoEquals text.now)) }
+
+    // Nor does one with a comma.
+    ensures memory { IfErr result (λ error. error ≡ UnescapeError.OutOfMemory → NoComma text.now) }
 {
     if text.contains(',') {
         return Err(UnescapeError::Invalid);

@@ -8,7 +8,7 @@ ghost use Rattle.fe2o3_scram.specs.Credentials.{kept};
 ghost use Rattle.fe2o3_scram.specs.Readings.{Gives};
 ghost use Rattle.fe2o3_scram.specs.ClientFinal.{ReachesBase64, server_of, client_final_values};
 ghost use Rattle.fe2o3_scram.specs.ServerFinal.{AnswersClientFinal, FinalCosts};
-ghost use Rattle.fe2o3_scram.specs.private.Answers.{AnswersProof};
+ghost use Rattle.fe2o3_scram.specs.private.Answers.{AnswersProof, IsMet, ProofCosts};
 ghost use Rattle.fe2o3_scram.specs.private.Pieces.{whole};
 
 use crate::OutOfMemory;
@@ -75,7 +75,8 @@ impl ScramVersion {
             (λ message. message.items) result
             (AnswersClientFinal (server_of self.now client_first_message_bare.now server_first_message.now
             client_server_nonce.now (kept stored_password.now)) client_final.now) }
-        ensures cost { FinalCosts result meter.old meter.new }
+        ensures cost { FinalCosts (server_of self.now client_first_message_bare.now server_first_message.now
+            client_server_nonce.now (kept stored_password.now)) client_final.now result meter.old meter.new }
     {
         let client_final = ClientFinal::parse(alloc, client_server_nonce, client_final)?;
         self.answer_proof(
@@ -99,11 +100,12 @@ impl ScramVersion {
         meter: &mut Meter,
     ) -> Result<Vec<u8>, ServerScramErrorKind>
         requires { meter.old ≤ 2 ^ 63 }
-        ensures answer { (nonce : List ℕ) → Gives ServerScramErrorKind.OutOfMemory
-            (length client_final.now.proof.items ≡ digest_len self.now) (λ message. message.items) result
-            (AnswersProof (server_of self.now client_first_message_bare.now server_first_message.now nonce
-            (kept stored_password.now)) (client_final_values client_final.now)) }
-        ensures cost { FinalCosts result meter.old meter.new }
+        ensures answer { (nonce : List ℕ) →
+            let server = server_of self.now client_first_message_bare.now server_first_message.now nonce
+            (kept stored_password.now) in
+            Gives ServerScramErrorKind.OutOfMemory (IsMet server (client_final_values client_final.now))
+            (λ message. message.items) result (AnswersProof server (client_final_values client_final.now)) }
+        ensures cost { ProofCosts result meter.old meter.new }
     {
         if client_final.proof.len() != self.digest_len() {
             return Err(ServerScramErrorKind::XorLengthMismatch);

@@ -5,7 +5,7 @@ use bytes::BytesMut;
 use fe2o3_sasl::hmac::ScramVersion;
 use fe2o3_sasl::runs::{ClientReply, ServerReply};
 use fe2o3_sasl::sasl_profile::{Negotiation, ProfileError};
-use fe2o3_sasl_wire::{Error, Frame, FrameCodec};
+use fe2o3_sasl_wire::{Error, Frame, FrameCodec, SaslOutcome};
 use hex::FromHex;
 use std::alloc::Global;
 
@@ -82,6 +82,24 @@ pub fn server_words(
     Ok(words)
 }
 
+/// A frame's body behind a word.
+fn frame_word(alloc: Global, word: &str, frame: Frame) -> Result<String, Unconfirmed> {
+    let body = digits_of(alloc, frame)?;
+    Ok(format!(in alloc; "{word} {body}")?)
+}
+
+/// An outcome in the words of the file.
+fn outcome_word(alloc: Global, outcome: SaslOutcome) -> Result<String, Unconfirmed> {
+    let code = outcome.code;
+    let body = digits_of(alloc, Frame::Outcome(outcome))?;
+    Ok(format!(in alloc; "Outcome:{code:?} {body}")?)
+}
+
+/// A profile's fault in the words of the file.
+fn fault_word(alloc: Global, fault: &ProfileError) -> Result<String, Unconfirmed> {
+    Ok(format!(in alloc; "{fault:?}")?)
+}
+
 /// A client's reply in the words of the file.
 pub fn client_word(
     alloc: Global,
@@ -94,11 +112,8 @@ pub fn client_word(
         Ok(ClientReply::Response { body }) => {
             Ok(format!(in alloc; "Response {}", hex::encode(alloc, body)?)?)
         }
-        Ok(ClientReply::Outcome(outcome)) => {
-            let body = digits_of(alloc, Frame::Outcome(outcome.clone()?))?;
-            Ok(format!(in alloc; "Outcome:{:?} {body}", outcome.code)?)
-        }
-        Err(fault) => Ok(format!(in alloc; "{fault:?}")?),
+        Ok(ClientReply::Outcome(outcome)) => outcome_word(alloc, outcome.clone()?),
+        Err(fault) => fault_word(alloc, fault),
     }
 }
 
@@ -120,19 +135,11 @@ pub fn negotiation_word(
     answer: Result<Negotiation, ProfileError>,
 ) -> Result<String, Unconfirmed> {
     match answer {
-        Ok(Negotiation::Init(init)) => {
-            let body = digits_of(alloc, Frame::Init(init))?;
-            Ok(format!(in alloc; "Init {body}")?)
-        }
+        Ok(Negotiation::Init(init)) => frame_word(alloc, "Init", Frame::Init(init)),
         Ok(Negotiation::Response(response)) => {
-            let body = digits_of(alloc, Frame::Response(response))?;
-            Ok(format!(in alloc; "Response {body}")?)
+            frame_word(alloc, "Response", Frame::Response(response))
         }
-        Ok(Negotiation::Outcome(outcome)) => {
-            let code = outcome.code;
-            let body = digits_of(alloc, Frame::Outcome(outcome))?;
-            Ok(format!(in alloc; "Outcome:{code:?} {body}")?)
-        }
-        Err(fault) => Ok(format!(in alloc; "{fault:?}")?),
+        Ok(Negotiation::Outcome(outcome)) => outcome_word(alloc, outcome),
+        Err(fault) => fault_word(alloc, &fault),
     }
 }

@@ -162,6 +162,35 @@ fn replied(alloc: Global, credentials: &Quick, events: &[Event]) -> Result<Vec<u
     }
 }
 
+/// The init to these mechanisms, with the server's nonce.
+fn init_of(alloc: Global, mechanisms: &Event, server: u8) -> Result<Event, Unconfirmed> {
+    let heard = [copy_of(alloc, mechanisms)?];
+    event(alloc, &said(alloc, &heard)?, server)
+}
+
+/// The challenge to this init.
+fn challenge_of(alloc: Global, credentials: &Quick, init: &Event) -> Result<Event, Unconfirmed> {
+    let asked = [copy_of(alloc, init)?];
+    event(alloc, &replied(alloc, credentials, &asked)?, 0)
+}
+
+/// The response to this challenge.
+fn response_of(alloc: Global, mechanisms: &Event, challenge: &Event) -> Result<Event, Unconfirmed> {
+    let heard = [copy_of(alloc, mechanisms)?, copy_of(alloc, challenge)?];
+    event(alloc, &said(alloc, &heard)?, 0)
+}
+
+/// The outcome of this response.
+fn outcome_of(
+    alloc: Global,
+    credentials: &Quick,
+    init: &Event,
+    response: &Event,
+) -> Result<Event, Unconfirmed> {
+    let asked = [copy_of(alloc, init)?, copy_of(alloc, response)?];
+    event(alloc, &replied(alloc, credentials, &asked)?, 0)
+}
+
 /// The login of these two nonces.
 fn login_of(
     alloc: Global,
@@ -170,14 +199,10 @@ fn login_of(
     server: u8,
 ) -> Result<Login, Unconfirmed> {
     let mechanisms = event(alloc, MECHANISMS, client)?;
-    let heard = [copy_of(alloc, &mechanisms)?];
-    let init = event(alloc, &said(alloc, &heard)?, server)?;
-    let asked = [copy_of(alloc, &init)?];
-    let challenge = event(alloc, &replied(alloc, credentials, &asked)?, 0)?;
-    let heard = [copy_of(alloc, &mechanisms)?, copy_of(alloc, &challenge)?];
-    let response = event(alloc, &said(alloc, &heard)?, 0)?;
-    let asked = [copy_of(alloc, &init)?, copy_of(alloc, &response)?];
-    let outcome = event(alloc, &replied(alloc, credentials, &asked)?, 0)?;
+    let init = init_of(alloc, &mechanisms, server)?;
+    let challenge = challenge_of(alloc, credentials, &init)?;
+    let response = response_of(alloc, &mechanisms, &challenge)?;
+    let outcome = outcome_of(alloc, credentials, &init, &response)?;
     Ok(Login {
         mechanisms,
         init,

@@ -311,7 +311,13 @@ allocates : (login : Login) (state : ClientState) (frame : SaslFrame) → StepAl
     → ClientAllocates login (Ok frame)
 allocates login state (frames.Mechanisms names) h = h
 allocates login state (frames.Challenge text) h = h.0
-allocates login state (frames.Outcome code more) h = h
+allocates login state (frames.Outcome outcomes.Ok (Some text)) h = h.0
+allocates login state (frames.Outcome code (Some text)) h = h
+allocates login state (frames.Outcome outcomes.Ok None) h = absurd h
+allocates login state (frames.Outcome outcomes.Auth None) h = absurd h
+allocates login state (frames.Outcome outcomes.Sys None) h = absurd h
+allocates login state (frames.Outcome outcomes.SysPerm None) h = absurd h
+allocates login state (frames.Outcome outcomes.SysTemp None) h = absurd h
 allocates login state (frames.Init mechanism response hostname) h = absurd h
 allocates login state (frames.Response text) h = absurd h
 

@@ -121,6 +121,7 @@ module _ (user : List ℕ) (limits : IterationLimits) (keys : ClientKeys) (passw
       → StepAllocates (twin state) frame
   allocates_alike state (frames.Mechanisms names) has = has
   allocates_alike state (frames.Challenge text) has = has
+  allocates_alike state (frames.Outcome outcomes.Ok (Some text)) has = has
   allocates_alike state (frames.Outcome code (Some text)) has = has
   allocates_alike state frame has = absurd has
 

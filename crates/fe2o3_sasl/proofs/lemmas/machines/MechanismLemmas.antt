@@ -41,7 +41,7 @@ one_version Sha512 Sha256 same = absurd (differ _ _ refl same)
 one_version Sha512 Sha512 same = refl
 
 -- and no other mechanism has it
-other_name : (version : ScramVersion) → (mechanism_name version ≢ codes "PLAIN")
+pub other_name : (version : ScramVersion) → (mechanism_name version ≢ codes "PLAIN")
     × (mechanism_name version ≢ codes "ANONYMOUS") × (mechanism_name version ≢ codes "EXTERNAL")
 other_name Sha1 = (differ _ _ refl, differ _ _ refl, differ _ _ refl)
 other_name Sha256 = (differ _ _ refl, differ _ _ refl, differ _ _ refl)

@@ -5,17 +5,17 @@ use Rattle.fe2o3_sasl_wire.specs.declared.amqp_types.SaslCode.{SaslCode}
 use Rattle.fe2o3_sasl_wire.specs.declared.amqp_types.SaslCode.TheVariants as outcomes
 use Rattle.fe2o3_sasl_wire.specs.declared.sasl_frames.error.Error.{Error}
 use Rattle.fe2o3_sasl_wire.specs.declared.sasl_frames.error.Error.TheVariants as faults
-use Rattle.fe2o3_sasl_wire.specs.SaslFrames.{fault_of, SaslFrame}
+use Rattle.fe2o3_sasl_wire.specs.SaslFrames.{canonical, fault_of, SaslFrame}
 use Rattle.fe2o3_sasl_wire.specs.SaslFrames as frames
 use Rattle.fe2o3_scram.specs.Credentials.{Provider}
 use Rattle.fe2o3_scram.specs.declared.scram_messages.error.ScramErrorKind.{ScramErrorKind}
 use Rattle.fe2o3_scram.specs.declared.scram_messages.error.ScramErrorKind.TheVariants as kinds
 use Rattle.fe2o3_sasl.specs.ClientHistory.{Answering, ClientAllocates, ClientAnswers, IsDue, OpenAnswer}
-use Rattle.fe2o3_sasl.specs.Events.{Given, Login, ClientFault, Reported, Refused, NotImplemented, Scram, OutOfMemory, Failed, scram_fault}
-use Rattle.fe2o3_sasl.specs.Laws.{WantsAtServer, ServersWantMemory, WantsAtProfile, ClientsWantMemory, ProfilesWantMemory}
-use Rattle.fe2o3_sasl.specs.Profiles.{Profile, ScramProfile, scram_profile, profile_machine}
+use Rattle.fe2o3_sasl.specs.Events.{Given, Login, ClientFault, Answered, Reported, Refused, NotImplemented, Scram, Frame, OutOfMemory, Failed, scram_fault}
+use Rattle.fe2o3_sasl.specs.Laws.{WantsAtServer, ServersWantMemory, ClientsWantMemory, ProfilesWantMemory}
+use Rattle.fe2o3_sasl.specs.Profiles.{Profile, ScramProfile, client_frame, profile_machine, StepAllocates}
 use Rattle.fe2o3_sasl.specs.Runs.{Replies}
-use Rattle.fe2o3_sasl.specs.Bodies.{SpellsBody}
+use Rattle.fe2o3_sasl.specs.Bodies.{SpellsBody, carried}
 use Rattle.fe2o3_sasl.specs.ServerHistory.{Challenging, Open, ServerAllocates, ServerAnswers}
 use Rattle.fe2o3_sasl.proofs.lemmas.positions.PositionLemmas.{some_at}
 
@@ -81,31 +81,27 @@ client_wants : (login : Login) (Due : List ℕ → Type 0) (IsOpen : Answering �
     (spelled : Result SaslFrame Error) → SpellsBody event.body spelled
     → (ClientAllocates login spelled × (Refused OutOfMemory ≡ Refused OutOfMemory))
     ⊎ ClientAnswers login Due IsOpen event spelled (Refused OutOfMemory)
-    → (frame : SaslFrame) × SpellsBody event.body (Ok frame) × WantsAtProfile (scram_profile login) frame
+    → (frame : SaslFrame) × SpellsBody event.body (Ok frame) × ClientAllocates login (Ok frame)
 client_wants login Due IsOpen event (Err fault) spells (inl wants) = absurd wants.0
+client_wants login Due IsOpen event (Ok frame) spells (inl wants) = (frame, spells, wants.0)
 client_wants login Due IsOpen event (Err fault) spells (inr is) = absurd (cc)
-client_wants login Due IsOpen event (Ok (frames.Mechanisms names)) spells (inl wants) =
-    (frames.Mechanisms names, spells, inl (names, wants.0, refl))
 client_wants login Due IsOpen event (Ok (frames.Mechanisms names)) spells (inr (inl named)) =
-    (frames.Mechanisms names, spells, inl (names, named.0, refl))
+    (frames.Mechanisms names, spells, named.0)
 client_wants login Due IsOpen event (Ok (frames.Mechanisms names)) spells (inr (inr unnamed)) =
     let is = unnamed.1 in absurd (cc)
-client_wants login Due IsOpen event (Ok (frames.Challenge text)) spells is =
-    (frames.Challenge text, spells, inr (inl (_, text, refl, refl)))
-client_wants login Due IsOpen event (Ok (frames.Outcome code (Some text))) spells is =
-    (frames.Outcome code (Some text), spells, inr (inr (code, text, refl)))
-client_wants login Due IsOpen event (Ok (frames.Outcome code None)) spells (inl wants) = absurd wants.0
-client_wants login Due IsOpen event (Ok (frames.Outcome outcomes.Ok None)) spells (inr (inl believed)) =
-    absurd believed.0
-client_wants login Due IsOpen event (Ok (frames.Outcome outcomes.Ok None)) spells (inr (inr refused)) =
+client_wants login Due IsOpen event (Ok (frames.Challenge text)) spells (inr (inl answered)) =
+    (frames.Challenge text, spells, answered.1.0)
+client_wants login Due IsOpen event (Ok (frames.Challenge text)) spells (inr (inr refused)) =
     absurd (scram_tells refused.0 (same_refusal (scram_fault refused.0) OutOfMemory (sym refused.2)))
-client_wants login Due IsOpen event (Ok (frames.Outcome outcomes.Auth None)) spells (inr is) = absurd (cc)
-client_wants login Due IsOpen event (Ok (frames.Outcome outcomes.Sys None)) spells (inr is) = absurd (cc)
-client_wants login Due IsOpen event (Ok (frames.Outcome outcomes.SysPerm None)) spells (inr is) = absurd (cc)
-client_wants login Due IsOpen event (Ok (frames.Outcome outcomes.SysTemp None)) spells (inr is) = absurd (cc)
-client_wants login Due IsOpen event (Ok (frames.Init mechanism response hostname)) spells (inl wants) = absurd wants.0
+client_wants login Due IsOpen event (Ok (frames.Outcome outcomes.Ok more)) spells (inr (inl believed)) =
+    absurd (not_reported outcomes.Ok more believed.1)
+client_wants login Due IsOpen event (Ok (frames.Outcome outcomes.Ok more)) spells (inr (inr refused)) =
+    absurd (scram_tells refused.0 (same_refusal (scram_fault refused.0) OutOfMemory (sym refused.2)))
+client_wants login Due IsOpen event (Ok (frames.Outcome outcomes.Auth more)) spells (inr is) = absurd (cc)
+client_wants login Due IsOpen event (Ok (frames.Outcome outcomes.Sys more)) spells (inr is) = absurd (cc)
+client_wants login Due IsOpen event (Ok (frames.Outcome outcomes.SysPerm more)) spells (inr is) = absurd (cc)
+client_wants login Due IsOpen event (Ok (frames.Outcome outcomes.SysTemp more)) spells (inr is) = absurd (cc)
 client_wants login Due IsOpen event (Ok (frames.Init mechanism response hostname)) spells (inr is) = absurd (cc)
-client_wants login Due IsOpen event (Ok (frames.Response text)) spells (inl wants) = absurd wants.0
 client_wants login Due IsOpen event (Ok (frames.Response text)) spells (inr is) = absurd (cc)
 
 pub clients_want_memory : ClientsWantMemory
@@ -125,41 +121,65 @@ refused_otherwise profile moved next reply fault is apart said = apart (subst
     (λ (some : Result SaslFrame ClientFault). Replies profile moved some (Refused OutOfMemory) next) is said).0
 
 reported_otherwise : (profile moved next : Profile) (reply : Result SaslFrame ClientFault) (code : SaslCode)
-    → reply ≡ Ok (frames.Outcome code None) → ¬ Replies profile moved reply (Refused OutOfMemory) next
-reported_otherwise profile moved next reply code is said = not_reported code None (subst
+    (more : Option (List ℕ)) → reply ≡ Ok (frames.Outcome code more)
+    → ¬ Replies profile moved reply (Refused OutOfMemory) next
+reported_otherwise profile moved next reply code more is said = not_reported code more (subst
     (λ (some : Result SaslFrame ClientFault). Replies profile moved some (Refused OutOfMemory) next) is said).0
+
+-- nor is a response, sent or too large
+carried_otherwise : (body : Option (List ℕ))
+    → Refused OutOfMemory ≢ carried (Refused (Frame faults.TooLarge)) (λ body. Answered body) body
+carried_otherwise None is = absurd (cc)
+carried_otherwise (Some body) is = absurd (cc)
 
 not_unexpected : Refused OutOfMemory ≢ Refused NotImplemented
 not_unexpected is = absurd (cc)
 
-not_scram : (kind : ScramErrorKind) → Refused OutOfMemory ≢ Refused (Scram kind)
-not_scram kind is = absurd (cc)
+not_scram : (kind : ScramErrorKind) → Refused OutOfMemory ≢ Refused (scram_fault kind)
+not_scram kind is = absurd (scram_tells kind (same_refusal (scram_fault kind) OutOfMemory (sym is)))
 
--- the reply that the machine gives in its place
+-- what a client of SCRAM answers to a challenge, and whether it believes an outcome
+answered_otherwise : (profile moved next : Profile) (reply : Result SaslFrame ClientFault)
+    (answer : Result (List ℕ) ScramErrorKind) → reply ≡ client_frame (λ message. frames.Response message) answer
+    → ¬ Replies profile moved reply (Refused OutOfMemory) next
+answered_otherwise profile moved next reply (Ok message) is said = carried_otherwise
+    (canonical (frames.Response message)) (subst
+    (λ (some : Result SaslFrame ClientFault). Replies profile moved some (Refused OutOfMemory) next) is said).0
+answered_otherwise profile moved next reply (Err kind) is said =
+    refused_otherwise profile moved next reply (scram_fault kind) is (not_scram kind) said
+
+believed_otherwise : (profile moved next : Profile) (reply : Result SaslFrame ClientFault) (text : List ℕ)
+    (answer : Result (Unit {0}) ScramErrorKind)
+    → reply ≡ client_frame (λ believed. frames.Outcome outcomes.Ok (Some text)) answer
+    → ¬ Replies profile moved reply (Refused OutOfMemory) next
+believed_otherwise profile moved next reply text (Ok believed) is said =
+    reported_otherwise profile moved next reply outcomes.Ok (Some text) is said
+believed_otherwise profile moved next reply text (Err kind) is said =
+    refused_otherwise profile moved next reply (scram_fault kind) is (not_scram kind) said
+
+-- the machine gives it in no case, or memory is asked for
 machine_wants : (hostname : Option (List ℕ)) (profile next : Profile) (nonce : List ℕ) (frame : SaslFrame)
     (reply : Result SaslFrame ClientFault) (moved : Profile) → profile_machine profile hostname nonce frame reply moved
-    → Replies profile moved reply (Refused OutOfMemory) next → WantsAtProfile profile frame
-machine_wants hostname profile next nonce (frames.Mechanisms names) reply moved (inl named) said =
-    inl (names, named.0, refl)
+    → Replies profile moved reply (Refused OutOfMemory) next → StepAllocates profile frame
+machine_wants hostname profile next nonce (frames.Mechanisms names) reply moved (inl named) said = named.0
 machine_wants hostname profile next nonce (frames.Mechanisms names) reply moved (inr unnamed) said =
     absurd (refused_otherwise profile moved next reply NotImplemented unnamed.1 not_unexpected said)
-machine_wants hostname (ScramProfile client) next nonce (frames.Challenge text) reply moved is said =
-    inr (inl (client, text, refl, refl))
-machine_wants hostname profile next nonce (frames.Outcome code (Some text)) reply moved is said =
-    inr (inr (code, text, refl))
+machine_wants hostname (ScramProfile client) next nonce (frames.Challenge text) reply moved (inl other) said =
+    absurd (refused_otherwise (ScramProfile client) moved next reply (Scram kinds.Utf8Error) other.1
+    (not_scram kinds.Utf8Error) said)
+machine_wants hostname (ScramProfile client) next nonce (frames.Challenge text) reply moved (inr is) said =
+    absurd (answered_otherwise (ScramProfile client) moved next reply is.1.0 is.1.3 said)
 machine_wants hostname (ScramProfile client) next nonce (frames.Outcome outcomes.Ok None) reply moved is said =
-    absurd (refused_otherwise (ScramProfile client) moved next reply (Scram _) is.0 (not_scram _) said)
-machine_wants hostname profile next nonce (frames.Outcome code None) reply moved is said =
-    absurd (reported_otherwise profile moved next reply code is.0 said)
+    absurd (refused_otherwise (ScramProfile client) moved next reply (Scram kinds.ServerSignatureMismatch) is.0
+    (not_scram kinds.ServerSignatureMismatch) said)
+machine_wants hostname (ScramProfile client) next nonce (frames.Outcome outcomes.Ok (Some text)) reply moved is said =
+    absurd (believed_otherwise (ScramProfile client) moved next reply text is.0 is.3 said)
+machine_wants hostname profile next nonce (frames.Outcome code more) reply moved is said =
+    absurd (reported_otherwise profile moved next reply code more is.0 said)
 machine_wants hostname profile next nonce frame reply moved is said =
     absurd (refused_otherwise profile moved next reply NotImplemented is.0 not_unexpected said)
 
 pub profiles_want_memory : ProfilesWantMemory
 profiles_want_memory hostname profile next nonce frame (inr said) =
     machine_wants hostname profile next nonce frame said.0 said.1 said.2 said.3
-profiles_want_memory hostname profile next nonce (frames.Mechanisms names) (inl wants) = inl (names, wants.0, refl)
-profiles_want_memory hostname (ScramProfile client) next nonce (frames.Challenge text) (inl wants) =
-    inr (inl (client, text, refl, refl))
-profiles_want_memory hostname profile next nonce (frames.Outcome code (Some text)) (inl wants) =
-    inr (inr (code, text, refl))
-profiles_want_memory hostname profile next nonce frame (inl wants) = absurd wants.0
+profiles_want_memory hostname profile next nonce frame (inl wants) = wants.0

@@ -39,7 +39,7 @@ one_made Reads make result other one is too = is.2 ∙ (ap make (one is.0 too.0 
 -- ---- a SCRAM server
 
 -- what it answers, and its state
-abbrev ServerTurn : Type 0
+abbrev pub ServerTurn : Type 0
 ServerTurn = Result (Option (List ℕ)) ServerScramErrorKind × ServerState
 
 abbrev challenged : ServerState → ClientFirst → List ℕ → Option Record → ServerTurn
@@ -109,7 +109,7 @@ conclusion_made challenge provider text (Err fault) next (inr unknown, after) =
     subst (λ (stored : Option Record). ConcludesWith challenge provider text stored (Err fault, next))
     (sym unknown.0) (λ i. (Err (kind i), after i))
 
-one_conclusion : (state : ServerState) (provider : Provider) (text : List ℕ)
+pub one_conclusion : (state : ServerState) (provider : Provider) (text : List ℕ)
     (answer other : Result (Option (List ℕ)) ServerScramErrorKind) (next last : ServerState)
     → ConcludesFrom state provider text answer next → ConcludesFrom state provider text other last
     → ◌≡◌ {A = ServerTurn} (answer, next) (other, last)

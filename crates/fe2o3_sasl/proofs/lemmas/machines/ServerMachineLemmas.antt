@@ -505,7 +505,7 @@ step_back provider state event frame reply moved next says m h =
     let b = sends_back (canonical reply) (server_says reply) provider state x.0 moved next says x.1 h in
     (b.0, b.1, (reply, x.0, x.2, b.2))
 
-gives_back : (provider : Provider) (state : ServerState) (event : Given) (spelled : Result SaslFrame Error)
+pub gives_back : (provider : Provider) (state : ServerState) (event : Given) (spelled : Result SaslFrame Error)
     (says : ServerSays) (next : Acceptor) → AcceptorGives acceptor_machine
     (ScramAcceptor provider state) event spelled says next
     → (last : ServerState) × (next ≡ ScramAcceptor provider last)

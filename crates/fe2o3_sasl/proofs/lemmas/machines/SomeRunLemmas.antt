@@ -80,7 +80,7 @@ some_challenge state provider nonce text = let read = some_client_first text in 
     go (Err fault) reads = (Err fault, state, (reads, refl))
 
 -- an answer to a client-final message
-some_conclusion : (state : ServerState) (provider : Provider) (text : List ℕ)
+pub some_conclusion : (state : ServerState) (provider : Provider) (text : List ℕ)
     → (answer : Result (Option (List ℕ)) ServerScramErrorKind) × (after : ServerState)
     × ConcludesFrom state provider text answer after
 some_conclusion Initial provider text = (Err IllegalAuthenticatorState, Initial, (refl, refl))
@@ -110,7 +110,7 @@ some_conclusion (ServerFirstSent challenge) provider text = known (record_at pro
         read stored is answer.0 answer.1
 
 -- what the machine does with an init
-some_start : (provider : Provider) (state : ServerState) (nonce mechanism : List ℕ)
+pub some_start : (provider : Provider) (state : ServerState) (nonce mechanism : List ℕ)
     (response hostname : Option (List ℕ))
     → (reply : SaslFrame) × (moved : ServerState)
     × acceptor_machine (ScramAcceptor provider state) nonce (frames.Init mechanism response hostname) reply
@@ -205,7 +205,7 @@ some_server_history provider events are =
 -- ---- the profile
 
 -- whether a list has a name
-contains_or : (names : List (List ℕ)) (name : List ℕ) → Decided (Contains names name)
+pub contains_or : (names : List (List ℕ)) (name : List ℕ) → Decided (Contains names name)
 contains_or [] name = inr (λ has. let within = has.1 in absurd (omega (arith, within)))
 contains_or (first ∷ names) name = go (same_or first name) (contains_or names name)
   where
@@ -253,7 +253,7 @@ some_belief (client_states.ClientFinalSent signature keys) side text =
     go (Err kind) reads = (Err kind, side, (reads, refl))
 
 -- it is not a refusal for want of memory
-abbrev Told : Result SaslFrame ClientFault → Type 0
+abbrev pub Told : Result SaslFrame ClientFault → Type 0
 Told (Ok frame) = Unit {0}
 Told (Err fault) = fault ≢ OutOfMemory
 
@@ -262,12 +262,12 @@ told_frame frame (Ok answer) = tt
 told_frame frame (Err kind) = scram_tells kind
 
 -- what the machine of a SCRAM profile does
-abbrev Moves : Option (List ℕ) → ClientSide → List ℕ → SaslFrame → Type 0
+abbrev pub Moves : Option (List ℕ) → ClientSide → List ℕ → SaslFrame → Type 0
 Moves hostname side nonce frame = (reply : Result SaslFrame ClientFault) × (moved : ClientSide)
     × profile_machine (ScramProfile side) hostname nonce frame reply (ScramProfile moved)
     × Told reply
 
-some_move : (hostname : Option (List ℕ)) (side : ClientSide) (nonce : List ℕ) (frame : SaslFrame)
+pub some_move : (hostname : Option (List ℕ)) (side : ClientSide) (nonce : List ℕ) (frame : SaslFrame)
     → Moves hostname side nonce frame
 some_move hostname side nonce (frames.Mechanisms names) = go (contains_or names (mechanism_name side.version))
   where

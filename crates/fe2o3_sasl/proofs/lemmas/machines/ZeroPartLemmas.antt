@@ -1,11 +1,12 @@
 -- The parts of a message of PLAIN are the pieces between its zero bytes, and no others.
-use Rattle.std.proofs.Common.{◌≡◌, ◌≢◌, ℕ, Bool, true, false, not, eqb, cond, List, [], ◌∷◌, ◌++◌, refl, sym, ◌∙◌, ap, subst}
+use Rattle.std.proofs.Common.{◌≡◌, ◌≢◌, ℕ, Bool, true, false, not, eqb, cond, List, [], ◌∷◌, ◌++◌, refl, sym, ◌∙◌, ap, subst, inl, inr}
 use Rattle.std.specs.Prelude.{slice_get, Option, None, Some, option_map, MatchOption}
 use Rattle.std.specs.List.{slice_split, onto_first, join_with_byte, list_all, AllByRecursion}
 use Rattle.std.proofs.lemmas.Bool.{ne_eqb, and_parts, not-true, eqb-false}
 use Rattle.std.proofs.lemmas.List.Elements.{All-from_recursion}
 use Rattle.std.proofs.lemmas.List.Splits.{join_with_byte-slice_split, slice_split_at, slice_split_none}
 use Rattle.std.proofs.lemmas.Option.{none-some, same_Some}
+use Rattle.fe2o3_scram.proofs.lemmas.texts.DecisionLemmas.{Decided, same_or}
 use Rattle.fe2o3_sasl.specs.SaslAcceptor.{NoZero, ZeroPart, NamesPlain}
 
 -- the pieces between zero bytes
@@ -94,3 +95,27 @@ pub wanted_part : (text : List ℕ) (k : ℕ) (part wanted : List ℕ) (same : B
     → (same ≡ true → ZeroPart text k wanted) × (ZeroPart text k wanted → same ≡ true)
 wanted_part text k part wanted same is both =
     (λ yes. subst (ZeroPart text k) (both.0 yes) is, λ has. both.1 (one_zero_part text k part wanted is has))
+
+-- ---- a text has a part at a place or it has not
+
+zero_part_or : (text : List ℕ) (k : ℕ) (part : List ℕ) → Decided (ZeroPart text k part)
+zero_part_or text k part = go (slice_get (between text) k) refl
+  where
+    same : (other : List ℕ) → slice_get (between text) k ≡ Some other → Decided (other ≡ part)
+        → Decided (ZeroPart text k part)
+    same other is (inl equal) =
+        inl (between text, apart-between text, join_with_byte-slice_split 0 text, is ∙ ap Some equal)
+    same other is (inr differs) = inr (λ has. differs (same_Some other part (sym is ∙ among text part k has)))
+
+    go : (found : Option (List ℕ)) → slice_get (between text) k ≡ found → Decided (ZeroPart text k part)
+    go None is = inr (λ has. none-some part (sym is ∙ among text part k has))
+    go (Some other) is = same other is (same_or other part)
+
+-- likewise its user and its password
+pub names_plain_or : (user password text : List ℕ) → Decided (NamesPlain user password text)
+names_plain_or user password text = go (zero_part_or text 1 user) (zero_part_or text 2 password)
+  where
+    go : Decided (ZeroPart text 1 user) → Decided (ZeroPart text 2 password) → Decided (NamesPlain user password text)
+    go (inl one) (inl two) = inl (one, two)
+    go (inl one) (inr two) = inr (λ names. two names.1)
+    go (inr one) more = inr (λ names. one names.0)

@@ -16,6 +16,7 @@ use Rattle.fe2o3_sasl.specs.ProfileFaults.{client_fault}
 use Rattle.fe2o3_sasl.specs.declared.sasl_profile.error.ProfileError.{ProfileError}
 use Rattle.fe2o3_sasl.specs.declared.sasl_profile.error.ProfileError.TheVariants as profile_faults
 use Rattle.fe2o3_sasl.specs.private.Writing.{RefusesAlways, WritesBody}
+use Rattle.fe2o3_sasl.proofs.lemmas.steps.ProfileReplyLemmas.{waiting}
 
 -- a client that comes to the salt has been started
 started : (state : ClientState) (text : List ℕ) → ReachesSaltIn state text → IsStarted state
@@ -26,7 +27,7 @@ started state text reaches = absurd reaches
 step_allocates : (profile : Profile) (frame : SaslFrame) → FrameAllocates profile frame → StepAllocates profile frame
 step_allocates profile (frames.Mechanisms names) has = has
 step_allocates (ScramProfile client) (frames.Challenge text) has = (has.0, started client.state text has.1)
-step_allocates (ScramProfile client) (frames.Outcome outcomes.Ok (Some text)) has = tt
+step_allocates (ScramProfile client) (frames.Outcome outcomes.Ok (Some text)) has = waiting client.state text has
 step_allocates profile frame has = absurd has
 
 -- a refusal of the profile is what it replies
@@ -111,11 +112,11 @@ started_err view hostname profile begun nonce names init profile_faults.OtherKey
 
 -- ---- answers
 
--- a challenge that is refused unread
-pub refused_unread : (hostname : Option (List ℕ)) (profile : Profile) (nonce text : List ℕ) (fault : ClientFault)
-    → RefusesAlways profile (frames.Challenge text) fault
-    → ProfileReplies hostname profile nonce (frames.Challenge text) (Refused fault) profile
-refused_unread hostname profile nonce text fault refuses =
+-- a frame that is refused unread
+pub refused_unread : (hostname : Option (List ℕ)) (profile : Profile) (nonce : List ℕ) (frame : SaslFrame)
+    (fault : ClientFault) → RefusesAlways profile frame fault
+    → ProfileReplies hostname profile nonce frame (Refused fault) profile
+refused_unread hostname profile nonce frame fault refuses =
     inr (Err fault, profile, refuses hostname nonce, (refl, refl))
 
 -- a response that is written

@@ -1,12 +1,14 @@
 use Rattle.std.proofs.Common.{subst, refl}
 use Rattle.std.specs.Prelude.{option_map}
 use Rattle.fe2o3_sasl_wire.specs.AmqpTypes.{binary_bytes, outcome_frame}
+use Rattle.fe2o3_sasl_wire.specs.FrameView.{shown}
+use Rattle.fe2o3_sasl_wire.specs.SaslFrames as frames
 use Rattle.fe2o3_sasl_wire.specs.SaslFrames.{SaslFrame}
-use Rattle.fe2o3_sasl.specs.Events.{Reported, Refused}
+use Rattle.fe2o3_sasl.specs.Events.{Reported, Refused, Scram}
 use Rattle.fe2o3_sasl.specs.Runs.{ProfileReplies}
 use Rattle.fe2o3_sasl.specs.ProfileFaults.{client_fault}
 use Rattle.fe2o3_sasl.specs.SaslProfile.{profile_of}
-use Rattle.fe2o3_sasl.proofs.lemmas.steps.WrittenReplyLemmas.{reported, refusal_replies}
+use Rattle.fe2o3_sasl.proofs.lemmas.steps.WrittenReplyLemmas.{reported, refusal_replies, refused_unread}
 use Rattle.fe2o3_sasl.proofs.steps.report.Goals as goal
 
 pub returns-in-Ok-conclude : goal.returns-in-Ok-conclude
@@ -25,3 +27,8 @@ returns-in-Err-conclude c = λ hostname nonce.
     (refusal_replies hostname (profile_of c.args.profile.now) nonce (outcome_frame c.in-Ok.outcome)
     (client_fault c.in-Err-conclude.fault) (profile_of c.conclude.new.self)
     (c.in-Err-conclude.ensures.answer hostname nonce))
+
+pub returns-in-Some : goal.returns-in-Some
+returns-in-Some c = λ hostname nonce.
+    refused_unread hostname (profile_of c.args.profile.now) nonce
+    (frames.Outcome c.args.code (shown c.args.additional_data)) (Scram c.in-Some.kind) c.in-Some.ensures

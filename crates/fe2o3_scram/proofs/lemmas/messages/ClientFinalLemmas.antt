@@ -11,7 +11,7 @@ use Rattle.fe2o3_scram.specs.Hmac.{digest_len}
 use Rattle.fe2o3_scram.specs.Readings.{IsFirst, NoneHolds, Gives}
 use Rattle.fe2o3_scram.specs.ClientFinal.{Server, ClientFinal, HasBinding, HasProof, Meets, NamesClientFinal, ReachesBase64, ReadsFinalText, ReadsClientFinal, binding_tests, nonce_tests, spelling_tests, final_text_tests, proof_tests}
 use Rattle.fe2o3_scram.specs.ServerFinal.{AnswersClientFinal, FinalCosts}
-use Rattle.fe2o3_scram.specs.private.Answers.{AnswersProof}
+use Rattle.fe2o3_scram.specs.private.Answers.{AnswersProof, IsMet, ProofCosts}
 use Rattle.fe2o3_scram.proofs.lemmas.hashes.DigestLemmas.{IsBytes-nil, IsBytes-cons}
 use Rattle.fe2o3_scram.proofs.lemmas.texts.Base64Lemmas.{one_spelled}
 use Rattle.fe2o3_scram.proofs.lemmas.texts.DecisionLemmas.{held, utf8_or}
@@ -208,13 +208,14 @@ not_the_proof nonce text = not_first (final_text_tests nonce text) Authenticatio
 )
 
 -- a text that is refused costs nothing
-pub text_costs_nothing : (A : Type 0) (nonce text : List ℕ) (fault : ServerScramErrorKind) (count : ℕ)
-    → (fault ≢ OutOfMemory → ReadsFinalText nonce text (Err fault)) → FinalCosts {A = A} (Err fault) count count
-text_costs_nothing A nonce text AuthenticationFailed count refused =
-    absurd (not_the_proof nonce text (refused (λ same. let wrong : AuthenticationFailed ≡ OutOfMemory = same in
+pub text_costs_nothing : (A : Type 0) (server : Server) (text : List ℕ) (fault : ServerScramErrorKind) (count : ℕ)
+    → (fault ≢ OutOfMemory → ReadsFinalText server.nonce text (Err fault))
+    → FinalCosts {A = A} server text (Err fault) count count
+text_costs_nothing A server text AuthenticationFailed count refused =
+    absurd (not_the_proof server.nonce text (refused (λ same. let wrong : AuthenticationFailed ≡ OutOfMemory = same in
     absurd (cc))))
-text_costs_nothing A nonce text OutOfMemory count refused = omega arith
-text_costs_nothing A nonce text fault count refused = refl
+text_costs_nothing A server text OutOfMemory count refused = (omega arith, omega arith, λ _ _. refl)
+text_costs_nothing A server text fault count refused = refl
 
 -- the tests of the proof, which come after those of the text
 
@@ -235,7 +236,7 @@ module _ (server : Server) (text : List ℕ) where
   -- what the server makes of the proof is its answer to the message
   pub proof_answered : {A : Type 0} (view : A → List ℕ) (final : ClientFinal) (result : Result A ServerScramErrorKind)
       → ReadsFinalText server.nonce text (Ok final)
-      → Gives OutOfMemory (length final.proof ≡ digest_len server.version) view result (AnswersProof server final)
+      → Gives OutOfMemory (IsMet server final) view result (AnswersProof server final)
       → Gives OutOfMemory (ReachesBase64 server.nonce text) view result (AnswersClientFinal server text)
   unfolding ReadsClientFinal
   proof_answered view final (Ok message) reads answers = (final, (reads, answers.0, answers.1), answers.2)
@@ -292,3 +293,20 @@ module _ (server : Server) (text : List ℕ) where
       let same : final ≡ another = cc in
       ap Err (one_first (proof_tests server another) fault other
       (subst (λ (read : ClientFinal). IsFirst (proof_tests server read) fault) same first) second)
+
+  -- what the proof costs, the message does
+  pub proof_costs : {A : Type 0} (view : A → List ℕ) (final : ClientFinal) (result : Result A ServerScramErrorKind)
+      (before after : ℕ) → ReadsFinalText server.nonce text (Ok final)
+      → Gives OutOfMemory (IsMet server final) view result (AnswersProof server final)
+      → ProofCosts result before after → FinalCosts server text result before after
+  unfolding ReadsClientFinal
+  proof_costs view final (Ok message) before after reads answers costs = costs
+  proof_costs view final (Err AuthenticationFailed) before after reads answers costs = costs
+  proof_costs view final (Err OutOfMemory) before after reads answers costs = (
+    omega (arith, costs),
+    omega (arith, costs),
+    λ fault refused.
+        let met = answers.0 refl in
+        let both = one_client_final (Ok final) (Err fault) (reads, met.0, met.1) refused in absurd (cc),
+  )
+  proof_costs view final (Err fault) before after reads answers costs = costs

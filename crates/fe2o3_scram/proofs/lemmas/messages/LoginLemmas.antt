@@ -1,8 +1,7 @@
 -- What an accepted message means, for a caller's own proof: `accepted_texts_log_in` of a server,
 -- `believed_texts_are_signed` of a client.
-use Rattle.std.proofs.Common.{◌≡◌, ℕ, Option, Some, None, List, refl, Ok}
-use Rattle.fe2o3_scram.specs.Credentials.{Provider}
-use Rattle.fe2o3_scram.specs.Logins.{TextLogsIn, AcceptedTextsLogIn, IsSigned, BelievedTextsAreSigned}
+use Rattle.std.proofs.Common.{ℕ, Some, None, List, refl, Ok}
+use Rattle.fe2o3_scram.specs.Logins.{AcceptedTextsLogIn, IsSigned, BelievedTextsAreSigned}
 use Rattle.fe2o3_scram.specs.ScramClient as client_states
 use Rattle.fe2o3_scram.specs.ScramClient.{ClientSide, ClientState, BelievesIn}
 use Rattle.fe2o3_scram.specs.ScramServer.{ServerFirstSent}

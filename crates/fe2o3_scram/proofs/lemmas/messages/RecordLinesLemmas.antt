@@ -1,17 +1,16 @@
 -- The lines of users, as they are read and written.
-use Rattle.std.proofs.Common.{◌≡◌, ◌≢◌, ◌<◌, ◌+◌, ℕ, List, [], ◌∷◌, ◌++◌, length, get_or, take, Result, Ok, Err, refl, sym, ◌∙◌, ap, subst, arith, append_assoc, append-nil}
+use Rattle.std.proofs.Common.{◌≡◌, ◌≢◌, ◌<◌, ◌+◌, ℕ, List, [], ◌∷◌, ◌++◌, length, get_or, take, Ok, refl, sym, ◌∙◌, ap, subst, arith, append_assoc, append-nil}
 use Rattle.std.proofs.lemmas.List.{take_more}
 use Rattle.std.specs.List.{AllByRecursion}
-use Rattle.std.specs.Prelude.{IfErr}
 use Rattle.fe2o3_scram.specs.declared.hmac.ScramVersion.{ScramVersion}
 use Rattle.fe2o3_scram.specs.Credentials.{Record, Records, VersionedRecord}
 use Rattle.fe2o3_scram.specs.Escape.{escaped}
 use Rattle.fe2o3_scram.specs.RecordLines.{IsLineReadable, LastCut, record_of_user, user_line, users_text}
 use Rattle.fe2o3_scram.specs.RecordText.{IsReadable, ReadsRecord, record_text}
-use Rattle.fe2o3_scram.specs.Texts.{Without}
+use Rattle.fe2o3_scram.specs.Texts.{NoComma, Without}
 use Rattle.fe2o3_scram.proofs.lemmas.messages.RecordLawLemmas.{one_spelling}
 use Rattle.fe2o3_scram.proofs.lemmas.texts.EachByteLemmas.{all-at, each-append, each-front}
-use Rattle.fe2o3_scram.proofs.lemmas.texts.EscapingLemmas.{by_cases, escaped-cons}
+use Rattle.fe2o3_scram.proofs.lemmas.texts.EscapingLemmas.{by_cases, escaped-cons, no_comma-escaped}
 
 -- ---- one line
 
@@ -43,10 +42,11 @@ user_read version line name kept plain read without cut is reads same =
           ∙ ap (λ (text : List ℕ). escaped plain ++ 32 ∷ text) (spelt.0 ∙ ap record_text (sym whole)),
     )
 
-pub always_if_err : {X F : Type 0} (result : Result X F) (Q : F → Type 0) (P : Type 0) → P
-    → IfErr result (λ fault. Q fault → P)
-always_if_err (Ok value) Q P holds = tt
-always_if_err (Err fault) Q P holds = λ _. holds
+-- an escaped name has no comma
+pub no_comma-name : (plain name : List ℕ) → escaped plain ≡ name → NoComma name
+no_comma-name plain name is = subst NoComma is (no_comma-escaped plain)
+
+pub ruleset read_names = (no_comma-name)
 
 -- ---- all lines
 

@@ -103,7 +103,7 @@ last_cut_from byte text (Some both) small cut =
     (rw cut.4 plain, rw (cut.3, cut.4) whole)
 
 -- a text is cut at its last such byte, or it is without the byte
-last_cut_or : (byte : ℕ) (text : List ℕ)
+pub last_cut_or : (byte : ℕ) (text : List ℕ)
     → ((before : List ℕ) × (rest : List ℕ) × LastCut byte text before rest) ⊎ Without byte text
 last_cut_or byte [] = inr tt
 last_cut_or byte (x ∷ text) = elim (last_cut_or byte text) [

@@ -1,6 +1,6 @@
 -- Escaped names hold no comma, and no two names have one escaped text.
 use Rattle.std.proofs.Common.{◌≡◌, ◌≢◌, ◌<◌, ◌+◌, ℕ, true, false, Bool, List, [], ◌∷◌, ◌++◌, length, get_or, take, refl, arith, ◌∙◌, sym, ap, codes, eqb, cond, append_assoc, append-nil}
-use Rattle.std.specs.Prelude.{Option, None, Some, MatchOption}
+use Rattle.std.specs.Prelude.{Option, None, Some, MatchOption, Result, Ok, Err, IfErr}
 use Rattle.std.proofs.lemmas.Bool.{eqb-false, ne_eqb, eqb-true}
 use Rattle.std.proofs.lemmas.List.{take_more}
 use Rattle.fe2o3_scram.specs.Texts.{NoComma, Begins}
@@ -197,3 +197,9 @@ pub MatchOption-weaker : {X : Type 0} (found : Option X) (A A' : Type 0) (B B' :
     → ((x : X) → B x → B' x) → MatchOption found A B → MatchOption found A' B'
 MatchOption-weaker None A A' B B' f g h = f h
 MatchOption-weaker (Some x) A A' B B' f g h = g x h
+
+-- what holds anyway holds of a refusal
+pub always_if_err : {X F : Type 0} (result : Result X F) (Q : F → Type 0) (P : Type 0) → P
+    → IfErr result (λ fault. Q fault → P)
+always_if_err (Ok value) Q P holds = tt
+always_if_err (Err fault) Q P holds = λ _. holds

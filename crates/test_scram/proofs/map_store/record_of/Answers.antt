@@ -1,7 +1,7 @@
 use Rattle.std.specs.String.{string_bytes}
 use Rattle.fe2o3_scram.specs.Credentials.{VersionedRecord}
 use Rattle.fe2o3_scram.proofs.lemmas.providers.LookUpLemmas.{btree_map_looked_up}
-use Rattle.test_records.proofs.map_store.record_of.Goals as goal
+use Rattle.test_scram.proofs.map_store.record_of.Goals as goal
 
 pub returns : goal.returns
 returns c =

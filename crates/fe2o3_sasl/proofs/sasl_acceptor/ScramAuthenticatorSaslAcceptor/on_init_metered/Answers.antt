@@ -4,7 +4,7 @@ use Rattle.std.specs.declared.alloc.Global.{Global}
 use Rattle.fe2o3_scram.specs.ScramServer.{provider_in, state_in}
 use Rattle.fe2o3_sasl.specs.SaslAcceptor.{sent_frame}
 use Rattle.fe2o3_sasl.proofs.lemmas.steps.AcceptorReplyLemmas.{init_answered, init_refused, init_wants}
-use Rattle.fe2o3_sasl.proofs.sasl_acceptor.ScramAuthenticatorSaslAcceptor.on_init.Goals as goal
+use Rattle.fe2o3_sasl.proofs.sasl_acceptor.ScramAuthenticatorSaslAcceptor.on_init_metered.Goals as goal
 
 pub returns-in-Ok-clause-ok : goal.returns-in-Ok-clause-ok
 returns-in-Ok-clause-ok g c =

@@ -1,0 +1,100 @@
+-- Each machine has a reply to each frame that its side is sent.
+use Rattle.std.proofs.Common.{ℕ, Option, Some, None, List, refl, inl, inr, Bool, true, Result, Ok, Err}
+use Rattle.std.specs.List.{Contains}
+use Rattle.fe2o3_sasl_wire.specs.declared.amqp_types.SaslCode.TheVariants as outcomes
+use Rattle.fe2o3_sasl_wire.specs.SaslFrames as frames
+use Rattle.fe2o3_sasl_wire.specs.SaslFrames.{SaslFrame}
+use Rattle.fe2o3_scram.proofs.lemmas.texts.DecisionLemmas.{Decided}
+use Rattle.fe2o3_sasl.specs.Events.{ClientFault, NotImplemented}
+use Rattle.fe2o3_sasl.specs.MechanismLaws.{SomeAcceptorReply, SomeProfileReply}
+use Rattle.fe2o3_sasl.specs.Profiles.{Profile, ScramProfile, PlainProfile, AnonymousProfile, ExternalProfile, profile_machine, profile_name, initial_response, after_init}
+use Rattle.fe2o3_sasl.specs.SaslAcceptor.{Acceptor, ScramAcceptor, PlainAcceptor, AnonymousAcceptor, acceptor_machine, ends_with, server_frame, NamesPlain}
+use Rattle.fe2o3_sasl.proofs.lemmas.machines.SomeRunLemmas.{some_start, some_conclusion, some_move, contains_or}
+use Rattle.fe2o3_sasl.proofs.lemmas.machines.ZeroPartLemmas.{names_plain_or}
+
+-- ---- an acceptor
+
+abbrev Replies : Acceptor → List ℕ → SaslFrame → Type 0
+Replies acceptor nonce frame =
+    (reply : SaslFrame) × (next : Acceptor) × acceptor_machine acceptor nonce frame reply next
+
+plain_reply : (user password : List ℕ) (accepted : Bool) (nonce mechanism text : List ℕ) (hostname : Option (List ℕ))
+    → Decided (NamesPlain user password text)
+    → Replies (PlainAcceptor user password accepted) nonce (frames.Init mechanism (Some text) hostname)
+plain_reply user password accepted nonce mechanism text hostname (inl names) =
+    (ends_with outcomes.Ok, PlainAcceptor user password true, inl (names, refl, refl))
+plain_reply user password accepted nonce mechanism text hostname (inr other) =
+    (ends_with outcomes.Auth, PlainAcceptor user password accepted, inr (other, refl, refl))
+
+pub some_acceptor_reply : SomeAcceptorReply
+some_acceptor_reply (ScramAcceptor provider state) nonce (frames.Init mechanism response hostname) sent =
+    let start = some_start provider state nonce mechanism response hostname in
+    (start.0, ScramAcceptor provider start.1, start.2)
+some_acceptor_reply (ScramAcceptor provider state) nonce (frames.Response text) sent =
+    let answer = some_conclusion state provider text in (
+      server_frame (λ message. frames.Outcome outcomes.Ok (Some message)) answer.0,
+      ScramAcceptor provider answer.1,
+      (answer.0, answer.1, answer.2, refl, refl),
+    )
+some_acceptor_reply (PlainAcceptor user password accepted) nonce (frames.Init mechanism (Some text) hostname) sent =
+    plain_reply user password accepted nonce mechanism text hostname (names_plain_or user password text)
+some_acceptor_reply (PlainAcceptor user password accepted) nonce (frames.Init mechanism None hostname) sent =
+    (ends_with outcomes.Auth, PlainAcceptor user password accepted, (refl, refl))
+some_acceptor_reply (PlainAcceptor user password accepted) nonce (frames.Response text) sent =
+    (ends_with outcomes.Sys, PlainAcceptor user password accepted, (refl, refl))
+some_acceptor_reply AnonymousAcceptor nonce (frames.Init mechanism response hostname) sent =
+    (ends_with outcomes.Ok, AnonymousAcceptor, (refl, refl))
+some_acceptor_reply AnonymousAcceptor nonce (frames.Response text) sent =
+    (ends_with outcomes.Ok, AnonymousAcceptor, (refl, refl))
+some_acceptor_reply acceptor nonce (frames.Mechanisms names) sent = absurd sent
+some_acceptor_reply acceptor nonce (frames.Challenge text) sent = absurd sent
+some_acceptor_reply acceptor nonce (frames.Outcome code more) sent = absurd sent
+
+-- ---- a profile
+
+abbrev Answers : Profile → Option (List ℕ) → List ℕ → SaslFrame → Type 0
+Answers profile hostname nonce frame = (reply : Result SaslFrame ClientFault) × (next : Profile)
+    × profile_machine profile hostname nonce frame reply next
+
+listed : (profile : Profile) (hostname : Option (List ℕ)) (nonce : List ℕ) (names : List (List ℕ))
+    → Decided (Contains names (profile_name profile)) → Answers profile hostname nonce (frames.Mechanisms names)
+listed profile hostname nonce names (inl has) = (
+  Ok (frames.Init (profile_name profile) (initial_response profile nonce) hostname),
+  after_init profile nonce,
+  inl (has, refl, refl),
+)
+listed profile hostname nonce names (inr none) = (Err NotImplemented, profile, inr (none, refl, refl))
+
+pub some_profile_reply : SomeProfileReply
+some_profile_reply (ScramProfile client) hostname nonce frame =
+    let move = some_move hostname client nonce frame in (move.0, ScramProfile move.1, move.2)
+some_profile_reply (PlainProfile user password) hostname nonce (frames.Mechanisms names) = listed
+    (PlainProfile user password) hostname nonce names (contains_or names (profile_name (PlainProfile user password)))
+some_profile_reply (PlainProfile user password) hostname nonce (frames.Outcome code more) =
+    (Ok (frames.Outcome code more), PlainProfile user password, (refl, refl))
+some_profile_reply (PlainProfile user password) hostname nonce (frames.Init mechanism response host) =
+    (Err NotImplemented, PlainProfile user password, (refl, refl))
+some_profile_reply (PlainProfile user password) hostname nonce (frames.Challenge text) =
+    (Err NotImplemented, PlainProfile user password, (refl, refl))
+some_profile_reply (PlainProfile user password) hostname nonce (frames.Response text) =
+    (Err NotImplemented, PlainProfile user password, (refl, refl))
+some_profile_reply AnonymousProfile hostname nonce (frames.Mechanisms names) =
+    listed AnonymousProfile hostname nonce names (contains_or names (profile_name AnonymousProfile))
+some_profile_reply AnonymousProfile hostname nonce (frames.Outcome code more) =
+    (Ok (frames.Outcome code more), AnonymousProfile, (refl, refl))
+some_profile_reply AnonymousProfile hostname nonce (frames.Init mechanism response host) =
+    (Err NotImplemented, AnonymousProfile, (refl, refl))
+some_profile_reply AnonymousProfile hostname nonce (frames.Challenge text) =
+    (Err NotImplemented, AnonymousProfile, (refl, refl))
+some_profile_reply AnonymousProfile hostname nonce (frames.Response text) =
+    (Err NotImplemented, AnonymousProfile, (refl, refl))
+some_profile_reply ExternalProfile hostname nonce (frames.Mechanisms names) =
+    listed ExternalProfile hostname nonce names (contains_or names (profile_name ExternalProfile))
+some_profile_reply ExternalProfile hostname nonce (frames.Outcome code more) =
+    (Ok (frames.Outcome code more), ExternalProfile, (refl, refl))
+some_profile_reply ExternalProfile hostname nonce (frames.Init mechanism response host) =
+    (Err NotImplemented, ExternalProfile, (refl, refl))
+some_profile_reply ExternalProfile hostname nonce (frames.Challenge text) =
+    (Err NotImplemented, ExternalProfile, (refl, refl))
+some_profile_reply ExternalProfile hostname nonce (frames.Response text) =
+    (Err NotImplemented, ExternalProfile, (refl, refl))

@@ -1,0 +1,74 @@
+-- Worked examples of frames at which no memory is asked for, so that want of memory is no answer to them (AMQP 1.0,
+-- part 5, section 5.3.2).
+use Rattle.std.specs.Prelude.{◌≡◌, ℕ, Bool, Option, Some, None, List, [], ◌∷◌, codes, Ok, Err}
+use Rattle.fe2o3_sasl_wire.specs.declared.amqp_types.SaslCode.{SaslCode}
+use Rattle.fe2o3_sasl_wire.specs.declared.amqp_types.SaslCode.TheVariants as outcomes
+use Rattle.fe2o3_sasl_wire.specs.declared.sasl_frames.error.Error.{Error}
+use Rattle.fe2o3_sasl_wire.specs.SaslFrames as frames
+use Rattle.fe2o3_sasl_wire.specs.SaslFrames.{SaslFrame}
+use Rattle.fe2o3_scram.specs.Credentials.{Provider}
+use Rattle.fe2o3_scram.specs.Hmac.{mechanism_name}
+use Rattle.fe2o3_scram.specs.ScramClient as client_states
+use Rattle.fe2o3_scram.specs.ScramClient.{ClientSide}
+use Rattle.fe2o3_scram.specs.ScramServer as server_states
+use Rattle.fe2o3_scram.specs.ScramServer.{ServerState}
+use Rattle.fe2o3_sasl.specs.ClientHistory.{ClientAllocates}
+use Rattle.fe2o3_sasl.specs.Events.{Login}
+use Rattle.fe2o3_sasl.specs.Laws.{WantsAtServer}
+use Rattle.fe2o3_sasl.specs.Profiles.{Profile, ScramProfile, PlainProfile, FrameAllocates}
+use Rattle.fe2o3_sasl.specs.SaslAcceptor.{ScramAcceptor, PlainAcceptor, AnonymousAcceptor, acceptor_allocates}
+use Rattle.fe2o3_sasl.specs.ServerHistory.{ServerAllocates}
+
+-- SCRAM's acceptor asks for none at an init of another mechanism, at one without a text, and at a response where no
+-- challenge is open; that of PLAIN and that of ANONYMOUS at no frame
+abbrev pub AcceptorsAskForNone : Type 0
+AcceptorsAskForNone = ((provider : Provider) (state : ServerState) (text : List ℕ) (hostname : Option (List ℕ))
+    → ¬ acceptor_allocates (ScramAcceptor provider state) (frames.Init (codes "PLAIN") (Some text) hostname))
+    × ((provider : Provider) (state : ServerState) (hostname : Option (List ℕ)) → ¬ acceptor_allocates
+    (ScramAcceptor provider state) (frames.Init (mechanism_name provider.version) None hostname))
+    × ((provider : Provider) (text : List ℕ)
+    → ¬ acceptor_allocates (ScramAcceptor provider server_states.Initial) (frames.Response text))
+    × ((provider : Provider) (user text : List ℕ)
+    → ¬ acceptor_allocates (ScramAcceptor provider (server_states.ServerFinalSent user)) (frames.Response text))
+    × ((user password : List ℕ) (accepted : Bool) (frame : SaslFrame)
+    → ¬ acceptor_allocates (PlainAcceptor user password accepted) frame)
+    × ((frame : SaslFrame) → ¬ acceptor_allocates AnonymousAcceptor frame)
+
+-- a profile asks for none at an empty list, at a challenge that is not UTF-8, at one that is not due, at one that is
+-- not for SCRAM, at an outcome without data, and at one of code Ok whose data are not UTF-8, or which is not due
+abbrev pub AskForNone : (Profile → SaslFrame → Type 0) → Type 0
+AskForNone Allocates = ((profile : Profile) → ¬ Allocates profile (frames.Mechanisms []))
+    × ((client : ClientSide) → ¬ Allocates (ScramProfile client) (frames.Challenge (0xff ∷ [])))
+    × ((client : ClientSide) (text : List ℕ) → client.state ≡ client_states.Initial
+    → ¬ Allocates (ScramProfile client) (frames.Challenge text))
+    × ((user password text : List ℕ) → ¬ Allocates (PlainProfile user password) (frames.Challenge text))
+    × ((profile : Profile) (code : SaslCode) → ¬ Allocates profile (frames.Outcome code None))
+    × ((client : ClientSide) → ¬ Allocates (ScramProfile client) (frames.Outcome outcomes.Ok (Some (0xff ∷ []))))
+    × ((client : ClientSide) (text : List ℕ) → client.state ≡ client_states.Initial
+    → ¬ Allocates (ScramProfile client) (frames.Outcome outcomes.Ok (Some text)))
+
+-- where the frame is owned, also at an outcome of code Auth, and at one that is not for SCRAM
+abbrev pub OwnedAskForNone : Type 0
+OwnedAskForNone = AskForNone FrameAllocates
+    × ((client : ClientSide) (more : Option (List ℕ))
+    → ¬ FrameAllocates (ScramProfile client) (frames.Outcome outcomes.Auth more))
+    × ((user password : List ℕ) (code : SaslCode) (more : Option (List ℕ))
+    → ¬ FrameAllocates (PlainProfile user password) (frames.Outcome code more))
+
+-- in a server's history it is wanting at no fault of a body, at no list, at no challenge and at no outcome
+abbrev pub ServersWantNone : Type 0
+ServersWantNone = ((fault : Error) → ¬ ServerAllocates (Err fault))
+    × ((names : List (List ℕ)) → ¬ ServerAllocates (Ok (frames.Mechanisms names))
+    × ¬ WantsAtServer (frames.Mechanisms names))
+    × ((text : List ℕ) → ¬ ServerAllocates (Ok (frames.Challenge text)) × ¬ WantsAtServer (frames.Challenge text))
+    × ((code : SaslCode) (more : Option (List ℕ)) → ¬ ServerAllocates (Ok (frames.Outcome code more))
+    × ¬ WantsAtServer (frames.Outcome code more))
+
+-- in a client's history at no fault of a body, not at an empty list, at a challenge that is not UTF-8, at an outcome
+-- without data, or at a response
+abbrev pub ClientsWantNone : Type 0
+ClientsWantNone = (login : Login) → ((fault : Error) → ¬ ClientAllocates login (Err fault))
+    × (¬ ClientAllocates login (Ok (frames.Mechanisms [])))
+    × (¬ ClientAllocates login (Ok (frames.Challenge (0xff ∷ []))))
+    × ((code : SaslCode) → ¬ ClientAllocates login (Ok (frames.Outcome code None)))
+    × ((text : List ℕ) → ¬ ClientAllocates login (Ok (frames.Response text)))

@@ -1,0 +1,277 @@
+-- What equal AuthMessages of a client and a server say, and what the signature does that both have.
+use Rattle.std.proofs.Common.{◌≡◌, ℕ, ◌<◌, ◌^◌, Some, List, [], ◌∷◌, ◌++◌, length, get_or, refl, sym, ap, ◌∙◌, subst, arith, codes, Ok}
+use Rattle.std.specs.Fmt.{decimal}
+use Rattle.std.proofs.lemmas.Option.{same_Some}
+use Rattle.fe2o3_scram.specs.declared.hmac.ScramVersion.{ScramVersion}
+use Rattle.fe2o3_scram.specs.declared.hmac.ScramVersion.TheVariants.{Sha1, Sha256, Sha512}
+use Rattle.fe2o3_scram.specs.Agreement.{Agree, BelievedTextsAgree, ClientKnows, IsPlain, ServerKnows, challenge_known, client_message, keys_known, server_message}
+use Rattle.fe2o3_scram.specs.ClientFinal.{Answer, answer_of, server_of, without_proof}
+use Rattle.fe2o3_scram.specs.ClientFirst.{ClientFirst, client_first_bare}
+use Rattle.fe2o3_scram.specs.Credentials.{Provider, Record, record_at}
+use Rattle.fe2o3_scram.specs.Escape.{escaped}
+use Rattle.fe2o3_scram.specs.Hmac.{digest_len, hmac_of}
+use Rattle.fe2o3_scram.specs.Keys.{auth_message}
+use Rattle.fe2o3_scram.specs.Laws.{HoldsBytes}
+use Rattle.fe2o3_scram.specs.ScramClient.{ClientSide, ClientFinalSent, BelievesIn, holding, with_state}
+use Rattle.fe2o3_scram.specs.ScramServer.{ServerState, ServerFirstSent, ConcludesFrom}
+use Rattle.fe2o3_scram.specs.ServerFinal.{AnswersClientFinal, HasSignature, ReadsServerFinal}
+use Rattle.fe2o3_scram.specs.ServerFirst.{Challenge, NamesServerFirst, ServerFirst, challenge_of}
+use Rattle.fe2o3_scram.specs.Texts.{IsCount, NoComma, Part, Parts, base64_text, joined}
+use Rattle.fe2o3_scram.proofs.lemmas.hashes.DigestLemmas.{length-hmac_of, IsBytes-hmac_of}
+use Rattle.fe2o3_scram.proofs.lemmas.messages.ClientFinalLemmas.{names_client_final}
+use Rattle.fe2o3_scram.proofs.lemmas.messages.ExchangeLemmas.{no_comma-decimal, part_of, only_part}
+use Rattle.fe2o3_scram.proofs.lemmas.messages.OneValueLemmas.{names_client_first, names_server_first}
+use Rattle.fe2o3_scram.proofs.lemmas.messages.ServerFinalLemmas.{names_signature}
+use Rattle.fe2o3_scram.proofs.lemmas.texts.Base64Lemmas.{no_comma-append, no_comma-base64_text, one_spelled}
+use Rattle.fe2o3_scram.proofs.lemmas.texts.CountLemmas.{count_of_decimal}
+use Rattle.fe2o3_scram.proofs.lemmas.texts.EscapingLemmas.{no_comma-escaped, one_escaped}
+use Rattle.fe2o3_scram.proofs.lemmas.texts.JoinedTextLemmas.{same_parts, part_in, no_comma-part, two_joined, three_joined, first_two, first_three, with_last}
+use Rattle.fe2o3_scram.proofs.lemmas.texts.PartsLemmas.{pieces, Parts-pieces, one_list_of_parts, one_part}
+
+-- ---- the parts of the two AuthMessages
+
+binding_plain : NoComma (codes "c=" ++ base64_text (codes "n,,"))
+binding_plain = part_of (codes "c=") (base64_text (codes "n,,")) refl (no_comma-base64_text (codes "n,,"))
+
+-- the client's: two of its first message, three and more of the challenge, two of its answer
+client_parts : (user random text : List ℕ) (first : ServerFirst) → (names : NamesServerFirst text first)
+    → (more : List (List ℕ))
+    × Parts (auth_message (client_first_bare user (base64_text random)) text (without_proof first.nonce))
+    (((codes "n=" ++ escaped user) ∷ (codes "r=" ++ base64_text random) ∷ [])
+    ++ (((codes "r=" ++ first.nonce) ∷ (codes "s=" ++ base64_text first.salt) ∷ (codes "i=" ++ names.count.0) ∷ more)
+    ++ ((codes "c=" ++ base64_text (codes "n,,")) ∷ (codes "r=" ++ first.nonce) ∷ [])))
+client_parts name random text first names =
+    let user = codes "n=" ++ escaped name in
+    let nonce = codes "r=" ++ base64_text random in
+    let full = codes "r=" ++ first.nonce in
+    let binding = codes "c=" ++ base64_text (codes "n,,") in
+    let bare = two_joined user nonce (user ∷ []) (nonce ∷ [])
+    (only_part user (part_of (codes "n=") (escaped name) refl (no_comma-escaped name)))
+    (only_part nonce (part_of (codes "r=") (base64_text random) refl (no_comma-base64_text random))) in
+    let named = first_three text full (codes "s=" ++ base64_text first.salt) (codes "i=" ++ names.count.0) names.nonce
+    names.salt.1 names.count.1 in
+    let rest = two_joined binding full (binding ∷ []) (full ∷ []) (only_part binding binding_plain)
+    (only_part full (no_comma-part text 0 full names.nonce)) in (
+      named.0,
+      three_joined (client_first_bare name (base64_text random)) text (without_proof first.nonce)
+          (user ∷ nonce ∷ []) _ (binding ∷ full ∷ []) bare named.1 rest,
+    )
+
+-- the parts of a client-final message before its proof
+without_parts : (without text binding nonce proof : List ℕ) → Part text 0 binding → Part text 1 (114 ∷ nonce)
+    → NoComma (112 ∷ proof) → text ≡ joined (without ∷ (112 ∷ proof) ∷ [])
+    → (middle : List (List ℕ)) × Parts without (binding ∷ (114 ∷ nonce) ∷ middle)
+without_parts without text binding nonce proof bound named plain whole = go (pieces without) (Parts-pieces without)
+  where
+    go : (parts : List (List ℕ)) → Parts without parts → (middle : List (List ℕ))
+        × Parts without (binding ∷ (114 ∷ nonce) ∷ middle)
+    go [] are = absurd (omega (arith, are.some))
+    go (x ∷ []) are =
+        let both : Some (112 ∷ proof) ≡ Some (114 ∷ nonce) =
+        part_in text (x ∷ (112 ∷ proof) ∷ []) 1 (114 ∷ nonce)
+        (with_last text without (112 ∷ proof) (x ∷ []) plain whole are) named in
+        let apart : ◌≡◌ {A = ℕ} 112 114 = ap (λ (z : List ℕ). get_or z 0 0)
+        (same_Some (112 ∷ proof) (114 ∷ nonce) both) in
+        absurd (omega (arith, apart))
+    go (x ∷ y ∷ middle) are =
+        let all = with_last text without (112 ∷ proof) (x ∷ y ∷ middle) plain whole are in
+        let first : x ≡ binding = same_Some x binding (part_in text
+        ((x ∷ y ∷ middle) ++ ((112 ∷ proof) ∷ [])) 0 binding all bound) in
+        let second : y ≡ 114 ∷ nonce = same_Some y (114 ∷ nonce)
+        (part_in text ((x ∷ y ∷ middle) ++ ((112 ∷ proof) ∷ [])) 1 (114 ∷ nonce) all named) in (
+          middle,
+          subst (λ (z : List ℕ). Parts without (binding ∷ z ∷ middle)) second
+              (subst (λ (z : List ℕ). Parts without (z ∷ y ∷ middle)) first are),
+        )
+
+-- the server's: two and more of the client-first message, three of its challenge, two and more of the response
+record ServerParts {provider : Provider} {nonce init response : List ℕ}
+    (server : ServerKnows provider nonce init response) : Type 0 where
+  extra : List (List ℕ)
+  middle : List (List ℕ)
+  bare : Parts server.client.bare
+      ((codes "n=" ++ escaped server.client.user) ∷ (codes "r=" ++ server.client.nonce) ∷ extra)
+  message : Parts (server_message server)
+      (((codes "n=" ++ escaped server.client.user) ∷ (codes "r=" ++ server.client.nonce) ∷ extra)
+      ++ (((codes "r=" ++ (challenge_known server).nonce) ∷ (codes "s=" ++ base64_text server.stored.salt)
+      ∷ (codes "i=" ++ decimal server.stored.count) ∷ [])
+      ++ ((codes "c=" ++ base64_text (codes "n,,")) ∷ (codes "r=" ++ (challenge_known server).nonce) ∷ middle)))
+
+server_parts : {provider : Provider} {nonce init response : List ℕ} (server : ServerKnows provider nonce init response)
+    → server.stored.count < 2 ^ 32 → ServerParts server
+server_parts {provider} {nonce} {init} {response} server small =
+    let wide : server.stored.count < 2 ^ 64 = omega (arith, small) in
+    let challenge = challenge_known server in
+    let names = names_client_first init server.client server.reads_init in
+    let accepts = names_client_final (server_of provider.version challenge.bare challenge.first challenge.nonce
+    server.stored) response server.final server.reads in
+    let client = codes "r=" ++ server.client.nonce in
+    let full = codes "r=" ++ challenge.nonce in
+    let salt = codes "s=" ++ base64_text server.stored.salt in
+    let count = codes "i=" ++ decimal server.stored.count in
+    let bare = first_two server.client.bare (codes "n=" ++ escaped server.client.user) client names.user names.nonce in
+    let plain : NoComma full = no_comma-append client (base64_text nonce)
+    (no_comma-part server.client.bare 1 client names.nonce) (no_comma-base64_text nonce) in
+    let first = three_joined full salt count (full ∷ []) (salt ∷ []) (count ∷ []) (only_part full plain)
+    (only_part salt (part_of (codes "s=") (base64_text server.stored.salt) refl
+    (no_comma-base64_text server.stored.salt)))
+    (only_part count (part_of (codes "i=") (decimal server.stored.count) refl
+    (no_comma-decimal server.stored.count wide))) in
+    let rest = without_parts server.final.without response (codes "c=" ++ base64_text (codes "n,,"))
+    (61 ∷ challenge.nonce) (61 ∷ base64_text server.final.proof) accepts.binding.1 accepts.nonce
+    accepts.proof.1.0 accepts.proof.1.1 in
+    record {
+      extra = bare.0;
+      middle = rest.0;
+      bare = bare.1;
+      message =
+          three_joined server.client.bare challenge.first server.final.without _ _ _ bare.1 first rest.1;
+    }
+
+-- ---- equal lists of parts
+
+record SameFields (u n u' n' f s i f' s' i' : List ℕ) (extra : List (List ℕ)) : Type 0 where
+  user : u ≡ u'
+  nonce : n ≡ n'
+  full : extra ≡ [] → f ≡ f'
+  salt : extra ≡ [] → s ≡ s'
+  count : extra ≡ [] → i ≡ i'
+
+-- 110, 114, 115, 105 and 99 are n, r, s, i and c; 61 is =
+same_fields : (u n u' n' f s i f' s' i' c c' f'' : List ℕ) (extra more last : List (List ℕ)) →
+    (110 ∷ 61 ∷ u) ∷ (114 ∷ 61 ∷ n) ∷ ((114 ∷ 61 ∷ f) ∷ (115 ∷ 61 ∷ s) ∷ (105 ∷ 61 ∷ i) ∷ more)
+    ++ ((99 ∷ 61 ∷ c) ∷ (114 ∷ 61 ∷ f) ∷ [])
+    ≡ (110 ∷ 61 ∷ u') ∷ (114 ∷ 61 ∷ n') ∷ extra ++ (((114 ∷ 61 ∷ f') ∷ (115 ∷ 61 ∷ s') ∷ (105 ∷ 61 ∷ i') ∷ [])
+    ++ ((99 ∷ 61 ∷ c') ∷ (114 ∷ 61 ∷ f'') ∷ last))
+    → SameFields u n u' n' f s i f' s' i' extra
+same_fields u n u' n' f s i f' s' i' c c' f'' extra more last h =
+    record {
+      user = cc;
+      nonce = cc;
+      full = λ e. let h' = rw e at h in cc;
+      salt = λ e. let h' = rw e at h in cc;
+      count = λ e. let h' = rw e at h in cc;
+    }
+
+no_extra : (text p q : List ℕ) (extra : List (List ℕ)) → Parts text (p ∷ q ∷ extra) → IsPlain text → extra ≡ []
+no_extra text p q [] are has = refl
+no_extra text p q (x ∷ more) are has = absurd (let same : length (p ∷ q ∷ x ∷ more) ≡ 2 =
+    ap length (one_list_of_parts text _ has.0 are has.1) ∙ has.2 in omega (arith, same))
+
+-- where the AuthMessages are equal, both sides agree
+agree : (side : ClientSide) (provider : Provider) (own text its init response : List ℕ)
+    (client : ClientKnows side own text) (server : ServerKnows provider its init response)
+    → HoldsBytes (server.client.user, server.stored)
+    → (keys_known client).version ≡ provider.version → client_message client ≡ server_message server
+    → Agree client server
+agree side provider own text its init response client server holds version same =
+    let names = names_server_first (holding side (base64_text own)) text client.first client.reads in
+    let small : server.stored.count < 2 ^ 32 = holds.0 in
+    let wide : server.stored.count < 2 ^ 64 = omega (arith, small) in
+    let ours = client_parts side.user own text client.first names in
+    let theirs = server_parts server small in
+    let fields = same_fields (escaped side.user) (base64_text own) (escaped server.client.user) server.client.nonce
+    client.first.nonce (base64_text client.first.salt) names.count.0 (challenge_known server).nonce
+    (base64_text server.stored.salt) (decimal server.stored.count) (base64_text (codes "n,,"))
+    (base64_text (codes "n,,")) (challenge_known server).nonce theirs.extra ours.0 theirs.middle
+    (same_parts (client_message client) (server_message server) _ _ same ours.1 theirs.message) in
+    record {
+      version = version;
+      user = one_escaped side.user server.client.user fields.user;
+      nonce = fields.nonce;
+      full_nonce = λ plain. fields.full (no_extra server.client.bare _ _ theirs.extra theirs.bare plain);
+      salt = λ plain. one_spelled (base64_text client.first.salt) client.first.salt server.stored.salt
+          (names.salt.0, refl)
+          (holds.1, fields.salt (no_extra server.client.bare _ _ theirs.extra theirs.bare plain));
+      count = λ plain. count_of_decimal server.stored.count client.first.count wide
+          (subst (λ (digits : List ℕ). IsCount digits client.first.count)
+          (fields.count (no_extra server.client.bare _ _ theirs.extra theirs.bare plain)) names.count.2);
+    }
+
+-- ---- the signature
+
+-- the lengths of the digests are apart
+sized_version : (version other : ScramVersion) → digest_len version ≡ digest_len other → version ≡ other
+sized_version Sha1 Sha1 same = refl
+sized_version Sha1 Sha256 same = absurd (omega (arith, same))
+sized_version Sha1 Sha512 same = absurd (omega (arith, same))
+sized_version Sha256 Sha1 same = absurd (omega (arith, same))
+sized_version Sha256 Sha256 same = refl
+sized_version Sha256 Sha512 same = absurd (omega (arith, same))
+sized_version Sha512 Sha1 same = absurd (omega (arith, same))
+sized_version Sha512 Sha256 same = absurd (omega (arith, same))
+sized_version Sha512 Sha512 same = refl
+
+-- where one text shows both signatures, version and HMAC value are one
+collide : (version other : ScramVersion) (key its_key auth its_auth last : List ℕ)
+    → HasSignature last (hmac_of version key auth)
+    → Part last 0 (codes "v=" ++ base64_text (hmac_of other its_key its_auth))
+    → (version ≡ other) × (hmac_of other key auth ≡ hmac_of other its_key its_auth)
+collide version other key its_key auth its_auth last has part =
+    let mine = hmac_of version key auth in
+    let its = hmac_of other its_key its_auth in
+    let parts : codes "v=" ++ base64_text mine ≡ codes "v=" ++ base64_text its =
+    one_part last 0 (codes "v=" ++ base64_text mine) (codes "v=" ++ base64_text its) has.1 part in
+    let texts : base64_text mine ≡ base64_text its = cc in
+    let one = one_spelled (base64_text mine) mine its (IsBytes-hmac_of version key auth, refl)
+    (IsBytes-hmac_of other its_key its_auth, texts) in
+    let same = sized_version version other
+    (sym (length-hmac_of version key auth) ∙ (ap length one ∙ length-hmac_of other its_key its_auth)) in
+    (same, ap (λ (of : ScramVersion). hmac_of of key auth) (sym same) ∙ one)
+
+has_signature : (signature text : List ℕ) → ReadsServerFinal signature text (Ok tt) → HasSignature text signature
+unfolding ReadsServerFinal
+has_signature signature text reads = names_signature text signature reads
+
+-- what a client believed shows the signature of its answer
+shown : (side waiting done : ClientSide) (answer own : Answer) (last : List ℕ) → answer ≡ own
+    → waiting ≡ with_state side (ClientFinalSent answer.signature (Some answer.keys))
+    → BelievesIn waiting.state waiting last (Ok tt) done → HasSignature last own.signature
+shown side waiting done answer own last same is believes =
+    let reads = subst (λ (at : ClientSide). BelievesIn at.state at last (Ok tt) done) is believes in
+    subst (λ (made : Answer). HasSignature last made.signature) same (has_signature answer.signature last reads.0)
+
+-- what a server accepted it read against its challenge
+concluded : (provider : Provider) (waiting done : ServerState) (challenge : Challenge) (client : ClientFirst)
+    (nonce response last : List ℕ) (stored : Record) → waiting ≡ ServerFirstSent challenge
+    → challenge ≡ challenge_of client nonce stored → record_at provider.records client.user ≡ Some stored
+    → ConcludesFrom waiting provider response (Ok (Some last)) done
+    → let known = challenge_of client nonce stored in
+    AnswersClientFinal (server_of provider.version known.bare known.first known.nonce stored) response (Ok last)
+concluded provider waiting done challenge client nonce response last stored is same known from =
+    let own = challenge_of client nonce stored in
+    let at = subst (λ (state : ServerState). ConcludesFrom state provider response (Ok (Some last)) done)
+    (is ∙ ap ServerFirstSent same) from in
+    subst (λ (kept : Record). AnswersClientFinal (server_of provider.version own.bare own.first own.nonce kept)
+    response (Ok last)) (same_Some at.0 stored (sym at.1 ∙ known)) at.2
+
+-- ---- both
+
+pub believed_texts_agree : BelievedTextsAgree
+believed_texts_agree side provider own text last its init response verifier believed accepted part =
+    let answer = believed.answers.1 in
+    let client : ClientKnows side own text = record { first = answer.0; reads = answer.1 } in
+    let opened = accepted.challenges.1 in
+    let final = concluded provider accepted.waiting accepted.done accepted.challenges.0 opened.0 (base64_text its)
+    response verifier opened.1 accepted.challenges.3 opened.4 opened.3 accepted.accepts in
+    let server : ServerKnows provider its init response = record {
+      client = opened.0;
+      stored = opened.1;
+      final = final.0;
+      reads_init = opened.2;
+      known = opened.3;
+      reads = final.1;
+    } in
+    let has = shown side believed.waiting believed.done believed.answers.0
+    (answer_of side.version side.secret (client_first_bare side.user (base64_text own)) text answer.0) last
+    answer.2 believed.answers.3 believed.believes in
+    let one = collide (keys_known client).version provider.version (keys_known client).server_key
+    server.stored.server_key (client_message client) (server_message server) last has
+    (subst (Part last 0) final.2 part) in (
+      client,
+      server,
+      λ holds. (
+        agree side provider own text its init response client server holds one.0,
+        λ differ. record { version = one.0; one = one.1 },
+      ),
+    )

@@ -1,0 +1,101 @@
+-- What an exchange of texts means to both of its sides, in the words of the headline (RFC 5802, section 5). The law is
+-- the clause `agreement` of `laws::accepted_messages`.
+use Rattle.std.specs.Prelude.{ℕ, List, ◌≡◌, ◌≢◌, Some, Ok, length}
+use Rattle.fe2o3_scram.specs.ClientFinal.{ClientFinal, ReadsClientFinal, keys_for, server_of, without_proof}
+use Rattle.fe2o3_scram.specs.ClientFirst.{ClientFirst, ReadsClientFirst, client_first_bare}
+use Rattle.fe2o3_scram.specs.ClientKeys.{ClientKeys}
+use Rattle.fe2o3_scram.specs.Credentials.{Provider, Record, record_at}
+use Rattle.fe2o3_scram.specs.Hmac.{hmac_of}
+use Rattle.fe2o3_scram.specs.Keys.{auth_message}
+use Rattle.fe2o3_scram.specs.Laws.{HoldsBytes}
+use Rattle.fe2o3_scram.specs.ScramClient.{ClientSide, AnswersIn, BelievesIn, holding, started}
+use Rattle.fe2o3_scram.specs.ScramServer.{ServerState, ChallengesFrom, ConcludesFrom}
+use Rattle.fe2o3_scram.specs.ServerFirst.{Challenge, ServerFirst, ReadsServerFirst, challenge_of}
+use Rattle.fe2o3_scram.specs.Texts.{Part, Parts, base64_text}
+
+-- a client's calls: it started with this nonce, answered this server-first message, and believed this server-final
+-- message
+pub record Believed (side : ClientSide) (nonce first last : List ℕ) : Type 0 where
+  pub message : List ℕ
+  pub waiting : ClientSide
+  pub done : ClientSide
+  pub answers : AnswersIn (started side nonce).state (started side nonce) first (Ok message) waiting
+  pub believes : BelievesIn waiting.state waiting last (Ok tt) done
+
+-- a server's calls: with this nonce it answered this client-first message by a challenge, and then this client-final
+-- message, which it accepted, by this server-final message
+pub record Accepted (provider : Provider) (nonce init response last : List ℕ) : Type 0 where
+  pub state : ServerState
+  pub waiting : ServerState
+  pub done : ServerState
+  pub first : List ℕ
+  pub challenges : ChallengesFrom state provider nonce init (Ok (Some first)) waiting
+  pub accepts : ConcludesFrom waiting provider response (Ok (Some last)) done
+
+-- what the client knows: what the server-first message named to it
+pub record ClientKnows (side : ClientSide) (nonce text : List ℕ) : Type 0 where
+  pub first : ServerFirst
+  pub reads : ReadsServerFirst (holding side (base64_text nonce)) text (Ok first)
+
+-- what the server knows: what the client-first message named to it, the record of its user, and what the client-final
+-- message named
+pub record ServerKnows (provider : Provider) (nonce init response : List ℕ) : Type 0 where
+  pub client : ClientFirst
+  pub stored : Record
+  pub final : ClientFinal
+  pub reads_init : ReadsClientFirst init (Ok client)
+  pub known : record_at provider.records client.user ≡ Some stored
+  pub reads : let challenge = challenge_of client (base64_text nonce) stored in
+      ReadsClientFinal (server_of provider.version challenge.bare challenge.first challenge.nonce stored) response
+      (Ok final)
+
+-- the keys that the client answered by (RFC 5802, section 3)
+abbrev pub keys_known : {side : ClientSide} {nonce text : List ℕ} → ClientKnows side nonce text → ClientKeys
+keys_known {side} client = keys_for side.version side.secret client.first
+
+-- AuthMessage, of the messages as the client has them
+abbrev pub client_message : {side : ClientSide} {nonce text : List ℕ} → ClientKnows side nonce text → List ℕ
+client_message {side} {nonce} {text} client =
+    auth_message (client_first_bare side.user (base64_text nonce)) text (without_proof client.first.nonce)
+
+-- the server's challenge
+abbrev pub challenge_known : {provider : Provider} {nonce init response : List ℕ}
+    → ServerKnows provider nonce init response → Challenge
+challenge_known {provider} {nonce} server = challenge_of server.client (base64_text nonce) server.stored
+
+-- AuthMessage, of the messages as the server has them
+abbrev pub server_message : {provider : Provider} {nonce init response : List ℕ}
+    → ServerKnows provider nonce init response → List ℕ
+server_message server = auth_message server.client.bare (challenge_known server).first server.final.without
+
+-- the client-first message had exactly two parts, the user name and the nonce
+abbrev pub IsPlain : List ℕ → Type 0
+IsPlain bare = (parts : List (List ℕ)) × Parts bare parts × (length parts ≡ 2)
+
+-- both sides mean one login: one version of keys, user name and client nonce and, where the client-first message was
+-- plain, one nonce of both sides, salt and count
+pub record Agree {side : ClientSide} {provider : Provider} {own text its init response : List ℕ}
+    (client : ClientKnows side own text) (server : ServerKnows provider its init response) : Type 0 where
+  pub version : (keys_known client).version ≡ provider.version
+  pub user : side.user ≡ server.client.user
+  pub nonce : base64_text own ≡ server.client.nonce
+  pub full_nonce : IsPlain server.client.bare → client.first.nonce ≡ (challenge_known server).nonce
+  pub salt : IsPlain server.client.bare → client.first.salt ≡ server.stored.salt
+  pub count : IsPlain server.client.bare → client.first.count ≡ server.stored.count
+
+-- the AuthMessages share one HMAC value, each under its side's ServerKey, at one version
+pub record Collide {side : ClientSide} {provider : Provider} {own text its init response : List ℕ}
+    (client : ClientKnows side own text) (server : ServerKnows provider its init response) : Type 0 where
+  pub version : (keys_known client).version ≡ provider.version
+  pub one : hmac_of provider.version (keys_known client).server_key (client_message client)
+      ≡ hmac_of provider.version server.stored.server_key (server_message server)
+
+-- a client that believed the message by which a server accepted: both sides agree where their AuthMessages are equal,
+-- and where these differ they collide
+abbrev pub BelievedTextsAgree : Type 0
+BelievedTextsAgree = (side : ClientSide) (provider : Provider) (own text last its init response verifier : List ℕ)
+    → Believed side own text last → Accepted provider its init response verifier → Part last 0 verifier
+    → (client : ClientKnows side own text) × (server : ServerKnows provider its init response)
+    × (HoldsBytes (server.client.user, server.stored)
+    → (client_message client ≡ server_message server → Agree client server)
+    × (client_message client ≢ server_message server → Collide client server))

@@ -1,0 +1,48 @@
+-- Worked examples of the words of memory: texts to which want of memory is no answer, since each is refused before a
+-- call comes to ask for any. The law is `laws::texts_without_memory`.
+use Rattle.std.specs.Prelude.{ℕ, List, [], ◌∷◌, ◌++◌, Option, codes}
+use Rattle.fe2o3_scram.specs.ClientFinal.{client_final_of, without_proof}
+use Rattle.fe2o3_scram.specs.ClientKeys.{ClientKeys}
+use Rattle.fe2o3_scram.specs.Credentials.{Provider}
+use Rattle.fe2o3_scram.specs.RecordLines.{ReachesUser}
+use Rattle.fe2o3_scram.specs.RecordText.{ReachesValues}
+use Rattle.fe2o3_scram.specs.ScramClient.{ClientFinalSent, ReachesSaltIn, ReachesVerifierIn}
+use Rattle.fe2o3_scram.specs.ScramServer.{ServerFirstSent, ReachesBase64In}
+use Rattle.fe2o3_scram.specs.ServerFirst.{Challenge, ReachesChallenge}
+
+-- a server-final message that is an error (RFC 5802, section 7), to a client that has answered
+abbrev pub ErrorsTakeNone : Type 0
+ErrorsTakeNone = (signature : List ℕ) (keys : Option ClientKeys)
+    → ¬ ReachesVerifierIn (ClientFinalSent signature keys) (codes "e=invalid-proof")
+
+-- a server-first message, to a client that has answered one already (RFC 5802, section 5)
+abbrev pub AnsweredClientsTakeNone : Type 0
+AnsweredClientsTakeNone = (signature text : List ℕ) (keys : Option ClientKeys)
+    → ¬ ReachesSaltIn (ClientFinalSent signature keys) text
+
+-- a client-first message without escapes, of a user whom the server does not know (RFC 5802, section 5.1)
+abbrev pub UnknownUsersTakeNone : Type 0
+UnknownUsersTakeNone = ¬ ReachesChallenge [] (codes "n,,n=user,r=abc")
+
+-- the challenge with the nonce abc, to whatever user
+abbrev pub challenge_abc : List ℕ → List ℕ → List ℕ → Challenge
+challenge_abc user bare first = record { user = user; bare = bare; first = first; nonce = codes "abc" }
+
+-- a client-final message with the nonce of another exchange (RFC 5802, section 5.1)
+abbrev pub OtherNoncesTakeNone : Type 0
+OtherNoncesTakeNone = (provider : Provider) (user bare first : List ℕ)
+    → ¬ ReachesBase64In (ServerFirstSent (challenge_abc user bare first)) provider
+    (client_final_of (without_proof (codes "abd")) [])
+
+-- a client-final message without a channel binding (RFC 5802, section 7)
+abbrev pub UnboundTextsTakeNone : Type 0
+UnboundTextsTakeNone = (provider : Provider) (user bare first : List ℕ)
+    → ¬ ReachesBase64In (ServerFirstSent (challenge_abc user bare first)) provider (codes "r=abc,p=AA==")
+
+-- a record of an unknown mechanism (RFC 5803, section 2)
+abbrev pub UnknownMechanismsTakeNone : Type 0
+UnknownMechanismsTakeNone = ¬ ReachesValues (codes "SCRAM-MD5$1:AA==$AA==:AA==")
+
+-- a line whose name has a comma (RFC 5802, section 5.1)
+abbrev pub CommasTakeNone : Type 0
+CommasTakeNone = ¬ ReachesUser (codes "a,b SCRAM-SHA-1$1:AA==$AA==:AA==" ++ (10 ∷ []))
