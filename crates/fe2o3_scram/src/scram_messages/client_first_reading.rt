@@ -1,5 +1,7 @@
 //! The client-first message, as the server reads it.
 
+ghost use Rattle.std.specs.Prelude.{IfOk};
+ghost use Rattle.std.specs.Cow.{IsBorrowedStr};
 ghost use Rattle.fe2o3_scram.specs.ClientFirst.{HasEscapes, ReadsClientFirst, client_first_values};
 ghost use Rattle.fe2o3_scram.specs.Readings.{Gives};
 
@@ -14,7 +16,7 @@ use std::borrow::CowStr;
 #[derive(Debug, Drop)]
 pub struct ClientFirst<'a> {
     /// The plain name of the user, as `unescape_username` gives it: borrowed where the client escaped
-    /// nothing. `parse` says the name in its contract, and not that it is borrowed.
+    /// nothing.
     pub username: CowStr<'a>,
 
     /// The client's nonce.
@@ -32,8 +34,9 @@ impl<'a> ClientFirst<'a> {
     /// nonce say nothing. Memory is taken for an escaped user name alone: `OutOfMemory` is answered
     /// only where the part of the name begins with `n=` and goes on with an equals sign.
     pub fn parse(alloc: Global, text: &'a [u8]) -> Result<Self, ServerScramErrorKind>
-        ensures { Gives ServerScramErrorKind.OutOfMemory (HasEscapes text.now) client_first_values result
+        ensures answer { Gives ServerScramErrorKind.OutOfMemory (HasEscapes text.now) client_first_values result
             (ReadsClientFirst text.now) }
+        ensures borrowed { IfOk result (λ first. ¬ HasEscapes text.now → IsBorrowedStr first.username) }
     {
         let Ok(client_first) = str::from_utf8(text) else {
             return Err(ServerScramErrorKind::Utf8Error);

@@ -11,7 +11,7 @@ returns-in_err-message g c =
       λ _. inr (
         client_first_values c.in_ok-client_first.client_first,
         kept c.in-Some.stored_password,
-        c.in_ok-client_first.ensures,
+        c.in_ok-client_first.ensures.answer,
         search rules,
       ),
       λ other. absurd (other refl),
@@ -21,7 +21,7 @@ pub returns : goal.returns
 returns g c = (
   client_first_values c.in_ok-client_first.client_first,
   kept c.in-Some.stored_password,
-  c.in_ok-client_first.ensures,
+  c.in_ok-client_first.ensures.answer,
   search rules,
   search rules,
 )

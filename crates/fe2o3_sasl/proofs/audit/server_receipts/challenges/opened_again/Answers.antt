@@ -20,7 +20,7 @@ returns-clause-opened g c =
           subst (λ (body : List ℕ). SpellsBody body
           (Ok (Init c.in-Some.ensures.0 (Some c.in-Some.text.now) c.in-Some.ensures.1))) c.deref.ensures.value
           c.in-Some.ensures.2;
-      reads = c.in-Ok.ensures;
+      reads = c.in-Ok.ensures.answer;
       known =
           ap (record_at records) (sym c.deref-3.ensures.value) ∙ sym c.in-Some-get_stored_password.ensures;
       nonce = c.in_ok-server_nonce.ensures.text ∙ encode_of-standard c.args.init.now.nonce;
@@ -34,5 +34,5 @@ returns-clause-message g c =
     rw c.in-Ok-Some.field-0-is at c.in-Ok-Some.ensures in
     challenge_again records (string_bytes c.in_ok-server_nonce.server_nonce) c.in-Some.text.now
     (challenge_values c.in-Ok-Some.server_first) (client_first_values c.in-Ok.client_first)
-    (kept c.in-Some-get_stored_password.stored_password) (rw c.deref-2.ensures at answers) c.in-Ok.ensures
+    (kept c.in-Some-get_stored_password.stored_password) (rw c.deref-2.ensures at answers) c.in-Ok.ensures.answer
     (c.in-Some-get_stored_password.ensures ∙ ap (record_at records) c.deref-3.ensures.value)

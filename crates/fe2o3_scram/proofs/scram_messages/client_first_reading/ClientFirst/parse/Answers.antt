@@ -1,35 +1,38 @@
 use Rattle.std.proofs.Common.{rules, sym, ◌∙◌, refl}
-use Rattle.std.specs.Cow.{cow_str_bytes}
+use Rattle.std.specs.Prelude.{◌↔◌}
+use Rattle.std.specs.Cow.{cow_str_bytes, IsBorrowedStr}
+use Rattle.std.specs.declared.borrow.CowStr.{CowStr}
+use Rattle.std.specs.declared.borrow.CowStr.TheVariants as cows
 use Rattle.fe2o3_scram.proofs.lemmas.messages.ClientFirstLemmas.{not_utf8, no_header, no_name, bad_name, no_nonce, named, invalid_name, escaped_name}
 use Rattle.fe2o3_scram.proofs.scram_messages.client_first_reading.ClientFirst.parse.Goals as goal
 
-pub returns-in_default : goal.returns-in_default
-returns-in_default c = (search rules, λ _. not_utf8 c.args.text.now c.in_default.ensures.cases.0)
+pub returns-in_default-clause-answer : goal.returns-in_default-clause-answer
+returns-in_default-clause-answer c = (search rules, λ _. not_utf8 c.args.text.now c.in_default.ensures.cases.0)
 
-pub returns-in_default-after : goal.returns-in_default-after
-returns-in_default-after c = (
+pub returns-in_default-after-clause-answer : goal.returns-in_default-after-clause-answer
+returns-in_default-after-clause-answer c = (
   search rules,
   λ _. no_header c.args.text.now c.in-Ok.ensures.cases.1
       (rw c.in-Ok.ensures.cases.0 at c.in_default-after.ensures),
 )
 
-pub returns-in_default-attribute : goal.returns-in_default-attribute
-returns-in_default-attribute c = (
+pub returns-in_default-attribute-clause-answer : goal.returns-in_default-attribute-clause-answer
+returns-in_default-attribute-clause-answer c = (
   search rules,
   λ _. no_name c.args.text.now c.in-Some.client_first_message_bare.now c.in-Ok.ensures.cases.1
       (sym c.in-Ok.ensures.cases.0 ∙ c.in-Some.ensures) c.in_default-attribute.ensures,
 )
 
-pub returns-in-Err-Invalid : goal.returns-in-Err-Invalid
-returns-in-Err-Invalid c = (
+pub returns-in-Err-Invalid-clause-answer : goal.returns-in-Err-Invalid-clause-answer
+returns-in-Err-Invalid-clause-answer c = (
   search rules,
   λ _. bad_name c.args.text.now c.in-Some.client_first_message_bare.now c.in-Ok.ensures.cases.1
       (sym c.in-Ok.ensures.cases.0 ∙ c.in-Some.ensures) c.in-Some-attribute.escaped.now c.in-Some-attribute.ensures
       (invalid_name c.in-Err-Invalid.field-0 _ _ c.in-Err-Invalid.field-0-is c.in-Err-Invalid.ensures.err),
 )
 
-pub returns-in_default-attribute-2 : goal.returns-in_default-attribute-2
-returns-in_default-attribute-2 c = (
+pub returns-in_default-attribute-2-clause-answer : goal.returns-in_default-attribute-2-clause-answer
+returns-in_default-attribute-2-clause-answer c = (
   search rules,
   λ _. no_nonce c.args.text.now c.in-Some.client_first_message_bare.now c.in-Ok.ensures.cases.1
       (sym c.in-Ok.ensures.cases.0 ∙ c.in-Some.ensures) c.in-Some-attribute.escaped.now
@@ -37,16 +40,16 @@ returns-in_default-attribute-2 c = (
       c.in-Some-attribute.ensures c.in-Ok-unescape_username.ensures.ok c.in_default-attribute-2.ensures,
 )
 
-pub returns : goal.returns
-returns c =
+pub returns-clause-answer : goal.returns-clause-answer
+returns-clause-answer c =
     named c.args.text.now c.in-Some.client_first_message_bare.now c.in-Ok.ensures.cases.1
     (sym c.in-Ok.ensures.cases.0 ∙ c.in-Some.ensures) c.in-Some-attribute.escaped.now
     (cow_str_bytes c.in-Ok-unescape_username.username)
     c.in-Some-attribute-2.client_nonce.now c.in-Some-attribute.ensures c.in-Ok-unescape_username.ensures.ok
     c.in-Some-attribute-2.ensures
 
-pub returns-in-Err-OutOfMemory : goal.returns-in-Err-OutOfMemory
-returns-in-Err-OutOfMemory c = (
+pub returns-in-Err-OutOfMemory-clause-answer : goal.returns-in-Err-OutOfMemory-clause-answer
+returns-in-Err-OutOfMemory-clause-answer c = (
   λ _. (
     c.in-Ok.ensures.cases.1,
     (
@@ -61,3 +64,23 @@ returns-in-Err-OutOfMemory c = (
   ),
   λ other. absurd (other refl),
 )
+
+pub returns-clause-borrowed : goal.returns-clause-borrowed
+returns-clause-borrowed c = λ unescaped.
+    go c.in-Ok-unescape_username.username c.in-Ok-unescape_username.ensures.borrowed (λ escapes. unescaped (
+      c.in-Ok.ensures.cases.1,
+      (
+        c.in-Some-attribute.escaped.now,
+        (
+          c.in-Some.client_first_message_bare.now,
+          sym c.in-Ok.ensures.cases.0 ∙ c.in-Some.ensures,
+          c.in-Some-attribute.ensures,
+        ),
+        escapes,
+      ),
+    ))
+  where
+    go : {A : Type 0} {None : Type 0} (name : CowStr A) → (IsBorrowedStr name ↔ None) → (¬ (¬ None))
+        → IsBorrowedStr name
+    go (cows.Borrowed text) both some = tt
+    go (cows.Owned text) both some = absurd (some (λ none. both.1 none))
