@@ -1,6 +1,9 @@
 #!/usr/bin/env python3
 """What `tools/meters.py` has to refuse, and where: bodies that the prover lets pass, planted in the sources."""
+import sys
 import unittest
+
+sys.dont_write_bytecode = True
 
 import meters
 
@@ -9,9 +12,9 @@ LISTED = (meters.TOP / meters.LIST).read_text(encoding="utf-8")
 SCRAM, SASL = "crates/fe2o3_scram/src/", "crates/fe2o3_sasl/src/"
 CLIENT, FINAL = SCRAM + "scram_client.rt", SCRAM + "scram_messages/client_final.rt"
 PLAIN_OF_CLIENT = "self.compute_client_final_message_metered(alloc, server_first, &mut Meter::new())"
-PLAIN_OF_FINAL = ("self.compute_client_final_message_metered(\n            alloc,\n            "
-                  "client_nonce,\n            password,\n            server_first,\n            client_first_message_bare,\n            "
-                  "&mut Meter::new(),\n        )")
+PLAIN_OF_FINAL = ("self.compute_client_final_message_metered(\n            alloc,\n            client_nonce,\n"
+                  "            password,\n            server_first,\n            client_first_message_bare,\n"
+                  "            &mut Meter::new(),\n        )")
 HELPER = """
 fn unlimited(scram: ScramVersion, alloc: Global, nonce: &str, secret: ClientSecret<'_>, first: &str, bare: &[u8]) {
     let _ = scram.answer_server_first(alloc, nonce, secret, first, bare, IterationLimits::none(), &mut Meter::new());
@@ -106,12 +109,12 @@ class Meters(unittest.TestCase):
 
     def test_an_acceptor_that_stretches_before_each_challenge(self):
         old = "let Some(client_first) = &init.initial_response else {"
-        self.refused(["on_init: Meter::new", "on_init: h_i_metered"], SASL + "sasl_acceptor.rt", first(
+        self.refused(["on_init_metered: Meter::new", "on_init_metered: h_i_metered"], SASL + "sasl_acceptor.rt", first(
             old, 'let _ = ScramVersion::Sha256.h_i_metered(alloc, b"", b"", 4294967295, &mut Meter::new());\n        '))
 
     def test_an_acceptor_that_stretches_by_a_plain_call(self):
         old = "let Some(client_first) = &init.initial_response else {"
-        self.refused(["on_init: h_i"], SASL + "sasl_acceptor.rt", first(
+        self.refused(["on_init_metered: h_i"], SASL + "sasl_acceptor.rt", first(
             old, 'let _ = ScramVersion::Sha256.h_i(alloc, b"", b"", 4294967295);\n        '))
 
     def test_a_profile_that_stretches_before_its_limit(self):
