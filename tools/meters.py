@@ -44,33 +44,31 @@ LOOP = re.compile(r"\b(?:for|while|loop)\b|(?<=[(,])\s*(?:move\s*)?\|[^|]*\|")
 MAKES = re.compile(r"\bMeter\s*>?\s*::\s*(?:new|default)\b|\bMeter\s*\{")
 OWN = re.compile(r"\bSelf\s*(?:\{|::\s*(?:new|default)\b)")
 KIT = re.compile(r"\bsha[12]\s*::|(?<!::)\bSha(?:1|256|512)\b|\.\s*(?:update|finalize)(?=\s*\()")
-WORD = re.compile(r"\b([a-z_]\w*)\s*(?:::\s*<[^(){};]*?>\s*)?(\(?)")
+WORD = re.compile(r"\b([a-z_]\w*)\s*(\(|::\s*<)?")
 BEFORE = re.compile(r"(\.)\s*$|(\w+)(?:\s*::\s*<[^()]*?>)?\s*>?\s*::\s*$")
-SOURCES = "Meter|Sha1|Sha256|Sha512|sha1|sha2|Digest|Hasher|HmacKey|PaddedKey"
 RENAMED = re.compile(r"^[ \t]*(?:pub )?use\b[^;]*?\b(?!AllocError\b)([A-Z]\w+|sha[12])\s+as\s+\w"
-                     rf"|\btype\s+\w+[^;=]*=[^;]*\b(?:{SOURCES})\b", re.M)
+                     r"|\btype\s+\w+[^;=]*=[^;]*\b(?:Meter|[Ss]ha\d+|Digest|Hasher|HmacKey|PaddedKey)\b", re.M)
 COPIED = re.compile(r"derive\([^)]*(?:Clone|Copy|Default)[^)]*\)\]\s*(?:pub\s+)?struct Meter\b"
                     r"|\bimpl\s+(?:Clone|Copy|Default)\s+for\s+Meter\b"
                     r"|^[ \t]*(?:pub(?:\(\w+\))? )?(?:const|static)\s+\w+\s*:[^=;]*\bMeter\b", re.M)
 
 
-def lines_only(found):
-    return "\n" * found[0].count("\n")
+def brackets(text, at):
+    """The brackets and semicolons behind a place, each with the depth behind it."""
+    depth = 0
+    for found in BRACKET.finditer(text, at):
+        depth += {"(": 1, "{": 1, "[": 1, ";": 0}.get(found[0], -1)
+        yield found, depth
 
 
 def closing(text, at):
     """The place behind the bracket that closes the one at a place."""
-    depth = 0
-    for found in BRACKET.finditer(text, at):
-        depth += {"(": 1, "{": 1, "[": 1, ";": 0}.get(found[0], -1)
-        if depth == 0:
-            return found.end()
-    return len(text)
+    return next((found.end() for found, depth in brackets(text, at) if depth == 0), len(text))
 
 
 def code_of(text):
     """The code alone, with as many lines."""
-    text, pieces, at = NO_CODE.sub(lines_only, text), [], 0
+    text, pieces, at = NO_CODE.sub(lambda found: "\n" * found[0].count("\n"), text), [], 0
     while found := GHOST.search(text, at):
         end = closing(text, found.end())
         pieces += [text[at:found.start()], "\n" * text.count("\n", found.start(), end)]
@@ -87,13 +85,10 @@ def owner_of(head):
 
 
 def body_of(text, at):
-    """Where the body begins of a function whose head begins at a place, or None."""
-    depth = 0
-    for found in BRACKET.finditer(text, at):
-        if depth == 0 and found[0] in "{;":
-            return found.start() if found[0] == "{" else None
-        depth += {"(": 1, "{": 1, "[": 1, ";": 0}.get(found[0], -1)
-    return None
+    """Where the body begins of a function whose head begins at a place, or None where it has none."""
+    ends = (found for found, depth in brackets(text, at) if (found[0], depth) in ((";", 0), ("{", 1)))
+    end = next(ends, None)
+    return end.start() if end and end[0] == "{" else None
 
 
 class Function:
@@ -121,11 +116,9 @@ class Function:
 
     def loop_end(self, found):
         """Where a loop ends: at its block's brace, or at the end of a closure's arguments."""
-        at = found.end()
         if "|" in found[0]:
-            return closing(self.body, max(self.body.rfind("(", 0, found.start() + 1), 0))
-        block = self.body.find("{", at)
-        return closing(self.body, block) if block >= 0 else at
+            return closing(self.body, self.body.rfind("(", 0, found.start() + 1))
+        return closing(self.body, self.body.find("{", found.end()))
 
     def use(self, at, name):
         looped = any(start < at < end for start, end in self.loops)
@@ -186,11 +179,10 @@ class Sources:
         _, qualifier, _, method = call
         if LIBRARIES.index(caller.crate) < LIBRARIES.index(callee.crate):
             return False
-        if method:
-            return bool(callee.owner) and callee.of_self
-        if qualifier:
-            return bool(callee.owner) and (len(qualifier) == 1 or qualifier in self.traits or qualifier == callee.owner)
-        return not callee.owner
+        if not callee.owner or not method and not qualifier:
+            return not callee.owner and not method and not qualifier
+        any_type = len(qualifier) == 1 or qualifier in self.traits
+        return callee.of_self if method else any_type or qualifier == callee.owner
 
     def uses(self):
         """Each use that has to stand in the list: its function, its name, and its file and line."""
@@ -259,14 +251,11 @@ def main():
     texts, text = texts_of(TOP), (TOP / LIST).read_text(encoding="utf-8")
     if "--list" in sys.argv:
         print(renewed(texts, text), end="")
-        return 0
-    faults = faults_of(texts, text)
-    for fault in faults:
-        print(f"meters: {fault}", file=sys.stderr)
-    if not faults:
+    elif faults := faults_of(texts, text):
+        sys.exit("\n".join(f"meters: {fault}" for fault in faults))
+    else:
         print(f"meters: {len(listed_in(text))} functions have the uses that {LIST} allows")
-    return 1 if faults else 0
 
 
 if __name__ == "__main__":
-    sys.exit(main())
+    main()

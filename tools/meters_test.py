@@ -117,6 +117,14 @@ class Meters(unittest.TestCase):
         self.refused(["on_init_metered: h_i"], SASL + "sasl_acceptor.rt", first(
             old, 'let _ = ScramVersion::Sha256.h_i(alloc, b"", b"", 4294967295);\n        '))
 
+    def test_each_form_of_a_call(self):
+        old = "let client_nonce = base64_of_nonce(nonce, &mut room);\n        let ("
+        for call in ("self.scram.h_i(alloc)", "ScramVersion::h_i(alloc)", "crate::hmac::ScramVersion::h_i(alloc)",
+                     "<ScramVersion>::h_i(alloc)", "self.scram\n.h_i (alloc)", "alloc.map(ScramVersion::h_i)"):
+            with self.subTest(call):
+                self.refused([r"compute_client_first_message: (?:ScramVersion::)?h_i"], CLIENT,
+                             first(old, f"{call};\n        "))
+
     def test_a_profile_that_stretches_before_its_limit(self):
         old = "let Ok(server_first) = str::from_utf8(challenge) else {"
         self.refused(["answer: h_i"], SASL + "sasl_profile/scram_frames.rt", first(
