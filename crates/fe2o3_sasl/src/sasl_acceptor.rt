@@ -1,7 +1,7 @@
 //! The server's side of a negotiation: what it answers to an init and to a response (AMQP 1.0, part
 //! 5, section 5.3.2).
 
-ghost use Rattle.std.specs.Prelude.{◌≡◌, ◌≢◌, ◌↔◌, ◌≤◌, ◌^◌, ⊤, Ok, Some, None, ℕ, List, [], ◌∷◌, Option, true, false, refl, IfOk, IfErr, IsOk, OnErr, MatchOption, IsAscii, option_map, string_bytes};
+ghost use Rattle.std.specs.Prelude.{◌≡◌, ◌≢◌, ◌↔◌, ◌≤◌, ◌+◌, ◌^◌, ⊤, Ok, Some, None, ℕ, List, [], ◌∷◌, Option, true, false, refl, IfOk, IfErr, IsOk, OnOk, OnErr, MatchOption, IsAscii, option_map, string_bytes};
 ghost use Rattle.fe2o3_sasl_wire.specs.AmqpTypes.{init_frame, response_frame, mechanisms_frame};
 ghost use Rattle.fe2o3_sasl_wire.specs.SaslFrames.{SaslFrame, Mechanisms, Challenge, Outcome};
 ghost use Rattle.fe2o3_sasl_wire.specs.declared.amqp_types.SaslCode.TheVariants.{Ok as OkCode, Auth};
@@ -463,7 +463,22 @@ impl<C: ScramCredentialProvider> SaslAcceptor for ScramAuthenticator<C> {
         alloc: Global,
         response: SaslResponse,
         meter: &mut Meter,
-    ) -> Result<SaslServerFrame, OutOfMemory> {
+    ) -> Result<SaslServerFrame, OutOfMemory>
+        requires { meter.old ≤ 2 ^ 63 }
+        ensures ok { IfOk result (λ reply. (nonce : List ℕ) → acceptor_machine
+            (ScramAcceptor (C.meaning (provider_in self.old)) (state_in self.old)) nonce (response_frame response)
+            (sent_frame reply) (ScramAcceptor (C.meaning (provider_in self.new)) (state_in self.new))) }
+        ensures memory { IfErr result (λ _. acceptor_allocates
+            (ScramAcceptor (C.meaning (provider_in self.old)) (state_in self.old)) (response_frame response)) }
+        ensures err { OnErr result (◌≡◌ {A = Acceptor} (ScramAcceptor (C.meaning (provider_in self.new)) (state_in self.new))
+            (ScramAcceptor (C.meaning (provider_in self.old)) (state_in self.old))) }
+        ensures cost { CostsAtMost acceptor_hmacs
+            (ScramAcceptor (C.meaning (provider_in self.old)) (state_in self.old)) (response_frame response)
+            meter.old meter.new }
+        ensures exactly { OnOk result ((n : ℕ) → acceptor_hmacs
+            (ScramAcceptor (C.meaning (provider_in self.old)) (state_in self.old)) (response_frame response) n
+            → meter.new ≡ meter.old + n) }
+    {
         match self.compute_server_final_message_metered(alloc, &response.response.0, meter) {
             Ok(answer) => Ok(conclusion(answer)),
             Err(kind) => refusal(kind),

@@ -1,9 +1,10 @@
-use Rattle.std.proofs.Common.{ap, Ok, Err, ℕ}
-use Rattle.std.specs.Prelude.{option_map, Vec}
+use Rattle.std.proofs.Common.{◌≡◌, ap, Ok, Err, ℕ}
+use Rattle.std.specs.Prelude.{⊤, option_map, Vec}
 use Rattle.std.specs.declared.alloc.Global.{Global}
 use Rattle.fe2o3_scram.specs.ScramServer.{provider_in, state_in, ReachesBase64In}
-use Rattle.fe2o3_sasl.specs.SaslAcceptor.{sent_frame}
-use Rattle.fe2o3_sasl.proofs.lemmas.machines.ResponseCostLemmas.{response_costs}
+use Rattle.fe2o3_sasl_wire.specs.declared.amqp_types.SaslCode.TheVariants.{Auth}
+use Rattle.fe2o3_sasl.specs.SaslAcceptor.{sent_frame, ends_with}
+use Rattle.fe2o3_sasl.proofs.lemmas.machines.ResponseCostLemmas.{response_costs, answer_costs, refusal_costs}
 use Rattle.fe2o3_sasl.proofs.lemmas.steps.AcceptorReplyLemmas.{response_answered, response_refused, response_wants}
 use Rattle.fe2o3_sasl.proofs.sasl_acceptor.ScramAuthenticatorSaslAcceptor.on_response_metered.Goals as goal
 
@@ -53,3 +54,26 @@ returns-clause-cost g c =
     (state_in c.args.self.now) (state_in c.compute_server_final_message_metered.new.self) c.args.response.response.0.items (Err c.in-Err.kind)
     c.args.meter.now c.compute_server_final_message_metered.new.meter
     (rw c.deref.ensures.value at c.in-Err.ensures.answer) (rw c.deref.ensures.value at c.in-Err.ensures.cost)
+
+pub returns-in-Ok-clause-exactly : goal.returns-in-Ok-clause-exactly
+returns-in-Ok-clause-exactly g c =
+    let m = g.C.ScramCredentialProvider in
+    λ n takes. answer_costs {E = ⊤} (ReachesBase64In (state_in c.args.self.now) (m.meaning (provider_in c.args.self.now))
+    c.args.response.response.0.items)
+    (option_map (λ (message : Vec ℕ Global). message.items)) (m.meaning (provider_in c.args.self.now))
+    (state_in c.args.self.now) (state_in c.compute_server_final_message_metered.new.self)
+    c.args.response.response.0.items c.in-Ok.answer (Ok c.conclusion.result) c.args.meter.now
+    c.compute_server_final_message_metered.new.meter
+    (rw c.deref.ensures.value at c.in-Ok.ensures.answer) (rw c.deref.ensures.value at c.in-Ok.ensures.cost) n takes
+
+pub returns-clause-exactly : goal.returns-clause-exactly
+returns-clause-exactly g c =
+    let m = g.C.ScramCredentialProvider in
+    refusal_costs (ReachesBase64In (state_in c.args.self.now) (m.meaning (provider_in c.args.self.now))
+    c.args.response.response.0.items) (λ frame. sent_frame frame ≡ ends_with Auth)
+    (option_map (λ (message : Vec ℕ Global). message.items)) (m.meaning (provider_in c.args.self.now))
+    (state_in c.args.self.now) (state_in c.compute_server_final_message_metered.new.self)
+    c.args.response.response.0.items c.in-Err.kind c.refusal.result c.args.meter.now
+    c.compute_server_final_message_metered.new.meter
+    (rw c.deref.ensures.value at c.in-Err.ensures.answer) (rw c.deref.ensures.value at c.in-Err.ensures.cost)
+    c.refusal.ensures.auth
