@@ -150,7 +150,7 @@ one_server_nonce sides k n o answer another accepted other kept too_kept plain a
     let nonces : challenge.client.nonce ≡ another_challenge.client.nonce =
     sym first.nonce ∙ (ap (λ (z : Answering). z.nonce) one ∙ second.nonce) in
     let fulls : full_nonce challenge ≡ full_nonce another_challenge =
-    sym (first.full plain) ∙ (ap (λ (z : Answering). z.first.nonce) one ∙ second.full also_plain) in
+    sym (first.full_nonce plain) ∙ (ap (λ (z : Answering). z.first.nonce) one ∙ second.full_nonce also_plain) in
     append_cancel_left challenge.client.nonce challenge.nonce another_challenge.nonce
     (fulls ∙ ap (λ z. z ++ another_challenge.nonce) (sym nonces))
 
