@@ -1,4 +1,4 @@
--- What equal AuthMessages of two sides say, by the lemmas over the values of one exchange.
+-- What equal AuthMessages of two sides say: they have the values of an exchange, of which `AgreementLemmas` says it.
 use Rattle.std.proofs.Common.{◌≡◌, ℕ, Some, None, List, sym, subst}
 use Rattle.fe2o3_sasl_wire.specs.SaslFrames as frames
 use Rattle.fe2o3_sasl_wire.specs.SaslFrames.{SaslFrame}
@@ -9,19 +9,15 @@ use Rattle.fe2o3_scram.specs.Credentials.{Provider, record_at}
 use Rattle.fe2o3_sasl.specs.Events.{Given, Login, IsRecord, ServerSays, ClientSays}
 use Rattle.fe2o3_scram.specs.ServerFirst.{NamesServerFirst}
 use Rattle.fe2o3_sasl.specs.ServerHistory.{Challenging, Accepted, FitsAsInit, FitsAsResponse, Open, AcceptsAt, server_at}
-use Rattle.fe2o3_sasl.specs.TwoSides.{client_message, server_message}
-use Rattle.fe2o3_scram.proofs.lemmas.messages.AgreementLemmas.{SameValues, same_values}
+use Rattle.fe2o3_sasl.specs.TwoSides.{Sides, client_message, server_message}
+use Rattle.fe2o3_scram.proofs.lemmas.messages.AgreementLemmas.{ClientHas, SameValues, ServerHas, same_values}
 use Rattle.fe2o3_scram.proofs.lemmas.messages.OneValueLemmas.{names_client_first, names_server_first}
 use Rattle.fe2o3_scram.proofs.lemmas.messages.ClientFinalLemmas.{NamesAcceptedFinal, names_client_final}
 use Rattle.fe2o3_scram.proofs.lemmas.texts.Base64Lemmas.{no_comma-base64_text}
 
 -- an answer as the client makes it
-pub record IsAnswering (answer : Answering) : Type 0 where
-  pub plain : NoComma answer.nonce
-  pub names : NamesServerFirst answer.text answer.first
-
 pub is_answering : (login : Login) (events : List Given) (replies : List ClientSays) (k : ℕ) (answer : Answering)
-    → AnswersAt login events replies k answer → IsAnswering answer
+    → AnswersAt login events replies k answer → ClientHas answer.nonce answer.text answer.first
 is_answering login events replies k answer is =
     let due = is.4.2 in
     record {
@@ -67,21 +63,18 @@ accepts_open provider events replies n accepted is =
     (fits_open provider (Open provider events replies n) is.1 accepted is.4).0
 
 -- a response as the server accepts it
-pub record IsAccepted (provider : Provider) (accepted : Accepted) : Type 0 where
-  pub event : Given
-  pub challenge : IsChallenging provider event accepted.challenge
-  pub text : List ℕ
-  pub names : NamesAcceptedFinal (server_at provider accepted.challenge) text accepted.final
-
 pub is_accepted : (provider : Provider) (events : List Given) (replies : List ServerSays) (n : ℕ) (accepted : Accepted)
-    → AcceptsAt provider events replies n accepted → IsAccepted provider accepted
+    → AcceptsAt provider events replies n accepted → let challenge = accepted.challenge in
+    ServerHas provider.version challenge.client challenge.nonce challenge.stored accepted.final
 is_accepted provider events replies n accepted is =
     let fits = fits_open provider (Open provider events replies n) is.1 accepted is.4 in
     let at = fits.0.2 in
+    let challenge = is_challenging provider at.0 at.1 accepted.challenge at.4 in
     record {
-      event = at.0;
-      challenge = is_challenging provider at.0 at.1 accepted.challenge at.4;
-      text = fits.1.0;
+      init = challenge.text;
+      response = fits.1.0;
+      plain = subst NoComma (sym challenge.nonce) (no_comma-base64_text at.0.nonce);
+      first = challenge.names;
       names = fits.1.1;
     }
 
@@ -90,17 +83,14 @@ abbrev pub SameMessages : Login → Answering → Accepted → Type 0
 SameMessages login answer accepted = SameValues login.user answer.nonce answer.first accepted.challenge.client
     accepted.challenge.nonce accepted.challenge.stored
 
-pub same_messages : (provider : Provider) (login : Login) (answer : Answering) (accepted : Accepted)
-    → IsRecord accepted.challenge.stored → IsAnswering answer → IsAccepted provider accepted
-    → client_message login answer ≡ server_message accepted → SameMessages login answer accepted
-same_messages provider login answer accepted kept is was same =
+pub same_messages : (sides : Sides) (k n : ℕ) (answer : Answering) (accepted : Accepted)
+    → IsRecord accepted.challenge.stored
+    → AnswersAt sides.login sides.client_events sides.client_replies k answer
+    → AcceptsAt sides.provider sides.server_events sides.server_replies n accepted
+    → client_message sides.login answer ≡ server_message accepted → SameMessages sides.login answer accepted
+same_messages sides k n answer accepted kept answers accepts same =
     let challenge = accepted.challenge in
-    same_values login.user answer.nonce answer.text answer.first provider.version challenge.client challenge.nonce
-    challenge.stored accepted.final (kept.count, kept.salt, kept.stored_key, kept.server_key) is.plain is.names
-    (record {
-      init = was.challenge.text;
-      response = was.text;
-      plain = subst NoComma (sym was.challenge.nonce) (no_comma-base64_text was.event.nonce);
-      first = was.challenge.names;
-      names = was.names;
-    }) same
+    same_values sides.login.user answer.nonce answer.text answer.first sides.provider.version challenge.client
+    challenge.nonce challenge.stored accepted.final (kept.count, kept.salt, kept.stored_key, kept.server_key)
+    (is_answering sides.login sides.client_events sides.client_replies k answer answers)
+    (is_accepted sides.provider sides.server_events sides.server_replies n accepted accepts) same

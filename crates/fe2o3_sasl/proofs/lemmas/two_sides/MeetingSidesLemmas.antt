@@ -1,7 +1,7 @@
 -- Where a client and a server meet: one version, and one login where the AuthMessages are equal.
 use Rattle.std.proofs.Common.{◌≡◌, ℕ, Bool, true, false, List, length, subst, sym, ap, ◌∙◌, codes, inl, inr}
 use Rattle.fe2o3_scram.specs.declared.hmac.ScramVersion.{ScramVersion}
-use Rattle.fe2o3_sasl.specs.ClientHistory.{Answering, AnswersAt, OpenAnswer}
+use Rattle.fe2o3_sasl.specs.ClientHistory.{Answering, OpenAnswer}
 use Rattle.std.specs.Prelude.{if◌then◌else◌}
 use Rattle.fe2o3_scram.specs.ClientFinal.{fit, keys_for}
 use Rattle.fe2o3_scram.specs.ClientKeys.{AreSized, ClientKeys, keys_of}
@@ -11,14 +11,14 @@ use Rattle.fe2o3_sasl.specs.Events.{IsRecord, IsSecret, Login}
 use Rattle.fe2o3_scram.specs.Hmac.{digest_len, hmac_of}
 use Rattle.fe2o3_sasl.specs.Laws.{AreMatched, MatchEqually, EqualMessagesAgree, NoShortExtensions}
 use Rattle.fe2o3_scram.specs.Keys.{stored_key}
-use Rattle.fe2o3_sasl.specs.ServerHistory.{Accepted, AcceptsAt}
+use Rattle.fe2o3_sasl.specs.ServerHistory.{Accepted}
 use Rattle.fe2o3_sasl.specs.TwoSides.{Sides, Histories, Takes, Shows, Agree, client_message, server_message, keys_at}
 use Rattle.fe2o3_scram.proofs.lemmas.hashes.DigestLemmas.{length-hmac_of}
 use Rattle.fe2o3_scram.proofs.lemmas.messages.AgreementLemmas.{one_signature, sized_version}
 use Rattle.fe2o3_scram.proofs.lemmas.messages.ExchangeLemmas.{length-exclusive_or}
 use Rattle.fe2o3_sasl.proofs.lemmas.histories.OneClientHistoryLemmas.{one_open_answer}
 use Rattle.fe2o3_sasl.proofs.lemmas.histories.ReportedOkLemmas.{signature_of_ok}
-use Rattle.fe2o3_sasl.proofs.lemmas.two_sides.EqualMessageLemmas.{SameMessages, same_messages, is_answering, is_accepted}
+use Rattle.fe2o3_sasl.proofs.lemmas.two_sides.EqualMessageLemmas.{SameMessages, same_messages, is_accepted}
 
 -- the keys of an answer are as long as a digest, where those of the secret are
 pub sized_at : (login : Login) (answer : Answering) → IsSecret login.secret → AreSized (keys_at login answer)
@@ -92,16 +92,6 @@ shown_version sides k n answer accepted held shows =
     sized_version version sides.provider.version
     (sym long ∙ (sym (length-exclusive_or key pad (long ∙ sym wide)) ∙ (ap length shows.one ∙ sized)))
 
--- equal AuthMessages of an answer and of what was accepted
-pub same_at : (sides : Sides) (k n : ℕ) (answer : Answering) (accepted : Accepted) → IsRecord accepted.challenge.stored
-    → AnswersAt sides.login sides.client_events sides.client_replies k answer
-    → AcceptsAt sides.provider sides.server_events sides.server_replies n accepted
-    → client_message sides.login answer ≡ server_message accepted → SameMessages sides.login answer accepted
-same_at sides k n answer accepted kept answers accepts same =
-    same_messages sides.provider sides.login answer accepted kept
-    (is_answering sides.login sides.client_events sides.client_replies k answer answers)
-    (is_accepted sides.provider sides.server_events sides.server_replies n accepted accepts) same
-
 -- what a meeting says
 pub record Met (sides : Sides) (answer : Answering) (accepted : Accepted) : Type 0 where
   pub version : (keys_at sides.login answer).version ≡ sides.provider.version
@@ -113,7 +103,7 @@ pub met_taken : (sides : Sides) (m n : ℕ) (answer : Answering) (accepted : Acc
     → OpenAnswer sides.login sides.client_events sides.client_replies m answer → Met sides answer accepted
 met_taken sides m n answer accepted histories kept takes opened = record {
   version = (signature_at sides m n answer accepted histories takes opened).0;
-  same = same_at sides opened.0 n answer accepted kept opened.2 takes.ok.accepts;
+  same = same_messages sides opened.0 n answer accepted kept opened.2 takes.ok.accepts;
 }
 
 -- and where it showed the proof
@@ -121,7 +111,7 @@ pub met_shown : (sides : Sides) (k n : ℕ) (answer : Answering) (accepted : Acc
     → IsRecord accepted.challenge.stored → Shows sides k n answer accepted → Met sides answer accepted
 met_shown sides k n answer accepted held kept shows = record {
   version = shown_version sides k n answer accepted held shows;
-  same = same_at sides k n answer accepted kept shows.answers shows.ok.accepts;
+  same = same_messages sides k n answer accepted kept shows.answers shows.ok.accepts;
 }
 
 met : (sides : Sides) (answer : Answering) (accepted : Accepted) → MatchEqually sides answer accepted

@@ -1,5 +1,5 @@
--- What equal AuthMessages of a client and a server say, and what the signature does that both have: of the values first,
--- from which the law over texts comes, and the one over frames.
+-- What equal AuthMessages of a client and a server say, and what the signature does that both have: first of the values
+-- alone, however their texts came, and then of one client's and one server's texts.
 use Rattle.std.proofs.Common.{◌≡◌, ℕ, ◌<◌, ◌^◌, Some, List, [], ◌∷◌, ◌++◌, length, get_or, refl, sym, ap, ◌∙◌, subst, arith, codes, Ok}
 use Rattle.std.specs.Fmt.{decimal}
 use Rattle.std.proofs.lemmas.Option.{same_Some}
@@ -33,20 +33,27 @@ use Rattle.fe2o3_scram.proofs.lemmas.texts.PartsLemmas.{pieces, Parts-pieces, on
 binding_plain : NoComma (codes "c=" ++ base64_text (codes "n,,"))
 binding_plain = part_of (codes "c=") (base64_text (codes "n,,")) refl (no_comma-base64_text (codes "n,,"))
 
--- the client's: two of its first message, three and more of the challenge, two of its answer
-client_parts : (name own text : List ℕ) (first : ServerFirst) → NoComma own → (names : NamesServerFirst text first)
+-- what a client has of an exchange: with this nonce it answered a message that names these values
+pub record ClientHas (own text : List ℕ) (first : ServerFirst) : Type 0 where
+  pub plain : NoComma own
+  pub names : NamesServerFirst text first
+
+-- its parts: two of its first message, three and more of the challenge, two of its answer
+client_parts : (name own text : List ℕ) (first : ServerFirst) → (has : ClientHas own text first)
     → (more : List (List ℕ)) × Parts (auth_message (client_first_bare name own) text (without_proof first.nonce))
     (((codes "n=" ++ escaped name) ∷ (codes "r=" ++ own) ∷ [])
-    ++ (((codes "r=" ++ first.nonce) ∷ (codes "s=" ++ base64_text first.salt) ∷ (codes "i=" ++ names.count.0) ∷ more)
+    ++ (((codes "r=" ++ first.nonce) ∷ (codes "s=" ++ base64_text first.salt)
+    ∷ (codes "i=" ++ has.names.count.0) ∷ more)
     ++ ((codes "c=" ++ base64_text (codes "n,,")) ∷ (codes "r=" ++ first.nonce) ∷ [])))
-client_parts name own text first plain names =
+client_parts name own text first has =
+    let names = has.names in
     let user = codes "n=" ++ escaped name in
     let nonce = codes "r=" ++ own in
     let full = codes "r=" ++ first.nonce in
     let binding = codes "c=" ++ base64_text (codes "n,,") in
     let bare = two_joined user nonce (user ∷ []) (nonce ∷ [])
     (only_part user (part_of (codes "n=") (escaped name) refl (no_comma-escaped name)))
-    (only_part nonce (part_of (codes "r=") own refl plain)) in
+    (only_part nonce (part_of (codes "r=") own refl has.plain)) in
     let named = first_three text full (codes "s=" ++ base64_text first.salt) (codes "i=" ++ names.count.0) names.nonce
     names.salt.1 names.count.1 in
     let rest = two_joined binding full (binding ∷ []) (full ∷ []) (only_part binding binding_plain)
@@ -94,7 +101,7 @@ pub record ServerHas (version : ScramVersion) (client : ClientFirst) (its : List
   pub names : let challenge = challenge_of client its stored in
       NamesAcceptedFinal (server_of version challenge.bare challenge.first challenge.nonce stored) response final
 
--- the server's: two and more of the client-first message, three of its challenge, two and more of the response
+-- its parts: two and more of the client-first message, three of its challenge, two and more of the response
 record ServerParts (client : ClientFirst) (its : List ℕ) (stored : Record) (without : List ℕ) : Type 0 where
   extra : List (List ℕ)
   middle : List (List ℕ)
@@ -193,8 +200,8 @@ two_extra text p q extra are has none = go extra (ap length (one_list_of_parts t
     go (x ∷ y ∷ []) same none = none x y refl
     go (x ∷ y ∷ z ∷ more) same none = omega (arith, same)
 
--- equal AuthMessages mean one user and nonce and, where the client-first message was plain, one nonce of both sides, salt
--- and count; it had not three parts and not four
+-- equal AuthMessages mean one user and nonce and, where the client-first message was plain, one nonce of both sides,
+-- salt and count; it had not three parts and not four
 pub record SameValues (name own : List ℕ) (first : ServerFirst) (client : ClientFirst) (its : List ℕ) (stored : Record)
     : Type 0 where
   pub user : name ≡ client.user
@@ -206,61 +213,34 @@ pub record SameValues (name own : List ℕ) (first : ServerFirst) (client : Clie
   pub not_four : ¬ InParts 4 client.bare
 
 pub same_values : (name own text : List ℕ) (first : ServerFirst) (version : ScramVersion) (client : ClientFirst)
-    (its : List ℕ) (stored : Record) (final : ClientFinal) → HoldsBytes (client.user, stored) → NoComma own
-    → NamesServerFirst text first → ServerHas version client its stored final
+    (its : List ℕ) (stored : Record) (final : ClientFinal) → HoldsBytes (client.user, stored)
+    → ClientHas own text first → ServerHas version client its stored final
     → auth_message (client_first_bare name own) text (without_proof first.nonce)
     ≡ auth_message client.bare (challenge_of client its stored).first final.without
     → SameValues name own first client its stored
-same_values name own text first version client its stored final holds plain names has same =
+same_values name own text first version client its stored final holds ours theirs same =
     let small : stored.count < 2 ^ 32 = holds.0 in
     let wide : stored.count < 2 ^ 64 = omega (arith, small) in
     let full = (challenge_of client its stored).nonce in
-    let ours = client_parts name own text first plain names in
-    let theirs = server_parts version client its stored final small has in
+    let names = ours.names in
+    let left = client_parts name own text first ours in
+    let right = server_parts version client its stored final small theirs in
     let fields = same_fields (escaped name) own (escaped client.user) client.nonce first.nonce (base64_text first.salt)
     names.count.0 full (base64_text stored.salt) (decimal stored.count) (base64_text (codes "n,,"))
-    (base64_text (codes "n,,")) full theirs.extra ours.0 theirs.middle
+    (base64_text (codes "n,,")) full right.extra left.0 right.middle
     (same_parts (auth_message (client_first_bare name own) text (without_proof first.nonce))
-    (auth_message client.bare (challenge_of client its stored).first final.without) _ _ same ours.1 theirs.message) in
+    (auth_message client.bare (challenge_of client its stored).first final.without) _ _ same left.1 right.message) in
     record {
       user = one_escaped name client.user fields.user;
       nonce = fields.nonce;
-      full_nonce = λ only. fields.full (no_extra client.bare _ _ theirs.extra theirs.bare only);
+      full_nonce = λ only. fields.full (no_extra client.bare _ _ right.extra right.bare only);
       salt = λ only. one_spelled (base64_text first.salt) first.salt stored.salt (names.salt.0, refl)
-          (holds.1, fields.salt (no_extra client.bare _ _ theirs.extra theirs.bare only));
+          (holds.1, fields.salt (no_extra client.bare _ _ right.extra right.bare only));
       count = λ only. count_of_decimal stored.count first.count wide
           (subst (λ (digits : List ℕ). IsCount digits first.count)
-          (fields.count (no_extra client.bare _ _ theirs.extra theirs.bare only)) names.count.2);
-      not_three = λ three. one_extra client.bare _ _ theirs.extra theirs.bare three fields.not_three;
-      not_four = λ four. two_extra client.bare _ _ theirs.extra theirs.bare four fields.not_four;
-    }
-
--- where the AuthMessages are equal, both sides agree
-agree : (side : ClientSide) (provider : Provider) (own text its init response : List ℕ)
-    (client : ClientKnows side own text) (server : ServerKnows provider its init response)
-    → HoldsBytes (server.client.user, server.stored)
-    → (keys_known client).version ≡ provider.version → client_message client ≡ server_message server
-    → Agree client server
-agree side provider own text its init response client server holds version same =
-    let challenge = challenge_known server in
-    let has : ServerHas provider.version server.client (base64_text its) server.stored server.final = record {
-      init = init;
-      response = response;
-      plain = no_comma-base64_text its;
-      first = names_client_first init server.client server.reads_init;
-      names = names_client_final (server_of provider.version challenge.bare challenge.first challenge.nonce
-          server.stored) response server.final server.reads;
-    } in
-    let values = same_values side.user (base64_text own) text client.first provider.version server.client
-    (base64_text its) server.stored server.final holds (no_comma-base64_text own)
-    (names_server_first (holding side (base64_text own)) text client.first client.reads) has same in
-    record {
-      version = version;
-      user = values.user;
-      nonce = values.nonce;
-      full_nonce = values.full_nonce;
-      salt = values.salt;
-      count = values.count;
+          (fields.count (no_extra client.bare _ _ right.extra right.bare only)) names.count.2);
+      not_three = λ three. one_extra client.bare _ _ right.extra right.bare three fields.not_three;
+      not_four = λ four. two_extra client.bare _ _ right.extra right.bare four fields.not_four;
     }
 
 -- ---- the signature
@@ -295,6 +275,47 @@ one_signature version other key its_key auth its_auth last has part =
       one,
     )
 
+-- ---- one client's and one server's texts
+
+client_has : (side : ClientSide) (own text : List ℕ) (client : ClientKnows side own text)
+    → ClientHas (base64_text own) text client.first
+client_has side own text client = record {
+  plain = no_comma-base64_text own;
+  names = names_server_first (holding side (base64_text own)) text client.first client.reads;
+}
+
+server_has : (provider : Provider) (its init response : List ℕ) (server : ServerKnows provider its init response)
+    → ServerHas provider.version server.client (base64_text its) server.stored server.final
+server_has provider its init response server =
+    let challenge = challenge_known server in
+    record {
+      init = init;
+      response = response;
+      plain = no_comma-base64_text its;
+      first = names_client_first init server.client server.reads_init;
+      names = names_client_final (server_of provider.version challenge.bare challenge.first challenge.nonce
+          server.stored) response server.final server.reads;
+    }
+
+-- where the AuthMessages are equal, both sides agree
+agree : (side : ClientSide) (provider : Provider) (own text its init response : List ℕ)
+    (client : ClientKnows side own text) (server : ServerKnows provider its init response)
+    → HoldsBytes (server.client.user, server.stored)
+    → (keys_known client).version ≡ provider.version → client_message client ≡ server_message server
+    → Agree client server
+agree side provider own text its init response client server holds version same =
+    let values = same_values side.user (base64_text own) text client.first provider.version server.client
+    (base64_text its) server.stored server.final holds (client_has side own text client)
+    (server_has provider its init response server) same in
+    record {
+      version = version;
+      user = values.user;
+      nonce = values.nonce;
+      full_nonce = values.full_nonce;
+      salt = values.salt;
+      count = values.count;
+    }
+
 -- what a client believed shows the signature of its answer
 shown : (side waiting done : ClientSide) (answer own : Answer) (last : List ℕ) → answer ≡ own
     → waiting ≡ with_state side (ClientFinalSent answer.signature (Some answer.keys))
@@ -317,8 +338,6 @@ concluded provider waiting done challenge client nonce response last stored is s
     (is ∙ ap ServerFirstSent same) from in
     subst (λ (kept : Record). AnswersClientFinal (server_of provider.version own.bare own.first own.nonce kept)
     response (Ok last)) (same_Some at.0 stored (sym at.1 ∙ known)) at.2
-
--- ---- both
 
 pub believed_texts_agree : BelievedTextsAgree
 believed_texts_agree side provider own text last its init response verifier believed accepted part =
