@@ -11,9 +11,8 @@ use Rattle.fe2o3_sasl.specs.ServerHistory.{Challenging, Accepted, AcceptsAt, is_
 use Rattle.fe2o3_sasl.specs.TwoSides.{Sides, IsPlainInit, client_message, server_message}
 use Rattle.fe2o3_scram.proofs.lemmas.texts.Base64Lemmas.{one_spelled}
 use Rattle.fe2o3_sasl.proofs.lemmas.histories.OneClientHistoryLemmas.{one_answers_at}
-use Rattle.fe2o3_sasl.proofs.lemmas.two_sides.MeetingSidesLemmas.{same_at}
 use Rattle.fe2o3_sasl.proofs.lemmas.positions.PositionLemmas.{one_open, close_apart}
-use Rattle.fe2o3_sasl.proofs.lemmas.two_sides.EqualMessageLemmas.{is_challenging, accepts_open}
+use Rattle.fe2o3_sasl.proofs.lemmas.two_sides.EqualMessageLemmas.{accepts_open, is_challenging, same_messages}
 use Rattle.fe2o3_sasl.proofs.lemmas.histories.OneServerHistoryLemmas.{one_challenge}
 
 -- two positions whose events have one nonce text
@@ -76,8 +75,8 @@ one_nonce : (sides : Sides) (k l n : ℕ) (answer another : Answering) (accepted
     → client_message sides.login answer ≡ server_message accepted
     → client_message sides.login another ≡ server_message other → answer.nonce ≡ another.nonce
 one_nonce sides k l n answer another accepted other kept too_kept is was accepts too same also =
-    let first = same_at sides k n answer accepted kept is accepts same in
-    let second = same_at sides l n another other too_kept was too also in
+    let first = same_messages sides k n answer accepted kept is accepts same in
+    let second = same_messages sides l n another other too_kept was too also in
     let challenges = one_challenge sides.provider sides.server_events sides.server_replies n accepted.challenge
     other.challenge
     (accepts_open sides.provider sides.server_events sides.server_replies n accepted accepts)
@@ -142,15 +141,15 @@ one_server_nonce : (sides : Sides) (k n o : ℕ) (answer another : Answering) (a
     → client_message sides.login answer ≡ server_message accepted
     → client_message sides.login another ≡ server_message other → accepted.challenge.nonce ≡ other.challenge.nonce
 one_server_nonce sides k n o answer another accepted other kept too_kept plain also_plain is was accepts too same also =
-    let first = same_at sides k n answer accepted kept is accepts same in
-    let second = same_at sides k o another other too_kept was too also in
+    let first = same_messages sides k n answer accepted kept is accepts same in
+    let second = same_messages sides k o another other too_kept was too also in
     let one = one_answers_at sides.login sides.client_events sides.client_replies k answer another is was in
     let challenge = accepted.challenge in
     let another_challenge = other.challenge in
     let nonces : challenge.client.nonce ≡ another_challenge.client.nonce =
     sym first.nonce ∙ (ap (λ (z : Answering). z.nonce) one ∙ second.nonce) in
     let fulls : full_nonce challenge ≡ full_nonce another_challenge =
-    sym (first.full plain) ∙ (ap (λ (z : Answering). z.first.nonce) one ∙ second.full also_plain) in
+    sym (first.full_nonce plain) ∙ (ap (λ (z : Answering). z.first.nonce) one ∙ second.full_nonce also_plain) in
     append_cancel_left challenge.client.nonce challenge.nonce another_challenge.nonce
     (fulls ∙ ap (λ z. z ++ another_challenge.nonce) (sym nonces))
 

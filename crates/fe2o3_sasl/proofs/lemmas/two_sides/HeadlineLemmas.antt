@@ -12,14 +12,13 @@ use Rattle.fe2o3_sasl.specs.ClientHistory.{ClientHistory, OpenAnswer, IsDue, Cli
 use Rattle.fe2o3_scram.specs.Credentials.{Provider}
 use Rattle.fe2o3_sasl.specs.Events.{Given, Login, IsRecord, ServerSays, Concluded, Failed, ClientSays, Reported, Refused, OutOfMemory, scram_fault}
 use Rattle.fe2o3_sasl.specs.Headline.{AnswersOkExactly, SignedAt, ReportsOkExactly, VerifierAgrees, TakenVerifiersAgree, EveryServer, EveryClient}
-use Rattle.fe2o3_scram.specs.Hmac.{hmac_of}
 use Rattle.fe2o3_sasl.specs.Positions.{test_at}
 use Rattle.fe2o3_sasl.specs.Bodies.{SpellsBody}
 use Rattle.fe2o3_sasl.specs.ServerHistory.{Challenging, Accepted, FitsAsResponse, AcceptsAt, Open, ServerAnswers, ServerAllocates, ServerHistory, says_ok, is_ok}
-use Rattle.fe2o3_sasl.specs.TwoSides.{Sides, sides_of, Histories, Takes, server_message}
+use Rattle.fe2o3_sasl.specs.TwoSides.{Sides, sides_of, Histories, Takes}
 use Rattle.fe2o3_sasl.proofs.lemmas.histories.OneClientHistoryLemmas.{one_open_answer, one_reading_of_outcome}
-use Rattle.fe2o3_sasl.proofs.lemmas.histories.ReportedOkLemmas.{reported, signature_of_ok}
-use Rattle.fe2o3_sasl.proofs.lemmas.two_sides.MeetingSidesLemmas.{agree, met_taken, signature_at}
+use Rattle.fe2o3_sasl.proofs.lemmas.histories.ReportedOkLemmas.{reported}
+use Rattle.fe2o3_sasl.proofs.lemmas.two_sides.MeetingSidesLemmas.{agree, met_taken, taken_signature}
 use Rattle.fe2o3_sasl.proofs.lemmas.positions.PositionLemmas.{some_at}
 use Rattle.fe2o3_sasl.proofs.lemmas.histories.OneServerHistoryLemmas.{one_response, one_challenge}
 use Rattle.fe2o3_sasl.proofs.lemmas.histories.ServerLawLemmas.{ok_accepts}
@@ -152,18 +151,13 @@ reports_ok_exactly login events replies history = record {
 pub verifier_agrees : (sides : Sides) (m n : ℕ) (accepted : Accepted) → Histories sides
     → IsRecord accepted.challenge.stored → Takes sides m n accepted → VerifierAgrees sides m accepted
 verifier_agrees sides m n accepted histories kept takes =
-    let stands = signature_of_ok sides.login sides.client_events sides.client_replies m takes.text histories.client
-    takes.reported in
-    let meets = met_taken sides m n stands.0 accepted histories kept takes stands.1 in
-    let signature = signature_at sides m n stands.0 accepted histories takes stands.1 in
-    let its_key = accepted.challenge.stored.server_key in
-    let one = signature.one ∙ ap (λ version. hmac_of version its_key (server_message accepted))
-    (sym signature.version) in
+    let taken = taken_signature sides m n accepted histories takes in
+    let meets = met_taken sides m n taken.0 accepted histories kept takes taken.1 in
     record {
-      answer = stands.0;
-      opened = stands.1;
-      agrees = λ same. agree sides stands.0 accepted meets same;
-      collides = λ differ. (signature.version, record { differ = differ; one = one });
+      answer = taken.0;
+      opened = taken.1;
+      agrees = λ same. agree sides taken.0 accepted meets same;
+      collides = λ differ. (taken.2.0, record { differ = differ; one = taken.2.1 });
     }
 
 pub taken_verifiers_agree : EveryClient TakenVerifiersAgree

@@ -1,9 +1,7 @@
 -- Where a client and a server meet: one version, and one login where the AuthMessages are equal.
-use Rattle.std.proofs.Common.{◌≡◌, ℕ, Bool, true, false, List, ◌++◌, length, subst, refl, sym, ap, ◌∙◌, arith, codes, inl, inr}
+use Rattle.std.proofs.Common.{◌≡◌, ℕ, Bool, true, false, List, length, subst, sym, ap, ◌∙◌, codes, inl, inr}
 use Rattle.fe2o3_scram.specs.declared.hmac.ScramVersion.{ScramVersion}
-use Rattle.fe2o3_scram.specs.declared.hmac.ScramVersion.TheVariants.{Sha1, Sha256, Sha512}
-use Rattle.fe2o3_scram.specs.Texts.{base64_text}
-use Rattle.fe2o3_sasl.specs.ClientHistory.{Answering, AnswersAt, OpenAnswer}
+use Rattle.fe2o3_sasl.specs.ClientHistory.{Answering, OpenAnswer}
 use Rattle.std.specs.Prelude.{if◌then◌else◌}
 use Rattle.fe2o3_scram.specs.ClientFinal.{fit, keys_for}
 use Rattle.fe2o3_scram.specs.ClientKeys.{AreSized, ClientKeys, keys_of}
@@ -13,27 +11,14 @@ use Rattle.fe2o3_sasl.specs.Events.{IsRecord, IsSecret, Login}
 use Rattle.fe2o3_scram.specs.Hmac.{digest_len, hmac_of}
 use Rattle.fe2o3_sasl.specs.Laws.{AreMatched, MatchEqually, EqualMessagesAgree, NoShortExtensions}
 use Rattle.fe2o3_scram.specs.Keys.{stored_key}
-use Rattle.fe2o3_sasl.specs.ServerHistory.{Accepted, AcceptsAt, final_message}
+use Rattle.fe2o3_sasl.specs.ServerHistory.{Accepted}
 use Rattle.fe2o3_sasl.specs.TwoSides.{Sides, Histories, Takes, Shows, Agree, client_message, server_message, keys_at}
-use Rattle.fe2o3_scram.proofs.lemmas.texts.Base64Lemmas.{one_spelled}
-use Rattle.fe2o3_scram.proofs.lemmas.hashes.DigestLemmas.{length-hmac_of, IsBytes-hmac_of}
+use Rattle.fe2o3_scram.proofs.lemmas.hashes.DigestLemmas.{length-hmac_of}
+use Rattle.fe2o3_scram.proofs.lemmas.messages.AgreementLemmas.{one_signature, sized_version}
 use Rattle.fe2o3_scram.proofs.lemmas.messages.ExchangeLemmas.{length-exclusive_or}
 use Rattle.fe2o3_sasl.proofs.lemmas.histories.OneClientHistoryLemmas.{one_open_answer}
 use Rattle.fe2o3_sasl.proofs.lemmas.histories.ReportedOkLemmas.{signature_of_ok}
-use Rattle.fe2o3_scram.proofs.lemmas.texts.PartsLemmas.{one_part}
-use Rattle.fe2o3_sasl.proofs.lemmas.two_sides.EqualMessageLemmas.{SameMessages, same_messages, is_answering, is_accepted}
-
--- the lengths of the digests are apart
-one_version : (version other : ScramVersion) → digest_len version ≡ digest_len other → version ≡ other
-one_version Sha1 Sha1 same = refl
-one_version Sha1 Sha256 same = absurd (omega (arith, same))
-one_version Sha1 Sha512 same = absurd (omega (arith, same))
-one_version Sha256 Sha1 same = absurd (omega (arith, same))
-one_version Sha256 Sha256 same = refl
-one_version Sha256 Sha512 same = absurd (omega (arith, same))
-one_version Sha512 Sha1 same = absurd (omega (arith, same))
-one_version Sha512 Sha256 same = absurd (omega (arith, same))
-one_version Sha512 Sha512 same = refl
+use Rattle.fe2o3_sasl.proofs.lemmas.two_sides.EqualMessageLemmas.{SameMessages, same_messages, is_accepted}
 
 -- the keys of an answer are as long as a digest, where those of the secret are
 pub sized_at : (login : Login) (answer : Answering) → IsSecret login.secret → AreSized (keys_at login answer)
@@ -58,44 +43,33 @@ sized_at login answer = sized login.version login.secret answer.first
         (fit keys first)
 
 -- the signature that the client waited for is the one that the server gave
-pub record OneSignature (sides : Sides) (answer : Answering) (accepted : Accepted) : Type 0 where
-  pub version : (keys_at sides.login answer).version ≡ sides.provider.version
-  pub one : hmac_of (keys_at sides.login answer).version (keys_at sides.login answer).server_key
-      (client_message sides.login answer)
-      ≡ hmac_of sides.provider.version accepted.challenge.stored.server_key (server_message accepted)
+abbrev OneSignature : Sides → Answering → Accepted → Type 0
+OneSignature sides answer accepted =
+    let version = (keys_at sides.login answer).version in
+    (version ≡ sides.provider.version)
+    × (hmac_of version (keys_at sides.login answer).server_key (client_message sides.login answer)
+    ≡ hmac_of version accepted.challenge.stored.server_key (server_message accepted))
 
-taken_signature : (sides : Sides) (m n : ℕ) (accepted : Accepted) → Histories sides → Takes sides m n accepted
+pub taken_signature : (sides : Sides) (m n : ℕ) (accepted : Accepted) → Histories sides → Takes sides m n accepted
     → (answer : Answering) × OpenAnswer sides.login sides.client_events sides.client_replies m answer
     × OneSignature sides answer accepted
 taken_signature sides m n accepted histories takes =
     let stands = signature_of_ok sides.login sides.client_events sides.client_replies m takes.text histories.client
     takes.reported in
-    let answer = stands.0 in
-    let version = (keys_at sides.login answer).version in
-    let other = sides.provider.version in
-    let key = (keys_at sides.login answer).server_key in
+    let keys = keys_at sides.login stands.0 in
     let its_key = accepted.challenge.stored.server_key in
-    let auth = client_message sides.login answer in
-    let its_auth = server_message accepted in
-    let parts : codes "v=" ++ base64_text (hmac_of version key auth) ≡ codes "v="
-    ++ base64_text (hmac_of other its_key its_auth) = one_part takes.text 0
-    (codes "v=" ++ base64_text (hmac_of version key auth))
-    (final_message sides.provider accepted) stands.2.1 takes.one in
-    let texts : base64_text (hmac_of version key auth) ≡ base64_text (hmac_of other its_key its_auth) = cc in
-    let one = one_spelled (base64_text (hmac_of version key auth)) (hmac_of version key auth)
-    (hmac_of other its_key its_auth) (IsBytes-hmac_of version key auth, refl)
-    (IsBytes-hmac_of other its_key its_auth, texts) in (
-      answer,
+    let signed = one_signature keys.version sides.provider.version keys.server_key its_key
+    (client_message sides.login stands.0) (server_message accepted) takes.text stands.2 takes.one in (
+      stands.0,
       stands.1,
-      record {
-        version = one_version version other
-            (sym (length-hmac_of version key auth) ∙ (ap length one ∙ length-hmac_of other its_key its_auth));
-        one = one;
-      },
+      (
+        signed.0,
+        signed.1 ∙ ap (λ (of : ScramVersion). hmac_of of its_key (server_message accepted)) (sym signed.0),
+      ),
     )
 
 -- it is that of the answer which is open
-pub signature_at : (sides : Sides) (m n : ℕ) (answer : Answering) (accepted : Accepted) → Histories sides
+signature_at : (sides : Sides) (m n : ℕ) (answer : Answering) (accepted : Accepted) → Histories sides
     → Takes sides m n accepted → OpenAnswer sides.login sides.client_events sides.client_replies m answer
     → OneSignature sides answer accepted
 signature_at sides m n answer accepted histories takes opened =
@@ -115,18 +89,8 @@ shown_version sides k n answer accepted held shows =
     (client_message sides.login answer) in
     let sized = (is_accepted sides.provider sides.server_events sides.server_replies n accepted
     shows.ok.accepts).names.sized in
-    one_version version sides.provider.version
+    sized_version version sides.provider.version
     (sym long ∙ (sym (length-exclusive_or key pad (long ∙ sym wide)) ∙ (ap length shows.one ∙ sized)))
-
--- equal AuthMessages of an answer and of what was accepted
-pub same_at : (sides : Sides) (k n : ℕ) (answer : Answering) (accepted : Accepted) → IsRecord accepted.challenge.stored
-    → AnswersAt sides.login sides.client_events sides.client_replies k answer
-    → AcceptsAt sides.provider sides.server_events sides.server_replies n accepted
-    → client_message sides.login answer ≡ server_message accepted → SameMessages sides.login answer accepted
-same_at sides k n answer accepted kept answers accepts same =
-    same_messages sides.provider sides.login answer accepted kept
-    (is_answering sides.login sides.client_events sides.client_replies k answer answers)
-    (is_accepted sides.provider sides.server_events sides.server_replies n accepted accepts) same
 
 -- what a meeting says
 pub record Met (sides : Sides) (answer : Answering) (accepted : Accepted) : Type 0 where
@@ -138,8 +102,8 @@ pub met_taken : (sides : Sides) (m n : ℕ) (answer : Answering) (accepted : Acc
     → IsRecord accepted.challenge.stored → Takes sides m n accepted
     → OpenAnswer sides.login sides.client_events sides.client_replies m answer → Met sides answer accepted
 met_taken sides m n answer accepted histories kept takes opened = record {
-  version = (signature_at sides m n answer accepted histories takes opened).version;
-  same = same_at sides opened.0 n answer accepted kept opened.2 takes.ok.accepts;
+  version = (signature_at sides m n answer accepted histories takes opened).0;
+  same = same_messages sides opened.0 n answer accepted kept opened.2 takes.ok.accepts;
 }
 
 -- and where it showed the proof
@@ -147,7 +111,7 @@ pub met_shown : (sides : Sides) (k n : ℕ) (answer : Answering) (accepted : Acc
     → IsRecord accepted.challenge.stored → Shows sides k n answer accepted → Met sides answer accepted
 met_shown sides k n answer accepted held kept shows = record {
   version = shown_version sides k n answer accepted held shows;
-  same = same_at sides k n answer accepted kept shows.answers shows.ok.accepts;
+  same = same_messages sides k n answer accepted kept shows.answers shows.ok.accepts;
 }
 
 met : (sides : Sides) (answer : Answering) (accepted : Accepted) → MatchEqually sides answer accepted
@@ -167,7 +131,7 @@ agree sides answer accepted is same =
       version = is.version;
       user = messages.user;
       nonce = messages.nonce;
-      full_nonce = messages.full;
+      full_nonce = messages.full_nonce;
       salt = messages.salt;
       count = messages.count;
     }

@@ -1,12 +1,13 @@
--- What equal AuthMessages of a client and a server say, and what the signature does that both have.
+-- What equal AuthMessages of a client and a server say, and what the signature does that both have: first of the values
+-- alone, however their texts came, and then of one client's and one server's texts.
 use Rattle.std.proofs.Common.{◌≡◌, ℕ, ◌<◌, ◌^◌, Some, List, [], ◌∷◌, ◌++◌, length, get_or, refl, sym, ap, ◌∙◌, subst, arith, codes, Ok}
 use Rattle.std.specs.Fmt.{decimal}
 use Rattle.std.proofs.lemmas.Option.{same_Some}
 use Rattle.fe2o3_scram.specs.declared.hmac.ScramVersion.{ScramVersion}
 use Rattle.fe2o3_scram.specs.declared.hmac.ScramVersion.TheVariants.{Sha1, Sha256, Sha512}
 use Rattle.fe2o3_scram.specs.Agreement.{Agree, BelievedTextsAgree, ClientKnows, IsPlain, ServerKnows, challenge_known, client_message, keys_known, server_message}
-use Rattle.fe2o3_scram.specs.ClientFinal.{Answer, answer_of, server_of, without_proof}
-use Rattle.fe2o3_scram.specs.ClientFirst.{ClientFirst, client_first_bare}
+use Rattle.fe2o3_scram.specs.ClientFinal.{Answer, ClientFinal, answer_of, server_of, without_proof}
+use Rattle.fe2o3_scram.specs.ClientFirst.{ClientFirst, NamesClientFirst, client_first_bare}
 use Rattle.fe2o3_scram.specs.Credentials.{Provider, Record, record_at}
 use Rattle.fe2o3_scram.specs.Escape.{escaped}
 use Rattle.fe2o3_scram.specs.Hmac.{digest_len, hmac_of}
@@ -14,14 +15,13 @@ use Rattle.fe2o3_scram.specs.Keys.{auth_message}
 use Rattle.fe2o3_scram.specs.Laws.{HoldsBytes}
 use Rattle.fe2o3_scram.specs.ScramClient.{ClientSide, ClientFinalSent, BelievesIn, holding, with_state}
 use Rattle.fe2o3_scram.specs.ScramServer.{ServerState, ServerFirstSent, ConcludesFrom}
-use Rattle.fe2o3_scram.specs.ServerFinal.{AnswersClientFinal, HasSignature, ReadsServerFinal}
+use Rattle.fe2o3_scram.specs.ServerFinal.{AnswersClientFinal, HasSignature}
 use Rattle.fe2o3_scram.specs.ServerFirst.{Challenge, NamesServerFirst, ServerFirst, challenge_of}
 use Rattle.fe2o3_scram.specs.Texts.{IsCount, NoComma, Part, Parts, base64_text, joined}
 use Rattle.fe2o3_scram.proofs.lemmas.hashes.DigestLemmas.{length-hmac_of, IsBytes-hmac_of}
-use Rattle.fe2o3_scram.proofs.lemmas.messages.ClientFinalLemmas.{names_client_final}
+use Rattle.fe2o3_scram.proofs.lemmas.messages.ClientFinalLemmas.{NamesAcceptedFinal, names_client_final}
 use Rattle.fe2o3_scram.proofs.lemmas.messages.ExchangeLemmas.{no_comma-decimal, part_of, only_part}
-use Rattle.fe2o3_scram.proofs.lemmas.messages.OneValueLemmas.{names_client_first, names_server_first}
-use Rattle.fe2o3_scram.proofs.lemmas.messages.ServerFinalLemmas.{names_signature}
+use Rattle.fe2o3_scram.proofs.lemmas.messages.OneValueLemmas.{names_client_first, names_server_final, names_server_first}
 use Rattle.fe2o3_scram.proofs.lemmas.texts.Base64Lemmas.{no_comma-append, no_comma-base64_text, one_spelled}
 use Rattle.fe2o3_scram.proofs.lemmas.texts.CountLemmas.{count_of_decimal}
 use Rattle.fe2o3_scram.proofs.lemmas.texts.EscapingLemmas.{no_comma-escaped, one_escaped}
@@ -33,27 +33,33 @@ use Rattle.fe2o3_scram.proofs.lemmas.texts.PartsLemmas.{pieces, Parts-pieces, on
 binding_plain : NoComma (codes "c=" ++ base64_text (codes "n,,"))
 binding_plain = part_of (codes "c=") (base64_text (codes "n,,")) refl (no_comma-base64_text (codes "n,,"))
 
--- the client's: two of its first message, three and more of the challenge, two of its answer
-client_parts : (user random text : List ℕ) (first : ServerFirst) → (names : NamesServerFirst text first)
-    → (more : List (List ℕ))
-    × Parts (auth_message (client_first_bare user (base64_text random)) text (without_proof first.nonce))
-    (((codes "n=" ++ escaped user) ∷ (codes "r=" ++ base64_text random) ∷ [])
-    ++ (((codes "r=" ++ first.nonce) ∷ (codes "s=" ++ base64_text first.salt) ∷ (codes "i=" ++ names.count.0) ∷ more)
+-- what a client has of an exchange: with this nonce it answered a message that names these values
+pub record ClientHas (own text : List ℕ) (first : ServerFirst) : Type 0 where
+  pub plain : NoComma own
+  pub names : NamesServerFirst text first
+
+-- its parts: two of its first message, three and more of the challenge, two of its answer
+client_parts : (name own text : List ℕ) (first : ServerFirst) → (has : ClientHas own text first)
+    → (more : List (List ℕ)) × Parts (auth_message (client_first_bare name own) text (without_proof first.nonce))
+    (((codes "n=" ++ escaped name) ∷ (codes "r=" ++ own) ∷ [])
+    ++ (((codes "r=" ++ first.nonce) ∷ (codes "s=" ++ base64_text first.salt)
+    ∷ (codes "i=" ++ has.names.count.0) ∷ more)
     ++ ((codes "c=" ++ base64_text (codes "n,,")) ∷ (codes "r=" ++ first.nonce) ∷ [])))
-client_parts name random text first names =
+client_parts name own text first has =
+    let names = has.names in
     let user = codes "n=" ++ escaped name in
-    let nonce = codes "r=" ++ base64_text random in
+    let nonce = codes "r=" ++ own in
     let full = codes "r=" ++ first.nonce in
     let binding = codes "c=" ++ base64_text (codes "n,,") in
     let bare = two_joined user nonce (user ∷ []) (nonce ∷ [])
     (only_part user (part_of (codes "n=") (escaped name) refl (no_comma-escaped name)))
-    (only_part nonce (part_of (codes "r=") (base64_text random) refl (no_comma-base64_text random))) in
+    (only_part nonce (part_of (codes "r=") own refl has.plain)) in
     let named = first_three text full (codes "s=" ++ base64_text first.salt) (codes "i=" ++ names.count.0) names.nonce
     names.salt.1 names.count.1 in
     let rest = two_joined binding full (binding ∷ []) (full ∷ []) (only_part binding binding_plain)
     (only_part full (no_comma-part text 0 full names.nonce)) in (
       named.0,
-      three_joined (client_first_bare name (base64_text random)) text (without_proof first.nonce)
+      three_joined (client_first_bare name own) text (without_proof first.nonce)
           (user ∷ nonce ∷ []) _ (binding ∷ full ∷ []) bare named.1 rest,
     )
 
@@ -84,58 +90,69 @@ without_parts without text binding nonce proof bound named plain whole = go (pie
               (subst (λ (z : List ℕ). Parts without (z ∷ y ∷ middle)) first are),
         )
 
--- the server's: two and more of the client-first message, three of its challenge, two and more of the response
-record ServerParts {provider : Provider} {nonce init response : List ℕ}
-    (server : ServerKnows provider nonce init response) : Type 0 where
+-- what a server has of an exchange: with this nonce it answered a message that names the client's values by a challenge
+-- of this record, and then a message that names these
+pub record ServerHas (version : ScramVersion) (client : ClientFirst) (its : List ℕ) (stored : Record)
+    (final : ClientFinal) : Type 0 where
+  pub init : List ℕ
+  pub response : List ℕ
+  pub plain : NoComma its
+  pub first : NamesClientFirst init client
+  pub names : let challenge = challenge_of client its stored in
+      NamesAcceptedFinal (server_of version challenge.bare challenge.first challenge.nonce stored) response final
+
+-- its parts: two and more of the client-first message, three of its challenge, two and more of the response
+record ServerParts (client : ClientFirst) (its : List ℕ) (stored : Record) (without : List ℕ) : Type 0 where
   extra : List (List ℕ)
   middle : List (List ℕ)
-  bare : Parts server.client.bare
-      ((codes "n=" ++ escaped server.client.user) ∷ (codes "r=" ++ server.client.nonce) ∷ extra)
-  message : Parts (server_message server)
-      (((codes "n=" ++ escaped server.client.user) ∷ (codes "r=" ++ server.client.nonce) ∷ extra)
-      ++ (((codes "r=" ++ (challenge_known server).nonce) ∷ (codes "s=" ++ base64_text server.stored.salt)
-      ∷ (codes "i=" ++ decimal server.stored.count) ∷ [])
-      ++ ((codes "c=" ++ base64_text (codes "n,,")) ∷ (codes "r=" ++ (challenge_known server).nonce) ∷ middle)))
+  bare : Parts client.bare ((codes "n=" ++ escaped client.user) ∷ (codes "r=" ++ client.nonce) ∷ extra)
+  message : let challenge = challenge_of client its stored in
+      Parts (auth_message client.bare challenge.first without)
+      (((codes "n=" ++ escaped client.user) ∷ (codes "r=" ++ client.nonce) ∷ extra)
+      ++ (((codes "r=" ++ challenge.nonce) ∷ (codes "s=" ++ base64_text stored.salt)
+      ∷ (codes "i=" ++ decimal stored.count) ∷ [])
+      ++ ((codes "c=" ++ base64_text (codes "n,,")) ∷ (codes "r=" ++ challenge.nonce) ∷ middle)))
 
-server_parts : {provider : Provider} {nonce init response : List ℕ} (server : ServerKnows provider nonce init response)
-    → server.stored.count < 2 ^ 32 → ServerParts server
-server_parts {provider} {nonce} {init} {response} server small =
-    let wide : server.stored.count < 2 ^ 64 = omega (arith, small) in
-    let challenge = challenge_known server in
-    let names = names_client_first init server.client server.reads_init in
-    let accepts = names_client_final (server_of provider.version challenge.bare challenge.first challenge.nonce
-    server.stored) response server.final server.reads in
-    let client = codes "r=" ++ server.client.nonce in
+server_parts : (version : ScramVersion) (client : ClientFirst) (its : List ℕ) (stored : Record) (final : ClientFinal)
+    → stored.count < 2 ^ 32 → ServerHas version client its stored final → ServerParts client its stored final.without
+server_parts version client its stored final small has =
+    let wide : stored.count < 2 ^ 64 = omega (arith, small) in
+    let challenge = challenge_of client its stored in
+    let own = codes "r=" ++ client.nonce in
     let full = codes "r=" ++ challenge.nonce in
-    let salt = codes "s=" ++ base64_text server.stored.salt in
-    let count = codes "i=" ++ decimal server.stored.count in
-    let bare = first_two server.client.bare (codes "n=" ++ escaped server.client.user) client names.user names.nonce in
-    let plain : NoComma full = no_comma-append client (base64_text nonce)
-    (no_comma-part server.client.bare 1 client names.nonce) (no_comma-base64_text nonce) in
+    let salt = codes "s=" ++ base64_text stored.salt in
+    let count = codes "i=" ++ decimal stored.count in
+    let bare = first_two client.bare (codes "n=" ++ escaped client.user) own has.first.user has.first.nonce in
+    let plain : NoComma full = no_comma-append own its (no_comma-part client.bare 1 own has.first.nonce) has.plain in
     let first = three_joined full salt count (full ∷ []) (salt ∷ []) (count ∷ []) (only_part full plain)
-    (only_part salt (part_of (codes "s=") (base64_text server.stored.salt) refl
-    (no_comma-base64_text server.stored.salt)))
-    (only_part count (part_of (codes "i=") (decimal server.stored.count) refl
-    (no_comma-decimal server.stored.count wide))) in
-    let rest = without_parts server.final.without response (codes "c=" ++ base64_text (codes "n,,"))
-    (61 ∷ challenge.nonce) (61 ∷ base64_text server.final.proof) accepts.binding.1 accepts.nonce
-    accepts.proof.1.0 accepts.proof.1.1 in
+    (only_part salt (part_of (codes "s=") (base64_text stored.salt) refl (no_comma-base64_text stored.salt)))
+    (only_part count (part_of (codes "i=") (decimal stored.count) refl (no_comma-decimal stored.count wide))) in
+    let rest = without_parts final.without has.response (codes "c=" ++ base64_text (codes "n,,"))
+    (61 ∷ challenge.nonce) (61 ∷ base64_text final.proof) has.names.binding.1 has.names.nonce
+    has.names.proof.1.0 has.names.proof.1.1 in
     record {
       extra = bare.0;
       middle = rest.0;
       bare = bare.1;
-      message =
-          three_joined server.client.bare challenge.first server.final.without _ _ _ bare.1 first rest.1;
+      message = three_joined client.bare challenge.first final.without _ _ _ bare.1 first rest.1;
     }
 
 -- ---- equal lists of parts
 
+-- the first byte of a part
+abbrev letter : ℕ → List (List ℕ) → ℕ
+letter k parts = get_or (get_or parts k []) 0 0
+
+-- the fields of the two sides; with one or two extra parts of the client-first message the third part of the server's
+-- would stand where the client has its salt or its count
 record SameFields (u n u' n' f s i f' s' i' : List ℕ) (extra : List (List ℕ)) : Type 0 where
   user : u ≡ u'
   nonce : n ≡ n'
   full : extra ≡ [] → f ≡ f'
   salt : extra ≡ [] → s ≡ s'
   count : extra ≡ [] → i ≡ i'
+  not_three : (x : List ℕ) → extra ≡ x ∷ [] → ⊥
+  not_four : (x y : List ℕ) → extra ≡ x ∷ y ∷ [] → ⊥
 
 -- 110, 114, 115, 105 and 99 are n, r, s, i and c; 61 is =
 same_fields : (u n u' n' f s i f' s' i' c c' f'' : List ℕ) (extra more last : List (List ℕ)) →
@@ -151,47 +168,85 @@ same_fields u n u' n' f s i f' s' i' c c' f'' extra more last h =
       full = λ e. let h' = rw e at h in cc;
       salt = λ e. let h' = rw e at h in cc;
       count = λ e. let h' = rw e at h in cc;
+      not_three = λ x e. let d : ◌≡◌ {A = ℕ} 115 114 = ap (letter 3) (rw e at h) in absurd (omega (arith, d));
+      not_four = λ x y e. let d : ◌≡◌ {A = ℕ} 105 114 = ap (letter 4) (rw e at h) in absurd (omega (arith, d));
     }
+
+-- the text has so many parts
+abbrev pub InParts : ℕ → List ℕ → Type 0
+InParts n text = (parts : List (List ℕ)) × Parts text parts × (length parts ≡ n)
 
 no_extra : (text p q : List ℕ) (extra : List (List ℕ)) → Parts text (p ∷ q ∷ extra) → IsPlain text → extra ≡ []
 no_extra text p q [] are has = refl
 no_extra text p q (x ∷ more) are has = absurd (let same : length (p ∷ q ∷ x ∷ more) ≡ 2 =
     ap length (one_list_of_parts text _ has.0 are has.1) ∙ has.2 in omega (arith, same))
 
--- where the AuthMessages are equal, both sides agree
-agree : (side : ClientSide) (provider : Provider) (own text its init response : List ℕ)
-    (client : ClientKnows side own text) (server : ServerKnows provider its init response)
-    → HoldsBytes (server.client.user, server.stored)
-    → (keys_known client).version ≡ provider.version → client_message client ≡ server_message server
-    → Agree client server
-agree side provider own text its init response client server holds version same =
-    let names = names_server_first (holding side (base64_text own)) text client.first client.reads in
-    let small : server.stored.count < 2 ^ 32 = holds.0 in
-    let wide : server.stored.count < 2 ^ 64 = omega (arith, small) in
-    let ours = client_parts side.user own text client.first names in
-    let theirs = server_parts server small in
-    let fields = same_fields (escaped side.user) (base64_text own) (escaped server.client.user) server.client.nonce
-    client.first.nonce (base64_text client.first.salt) names.count.0 (challenge_known server).nonce
-    (base64_text server.stored.salt) (decimal server.stored.count) (base64_text (codes "n,,"))
-    (base64_text (codes "n,,")) (challenge_known server).nonce theirs.extra ours.0 theirs.middle
-    (same_parts (client_message client) (server_message server) _ _ same ours.1 theirs.message) in
+one_extra : (text p q : List ℕ) (extra : List (List ℕ)) → Parts text (p ∷ q ∷ extra) → InParts 3 text
+    → ((x : List ℕ) → extra ≡ x ∷ [] → ⊥) → ⊥
+one_extra text p q extra are has none = go extra (ap length (one_list_of_parts text _ has.0 are has.1) ∙ has.2) none
+  where
+    go : (extra : List (List ℕ)) → length (p ∷ q ∷ extra) ≡ 3 → ((x : List ℕ) → extra ≡ x ∷ [] → ⊥) → ⊥
+    go [] same none = omega (arith, same)
+    go (x ∷ []) same none = none x refl
+    go (x ∷ y ∷ more) same none = omega (arith, same)
+
+two_extra : (text p q : List ℕ) (extra : List (List ℕ)) → Parts text (p ∷ q ∷ extra) → InParts 4 text
+    → ((x y : List ℕ) → extra ≡ x ∷ y ∷ [] → ⊥) → ⊥
+two_extra text p q extra are has none = go extra (ap length (one_list_of_parts text _ has.0 are has.1) ∙ has.2) none
+  where
+    go : (extra : List (List ℕ)) → length (p ∷ q ∷ extra) ≡ 4 → ((x y : List ℕ) → extra ≡ x ∷ y ∷ [] → ⊥) → ⊥
+    go [] same none = omega (arith, same)
+    go (x ∷ []) same none = omega (arith, same)
+    go (x ∷ y ∷ []) same none = none x y refl
+    go (x ∷ y ∷ z ∷ more) same none = omega (arith, same)
+
+-- equal AuthMessages mean one user and nonce and, where the client-first message was plain, one nonce of both sides,
+-- salt and count; it had not three parts and not four
+pub record SameValues (name own : List ℕ) (first : ServerFirst) (client : ClientFirst) (its : List ℕ) (stored : Record)
+    : Type 0 where
+  pub user : name ≡ client.user
+  pub nonce : own ≡ client.nonce
+  pub full_nonce : IsPlain client.bare → first.nonce ≡ (challenge_of client its stored).nonce
+  pub salt : IsPlain client.bare → first.salt ≡ stored.salt
+  pub count : IsPlain client.bare → first.count ≡ stored.count
+  pub not_three : ¬ InParts 3 client.bare
+  pub not_four : ¬ InParts 4 client.bare
+
+pub same_values : (name own text : List ℕ) (first : ServerFirst) (version : ScramVersion) (client : ClientFirst)
+    (its : List ℕ) (stored : Record) (final : ClientFinal) → HoldsBytes (client.user, stored)
+    → ClientHas own text first → ServerHas version client its stored final
+    → auth_message (client_first_bare name own) text (without_proof first.nonce)
+    ≡ auth_message client.bare (challenge_of client its stored).first final.without
+    → SameValues name own first client its stored
+same_values name own text first version client its stored final holds ours theirs same =
+    let small : stored.count < 2 ^ 32 = holds.0 in
+    let wide : stored.count < 2 ^ 64 = omega (arith, small) in
+    let full = (challenge_of client its stored).nonce in
+    let names = ours.names in
+    let left = client_parts name own text first ours in
+    let right = server_parts version client its stored final small theirs in
+    let fields = same_fields (escaped name) own (escaped client.user) client.nonce first.nonce (base64_text first.salt)
+    names.count.0 full (base64_text stored.salt) (decimal stored.count) (base64_text (codes "n,,"))
+    (base64_text (codes "n,,")) full right.extra left.0 right.middle
+    (same_parts (auth_message (client_first_bare name own) text (without_proof first.nonce))
+    (auth_message client.bare (challenge_of client its stored).first final.without) _ _ same left.1 right.message) in
     record {
-      version = version;
-      user = one_escaped side.user server.client.user fields.user;
+      user = one_escaped name client.user fields.user;
       nonce = fields.nonce;
-      full_nonce = λ plain. fields.full (no_extra server.client.bare _ _ theirs.extra theirs.bare plain);
-      salt = λ plain. one_spelled (base64_text client.first.salt) client.first.salt server.stored.salt
-          (names.salt.0, refl)
-          (holds.1, fields.salt (no_extra server.client.bare _ _ theirs.extra theirs.bare plain));
-      count = λ plain. count_of_decimal server.stored.count client.first.count wide
-          (subst (λ (digits : List ℕ). IsCount digits client.first.count)
-          (fields.count (no_extra server.client.bare _ _ theirs.extra theirs.bare plain)) names.count.2);
+      full_nonce = λ only. fields.full (no_extra client.bare _ _ right.extra right.bare only);
+      salt = λ only. one_spelled (base64_text first.salt) first.salt stored.salt (names.salt.0, refl)
+          (holds.1, fields.salt (no_extra client.bare _ _ right.extra right.bare only));
+      count = λ only. count_of_decimal stored.count first.count wide
+          (subst (λ (digits : List ℕ). IsCount digits first.count)
+          (fields.count (no_extra client.bare _ _ right.extra right.bare only)) names.count.2);
+      not_three = λ three. one_extra client.bare _ _ right.extra right.bare three fields.not_three;
+      not_four = λ four. two_extra client.bare _ _ right.extra right.bare four fields.not_four;
     }
 
 -- ---- the signature
 
 -- the lengths of the digests are apart
-sized_version : (version other : ScramVersion) → digest_len version ≡ digest_len other → version ≡ other
+pub sized_version : (version other : ScramVersion) → digest_len version ≡ digest_len other → version ≡ other
 sized_version Sha1 Sha1 same = refl
 sized_version Sha1 Sha256 same = absurd (omega (arith, same))
 sized_version Sha1 Sha512 same = absurd (omega (arith, same))
@@ -203,25 +258,63 @@ sized_version Sha512 Sha256 same = absurd (omega (arith, same))
 sized_version Sha512 Sha512 same = refl
 
 -- where one text shows both signatures, version and HMAC value are one
-collide : (version other : ScramVersion) (key its_key auth its_auth last : List ℕ)
+pub one_signature : (version other : ScramVersion) (key its_key auth its_auth last : List ℕ)
     → HasSignature last (hmac_of version key auth)
     → Part last 0 (codes "v=" ++ base64_text (hmac_of other its_key its_auth))
-    → (version ≡ other) × (hmac_of other key auth ≡ hmac_of other its_key its_auth)
-collide version other key its_key auth its_auth last has part =
+    → (version ≡ other) × (hmac_of version key auth ≡ hmac_of other its_key its_auth)
+one_signature version other key its_key auth its_auth last has part =
     let mine = hmac_of version key auth in
     let its = hmac_of other its_key its_auth in
     let parts : codes "v=" ++ base64_text mine ≡ codes "v=" ++ base64_text its =
     one_part last 0 (codes "v=" ++ base64_text mine) (codes "v=" ++ base64_text its) has.1 part in
     let texts : base64_text mine ≡ base64_text its = cc in
     let one = one_spelled (base64_text mine) mine its (IsBytes-hmac_of version key auth, refl)
-    (IsBytes-hmac_of other its_key its_auth, texts) in
-    let same = sized_version version other
-    (sym (length-hmac_of version key auth) ∙ (ap length one ∙ length-hmac_of other its_key its_auth)) in
-    (same, ap (λ (of : ScramVersion). hmac_of of key auth) (sym same) ∙ one)
+    (IsBytes-hmac_of other its_key its_auth, texts) in (
+      sized_version version other
+          (sym (length-hmac_of version key auth) ∙ (ap length one ∙ length-hmac_of other its_key its_auth)),
+      one,
+    )
 
-has_signature : (signature text : List ℕ) → ReadsServerFinal signature text (Ok tt) → HasSignature text signature
-unfolding ReadsServerFinal
-has_signature signature text reads = names_signature text signature reads
+-- ---- one client's and one server's texts
+
+client_has : (side : ClientSide) (own text : List ℕ) (client : ClientKnows side own text)
+    → ClientHas (base64_text own) text client.first
+client_has side own text client = record {
+  plain = no_comma-base64_text own;
+  names = names_server_first (holding side (base64_text own)) text client.first client.reads;
+}
+
+server_has : (provider : Provider) (its init response : List ℕ) (server : ServerKnows provider its init response)
+    → ServerHas provider.version server.client (base64_text its) server.stored server.final
+server_has provider its init response server =
+    let challenge = challenge_known server in
+    record {
+      init = init;
+      response = response;
+      plain = no_comma-base64_text its;
+      first = names_client_first init server.client server.reads_init;
+      names = names_client_final (server_of provider.version challenge.bare challenge.first challenge.nonce
+          server.stored) response server.final server.reads;
+    }
+
+-- where the AuthMessages are equal, both sides agree
+agree : (side : ClientSide) (provider : Provider) (own text its init response : List ℕ)
+    (client : ClientKnows side own text) (server : ServerKnows provider its init response)
+    → HoldsBytes (server.client.user, server.stored)
+    → (keys_known client).version ≡ provider.version → client_message client ≡ server_message server
+    → Agree client server
+agree side provider own text its init response client server holds version same =
+    let values = same_values side.user (base64_text own) text client.first provider.version server.client
+    (base64_text its) server.stored server.final holds (client_has side own text client)
+    (server_has provider its init response server) same in
+    record {
+      version = version;
+      user = values.user;
+      nonce = values.nonce;
+      full_nonce = values.full_nonce;
+      salt = values.salt;
+      count = values.count;
+    }
 
 -- what a client believed shows the signature of its answer
 shown : (side waiting done : ClientSide) (answer own : Answer) (last : List ℕ) → answer ≡ own
@@ -229,7 +322,8 @@ shown : (side waiting done : ClientSide) (answer own : Answer) (last : List ℕ)
     → BelievesIn waiting.state waiting last (Ok tt) done → HasSignature last own.signature
 shown side waiting done answer own last same is believes =
     let reads = subst (λ (at : ClientSide). BelievesIn at.state at last (Ok tt) done) is believes in
-    subst (λ (made : Answer). HasSignature last made.signature) same (has_signature answer.signature last reads.0)
+    subst (λ (made : Answer). HasSignature last made.signature) same
+    (names_server_final answer.signature last tt reads.0)
 
 -- what a server accepted it read against its challenge
 concluded : (provider : Provider) (waiting done : ServerState) (challenge : Challenge) (client : ClientFirst)
@@ -244,8 +338,6 @@ concluded provider waiting done challenge client nonce response last stored is s
     (is ∙ ap ServerFirstSent same) from in
     subst (λ (kept : Record). AnswersClientFinal (server_of provider.version own.bare own.first own.nonce kept)
     response (Ok last)) (same_Some at.0 stored (sym at.1 ∙ known)) at.2
-
--- ---- both
 
 pub believed_texts_agree : BelievedTextsAgree
 believed_texts_agree side provider own text last its init response verifier believed accepted part =
@@ -265,13 +357,17 @@ believed_texts_agree side provider own text last its init response verifier beli
     let has = shown side believed.waiting believed.done believed.answers.0
     (answer_of side.version side.secret (client_first_bare side.user (base64_text own)) text answer.0) last
     answer.2 believed.answers.3 believed.believes in
-    let one = collide (keys_known client).version provider.version (keys_known client).server_key
+    let one = one_signature (keys_known client).version provider.version (keys_known client).server_key
     server.stored.server_key (client_message client) (server_message server) last has
     (subst (Part last 0) final.2 part) in (
       client,
       server,
       λ holds. (
         agree side provider own text its init response client server holds one.0,
-        λ differ. record { version = one.0; one = one.1 },
+        λ differ. record {
+          version = one.0;
+          one = ap (λ (of : ScramVersion). hmac_of of (keys_known client).server_key (client_message client))
+              (sym one.0) ∙ one.1;
+        },
       ),
     )
