@@ -25,7 +25,7 @@ check:
 # meter of its own or hashes; the programs that the borrow checker has to refuse; then every proof from
 # nothing, the tests and the programs, and beside these the wrong bodies.
 test:
-	@tools/progress $$PPID 60 'a whole run took 30 minutes on 4 processors, and 5,650 s of processor' &
+	@tools/progress $$PPID 60 'a whole run took 45 minutes on 4 processors, and 7,900 s of processor' &
 	sh tools/quoted.sh
 	python3 tools/signatures.py --check
 	python3 tools/circles.py
