@@ -12,7 +12,7 @@ use Rattle.fe2o3_sasl.specs.Runs.{Runs, AcceptorSteps}
 use Rattle.fe2o3_sasl.specs.SaslAcceptor.{Acceptor, ScramAcceptor, PlainAcceptor, AnonymousAcceptor, acceptor_machine, acceptor_names, acceptor_user, offered, ends_with, NoZero}
 use Rattle.fe2o3_sasl.specs.Profiles.{Profile, ScramProfile, PlainProfile, AnonymousProfile, ExternalProfile, profile_machine, profile_name, scram_profile}
 
--- an acceptor has one reply to each frame, and one acceptor after it
+-- an acceptor has one reply at most to each frame, and one acceptor after it
 abbrev pub OneAcceptorReply : Type 0
 OneAcceptorReply = (acceptor : Acceptor) (nonce : List ℕ) (frame reply other : SaslFrame) (next last : Acceptor)
     → acceptor_machine acceptor nonce frame reply next → acceptor_machine acceptor nonce frame other last
