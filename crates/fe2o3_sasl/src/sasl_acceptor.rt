@@ -470,7 +470,8 @@ impl<C: ScramCredentialProvider> SaslAcceptor for ScramAuthenticator<C> {
             (sent_frame reply) (ScramAcceptor (C.meaning (provider_in self.new)) (state_in self.new))) }
         ensures memory { IfErr result (λ _. acceptor_allocates
             (ScramAcceptor (C.meaning (provider_in self.old)) (state_in self.old)) (response_frame response)) }
-        ensures err { OnErr result (◌≡◌ {A = Acceptor} (ScramAcceptor (C.meaning (provider_in self.new)) (state_in self.new))
+        ensures err { OnErr result (◌≡◌ {A = Acceptor}
+            (ScramAcceptor (C.meaning (provider_in self.new)) (state_in self.new))
             (ScramAcceptor (C.meaning (provider_in self.old)) (state_in self.old))) }
         ensures cost { CostsAtMost acceptor_hmacs
             (ScramAcceptor (C.meaning (provider_in self.old)) (state_in self.old)) (response_frame response)

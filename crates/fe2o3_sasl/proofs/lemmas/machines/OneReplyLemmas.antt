@@ -71,7 +71,8 @@ challenge_made state provider nonce text (Err fault) next is = (Err fault, is.0,
 
 -- the turn to a client-final message that was read against this record
 abbrev final_turn : Challenge → Server → Result ClientFinal ServerScramErrorKind → ServerTurn
-final_turn challenge server (Ok final) = (Ok (Some (server_final_of server final)), server_states.ServerFinalSent challenge.user)
+final_turn challenge server (Ok final) =
+    (Ok (Some (server_final_of server final)), server_states.ServerFinalSent challenge.user)
 final_turn challenge server (Err fault) = (Err fault, server_states.ServerFirstSent challenge)
 
 -- the turn to a client-final message where the challenge is open: the record is there, or is not

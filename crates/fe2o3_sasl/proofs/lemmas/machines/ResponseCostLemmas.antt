@@ -70,26 +70,27 @@ against : {V : Type 0} (Allocates : Type 0) (view : V → Option (List ℕ)) (ch
     → ConcludesFrom (server_states.ServerFirstSent challenge) provider text answer last
     → FinalCosts (with_record challenge provider stored) text result before after
     → FinalCosts (with_record challenge provider stored) text answer 0 n → after ≤ before + n
-against Allocates view challenge provider text stored (Ok value) answer next last before after n is gives concludes costs takes =
+against Allocates view challenge provider text stored (Ok value) answer next last before after n is gives concludes
+    costs takes =
     let turn = one_conclusion (server_states.ServerFirstSent challenge) provider text (Ok (view value)) answer next last
     gives concludes in
     let two : n ≡ 2 = takes_of (with_record challenge provider stored) text (Ok (view value)) answer next last n turn
     takes in
     omega (arith, costs, two)
-against Allocates view challenge provider text stored (Err AuthenticationFailed) answer next last before after n is gives
-    concludes costs takes =
+against Allocates view challenge provider text stored (Err AuthenticationFailed) answer next last before after n is
+    gives concludes costs takes =
     let turn = one_conclusion (server_states.ServerFirstSent challenge) provider text (Err AuthenticationFailed) answer
     next last (gives.1 (λ e. absurd (cc))) concludes in
     let one : n ≡ 1 = takes_of (with_record challenge provider stored) text (Err AuthenticationFailed) answer next last
     n turn takes in
     omega (arith, costs, one)
-against Allocates view challenge provider text stored (Err OutOfMemory) (Ok message) next last before after n is gives concludes
-    costs takes = let most = costs.1 in omega (arith, most, takes)
-against Allocates view challenge provider text stored (Err OutOfMemory) (Err fault) next last before after n is gives concludes
-    costs takes =
+against Allocates view challenge provider text stored (Err OutOfMemory) (Ok message) next last before after n is gives
+    concludes costs takes = let most = costs.1 in omega (arith, most, takes)
+against Allocates view challenge provider text stored (Err OutOfMemory) (Err fault) next last before after n is gives
+    concludes costs takes =
     let same = costs.2 fault (refuses challenge provider text stored fault last is concludes) in omega (arith, same)
-against Allocates view challenge provider text stored (Err fault) answer next last before after n is gives concludes costs
-    takes = let same : after ≡ before = costs in omega (arith, same)
+against Allocates view challenge provider text stored (Err fault) answer next last before after n is gives concludes
+    costs takes = let same : after ≡ before = costs in omega (arith, same)
 
 -- no more than the acceptor's answer takes
 pub response_costs : {V : Type 0} (Allocates : Type 0) (view : V → Option (List ℕ)) (provider : Provider)
@@ -97,10 +98,11 @@ pub response_costs : {V : Type 0} (Allocates : Type 0) (view : V → Option (Lis
     → Gives OutOfMemory Allocates view result (λ answer. ConcludesFrom state provider text answer next)
     → FinalCostsFrom state provider text result before after
     → CostsAtMost acceptor_hmacs (ScramAcceptor provider state) (frames.Response text) before after
-response_costs Allocates view provider (server_states.ServerFirstSent challenge) next text result before after gives costs = (
-  rises_from (server_states.ServerFirstSent challenge) provider text result before after costs,
-  λ n takes. go (record_at provider.records challenge.user) refl n takes.0 takes.1 takes.2 costs takes.3,
-)
+response_costs Allocates view provider (server_states.ServerFirstSent challenge) next text result before after gives
+    costs = (
+      rises_from (server_states.ServerFirstSent challenge) provider text result before after costs,
+      λ n takes. go (record_at provider.records challenge.user) refl n takes.0 takes.1 takes.2 costs takes.3,
+    )
   where
     go : (stored : Option Record) → record_at provider.records challenge.user ≡ stored → (n : ℕ)
         (answer : Result (Option (List ℕ)) ServerScramErrorKind) (last : ServerState)
@@ -150,7 +152,8 @@ exactly_against Allocates view challenge provider text stored (Err fault) answer
     concludes costs takes =
     let turn = one_conclusion (server_states.ServerFirstSent challenge) provider text (Err fault) answer next last
     (gives.1 (λ e. absurd (cc))) concludes in
-    let none : n ≡ 0 = takes_of (with_record challenge provider stored) text (Err fault) answer next last n turn takes in
+    let none : n ≡ 0 = takes_of (with_record challenge provider stored) text (Err fault) answer next last n turn takes
+    in
     let same : after ≡ before = costs in
     omega (arith, same, none)
 
@@ -161,8 +164,8 @@ exactly_from : {V : Type 0} (Allocates : Type 0) (view : V → Option (List ℕ)
     → Gives OutOfMemory Allocates view result (λ answer. ConcludesFrom state provider text answer next)
     → FinalCostsFrom state provider text result before after
     → acceptor_hmacs (ScramAcceptor provider state) (frames.Response text) n → after ≡ before + n
-exactly_from Allocates view provider (server_states.ServerFirstSent challenge) next text result before after n told gives
-    costs takes = go (record_at provider.records challenge.user) takes.0 takes.1 takes.2 costs takes.3
+exactly_from Allocates view provider (server_states.ServerFirstSent challenge) next text result before after n told
+    gives costs takes = go (record_at provider.records challenge.user) takes.0 takes.1 takes.2 costs takes.3
   where
     go : (stored : Option Record) (answer : Result (Option (List ℕ)) ServerScramErrorKind) (last : ServerState)
         → ConcludesFrom (server_states.ServerFirstSent challenge) provider text answer last
@@ -197,9 +200,10 @@ pub refusal_costs : {V X E : Type 0} (Allocates : Type 0) (sends : X → Type 0)
     → FinalCostsFrom {A = V} state provider text (Err kind) before after
     → IfOk sent (λ frame. (kind ≢ OutOfMemory) × sends frame)
     → OnOk sent ((n : ℕ) → acceptor_hmacs (ScramAcceptor provider state) (frames.Response text) n → after ≡ before + n)
-refusal_costs {V = V} Allocates sends view provider state next text kind (Ok frame) before after gives costs is = λ n takes.
-    exactly_from {V = V} Allocates view provider state next text (Err kind) before after n (λ e. is.0 (told kind e)) gives
-    costs takes
+refusal_costs {V = V} Allocates sends view provider state next text kind (Ok frame) before after gives costs is =
+    λ n takes.
+    exactly_from {V = V} Allocates view provider state next text (Err kind) before after n (λ e. is.0 (told kind e))
+    gives costs takes
   where
     told : (kind : ServerScramErrorKind) → ◌≡◌ {A = Result V ServerScramErrorKind} (Err kind) (Err OutOfMemory)
         → kind ≡ OutOfMemory

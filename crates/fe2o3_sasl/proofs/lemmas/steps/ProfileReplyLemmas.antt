@@ -83,7 +83,13 @@ undue client text none = go client.state none
 pub undue_outcome : (client : ClientSide) (text : List ℕ)
     → ((signature : List ℕ) (keys : Option ClientKeys) → client.state ≢ client_states.ClientFinalSent signature keys)
     → RefusesAlways (ScramProfile client) (frames.Outcome outcomes.Ok (Some text)) (Scram kinds.IllegalClientState)
-undue_outcome client text none = λ hostname nonce. (Err kinds.IllegalClientState, client, go client.state none, refl, refl)
+undue_outcome client text none = λ hostname nonce. (
+  Err kinds.IllegalClientState,
+  client,
+  go client.state none,
+  refl,
+  refl,
+)
   where
     go : (state : ClientState)
         → ((signature : List ℕ) (keys : Option ClientKeys) → state ≢ client_states.ClientFinalSent signature keys)

@@ -14,7 +14,8 @@ pub returns-clause-step : goal.returns-clause-step
 returns-clause-step c =
     profile_reads (shown c.args.hostname) (profile_of c.args.profile.now) (given c.args.event.now)
     (viewed_frame c.in-Ok.read.0) c.in-Ok.read.1 (client_answer c.answer_view.result)
-    (profile_of c.answer_view.new.profile) (rw c.deref.ensures.value at c.in-Ok.ensures.reads) c.answer_view.ensures.answer
+    (profile_of c.answer_view.new.profile) (rw c.deref.ensures.value at c.in-Ok.ensures.reads)
+    c.answer_view.ensures.answer
 
 pub returns-in-Err-clause-cost : goal.returns-in-Err-clause-cost
 returns-in-Err-clause-cost c =

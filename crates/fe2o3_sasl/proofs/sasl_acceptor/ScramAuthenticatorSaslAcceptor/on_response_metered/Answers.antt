@@ -24,7 +24,8 @@ returns-clause-ok g c =
     let answers = rw c.deref.ensures.value at c.in-Err.ensures.answer in
     response_refused sent_frame (option_map (λ (message : Vec ℕ Global). message.items))
     (m.meaning (provider_in c.args.self.now)) (m.meaning (provider_in c.compute_server_final_message_metered.new.self))
-    (state_in c.args.self.now) (state_in c.compute_server_final_message_metered.new.self) _ c.in-Err.kind c.refusal.result
+    (state_in c.args.self.now) (state_in c.compute_server_final_message_metered.new.self) _ c.in-Err.kind
+    c.refusal.result
     (ap (λ p. m.meaning p) c.compute_server_final_message_metered.ensures.provider) answers c.refusal.ensures.auth
 
 pub returns-clause-memory : goal.returns-clause-memory
@@ -32,7 +33,8 @@ returns-clause-memory g c =
     let m = g.C.ScramCredentialProvider in
     let answers = rw c.deref.ensures.value at c.in-Err.ensures.answer in
     response_wants (option_map (λ (message : Vec ℕ Global). message.items)) (m.meaning (provider_in c.args.self.now))
-    (state_in c.args.self.now) (state_in c.compute_server_final_message_metered.new.self) _ c.in-Err.kind c.refusal.result
+    (state_in c.args.self.now) (state_in c.compute_server_final_message_metered.new.self) _ c.in-Err.kind
+    c.refusal.result
     answers c.refusal.ensures.memory
 
 pub returns-in-Ok-clause-cost : goal.returns-in-Ok-clause-cost
@@ -41,7 +43,8 @@ returns-in-Ok-clause-cost g c =
     response_costs (ReachesBase64In (state_in c.args.self.now) (m.meaning (provider_in c.args.self.now))
     c.args.response.response.0.items)
     (option_map (λ (message : Vec ℕ Global). message.items)) (m.meaning (provider_in c.args.self.now))
-    (state_in c.args.self.now) (state_in c.compute_server_final_message_metered.new.self) c.args.response.response.0.items (Ok c.in-Ok.answer)
+    (state_in c.args.self.now) (state_in c.compute_server_final_message_metered.new.self)
+    c.args.response.response.0.items (Ok c.in-Ok.answer)
     c.args.meter.now c.compute_server_final_message_metered.new.meter
     (rw c.deref.ensures.value at c.in-Ok.ensures.answer) (rw c.deref.ensures.value at c.in-Ok.ensures.cost)
 
@@ -51,14 +54,16 @@ returns-clause-cost g c =
     response_costs (ReachesBase64In (state_in c.args.self.now) (m.meaning (provider_in c.args.self.now))
     c.args.response.response.0.items)
     (option_map (λ (message : Vec ℕ Global). message.items)) (m.meaning (provider_in c.args.self.now))
-    (state_in c.args.self.now) (state_in c.compute_server_final_message_metered.new.self) c.args.response.response.0.items (Err c.in-Err.kind)
+    (state_in c.args.self.now) (state_in c.compute_server_final_message_metered.new.self)
+    c.args.response.response.0.items (Err c.in-Err.kind)
     c.args.meter.now c.compute_server_final_message_metered.new.meter
     (rw c.deref.ensures.value at c.in-Err.ensures.answer) (rw c.deref.ensures.value at c.in-Err.ensures.cost)
 
 pub returns-in-Ok-clause-exactly : goal.returns-in-Ok-clause-exactly
 returns-in-Ok-clause-exactly g c =
     let m = g.C.ScramCredentialProvider in
-    λ n takes. answer_costs {E = ⊤} (ReachesBase64In (state_in c.args.self.now) (m.meaning (provider_in c.args.self.now))
+    λ n takes. answer_costs {E = ⊤} (ReachesBase64In (state_in c.args.self.now) (m.meaning (provider_in
+    c.args.self.now))
     c.args.response.response.0.items)
     (option_map (λ (message : Vec ℕ Global). message.items)) (m.meaning (provider_in c.args.self.now))
     (state_in c.args.self.now) (state_in c.compute_server_final_message_metered.new.self)
