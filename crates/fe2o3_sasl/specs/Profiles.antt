@@ -77,11 +77,11 @@ FrameAllocates (ScramProfile client) (frames.Challenge text) = IsUtf8 text × Re
 FrameAllocates (ScramProfile client) (frames.Outcome outcomes.Ok (Some text)) = ReachesVerifierIn client.state text
 FrameAllocates profile frame = ⊥
 
--- a client in this state has sent its first message, so that a challenge is due
+-- a client in this state has sent its first message, so that a challenge is due (RFC 5802, section 5)
 abbrev pub IsStarted : ClientState → Type 0
 IsStarted state = (nonce : List ℕ) × (bare : List ℕ) × (state ≡ client_states.ClientFirstSent nonce bare)
 
--- a client in this state waits for a signature, so that an outcome is due
+-- a client in this state waits for a signature, so that an outcome is due (RFC 5802, section 5)
 abbrev pub IsAnswered : ClientState → Type 0
 IsAnswered state = (signature : List ℕ) × (keys : Option ClientKeys)
     × (state ≡ client_states.ClientFinalSent signature keys)

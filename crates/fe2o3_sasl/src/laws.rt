@@ -212,7 +212,8 @@ pub fn want_of_memory()
 /// Worked examples of frames at which no memory is asked for, so that want of memory is no answer to them,
 /// each of the words that say where it is one: an acceptor at an init of another mechanism and at a response
 /// that is not due, and that of PLAIN always; a profile at a list without its name, a challenge that is not
-/// UTF-8, not due or not for SCRAM, and an outcome without data; and the like in histories.
+/// UTF-8, not due or not for SCRAM, an outcome without data, and one of code Ok for SCRAM that is not UTF-8
+/// or not due; and the like in histories.
 pub fn no_want_of_memory()
     ensures acceptors { AcceptorsAskForNone }
     ensures owned { OwnedAskForNone }

@@ -74,7 +74,8 @@ pub fn acceptor_step<A: SaslAcceptor>(
 
 /// As `acceptor_step`. The meter, of at most 2^63, counts the HMAC values, also of a refusal: no more than
 /// the acceptor says of the frame (SCRAM of a response two where it is accepted, one where its proof alone
-/// is refused, and none otherwise), and none for a body that is not read.
+/// is refused, and none otherwise), and none for a body that is not read. A frame that is no init and no
+/// response is not shown to it.
 pub fn acceptor_step_metered<A: SaslAcceptor>(
     alloc: Global,
     acceptor: &mut A,
