@@ -2,10 +2,10 @@
 """The two long parts of the gate side by side: `rt ci`, and the wrong bodies that have to be refused.
 
 Prints what `rt ci` says as it says it, behind it what `tools/wrong_bodies.py` says, and last the sum of what
-both counted, `N passed, M failed`. A library that `rt ci` has proved is handed over to the wrong bodies of
-those above it. Where `rt ci` refuses, its last lines, which name what failed, stand once
-more above the sums, since the end of a log is what is read first. The exit status is 0 only where both ended
-with 0 and told their count, and nothing failed.
+both counted, `N passed, M failed`. A library that `rt ci` has proved, or keeps from an earlier run, is handed
+over to the wrong bodies of those above it. Where `rt ci` refuses, its last lines, which name what failed, stand
+once more above the sums, since the end of a log is what is read first. The exit status is 0 only where both
+ended with 0 and told their count, and nothing failed.
 """
 import os
 import re
@@ -20,7 +20,7 @@ sys.dont_write_bytecode = True
 import wrong_bodies
 
 COUNT = re.compile(r"(\d+) passed, (\d+) failed")
-PROVED = re.compile(r"rt: (\w+) (NOT PROVED|proved)\b")
+PROVED = re.compile(r"rt: (\w+) (NOT PROVED|proved|is kept)\b")
 
 
 def counted(name, status, last):
@@ -38,13 +38,13 @@ def counted(name, status, last):
 
 
 def hand_over(libraries, folder, line):
-    """Puts a library into the folder, as `rt ci` has just proved it, or a file that says it is not proved."""
+    """Puts a library into the folder, as `rt ci` has proved or kept it, or a file that says it is not proved."""
     told = PROVED.match(line)
     if not told or told[1] not in libraries:
         return
     name, made = told[1], f"{wrong_bodies.ROOT}/crates/{told[1]}/out/rlib"
     libraries.remove(name)
-    if told[2] == "proved" and os.path.exists(f"{made}/{name}.rlib"):
+    if told[2] != "NOT PROVED" and os.path.exists(f"{made}/{name}.rlib"):
         shutil.copytree(made, f"{folder}/{name}.part")
         os.rename(f"{folder}/{name}.part", f"{folder}/{name}")
     else:
@@ -59,7 +59,9 @@ def main():
     with tempfile.TemporaryFile("w+", errors="replace") as told, tempfile.TemporaryDirectory(prefix="gate-") as built:
         # (each in a group of its own, which can be ended whole)
         how |= {"stderr": subprocess.STDOUT, "start_new_session": True}
-        bodies = subprocess.Popen([sys.executable, "tools/wrong_bodies.py", "--built", built], stdout=told, **how)
+        # (the gate waits for the chain of proofs, so that comes first where processors are few)
+        turned = ["nice", "-n", "5", sys.executable, "tools/wrong_bodies.py", "--built", built]
+        bodies = subprocess.Popen(turned, stdout=told, **how)
         proofs = subprocess.Popen(["rt", "ci"], stdout=subprocess.PIPE, **how)
         try:
             last, named = "", deque(maxlen=6)

@@ -200,17 +200,20 @@ class WrongBodies(unittest.TestCase):
         self.refuses("It turns nothing.\n")
 
     def test_what_the_gate_hands_over(self):
-        for name in ("numbers", "others", "users"):
+        for name in ("numbers", "others", "users", "kept"):
             os.makedirs(f"{wrong_bodies.ROOT}/crates/{name}/out/rlib/{name}.rlib")
         with tempfile.TemporaryDirectory() as folder:
-            libraries = {"numbers", "others"}
+            libraries = {"numbers", "others", "kept"}
             gate.hand_over(libraries, folder, "rt: numbers: its tests are proved\n")
             gate.hand_over(libraries, folder, "rt: users proved\n")
             self.assertEqual(os.listdir(folder), [])
             gate.hand_over(libraries, folder, "rt: numbers proved\n")
             gate.hand_over(libraries, folder, "rt: others NOT PROVED: its library numbers failed\n")
             self.assertEqual(sorted(os.listdir(folder)), ["numbers", "others.failed"])
-            self.assertEqual((os.listdir(f"{folder}/numbers"), libraries), (["numbers.rlib"], set()))
+            self.assertEqual((os.listdir(f"{folder}/numbers"), libraries), (["numbers.rlib"], {"kept"}))
+            by = "an earlier run on this machine proved the same files over the same libraries"
+            gate.hand_over(libraries, folder, f"rt: kept is kept: {by}\n")
+            self.assertEqual((os.listdir(f"{folder}/kept"), libraries), (["kept.rlib"], set()))
 
     def test_the_sum_of_the_gate(self):
         with contextlib.redirect_stdout(io.StringIO()):
