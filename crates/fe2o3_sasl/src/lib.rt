@@ -22,9 +22,9 @@ mod whole_runs;
 
 pub use crate::audit::{AuditError, Finding, FindingKind, Parameters, Verdict, audit_limited};
 pub use crate::runs::{
-    ClientReply, Event, EventError, ServerReply, acceptor_step, acceptor_step_metered,
-    profile_step, profile_step_metered, run_acceptor, run_profile, scram_client_run,
-    scram_client_run_limited, scram_server_run,
+    ClientReply, Event, EventError, ServerReply, acceptor_body_step, acceptor_step,
+    acceptor_step_metered, profile_body_step, profile_step, profile_step_metered, run_acceptor,
+    run_profile, scram_client_run, scram_client_run_limited, scram_server_run,
 };
 pub use crate::sasl_acceptor::{
     NamesUser, SaslAcceptor, SaslAcceptorExt, SaslAnonymousMechanism, SaslPlainMechanism,

@@ -4,7 +4,10 @@ pub use crate::audit::{
     AuditError, Finding, FindingKind, Parameters, Verdict, audit, audit_limited,
 };
 pub use crate::events::{ClientReply, Event, EventError, ServerReply};
-pub use crate::steps::{acceptor_step, acceptor_step_metered, profile_step, profile_step_metered};
+pub use crate::steps::{
+    acceptor_body_step, acceptor_step, acceptor_step_metered, profile_body_step, profile_step,
+    profile_step_metered,
+};
 pub use crate::whole_runs::{
     run_acceptor, run_profile, scram_client_run, scram_client_run_limited, scram_server_run,
 };

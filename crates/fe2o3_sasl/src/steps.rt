@@ -87,7 +87,24 @@ pub fn acceptor_step_metered<A: SaslAcceptor>(
         (A.state acceptor.new) }
     ensures cost { AcceptorStepCosts A.hmacs (A.state acceptor.old) (given event.now) meter.old meter.new }
 {
-    let (view, _) = match view_frame(&event.body) {
+    acceptor_body_step(alloc, acceptor, &event.body, &event.nonce, meter)
+}
+
+/// As `acceptor_step_metered`, over a body where it stands: no event is made of it.
+pub fn acceptor_body_step<A: SaslAcceptor>(
+    alloc: Global,
+    acceptor: &mut A,
+    body: &[u8],
+    nonce: &[u8; 32],
+    meter: &mut Meter,
+) -> Result<ServerReply, Error>
+    requires { meter.old ≤ 2 ^ 63 }
+    ensures step { AcceptorSteps A.machine (A.state acceptor.old) (record { body = body.now; nonce = nonce.now })
+        (server_answer result) (A.state acceptor.new) }
+    ensures cost { AcceptorStepCosts A.hmacs (A.state acceptor.old) (record { body = body.now; nonce = nonce.now })
+        meter.old meter.new }
+{
+    let (view, _) = match view_frame(body) {
         Ok(read) => read,
         Err(fault) => return Err(fault),
     };
@@ -95,7 +112,7 @@ pub fn acceptor_step_metered<A: SaslAcceptor>(
         return Err(Error::NotImplemented);
     }
     match view.to_frame(alloc) {
-        Ok(frame) => answer(alloc, acceptor, frame, &event.nonce, meter),
+        Ok(frame) => answer(alloc, acceptor, frame, nonce, meter),
         Err(fault) => Err(fault),
     }
 }
@@ -179,11 +196,29 @@ pub fn profile_step_metered(
         (client_answer result) (profile_of profile.new) }
     ensures cost { ProfileStepCosts (profile_of profile.old) (given event.now) result meter.old meter.new }
 {
-    let (view, _) = match view_frame(&event.body) {
+    profile_body_step(alloc, profile, &event.body, &event.nonce, hostname, meter)
+}
+
+/// As `profile_step_metered`, over a body where it stands: no event is made of it.
+pub fn profile_body_step(
+    alloc: Global,
+    profile: &mut SaslProfile,
+    body: &[u8],
+    nonce: &[u8; 32],
+    hostname: Option<&str>,
+    meter: &mut Meter,
+) -> Result<ClientReply, ProfileError>
+    requires { meter.old ≤ 2 ^ 63 }
+    ensures step { ProfileSteps (shown hostname.entry) (profile_of profile.old)
+        (record { body = body.now; nonce = nonce.now }) (client_answer result) (profile_of profile.new) }
+    ensures cost { ProfileStepCosts (profile_of profile.old) (record { body = body.now; nonce = nonce.now }) result
+        meter.old meter.new }
+{
+    let (view, _) = match view_frame(body) {
         Ok(read) => read,
         Err(fault) => return Err(ProfileError::Frame(fault)),
     };
-    answer_view(alloc, profile, view, hostname, &event.nonce, meter)
+    answer_view(alloc, profile, view, hostname, nonce, meter)
 }
 
 /// The answer to a frame, in its body.

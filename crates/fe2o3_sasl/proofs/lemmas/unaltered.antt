@@ -1,2 +1,3 @@
 pub mod UnalteredReplyLemmas
+pub mod UnalteredStepLemmas
 pub mod UnalteredRunLemmas

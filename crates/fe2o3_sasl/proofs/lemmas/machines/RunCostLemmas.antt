@@ -101,7 +101,7 @@ server_runs_cost provider state (event ∷ events) replies before after sum last
 -- ---- a client
 
 -- a body costs a client no more than its bound
-in_state_costs : {A F : Type 0} (state : ClientState) (client : ClientSide) (text : List ℕ) (result : Result A F)
+pub in_state_costs : {A F : Type 0} (state : ClientState) (client : ClientSide) (text : List ℕ) (result : Result A F)
     (before after : ℕ) → AnswerCostsIn state client text result before after
     → (before ≤ after) × (after ≤ before + (client.limits.most + 4))
 in_state_costs (client_states.ClientFirstSent nonce bare) client text result before after costs =
@@ -131,7 +131,7 @@ client_costs client (Ok (frames.Outcome code more)) result before after costs =
 client_costs client (Err fault) result before after costs = (omega (arith, costs), omega (arith, costs))
 
 -- the profile is of SCRAM still, with the same limits
-abbrev Keeps : ClientSide → Profile → Type 0
+abbrev pub Keeps : ClientSide → Profile → Type 0
 Keeps client next = (side : ClientSide) × (next ≡ ScramProfile side) × (side.limits ≡ client.limits)
 
 answered_keeps : (state : ClientState) (client : ClientSide) (text : List ℕ)
@@ -201,7 +201,7 @@ replied_keeps client moved next (Ok (frames.Mechanisms names)) says kept is =
 replied_keeps client moved next (Ok (frames.Challenge text)) says kept is =
     carried_keeps client (canonical (frames.Challenge text)) moved next kept is.1
 
-step_keeps : (hostname : Option (List ℕ)) (client : ClientSide) (event : Given) (spelled : Result SaslFrame Error)
+pub step_keeps : (hostname : Option (List ℕ)) (client : ClientSide) (event : Given) (spelled : Result SaslFrame Error)
     (says : ClientSays) (next : Profile) → ProfileGives hostname (ScramProfile client) event spelled says next
     → Keeps client next
 step_keeps hostname client event (Err fault) says next is = (client, is.1, refl)

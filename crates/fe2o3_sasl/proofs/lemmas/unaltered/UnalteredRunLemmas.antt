@@ -1,105 +1,27 @@
 -- An unaltered run logs in.
-use Rattle.std.proofs.Common.{◌≡◌, ◌≤◌, ◌<◌, ◌^◌, ℕ, zero, suc, Option, List, [], ◌∷◌, ◌++◌, codes, Some, None, length, refl, sym, ap, ◌∙◌, subst, arith, Result, Ok}
+use Rattle.std.proofs.Common.{◌≡◌, ℕ, zero, suc, List, [], ◌∷◌, ◌++◌, codes, Some, length, refl, sym, ap, ◌∙◌, arith}
 use Rattle.std.specs.Prelude.{slice_get}
-use Rattle.std.specs.Fmt.{decimal}
-use Rattle.std.specs.Str.{IsUtf8}
-use Rattle.std.proofs.lemmas.Fmt.{IsAscii-decimal}
-use Rattle.std.proofs.lemmas.Option.{same_Some}
-use Rattle.std.proofs.lemmas.Str.{IsUtf8-append, IsUtf8-from_ascii}
 use Rattle.fe2o3_sasl_wire.specs.declared.amqp_types.SaslCode.TheVariants as outcomes
-use Rattle.fe2o3_sasl_wire.specs.declared.sasl_frames.error.Error.{Error}
-use Rattle.fe2o3_sasl_wire.specs.SaslFrames.{canonical, SaslFrame}
+use Rattle.fe2o3_sasl_wire.specs.SaslFrames.{canonical}
 use Rattle.fe2o3_sasl_wire.specs.SaslFrames as frames
-use Rattle.fe2o3_scram.specs.declared.hmac.ScramVersion.{ScramVersion}
 use Rattle.fe2o3_scram.specs.Texts.{base64_text}
-use Rattle.fe2o3_scram.specs.ClientFirst.{client_first}
-use Rattle.fe2o3_sasl.specs.ClientHistory.{Answering, AnswersAt, ReadsChallenge, IsDue, NonceAt, OpenAnswer, is_start, is_answer, ends_answer}
 use Rattle.fe2o3_scram.specs.ClientKeys.{ClientKeys, keys_of}
 use Rattle.fe2o3_scram.specs.Keys.{client_proof}
 use Rattle.fe2o3_scram.specs.Escape.{escaped}
-use Rattle.fe2o3_sasl.specs.Events.{Given, Login, IsLogin, ServerSays, Challenged, Concluded, ClientSays, Started, Answered, Reported}
-use Rattle.fe2o3_scram.specs.Exchanges.{Exchange, IsSound, Succeeds, nonce_in, bare_in, record_in, first_in, named_in, answer_in, final_in}
-use Rattle.fe2o3_scram.specs.Hmac.{digest, mechanism_name}
+use Rattle.fe2o3_scram.specs.Exchanges.{Exchange, IsSound, nonce_in, first_in, answer_in}
+use Rattle.fe2o3_scram.specs.Hmac.{digest}
+use Rattle.fe2o3_sasl.specs.Audit.{AreAgreed, Lists, Audits}
+use Rattle.fe2o3_sasl.specs.ClientHistory.{Answering, OpenAnswer}
+use Rattle.fe2o3_sasl.specs.Events.{Given, IsLogin, ServerSays, Challenged, Concluded, ClientSays, Started, Answered, Reported}
 use Rattle.fe2o3_sasl.specs.Laws.{ClientsLogIn, ServersLogIn}
-use Rattle.fe2o3_sasl.specs.Positions.{test_at, IsLastOpen}
-use Rattle.fe2o3_scram.specs.ClientFinal.{ReadsClientFinal, server_of}
-use Rattle.fe2o3_scram.specs.ServerFinal.{server_final_of, ReadsServerFinal}
-use Rattle.fe2o3_sasl.specs.Bodies.{SpellsBody}
-use Rattle.fe2o3_sasl.specs.ServerHistory.{Challenging, Accepted, FitsAsInit, FitsAsResponse, FitsAt, Open, final_message, is_challenge, is_ok}
+use Rattle.fe2o3_sasl.specs.ServerHistory.{Accepted, final_message}
 use Rattle.fe2o3_sasl.specs.TwoSides.{Sides, sides_of, Histories, IsPlainInit, OkAt, Takes, Shows, client_message, keys_at}
 use Rattle.fe2o3_sasl.specs.UnalteredRuns.{UnalteredRun, Suffices, HoldsLogin, LogsIn, LogsInUnaltered, agreed_findings}
-use Rattle.fe2o3_sasl.specs.Audit.{AreAgreed, Lists, Audits}
-use Rattle.fe2o3_scram.proofs.lemmas.texts.AsciiLemmas.{IsUtf8-base64_text, IsUtf8-literal}
 use Rattle.fe2o3_scram.proofs.lemmas.texts.Base64Lemmas.{no_comma-base64_text}
 use Rattle.fe2o3_scram.proofs.lemmas.texts.EscapingLemmas.{no_comma-escaped}
-use Rattle.fe2o3_scram.proofs.lemmas.messages.ExchangeLemmas.{succeeds, opened, two_parts, part_of, only_part, nonce_text}
-use Rattle.fe2o3_sasl.proofs.lemmas.positions.PositionLemmas.{opens_here}
-use Rattle.fe2o3_sasl.proofs.lemmas.histories.OneServerHistoryLemmas.{one_fits}
-use Rattle.fe2o3_sasl.proofs.lemmas.frames.SpellingLemmas.{one_spelling, spells_mechanisms, spells_init, spells_challenge, spells_response, spells_outcome}
-use Rattle.fe2o3_sasl.proofs.lemmas.unaltered.UnalteredReplyLemmas.{one_answering, open_value, client_starts, server_challenges, client_answers, server_accepts, client_reports}
-
--- ---- the exchange of a run
-
--- a login with the password, the salt and the count of a record, and with the nonces of both sides
-abbrev exchange_of : Login → List ℕ → List ℕ → ℕ → List ℕ → List ℕ → Exchange
-exchange_of login password salt count mine theirs =
-    record {
-      version = login.version;
-      user = login.user;
-      secret = login.secret;
-      limits = login.limits;
-      password = password;
-      salt = salt;
-      count = count;
-      client_nonce = base64_text mine;
-      server_nonce = base64_text theirs;
-    }
-
-sound_exchange : (sides : Sides) (password salt : List ℕ) (count : ℕ) (mine theirs : List ℕ) → IsLogin sides.login
-    → HoldsLogin sides password salt count → IsSound (exchange_of sides.login password salt count mine theirs)
-sound_exchange sides password salt count mine theirs is holds = record {
-  opens = holds.opens;
-  some = holds.some;
-  least = holds.least;
-  within = holds.within;
-  limit = is.limit;
-  salt = holds.bytes;
-  user = is.user;
-  client_text = IsUtf8-base64_text mine;
-  server_text = IsUtf8-base64_text theirs;
-  client_plain = no_comma-base64_text mine;
-  server_plain = no_comma-base64_text theirs;
-}
-
--- its challenge, its answer, and what its server accepts
-abbrev challenge_in : Exchange → Challenging
-challenge_in x = record {
-  client = record { user = x.user; nonce = x.client_nonce; bare = bare_in x };
-  nonce = x.server_nonce;
-  stored = record_in x;
-}
-
-abbrev answering_in : Exchange → Answering
-answering_in x = record { nonce = x.client_nonce; text = first_in x; first = named_in x }
-
-abbrev accepted_in : Exchange → Accepted
-accepted_in x = record { challenge = challenge_in x; final = final_in x }
-
--- its init, with this hostname
-abbrev init_in : Option (List ℕ) → Exchange → SaslFrame
-init_in hostname x = frames.Init (mechanism_name x.version) (Some (client_first x.user x.client_nonce)) hostname
-
--- the server-first message is UTF-8
-first_text : (x : Exchange) → IsSound x → IsUtf8 (first_in x)
-first_text x sound =
-    let wide : x.count < 2 ^ 64 = omega (arith, sound.within, sound.limit) in
-    IsUtf8-append (codes "r=" ++ nonce_in x) (codes ",s=" ++ (base64_text x.salt ++ (codes ",i=" ++ decimal x.count)))
-    (IsUtf8-append (codes "r=") (nonce_in x) (IsUtf8-literal (codes "r=") refl) (nonce_text x sound))
-    (IsUtf8-append (codes ",s=") (base64_text x.salt ++ (codes ",i=" ++ decimal x.count))
-    (IsUtf8-literal (codes ",s=") refl)
-    (IsUtf8-append (base64_text x.salt) (codes ",i=" ++ decimal x.count) (IsUtf8-base64_text x.salt)
-    (IsUtf8-append (codes ",i=") (decimal x.count) (IsUtf8-literal (codes ",i=") refl)
-    (IsUtf8-from_ascii (decimal x.count) (IsAscii-decimal x.count wide)))))
+use Rattle.fe2o3_scram.proofs.lemmas.messages.ExchangeLemmas.{opened, two_parts, part_of, only_part}
+use Rattle.fe2o3_sasl.proofs.lemmas.unaltered.UnalteredStepLemmas.{exchange_of, sound_exchange, answering_in, accepted_in, init_in}
+use Rattle.fe2o3_sasl.proofs.lemmas.unaltered.UnalteredStepLemmas as step
 
 -- the init has two parts
 plain_in : (x : Exchange) → IsSound x → IsPlainInit (accepted_in x)
@@ -172,170 +94,60 @@ module _ (sides : Sides) (password salt : List ℕ) (count : ℕ) (run : Unalter
   abbrev final_sent : List ℕ
   final_sent = final_message sides.provider (accepted_in exchange)
 
-  sound : IsSound exchange
-  sound = sound_exchange sides password salt count run.offer.nonce run.init.nonce login holds
-
   -- the client answers by the keys of the record
   by_keys : keys_at sides.login (answering_in exchange) ≡ keys_of sides.login.version password salt count
   by_keys = (opened sides.login.version sides.login.secret password salt count (nonce_in exchange) holds.opens).0
 
-  meets : Succeeds exchange
-  meets = succeeds exchange sound
+  client_event : (k : ℕ) → slice_get sides.client_events k
+      ≡ slice_get (run.offer ∷ run.challenge ∷ run.outcome ∷ []) k
+  client_event k = ap (λ (events : List Given). slice_get events k) run.client_events
 
-  offer_at : slice_get sides.client_events 0 ≡ Some run.offer
-  offer_at = ap (λ (events : List Given). slice_get events 0) run.client_events
+  server_event : (k : ℕ) → slice_get sides.server_events k ≡ slice_get (run.init ∷ run.response ∷ []) k
+  server_event k = ap (λ (events : List Given). slice_get events k) run.server_events
 
-  challenge_at : slice_get sides.client_events 1 ≡ Some run.challenge
-  challenge_at = ap (λ (events : List Given). slice_get events 1) run.client_events
-
-  outcome_at : slice_get sides.client_events 2 ≡ Some run.outcome
-  outcome_at = ap (λ (events : List Given). slice_get events 2) run.client_events
-
-  init_at : slice_get sides.server_events 0 ≡ Some run.init
-  init_at = ap (λ (events : List Given). slice_get events 0) run.server_events
-
-  response_at : slice_get sides.server_events 1 ≡ Some run.response
-  response_at = ap (λ (events : List Given). slice_get events 1) run.server_events
-
-  -- the client starts
+  -- the client starts, the server challenges, the client answers, the server accepts, the client reports
   starts : (slice_get sides.client_replies 0 ≡ Some (Started run.init.body))
       × (canonical (init_in sides.login.hostname exchange) ≡ Some run.init.body)
-  starts = client_starts sides.login sides.client_events sides.client_replies 0 run.offer run.init.body histories.client
-      offer_at (spells_mechanisms sides.login.version run.offer.body run.offered) fits.client fits.client_small
-      run.started
-
-  abbrev init_sent : SaslFrame
-  init_sent = init_in sides.login.hostname exchange
-
-  init_spelled : SpellsBody run.init.body (Ok init_sent)
-  init_spelled = spells_init sides.login.version (client_first sides.login.user exchange.client_nonce)
-      sides.login.hostname run.init.body login.hostname starts.1
-
-  -- the server challenges
-  init_fits : FitsAsInit sides.provider run.init init_sent (challenge_in exchange)
-  init_fits = (ap mechanism_name (sym holds.version), meets.client_first, holds.stored, refl)
+  starts = step.starts sides password salt count run.offer run.init histories login holds fits run.init.body
+      (client_event 0, run.offered) run.started
 
   challenges : (slice_get sides.server_replies 0 ≡ Some (Challenged run.challenge.body))
       × (canonical (frames.Challenge (first_in exchange)) ≡ Some run.challenge.body)
-  challenges = server_challenges sides.provider sides.server_events sides.server_replies 0 run.init
-      (mechanism_name sides.login.version) (client_first sides.login.user exchange.client_nonce) sides.login.hostname
-      (challenge_in exchange) run.challenge.body histories.server init_at init_spelled init_fits fits.server
-      fits.server_small run.challenged
+  challenges = step.challenges sides password salt count run.offer run.init histories login holds fits
+      run.challenge.body (server_event 0, starts.1) run.challenged
 
-  challenge_spelled : SpellsBody run.challenge.body (Ok (frames.Challenge (first_in exchange)))
-  challenge_spelled = spells_challenge (first_in exchange) run.challenge.body challenges.1
+  has_started : step.HasStarted sides password salt count run.offer run.init histories login holds fits
+  has_started = ((client_event 0, run.offered), (run.init.body, starts.0))
 
-  -- the client answers
-  started_open : IsLastOpen is_start is_answer sides.client_replies 1 0
-  started_open = opens_here is_start is_answer sides.client_replies 0 (ap (test_at is_start) starts.0)
-
-  due : IsDue sides.client_events sides.client_replies 1 exchange.client_nonce
-  due = (0, started_open, (run.offer, offer_at, refl))
-
-  one_due : (nonce : List ℕ) → IsDue sides.client_events sides.client_replies 1 nonce → nonce ≡ exchange.client_nonce
-  one_due nonce also =
-      let at = open_value is_start is_answer (NonceAt sides.client_events) sides.client_replies 1 0 nonce started_open
-      also in
-      at.2 ∙ ap (λ (event : Given). base64_text event.nonce) (same_Some at.0 run.offer (sym at.1 ∙ offer_at))
-
-  challenge_read : ReadsChallenge sides.login (IsDue sides.client_events sides.client_replies 1) (first_in exchange)
-      (Ok (answering_in exchange))
-  challenge_read = (
-    first_text exchange sound,
-    refl,
-    due,
-    meets.server_first,
-  )
+  has_challenge : step.HasChallenge sides password salt count run.offer run.init histories login holds fits run.challenge
+  has_challenge = (client_event 1, challenges.1)
 
   answers : (slice_get sides.client_replies 1 ≡ Some (Answered run.response.body))
       × (canonical (frames.Response (answer_in exchange).message) ≡ Some run.response.body)
-  answers = client_answers sides.login sides.client_events sides.client_replies 1 run.challenge (first_in exchange)
-      (answering_in exchange) run.response.body histories.client challenge_at challenge_spelled one_due challenge_read
-      fits.client fits.client_small run.answered
+  answers = step.answers sides password salt count run.offer run.init histories login holds fits run.challenge
+      run.response.body has_started has_challenge run.answered
 
-  response_spelled : SpellsBody run.response.body (Ok (frames.Response (answer_in exchange).message))
-  response_spelled = spells_response (answer_in exchange).message run.response.body answers.1
+  has_challenged : step.HasChallenged sides password salt count run.offer run.init histories login holds fits
+  has_challenged = ((server_event 0, starts.1), (run.challenge.body, challenges.0))
 
-  -- the server accepts
-  challenged_open : IsLastOpen is_challenge is_ok sides.server_replies 1 0
-  challenged_open = opens_here is_challenge is_ok sides.server_replies 0 (ap (test_at is_challenge) challenges.0)
-
-  is_open : Open sides.provider sides.server_events sides.server_replies 1 (challenge_in exchange)
-  is_open = (0, challenged_open, (run.init, init_sent, init_at, init_spelled, init_fits))
-
-  one_open_challenge : (challenge : Challenging)
-      → Open sides.provider sides.server_events sides.server_replies 1 challenge → challenge ≡ challenge_in exchange
-  one_open_challenge challenge also =
-      let at = open_value is_challenge is_ok (FitsAt sides.provider sides.server_events) sides.server_replies 1 0
-      challenge challenged_open also in
-      let event = same_Some at.0 run.init (sym at.2 ∙ init_at) in
-      let frame = same_frame at.1 init_sent (one_spelling run.init.body (Ok at.1) (Ok init_sent)
-      (subst (λ (e : Given). SpellsBody e.body (Ok at.1)) event at.3) init_spelled) in
-      one_fits sides.provider run.init (frames.Init (mechanism_name sides.login.version)
-      (Some (client_first sides.login.user exchange.client_nonce)) sides.login.hostname) challenge
-      (challenge_in exchange)
-      (subst (λ (f : SaslFrame). FitsAsInit sides.provider run.init f challenge) frame
-      (subst (λ (e : Given). FitsAsInit sides.provider e at.1 challenge) event at.4)) init_fits
-    where
-      same_frame : (frame other : SaslFrame) → ◌≡◌ {A = Result SaslFrame Error} (Ok frame) (Ok other) → frame ≡ other
-      same_frame frame other e = cc
-
-  response_fits : FitsAsResponse sides.provider (Open sides.provider sides.server_events sides.server_replies 1)
-      (frames.Response (answer_in exchange).message) (accepted_in exchange)
-  response_fits = (
-    is_open,
-    subst (λ (version : ScramVersion). ReadsClientFinal
-        (server_of version (bare_in exchange) (first_in exchange) (nonce_in exchange) (record_in exchange))
-        (answer_in exchange).message (Ok (final_in exchange))) (sym holds.version) meets.client_final,
-  )
+  has_response : step.HasResponse sides password salt count run.offer run.init histories login holds fits run.response
+  has_response = (server_event 1, answers.1)
 
   accepts : (slice_get sides.server_replies 1 ≡ Some (Concluded outcomes.Ok run.outcome.body))
       × (canonical (frames.Outcome outcomes.Ok (Some final_sent)) ≡ Some run.outcome.body)
-  accepts = server_accepts sides.provider sides.server_events sides.server_replies 1 run.response
-      (answer_in exchange).message
-      (accepted_in exchange) run.outcome.body histories.server response_at response_spelled one_open_challenge
-      response_fits fits.server fits.server_small run.concluded
+  accepts = step.accepts sides password salt count run.offer run.init histories login holds fits run.response
+      run.outcome.body has_challenged has_response run.concluded
 
-  outcome_spelled : SpellsBody run.outcome.body (Ok (frames.Outcome outcomes.Ok (Some final_sent)))
-  outcome_spelled = spells_outcome outcomes.Ok final_sent run.outcome.body accepts.1
-
-  -- the client reports
-  answered_open : IsLastOpen is_answer ends_answer sides.client_replies 2 1
-  answered_open = opens_here is_answer ends_answer sides.client_replies 1 (ap (test_at is_answer) answers.0)
-
-  answers_at : AnswersAt sides.login sides.client_events sides.client_replies 1 (answering_in exchange)
-  answers_at = (run.challenge, first_in exchange, challenge_at, challenge_spelled, challenge_read)
-
-  open_answer : OpenAnswer sides.login sides.client_events sides.client_replies 2 (answering_in exchange)
-  open_answer = (1, answered_open, answers_at)
-
-  one_open_answer : (other : Answering) → OpenAnswer sides.login sides.client_events sides.client_replies 2 other
-      → other ≡ answering_in exchange
-  one_open_answer other also =
-      let at = open_value is_answer ends_answer (AnswersAt sides.login sides.client_events sides.client_replies)
-      sides.client_replies 2 1 other answered_open also in
-      let event = same_Some at.0 run.challenge (sym at.2 ∙ challenge_at) in
-      let text = same_text at.1 (first_in exchange) (one_spelling run.challenge.body (Ok (frames.Challenge at.1))
-      (Ok (frames.Challenge (first_in exchange))) (subst
-      (λ (e : Given). SpellsBody e.body (Ok (frames.Challenge at.1))) event at.3) challenge_spelled) in
-      one_answering sides.login (IsDue sides.client_events sides.client_replies 1) (first_in exchange)
-      (answering_in exchange) other one_due challenge_read
-      (subst (λ (t : List ℕ). ReadsChallenge sides.login (IsDue sides.client_events sides.client_replies 1) t
-      (Ok other)) text at.4)
-    where
-      same_text : (text other : List ℕ) → ◌≡◌ {A = Result SaslFrame Error} (Ok (frames.Challenge text))
-          (Ok (frames.Challenge other)) → text ≡ other
-      same_text text other e = cc
-
-  verifier_read : ReadsServerFinal (answer_in exchange).signature final_sent (Ok tt)
-  verifier_read = subst (λ (version : ScramVersion). ReadsServerFinal (answer_in exchange).signature
-      (server_final_of (server_of version (bare_in exchange) (first_in exchange) (nonce_in exchange)
-      (record_in exchange)) (final_in exchange)) (Ok tt)) (sym holds.version) meets.server_final
+  has_answered : step.HasAnswered sides password salt count run.offer run.init histories login holds fits run.challenge
+  has_answered = (has_challenge, (run.response.body, answers.0))
 
   reports : slice_get sides.client_replies 2 ≡ Some (Reported outcomes.Ok (Some final_sent))
-  reports = client_reports sides.login sides.client_events sides.client_replies 2 run.outcome final_sent
-      (answering_in exchange) histories.client fits.client outcome_at outcome_spelled one_open_answer open_answer
-      verifier_read
+  reports = step.reports sides password salt count run.offer run.init histories login holds fits run.challenge
+      run.outcome has_started has_answered (client_event 2, accepts.1)
+
+  open_answer : OpenAnswer sides.login sides.client_events sides.client_replies 2 (answering_in exchange)
+  open_answer = step.open_answer sides password salt count run.offer run.init histories login holds fits
+      run.challenge has_started has_answered
 
   -- all replies
   client_list : sides.client_replies ≡ Started run.init.body ∷ Answered run.response.body
@@ -354,8 +166,14 @@ module _ (sides : Sides) (password salt : List ℕ) (count : ℕ) (run : Unalter
   ok_at = record {
     body = run.outcome.body;
     says = accepts.0;
-    accepts =
-        (run.response, frames.Response (answer_in exchange).message, response_at, response_spelled, response_fits);
+    accepts = (
+      run.response,
+      frames.Response (answer_in exchange).message,
+      server_event 1,
+      step.response_spelled sides password salt count run.offer run.init histories login holds fits
+          run.response has_response,
+      step.response_fits sides password salt count run.offer run.init histories login holds fits has_challenged,
+    );
   }
 
   takes : Takes sides 2 1 (accepted_in exchange)
@@ -370,7 +188,8 @@ module _ (sides : Sides) (password salt : List ℕ) (count : ℕ) (run : Unalter
   shows = record {
     body = run.response.body;
     answered = answers.0;
-    answers = answers_at;
+    answers = step.answers_at sides password salt count run.offer run.init histories login holds fits
+        run.challenge has_started has_challenge;
     ok = ok_at;
     one = ap (λ (keys : ClientKeys). client_proof keys.version keys.client_key
         (client_message sides.login (answering_in exchange))) by_keys;
@@ -409,7 +228,7 @@ module _ (sides : Sides) (password salt : List ℕ) (count : ℕ) (run : Unalter
     },
     refl,
     refl,
-    (plain_in exchange sound, refl, refl, refl),
+    (plain_in exchange (sound_exchange sides password salt count run.offer.nonce run.init.nonce login holds), refl, refl, refl),
   )
 
   audit : Audits sides (agreed_findings run salt count)
