@@ -1,0 +1,36 @@
+use Rattle.std.proofs.Common.{◌≡◌, ℕ, List, sym, ◌∙◌, subst}
+use Rattle.fe2o3_sasl.specs.SaslProfile.{profile_of}
+use Rattle.fe2o3_sasl_negotiation.specs.Framing.{IsPart}
+use Rattle.fe2o3_sasl_negotiation.proofs.lemmas.ReceivingLemmas.{held_before_unit, same_side}
+use Rattle.fe2o3_sasl_negotiation.proofs.lemmas.ClientAnswerLemmas.{unit_costs}
+use Rattle.fe2o3_sasl_negotiation.proofs.client.ClientNegotiation.take_bytes.Goals as goal
+
+pub invariant_of-self-in-Err : goal.invariant_of-self-in-Err
+invariant_of-self-in-Err c =
+    let old = c.args.self.now in
+    let same : c.truncate.new.self.items ≡ old.held.items = c.truncate.ensures.items
+    ∙ held_before_unit old.due old.limit old.held.items c.args.bytes.now c.take_unit.new.held.items c.len-had.result
+    old.part (rw c.in-Whole.is at c.in_ok-take_unit.ensures.ok) (c.len-had.ensures ∙ old.held.ok.0) in
+    record { part = subst (λ (h : List ℕ). IsPart old.due old.limit h) (sym same) old.part }
+
+pub returns-in-Ok-clause-cost : goal.returns-in-Ok-clause-cost
+returns-in-Ok-clause-cost c =
+    let old = c.args.self.now in
+    unit_costs old.standing old.due old.limit old.held.items c.args.bytes.now c.args.nonce.now
+    c.take_unit.new.held.items (profile_of old.profile) c.args.meter.now c.answer.new.meter c.in-Wanting.is
+    (rw c.in-Whole.is at c.in_ok-take_unit.ensures.ok) (rw c.deref.ensures.value at c.in-Ok.ensures.cost)
+
+pub returns-in-Err-clause-unchanged : goal.returns-in-Err-clause-unchanged
+returns-in-Err-clause-unchanged c =
+    let old = c.args.self.now in
+    let same : c.truncate.new.self.items ≡ old.held.items = c.truncate.ensures.items
+    ∙ held_before_unit old.due old.limit old.held.items c.args.bytes.now c.take_unit.new.held.items c.len-had.result
+    old.part (rw c.in-Whole.is at c.in_ok-take_unit.ensures.ok) (c.len-had.ensures ∙ old.held.ok.0) in
+    same_side old.standing old.due old.limit same c.in-Err.ensures.unchanged
+
+pub returns-in-Err-clause-cost : goal.returns-in-Err-clause-cost
+returns-in-Err-clause-cost c =
+    let old = c.args.self.now in
+    unit_costs old.standing old.due old.limit old.held.items c.args.bytes.now c.args.nonce.now
+    c.take_unit.new.held.items (profile_of old.profile) c.args.meter.now c.answer.new.meter c.in-Wanting.is
+    (rw c.in-Whole.is at c.in_ok-take_unit.ensures.ok) (rw c.deref.ensures.value at c.in-Err.ensures.cost)

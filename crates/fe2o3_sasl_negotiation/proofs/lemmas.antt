@@ -1,0 +1,17 @@
+pub mod FramingLemmas
+pub mod ReceivingLemmas
+pub mod ServerAnswerLemmas
+pub mod ClientAnswerLemmas
+pub mod RefusalLemmas
+pub mod CutLemmas
+pub mod UnitLemmas
+pub mod ConnectionLemmas
+pub mod KindLemmas
+pub mod JoinedSideLemmas
+pub mod ServerConnectionLemmas
+pub mod ClientConnectionLemmas
+pub mod UnalteredConnectionLemmas
+pub mod CostLemmas
+pub mod ServerCostLemmas
+pub mod ClientCostLemmas
+pub mod BoundLemmas

@@ -1,0 +1,111 @@
+-- A profile that refuses is as it was.
+use Rattle.std.proofs.Common.{◌≡◌, ℕ, Option, Some, None, List, ap, ◌∙◌, inl, inr, Result, Ok, Err}
+use Rattle.fe2o3_sasl_wire.specs.declared.amqp_types.SaslCode.TheVariants as outcomes
+use Rattle.fe2o3_sasl_wire.specs.declared.sasl_frames.error.Error.TheVariants as faults
+use Rattle.fe2o3_sasl_wire.specs.SaslFrames.{canonical, SaslFrame}
+use Rattle.fe2o3_sasl_wire.specs.SaslFrames as frames
+use Rattle.fe2o3_scram.specs.declared.scram_messages.error.ScramErrorKind.{ScramErrorKind}
+use Rattle.fe2o3_scram.specs.ScramClient.{ClientSide, ClientState, AnswersIn, BelievesIn}
+use Rattle.fe2o3_scram.specs.ScramClient as client_states
+use Rattle.fe2o3_sasl.specs.Events.{Given, ClientSays, Started, Answered, Refused, ClientFault, Frame}
+use Rattle.fe2o3_sasl.specs.Profiles.{Profile, ScramProfile, PlainProfile, AnonymousProfile, ExternalProfile, client_frame, profile_machine}
+use Rattle.fe2o3_sasl.specs.Runs.{Sends, Replies, ProfileSteps}
+
+answer_refused : (state : ClientState) (side after : ClientSide) (text : List ℕ) (kind : ScramErrorKind)
+    → AnswersIn state side text (Err kind) after → after ≡ side
+answer_refused client_states.Initial side after text kind refused = refused.1
+answer_refused (client_states.ClientFirstSent nonce bare) side after text kind refused = refused.1
+answer_refused (client_states.ClientFinalSent signature keys) side after text kind refused = refused.1
+answer_refused (client_states.Complete keys) side after text kind refused = refused.1
+
+belief_refused : (state : ClientState) (side after : ClientSide) (text : List ℕ) (kind : ScramErrorKind)
+    → BelievesIn state side text (Err kind) after → after ≡ side
+belief_refused client_states.Initial side after text kind refused = refused.1
+belief_refused (client_states.ClientFirstSent nonce bare) side after text kind refused = refused.1
+belief_refused (client_states.ClientFinalSent signature keys) side after text kind refused = refused.1
+belief_refused (client_states.Complete keys) side after text kind refused = refused.1
+
+machine_refused : (profile : Profile) (hostname : Option (List ℕ)) (nonce : List ℕ) (frame : SaslFrame)
+    (reply : Result SaslFrame ClientFault) (fault : ClientFault) (moved : Profile) → reply ≡ Err fault
+    → profile_machine profile hostname nonce frame reply moved → moved ≡ profile
+machine_refused profile hostname nonce (frames.Mechanisms names) reply fault moved is (inl m) =
+    let apart = m.1 in absurd (cc)
+machine_refused profile hostname nonce (frames.Mechanisms names) reply fault moved is (inr m) = m.2
+machine_refused (ScramProfile client) hostname nonce (frames.Challenge text) reply fault moved is (inl m) = m.2
+machine_refused (ScramProfile client) hostname nonce (frames.Challenge text) reply fault moved is (inr m) =
+    go m.1.0 m.1.1 m.1.2 m.1.3 m.1.4
+  where
+    go : (answer : Result (List ℕ) ScramErrorKind) (after : ClientSide) → AnswersIn client.state client text answer after
+        → reply ≡ client_frame (λ message. frames.Response message) answer → moved ≡ ScramProfile after
+        → moved ≡ ScramProfile client
+    go (Ok message) after from apart to = absurd (cc)
+    go (Err kind) after from same to =
+        to ∙ ap (λ (c : ClientSide). ScramProfile c) (answer_refused client.state client after text kind from)
+machine_refused (ScramProfile client) hostname nonce (frames.Outcome outcomes.Ok None) reply fault moved is m = m.1
+machine_refused (ScramProfile client) hostname nonce (frames.Outcome outcomes.Ok (Some text)) reply fault moved is m =
+    go m.0 m.1 m.2 m.3 m.4
+  where
+    go : (answer : Result (Unit {0}) ScramErrorKind) (after : ClientSide)
+        → BelievesIn client.state client text answer after
+        → reply ≡ client_frame (λ believed. frames.Outcome outcomes.Ok (Some text)) answer
+        → moved ≡ ScramProfile after → moved ≡ ScramProfile client
+    go (Ok believed) after from apart to = absurd (cc)
+    go (Err kind) after from same to =
+        to ∙ ap (λ (c : ClientSide). ScramProfile c) (belief_refused client.state client after text kind from)
+machine_refused (ScramProfile client) hostname nonce (frames.Outcome outcomes.Auth more) reply fault moved is m = m.1
+machine_refused (ScramProfile client) hostname nonce (frames.Outcome outcomes.Sys more) reply fault moved is m = m.1
+machine_refused (ScramProfile client) hostname nonce (frames.Outcome outcomes.SysPerm more) reply fault moved is m =
+    m.1
+machine_refused (ScramProfile client) hostname nonce (frames.Outcome outcomes.SysTemp more) reply fault moved is m =
+    m.1
+machine_refused (ScramProfile client) hostname nonce (frames.Init mechanism response host) reply fault moved is m = m.1
+machine_refused (ScramProfile client) hostname nonce (frames.Response text) reply fault moved is m = m.1
+machine_refused (PlainProfile user password) hostname nonce (frames.Challenge text) reply fault moved is m = m.1
+machine_refused (PlainProfile user password) hostname nonce (frames.Outcome code more) reply fault moved is m = m.1
+machine_refused (PlainProfile user password) hostname nonce (frames.Init mechanism response host) reply fault moved is m =
+    m.1
+machine_refused (PlainProfile user password) hostname nonce (frames.Response text) reply fault moved is m = m.1
+machine_refused AnonymousProfile hostname nonce (frames.Challenge text) reply fault moved is m = m.1
+machine_refused AnonymousProfile hostname nonce (frames.Outcome code more) reply fault moved is m = m.1
+machine_refused AnonymousProfile hostname nonce (frames.Init mechanism response host) reply fault moved is m = m.1
+machine_refused AnonymousProfile hostname nonce (frames.Response text) reply fault moved is m = m.1
+machine_refused ExternalProfile hostname nonce (frames.Challenge text) reply fault moved is m = m.1
+machine_refused ExternalProfile hostname nonce (frames.Outcome code more) reply fault moved is m = m.1
+machine_refused ExternalProfile hostname nonce (frames.Init mechanism response host) reply fault moved is m = m.1
+machine_refused ExternalProfile hostname nonce (frames.Response text) reply fault moved is m = m.1
+
+-- a frame that is not sent leaves the profile
+unsent_stays : (says : List ℕ → ClientSays) (body : Option (List ℕ)) (profile moved next : Profile) (fault : ClientFault)
+    → ((b : List ℕ) → Refused fault ≡ says b → ⊥)
+    → Sends (Refused (Frame faults.TooLarge)) says body profile moved (Refused fault) next → next ≡ profile
+unsent_stays says None profile moved next fault other sent = sent.1
+unsent_stays says (Some body) profile moved next fault other sent = absurd (other body sent.0)
+
+reply_refused : (profile moved next : Profile) (hostname : Option (List ℕ)) (nonce : List ℕ) (frame : SaslFrame)
+    (reply : Result SaslFrame ClientFault) (fault : ClientFault)
+    → profile_machine profile hostname nonce frame reply moved → Replies profile moved reply (Refused fault) next
+    → next ≡ profile
+reply_refused profile moved next hostname nonce frame (Err kind) fault machine says =
+    says.1 ∙ machine_refused profile hostname nonce frame (Err kind) kind moved (λ i. Err kind) machine
+reply_refused profile moved next hostname nonce frame (Ok (frames.Init mechanism response host)) fault machine says =
+    unsent_stays (λ body. Started body) (canonical (frames.Init mechanism response host)) profile moved next fault
+    (λ b apart. absurd (cc)) says
+reply_refused profile moved next hostname nonce frame (Ok (frames.Outcome code more)) fault machine says =
+    let apart = says.0 in absurd (cc)
+reply_refused profile moved next hostname nonce frame (Ok (frames.Mechanisms names)) fault machine says =
+    unsent_stays (λ body. Answered body) (canonical (frames.Mechanisms names)) profile moved next fault
+    (λ b apart. absurd (cc)) says
+reply_refused profile moved next hostname nonce frame (Ok (frames.Challenge text)) fault machine says =
+    unsent_stays (λ body. Answered body) (canonical (frames.Challenge text)) profile moved next fault
+    (λ b apart. absurd (cc)) says
+reply_refused profile moved next hostname nonce frame (Ok (frames.Response text)) fault machine says =
+    unsent_stays (λ body. Answered body) (canonical (frames.Response text)) profile moved next fault
+    (λ b apart. absurd (cc)) says
+
+-- a step that refuses leaves the profile
+pub step_refused : (hostname : Option (List ℕ)) (profile next : Profile) (event : Given) (fault : ClientFault)
+    → ProfileSteps hostname profile event (Refused fault) next → next ≡ profile
+step_refused hostname profile next event fault (Err kind, spells, gives) = gives.1
+step_refused hostname profile next event fault (Ok frame, spells, inl wants) = wants.2
+step_refused hostname profile next event fault (Ok frame, spells, inr gives) =
+    reply_refused profile gives.1 next hostname event.nonce frame gives.0 fault gives.2 gives.3

@@ -1,0 +1,59 @@
+-- What a connection costs, sends and holds, whatever its bytes are and however they are handed in. Each is the contract
+-- of a clause of `laws::costs` or of `laws::bounds`.
+use Rattle.std.specs.Prelude.{◌≡◌, ◌⊎◌, ◌<◌, ◌≤◌, ◌+◌, ◌*◌, ℕ, Option, List, [], ◌∷◌, length, take, drop}
+use Rattle.fe2o3_scram.specs.Credentials.{Provider}
+use Rattle.fe2o3_scram.specs.ScramClient.{ClientSide}
+use Rattle.fe2o3_scram.specs.ScramServer.{ServerState}
+use Rattle.fe2o3_sasl.specs.Costs.{acceptor_hmacs}
+use Rattle.fe2o3_sasl.specs.Profiles.{Profile, ScramProfile}
+use Rattle.fe2o3_sasl.specs.SaslAcceptor.{Acceptor, ScramAcceptor, acceptor_names, acceptor_machine}
+use Rattle.fe2o3_sasl_negotiation.specs.declared.standing.Due.{Due}
+use Rattle.fe2o3_sasl_negotiation.specs.ClientNegotiation.{ClientAnswers, ClientCosts}
+use Rattle.fe2o3_sasl_negotiation.specs.Connections.{fresh}
+use Rattle.fe2o3_sasl_negotiation.specs.Laws.{Call, Calls}
+use Rattle.fe2o3_sasl_negotiation.specs.Negotiations.{Side, Answer, Receives}
+use Rattle.fe2o3_sasl_negotiation.specs.ServerNegotiation.{ServerAnswers, ServerCosts}
+
+-- calls over a stream, each handed any number of the bytes that the calls before it left, with what one meter shows
+-- before and behind them
+abbrev pub MeteredCalls : {S : Type 0} → (Due → S → List ℕ → List ℕ → Answer → S → Type 0)
+    → (Side S → List ℕ → List ℕ → ℕ → ℕ → Type 0) → Side S → List Call → List ℕ → ℕ → ℕ → Type 0
+MeteredCalls Answers Costs side [] stream before after = after ≡ before
+MeteredCalls {S} Answers Costs side (call ∷ calls) stream before after =
+    (taken : ℕ) × (sent : List ℕ) × (next : Side S) × (between : ℕ)
+    × Receives Answers side (take call.handed stream) call.nonce taken sent next
+    × Costs side (take call.handed stream) call.nonce before between
+    × MeteredCalls Answers Costs next calls (drop taken stream) between after
+
+-- a connection of a SCRAM server takes two HMAC values at most (RFC 5802, section 3)
+abbrev pub ServersCost : Type 0
+ServersCost = (provider : Provider) (state : ServerState) (limit : ℕ) (calls : List Call) (stream : List ℕ)
+    (before after : ℕ) → MeteredCalls (ServerAnswers acceptor_names acceptor_machine) (ServerCosts acceptor_hmacs)
+    (fresh limit (ScramAcceptor provider state)) calls stream before after
+    → (before ≤ after) × (after ≤ before + 2)
+
+-- and one of a SCRAM client as many as its limit of iterations and four more
+abbrev pub ClientsCost : Type 0
+ClientsCost = (hostname : Option (List ℕ)) (client : ClientSide) (limit : ℕ) (calls : List Call) (stream : List ℕ)
+    (before after : ℕ) → MeteredCalls (ClientAnswers hostname) ClientCosts (fresh limit (ScramProfile client)) calls
+    stream before after
+    → (before ≤ after) × (after ≤ before + (client.limits.most + 4))
+
+-- a side has sent no more bytes than these, and holds less than a header, or less than its limit lets a frame have
+abbrev pub Bounded : {S : Type 0} → ℕ → ℕ → List ℕ → Side S → Type 0
+Bounded most limit sent last = (length sent ≤ most) × ((length last.held < 8) ⊎ (length last.held < limit))
+
+-- a server sends its header, its mechanisms, one challenge and one outcome at most, each frame of at most 512 bytes
+-- (part 5, section 5.3.1)
+abbrev pub ServersAreBounded : Type 0
+ServersAreBounded = (acceptor : Acceptor) (limit : ℕ) (calls : List Call) (stream sent rest : List ℕ)
+    (last : Side Acceptor)
+    → Calls (ServerAnswers acceptor_names acceptor_machine) (fresh limit acceptor) calls stream sent last rest
+    → Bounded (8 + 3 * 512) limit sent last
+
+-- and a client, behind its header, one init and one response
+abbrev pub ClientsAreBounded : Type 0
+ClientsAreBounded = (hostname : Option (List ℕ)) (profile : Profile) (limit : ℕ) (calls : List Call)
+    (stream sent rest : List ℕ) (last : Side Profile)
+    → Calls (ClientAnswers hostname) (fresh limit profile) calls stream sent last rest
+    → Bounded (2 * 512) limit sent last

@@ -1,0 +1,56 @@
+-- What holds however the bytes of a connection are cut into calls.
+use Rattle.std.specs.Prelude.{◌≡◌, ◌≢◌, ◌⊎◌, ℕ, Option, List, [], ◌∷◌, ◌++◌, take, drop}
+use Rattle.fe2o3_sasl.specs.SaslAcceptor.{acceptor_names, acceptor_machine}
+use Rattle.fe2o3_sasl_negotiation.specs.declared.standing.Due.{Due}
+use Rattle.fe2o3_sasl_negotiation.specs.declared.standing.Standing.TheVariants.{Wanting}
+use Rattle.fe2o3_sasl_negotiation.specs.ClientNegotiation.{ClientAnswers}
+use Rattle.fe2o3_sasl_negotiation.specs.Framing.{IsPart}
+use Rattle.fe2o3_sasl_negotiation.specs.Negotiations.{Side, Answer, Receives}
+use Rattle.fe2o3_sasl_negotiation.specs.ServerNegotiation.{ServerAnswers}
+
+-- a call: how many of the bytes that are left it is handed, and a nonce
+pub record Call : Type 0 where
+  pub handed : ℕ
+  pub nonce : List ℕ
+
+-- calls over a stream, each handed any number of the bytes that the calls before it left: what they send, how the side
+-- stands behind them, and the bytes that are left in the end
+abbrev pub Calls : {S : Type 0} → (Due → S → List ℕ → List ℕ → Answer → S → Type 0) → Side S → List Call → List ℕ
+    → List ℕ → Side S → List ℕ → Type 0
+Calls Answers side [] stream sent last rest = (sent ≡ []) × (last ≡ side) × (rest ≡ stream)
+Calls {S} Answers side (call ∷ calls) stream sent last rest =
+    (taken : ℕ) × (first : List ℕ) × (next : Side S) × (behind : List ℕ)
+    × Receives Answers side (take call.handed stream) call.nonce taken first next
+    × Calls Answers next calls (drop taken stream) behind last rest × (sent ≡ first ++ behind)
+
+-- less than a unit has come, and is kept; or the side is at its end, and nothing has come
+abbrev pub Stops : {S : Type 0} → Side S → List ℕ → List ℕ → Side S → Type 0
+Stops side bytes sent last = (sent ≡ [])
+    × (((side.standing ≡ Wanting) × IsPart side.due side.limit (side.held ++ bytes)
+    × (last ≡ record side { held = side.held ++ bytes }))
+    ⊎ ((side.standing ≢ Wanting) × (bytes ≡ []) × (last ≡ side)))
+
+-- the same of the bytes as a whole, unit by unit, each with its nonce
+abbrev pub Negotiates : {S : Type 0} → (Due → S → List ℕ → List ℕ → Answer → S → Type 0) → Side S → List (List ℕ)
+    → List ℕ → List ℕ → Side S → Type 0
+Negotiates Answers side [] bytes sent last = Stops side bytes sent last
+Negotiates {S} Answers side (nonce ∷ nonces) bytes sent last =
+    (taken : ℕ) × (first : List ℕ) × (next : Side S) × (behind : List ℕ) × (side.standing ≡ Wanting)
+    × ¬ IsPart side.due side.limit (side.held ++ bytes) × Receives Answers side bytes nonce taken first next
+    × Negotiates Answers next nonces (drop taken bytes) behind last × (sent ≡ first ++ behind)
+
+-- however a stream is handed in, the calls do with the bytes that they take what is done with them as a whole, each
+-- unit with the nonce of the call that completes it: the cut does not matter
+abbrev pub CutsDoNotMatter : {S : Type 0} → (Due → S → List ℕ → List ℕ → Answer → S → Type 0) → Type 0
+CutsDoNotMatter {S} Answers = (side last : Side S) (calls : List Call) (stream sent rest : List ℕ)
+    → IsPart side.due side.limit side.held → Calls Answers side calls stream sent last rest
+    → (taken : List ℕ) × (nonces : List (List ℕ)) × (stream ≡ taken ++ rest)
+    × Negotiates Answers side nonces taken sent last
+
+-- of each server by an acceptor of `fe2o3_sasl`
+abbrev pub ServerCutsDoNotMatter : Type 0
+ServerCutsDoNotMatter = CutsDoNotMatter (ServerAnswers acceptor_names acceptor_machine)
+
+-- and of each client
+abbrev pub ClientCutsDoNotMatter : Type 0
+ClientCutsDoNotMatter = (hostname : Option (List ℕ)) → CutsDoNotMatter (ClientAnswers hostname)

@@ -1,0 +1,10 @@
+pub mod Framing
+pub mod Negotiations
+pub mod ServerNegotiation
+pub mod ClientNegotiation
+pub mod Sides
+pub mod Laws
+pub mod Connections
+pub mod UnalteredConnections
+pub mod private
+pub mod CostLaws

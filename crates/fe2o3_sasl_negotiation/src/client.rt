@@ -1,0 +1,332 @@
+//! The client's side of a connection (AMQP 1.0, part 5, section 5.3.2).
+
+ghost use Rattle.std.specs.Prelude.{◌≡◌, ◌<◌, ◌≤◌, ◌^◌, ◌++◌, ℕ, List, Option, [], IfOk, OnOk, OnErr, option_map, string_bytes, length, drop, min};
+ghost use Rattle.fe2o3_sasl.specs.Runs.{ProfileSteps, client_answer, client_reply};
+ghost use Rattle.fe2o3_sasl.specs.SaslProfile.{profile_of};
+ghost use Rattle.fe2o3_sasl.specs.Costs.{ProfileStepCosts};
+ghost use Rattle.fe2o3_sasl_negotiation.specs.Framing.{IsPart, IsPart-prop, sasl_header};
+ghost use Rattle.fe2o3_sasl_negotiation.specs.ClientNegotiation.{Opens, Says, Replies, ClientAnswers, ClientReceives, ReplyCosts, UnitCosts, ClientCosts};
+ghost use Rattle.fe2o3_sasl_negotiation.specs.private.Units.{Appends};
+ghost use Rattle.fe2o3_sasl.specs.Events.{Reported, Refused};
+ghost use Rattle.fe2o3_sasl.specs.ProfileFaults.{client_fault};
+ghost use Rattle.fe2o3_sasl.specs.declared.sasl_profile.error.ProfileError.TheVariants.{OutOfMemory as ProfileWantsMemory};
+ghost use Rattle.fe2o3_sasl_wire.specs.FrameView.{shown};
+ghost use Rattle.fe2o3_sasl_negotiation.specs.declared.standing.Due.TheVariants.{Header};
+ghost use Rattle.fe2o3_sasl_negotiation.specs.declared.standing.Standing.TheVariants.{Wanting};
+
+use crate::framing::{Arrived, MAX_FRAME, Step, end_unit, is_sasl, screen, send, take_unit};
+use crate::standing::{ClosedBecause, Due, Received, Standing, Turn};
+use bytes::BytesMut;
+use fe2o3_sasl::{ClientReply, Meter, OutOfMemory, ProfileError, SaslProfile, profile_body_step};
+use fe2o3_sasl_wire::{ProtocolHeader, SaslCode};
+use std::alloc::Global;
+
+/// The client's side of one connection, which logs in by the profile.
+#[derive(Drop)]
+pub struct ClientNegotiation {
+    profile: SaslProfile,
+    hostname: Option<String>,
+    standing: Standing,
+    due: Due,
+    limit: usize,
+    held: Vec<u8>,
+    ghost part: { IsPart due limit held.items } by { IsPart-prop due limit held.items },
+}
+
+/// What a client makes of the server's header: it waits for that of SASL.
+fn open(header: &[u8]) -> Step
+    ensures { (out : List ℕ) → Appends (Opens header.now) out out result }
+{
+    if is_sasl(header) {
+        Step {
+            standing: Standing::Wanting,
+            due: Due::Frame(Turn::Mechanisms),
+        }
+    } else {
+        Step::closed(ClosedBecause::OtherHeader, Due::Header)
+    }
+}
+
+/// Sends what the profile replies.
+fn send_reply(out: &mut BytesMut, turn: Turn, reply: ClientReply) -> Step
+    requires { 512 ≤ out.old.spare }
+    ensures { Appends (Says (client_reply reply) turn) out.old.items out.new.items result }
+{
+    let due = Due::Frame(turn);
+    match reply {
+        ClientReply::Init { body } => match turn {
+            Turn::Mechanisms => send(out, &body, Standing::Wanting, Due::Frame(Turn::Challenge)),
+            _ => Step::closed(ClosedBecause::OutOfTurn, due),
+        },
+        ClientReply::Response { body } => match turn {
+            Turn::Challenge => send(out, &body, Standing::Wanting, Due::Frame(Turn::Outcome)),
+            _ => Step::closed(ClosedBecause::OutOfTurn, due),
+        },
+        ClientReply::Outcome(outcome) => concluded(turn, outcome.code),
+    }
+}
+
+/// How a client stands behind an outcome that its profile reports.
+fn concluded(turn: Turn, code: SaslCode) -> Step
+    ensures { (out : List ℕ) (more : Option (List ℕ)) → Appends (Says (Reported code more) turn) out out result }
+{
+    match code {
+        SaslCode::Ok => Step {
+            standing: Standing::LoggedIn,
+            due: Due::Frame(turn),
+        },
+        code => Step::closed(ClosedBecause::Refused(code), Due::Frame(turn)),
+    }
+}
+
+/// What the profile refuses closes, but for want of memory.
+fn refuse(turn: Turn, fault: ProfileError) -> Result<Step, OutOfMemory>
+    ensures ok { IfOk result (λ step. (out : List ℕ)
+        → Appends (Says (Refused (client_fault fault)) turn) out out step) }
+    ensures err { OnErr result (fault ≡ ProfileWantsMemory) }
+{
+    match fault {
+        ProfileError::OutOfMemory => Err(OutOfMemory),
+        ProfileError::NotImplemented
+        | ProfileError::Scram(_)
+        | ProfileError::OtherKeys
+        | ProfileError::Frame(_) => {
+            Ok(Step::closed(ClosedBecause::Profile(fault), Due::Frame(turn)))
+        }
+    }
+}
+
+/// What a client answers to the body of a frame.
+fn reply(
+    alloc: Global,
+    profile: &mut SaslProfile,
+    hostname: Option<&str>,
+    turn: Turn,
+    body: &[u8],
+    nonce: &[u8; 32],
+    meter: &mut Meter,
+    out: &mut BytesMut,
+) -> Result<Step, OutOfMemory>
+    requires { meter.old ≤ 2 ^ 63 }
+    ensures ok { IfOk result (λ step. Appends (λ answer. Replies (shown hostname.entry) turn (profile_of profile.old)
+        (record { body = body.now; nonce = nonce.now }) answer (profile_of profile.new))
+        out.old.items out.new.items step) }
+    ensures unsent { OnErr result (out.new.items ≡ out.old.items) }
+    ensures unchanged { OnErr result (profile_of profile.new ≡ profile_of profile.old) }
+    ensures cost { ReplyCosts turn (profile_of profile.old) (record { body = body.now; nonce = nonce.now })
+        meter.old meter.new }
+{
+    if let Some(why) = screen(turn, body) {
+        return Ok(Step::closed(why, Due::Frame(turn)));
+    }
+    out.reserve(MAX_FRAME)?;
+    match profile_body_step(alloc, profile, body, nonce, hostname, meter) {
+        Ok(reply) => Ok(send_reply(out, turn, reply)),
+        Err(fault) => refuse(turn, fault),
+    }
+}
+
+/// What a client answers to a unit.
+fn answer(
+    alloc: Global,
+    profile: &mut SaslProfile,
+    hostname: Option<&str>,
+    due: Due,
+    unit: &[u8],
+    nonce: &[u8; 32],
+    meter: &mut Meter,
+    out: &mut BytesMut,
+) -> Result<Step, OutOfMemory>
+    requires four { 4 ≤ length unit.now }
+    requires meter { meter.old ≤ 2 ^ 63 }
+    ensures ok { IfOk result (λ step. Appends (λ answer. ClientAnswers (shown hostname.entry) due
+        (profile_of profile.old) nonce.now unit.now answer (profile_of profile.new)) out.old.items out.new.items step) }
+    ensures unsent { OnErr result (out.new.items ≡ out.old.items) }
+    ensures unchanged { OnErr result (profile_of profile.new ≡ profile_of profile.old) }
+    ensures cost { UnitCosts due (profile_of profile.old) nonce.now unit.now meter.old meter.new }
+{
+    match due {
+        Due::Header => Ok(open(unit)),
+        Due::Frame(turn) => reply(
+            alloc,
+            profile,
+            hostname,
+            turn,
+            &unit[4..],
+            nonce,
+            meter,
+            out,
+        ),
+    }
+}
+
+/// The hostname of a client, if it has one.
+fn shown_name(hostname: &Option<String>) -> Option<&str>
+    ensures { shown result ≡ option_map string_bytes hostname.now }
+{
+    match hostname {
+        Some(hostname) => Some(hostname.as_str()),
+        None => None,
+    }
+}
+
+impl ClientNegotiation {
+    ghost use Rattle.fe2o3_sasl_negotiation.specs.Sides.{client_side, hostname_in};
+
+    /// The client's side of a new connection, by a profile that no connection has used, with the hostname that
+    /// its init names, if any. The client speaks first: send its header (`open`).
+    pub fn new(alloc: Global, profile: SaslProfile, hostname: Option<String>) -> Self
+        ensures side { client_side result
+            ≡ record { standing = Wanting; due = Header; limit = 512; held = []; state = profile_of profile } }
+        ensures hostname { hostname_in result ≡ option_map string_bytes hostname }
+    {
+        Self::with_frame_limit(alloc, profile, hostname, MAX_FRAME)
+    }
+
+    /// The same, which refuses a frame of more bytes than the limit, if that is below 512.
+    pub fn with_frame_limit(
+        alloc: Global,
+        profile: SaslProfile,
+        hostname: Option<String>,
+        limit: usize,
+    ) -> Self
+        ensures side { client_side result ≡ record {
+          standing = Wanting;
+          due = Header;
+          limit = min limit 512;
+          held = [];
+          state = profile_of profile;
+        } }
+        ensures hostname { hostname_in result ≡ option_map string_bytes hostname }
+    {
+        Self {
+            profile,
+            hostname,
+            standing: Standing::Wanting,
+            due: Due::Header,
+            limit: limit.min(MAX_FRAME),
+            held: Vec::new(alloc),
+        }
+    }
+
+    /// How the negotiation stands.
+    pub fn standing(&self) -> Standing
+        ensures { result ≡ (client_side self.now).standing }
+    {
+        self.standing
+    }
+
+    /// The profile.
+    pub fn profile(&self) -> &SaslProfile
+        ensures { profile_of result.now ≡ (client_side self.now).state }
+    {
+        &self.profile
+    }
+
+    /// Appends the header of SASL, with which a client begins, and asks at once for room for the longest frame
+    /// behind it.
+    pub fn open(out: &mut BytesMut) -> Result<(), OutOfMemory>
+        ensures ok { OnOk result (out.new.items ≡ out.old.items ++ sasl_header) }
+        ensures err { OnErr result (out.new.items ≡ out.old.items) }
+    {
+        out.reserve(8 + MAX_FRAME)?;
+        out.extend_reserved(&<[u8; 8]>::from(ProtocolHeader::sasl()));
+        Ok(())
+    }
+
+    /// Takes bytes as they came, to the end of the header or of the frame that is due, at least one of those
+    /// that are handed in while more are wanted, and appends what is to be sent to `out`. The nonce is the
+    /// frame's that these bytes complete: hand in fresh random bytes with each call. OutOfMemory changes
+    /// nothing but the meter: the same bytes can be handed in again. Once the client is logged in and once
+    /// the negotiation is closed, nothing is taken, sent or changed. The meter, of at most 2^63, counts the
+    /// HMAC values.
+    pub fn receive(
+        &mut self,
+        alloc: Global,
+        bytes: &[u8],
+        nonce: &[u8; 32],
+        meter: &mut Meter,
+        out: &mut BytesMut,
+    ) -> Result<Received, OutOfMemory>
+        requires { meter.old ≤ 2 ^ 63 }
+        ensures ok { IfOk result (λ received. (sent : List ℕ) × (out.new.items ≡ out.old.items ++ sent)
+            × ClientReceives (hostname_in self.old) (client_side self.old) bytes.now nonce.now received.taken sent
+            (client_side self.new)) }
+        ensures within { IfOk result (λ received. received.taken ≤ length bytes.now) }
+        ensures moves { IfOk result (λ received. (client_side self.old).standing ≡ Wanting
+            → 0 < length bytes.now → 0 < received.taken) }
+        ensures standing { IfOk result (λ received. received.standing ≡ (client_side self.new).standing) }
+        ensures unsent { OnErr result (out.new.items ≡ out.old.items) }
+        ensures unchanged { OnErr result (client_side self.new ≡ client_side self.old) }
+        ensures hostname { hostname_in self.new ≡ hostname_in self.old }
+        ensures cost { ClientCosts (client_side self.old) bytes.now nonce.now meter.old meter.new }
+    {
+        self.take_bytes(alloc, bytes, nonce, meter, out)
+    }
+
+    /// What `receive` does.
+    fn take_bytes(
+        &mut self,
+        alloc: Global,
+        bytes: &[u8],
+        nonce: &[u8; 32],
+        meter: &mut Meter,
+        out: &mut BytesMut,
+    ) -> Result<Received, OutOfMemory>
+        requires { meter.old ≤ 2 ^ 63 }
+        ensures ok { IfOk result (λ received. (sent : List ℕ) × (out.new.items ≡ out.old.items ++ sent)
+            × ClientReceives (hostname_in self.old) (client_side self.old) bytes.now nonce.now received.taken sent
+            (client_side self.new)) }
+        ensures standing { IfOk result (λ received. received.standing ≡ (client_side self.new).standing) }
+        ensures unsent { OnErr result (out.new.items ≡ out.old.items) }
+        ensures unchanged { OnErr result (client_side self.new ≡ client_side self.old) }
+        ensures hostname { hostname_in self.new ≡ hostname_in self.old }
+        ensures cost { ClientCosts (client_side self.old) bytes.now nonce.now meter.old meter.new }
+    {
+        let Standing::Wanting = self.standing else {
+            return Ok(Received {
+                taken: 0,
+                standing: self.standing,
+            });
+        };
+        let had = self.held.len();
+        match take_unit(&mut self.held, self.due, self.limit, bytes)? {
+            Arrived::Part => Ok(Received {
+                taken: bytes.len(),
+                standing: Standing::Wanting,
+            }),
+            Arrived::Refused => {
+                let taken = end_unit(&mut self.held, had);
+                self.standing = Standing::Closed(ClosedBecause::FrameSize);
+                Ok(Received {
+                    taken,
+                    standing: self.standing,
+                })
+            }
+            Arrived::Whole => match answer(
+                alloc,
+                &mut self.profile,
+                shown_name(&self.hostname),
+                self.due,
+                &self.held,
+                nonce,
+                meter,
+                out,
+            ) {
+                Ok(step) => {
+                    let taken = end_unit(&mut self.held, had);
+                    self.standing = step.standing;
+                    self.due = step.due;
+                    Ok(Received {
+                        taken,
+                        standing: step.standing,
+                    })
+                }
+                Err(fault) => {
+                    self.held.truncate(had);
+                    Err(fault)
+                }
+            },
+        }
+    }
+}

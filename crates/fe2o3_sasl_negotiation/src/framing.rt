@@ -1,0 +1,213 @@
+//! Headers and frames as they come, in whatever pieces, and as they are sent (AMQP 1.0, part 2, sections 2.2
+//! and 2.3.1).
+
+ghost use Rattle.std.specs.Prelude.{◌≡◌, ◌↔◌, ◌+◌, ◌-◌, ◌<◌, ◌≤◌, ◌++◌, ◌⊎◌, true, ℕ, [], length, take, drop, IfOk, OnOk, OnErr, MatchOption, vec_len};
+ghost use Rattle.fe2o3_sasl_wire.specs.FrameView.{viewed_frame};
+ghost use Rattle.fe2o3_sasl_negotiation.specs.Framing.{sasl_header, size_of, Fits, IsPart};
+ghost use Rattle.fe2o3_sasl_negotiation.specs.Negotiations.{IsInTurn, Sends, closes};
+ghost use Rattle.fe2o3_sasl_negotiation.specs.private.Units.{Takes, Appends, Screens};
+ghost use Rattle.fe2o3_sasl_negotiation.specs.declared.standing.Due.TheVariants.{Header, Frame};
+ghost use Rattle.fe2o3_sasl_negotiation.specs.declared.standing.Standing.TheVariants.{Closed};
+
+use crate::standing::{ClosedBecause, Due, Standing, Turn};
+use bytes::BytesMut;
+use fe2o3_sasl::OutOfMemory;
+use fe2o3_sasl_wire::{FrameView, ProtocolHeader, view_frame};
+
+/// The most bytes of a SASL frame (AMQP 1.0, part 5, section 5.3.1).
+pub const MAX_FRAME: usize = 512;
+
+/// What has come of the unit that is due.
+#[derive(Clone, Copy)]
+pub enum Arrived {
+    /// Less than the whole: more bytes are wanted.
+    Part,
+
+    /// A size that no frame may have.
+    Refused,
+
+    /// All of it.
+    Whole,
+}
+
+/// How a side stands behind a unit, and what is due then.
+#[derive(Clone, Copy)]
+pub struct Step {
+    /// How it stands.
+    pub standing: Standing,
+
+    /// What is due.
+    pub due: Due,
+}
+
+impl Step {
+    /// The side closes.
+    pub fn closed(why: ClosedBecause, due: Due) -> Step
+        ensures { result ≡ record { standing = Closed why; due = due } }
+    {
+        Step {
+            standing: Standing::Closed(why),
+            due,
+        }
+    }
+}
+
+/// Keeps bytes from the front, until `n` are held.
+fn keep(held: &mut Vec<u8>, bytes: &[u8], n: usize) -> Result<(), OutOfMemory>
+    requires { vec_len held.old ≤ n }
+    ensures ok { OnOk result (held.new.items ≡ take n (held.old.items ++ bytes.now)) }
+    ensures err { OnErr result (held.new.items ≡ held.old.items) }
+{
+    let missing = (n - held.len()).min(bytes.len());
+    held.extend_from_slice(&bytes[..missing])
+}
+
+/// The size that the bytes begin with, if it has come.
+fn size(bytes: &[u8]) -> Option<usize>
+    ensures { MatchOption result (length bytes.now < 4)
+        (λ size. (4 ≤ length bytes.now) × (size ≡ size_of bytes.now)) }
+{
+    match bytes.first_chunk::<4>() {
+        Some(size) => Some(u32::from_be_bytes(*size) as usize),
+        None => None,
+    }
+}
+
+/// Takes what is missing of a header.
+fn take_header(held: &mut Vec<u8>, bytes: &[u8]) -> Result<Arrived, OutOfMemory>
+    requires { length held.old.items < 8 }
+    ensures ok { IfOk result (λ arrived. (limit : ℕ)
+        → Takes Header limit (held.old.items ++ bytes.now) arrived held.new.items) }
+    ensures err { OnErr result (held.new.items ≡ held.old.items) }
+{
+    keep(held, bytes, 8)?;
+    if held.len() < 8 {
+        Ok(Arrived::Part)
+    } else {
+        Ok(Arrived::Whole)
+    }
+}
+
+/// Takes what is missing of the size of a frame, and answers how many bytes that were.
+fn take_size(held: &mut Vec<u8>, bytes: &[u8]) -> Result<usize, OutOfMemory>
+    ensures within { IfOk result (λ taken. taken ≤ length bytes.now) }
+    ensures len { IfOk result (λ taken. length held.new.items ≡ length held.old.items + taken) }
+    ensures rest { IfOk result (λ taken. held.new.items ++ drop taken bytes.now ≡ held.old.items ++ bytes.now) }
+    ensures four { OnOk result (length held.new.items < 4 → held.new.items ≡ held.old.items ++ bytes.now) }
+    ensures no_more { OnOk result ((held.new.items ≡ held.old.items) ⊎ (length held.new.items ≤ 4)) }
+    ensures err { OnErr result (held.new.items ≡ held.old.items) }
+{
+    let had = held.len();
+    if had >= 4 {
+        return Ok(0);
+    }
+    keep(held, bytes, 4)?;
+    Ok(held.len() - had)
+}
+
+/// Takes what is missing of a frame: first of its size, and then, where a frame may have that, of its body.
+fn take_frame(
+    held: &mut Vec<u8>,
+    turn: Turn,
+    limit: usize,
+    bytes: &[u8],
+) -> Result<Arrived, OutOfMemory>
+    requires { IsPart (Frame turn) limit held.old.items }
+    ensures ok { IfOk result (λ arrived. Takes (Frame turn) limit (held.old.items ++ bytes.now) arrived
+        held.new.items) }
+    ensures err { OnErr result (held.new.items ≡ held.old.items) }
+{
+    let had = held.len();
+    let taken = take_size(held, bytes)?;
+    let Some(size) = size(held) else {
+        return Ok(Arrived::Part);
+    };
+    if size < 8 || size > limit {
+        return Ok(Arrived::Refused);
+    }
+    if let Err(fault) = keep(held, &bytes[taken..], size) {
+        held.truncate(had);
+        return Err(fault);
+    }
+    if held.len() < size {
+        Ok(Arrived::Part)
+    } else {
+        Ok(Arrived::Whole)
+    }
+}
+
+/// Takes what is missing of the unit that is due, and nothing behind it. Room for the longest unit is asked for
+/// once, so that a connection makes one request for what it holds.
+pub fn take_unit(
+    held: &mut Vec<u8>,
+    due: Due,
+    limit: usize,
+    bytes: &[u8],
+) -> Result<Arrived, OutOfMemory>
+    requires { IsPart due limit held.old.items }
+    ensures ok { IfOk result (λ arrived. Takes due limit (held.old.items ++ bytes.now) arrived held.new.items) }
+    ensures err { OnErr result (held.new.items ≡ held.old.items) }
+{
+    held.reserve(limit.max(8).saturating_sub(held.len()))?;
+    match due {
+        Due::Header => take_header(held, bytes),
+        Due::Frame(turn) => take_frame(held, turn, limit, bytes),
+    }
+}
+
+/// Gives up a unit that is over, and answers how many of its bytes were not held before.
+pub fn end_unit(held: &mut Vec<u8>, had: usize) -> usize
+    ensures taken { result ≡ length held.old.items - had }
+    ensures empty { held.new.items ≡ [] }
+{
+    let taken = held.len().saturating_sub(had);
+    held.clear();
+    taken
+}
+
+/// Whether the bytes are the header of SASL 1.0.0 (AMQP 1.0, part 5, section 5.3.2).
+pub fn is_sasl(header: &[u8]) -> bool
+    ensures { result ≡ true ↔ (header.now ≡ sasl_header) }
+{
+    header == <[u8; 8]>::from(ProtocolHeader::sasl()).as_slice()
+}
+
+/// Whether the frame is the one that is due.
+fn is_in_turn(turn: Turn, view: &FrameView<'_>) -> bool
+    ensures { result ≡ true ↔ IsInTurn turn (viewed_frame view.now) }
+{
+    match (turn, view) {
+        (Turn::Mechanisms, FrameView::Mechanisms(_)) => true,
+        (Turn::Init, FrameView::Init { .. }) => true,
+        (Turn::Challenge, FrameView::Challenge(_)) => true,
+        (Turn::Challenge, FrameView::Outcome { .. }) => true,
+        (Turn::Response, FrameView::Response(_)) => true,
+        (Turn::Outcome, FrameView::Outcome { .. }) => true,
+        _ => false,
+    }
+}
+
+/// Why a body closes the negotiation before the machine is asked, or `None`.
+pub fn screen(turn: Turn, body: &[u8]) -> Option<ClosedBecause>
+    ensures { Screens turn body.now result }
+{
+    match view_frame(body) {
+        Ok((view, _)) if is_in_turn(turn, &view) => None,
+        Ok(_) => Some(ClosedBecause::OutOfTurn),
+        Err(fault) => Some(ClosedBecause::Unread(fault)),
+    }
+}
+
+/// Appends a body as a frame, for which there is room, or closes where it is too long for one.
+pub fn send(out: &mut BytesMut, body: &[u8], standing: Standing, due: Due) -> Step
+    requires { 512 ≤ out.old.spare }
+    ensures { Appends (Sends body.now standing due) out.old.items out.new.items result }
+{
+    if body.len() > MAX_FRAME - 4 {
+        return Step::closed(ClosedBecause::ReplyTooLarge, due);
+    }
+    let size = body.len() as u32 + 4;
+    out.extend_reserved(&size.to_be_bytes());
+    out.extend_reserved(body);
+    Step { standing, due }
+}

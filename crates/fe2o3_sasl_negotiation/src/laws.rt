@@ -1,0 +1,49 @@
+//! Laws of the definitions. A function with an empty body says nothing but its contract: a statement about
+//! every list of bytes, which the check has proved.
+
+ghost use Rattle.fe2o3_sasl_negotiation.specs.Connections.{ServersConnect, ClientsConnect};
+ghost use Rattle.fe2o3_sasl_negotiation.specs.CostLaws.{ServersCost, ClientsCost, ServersAreBounded, ClientsAreBounded};
+ghost use Rattle.fe2o3_sasl_negotiation.specs.Laws.{ServerCutsDoNotMatter, ClientCutsDoNotMatter};
+ghost use Rattle.fe2o3_sasl_negotiation.specs.UnalteredConnections.{JoinedSidesLogIn};
+
+/// However a stream of bytes is cut into calls, what they take of it is answered as it would be as a whole,
+/// unit by unit, each with the nonce of the call that completes it. So any two divisions of a stream give
+/// the same bytes out, the same end and the same rest for the same nonces by frame.
+pub fn cuts()
+    ensures server { ServerCutsDoNotMatter }
+    ensures client { ClientCutsDoNotMatter }
+{}
+
+/// The headline theorem over the bytes of a connection, in whatever calls they are handed in: a SCRAM server
+/// has logged a client in exactly where it sent an Ok, which it answers only to a response that fits its open
+/// challenge and whose proof meets the stored key; a SCRAM client has logged in exactly where it reports an Ok,
+/// on the signature of its open answered challenge; and of each verifier that a client took and a server issued,
+/// both sides agree, or their own AuthMessages share one HMAC value.
+pub fn connections()
+    ensures server { ServersConnect }
+    ensures client { ClientsConnect }
+{}
+
+/// An honest client and an honest server that are joined both log in, in whatever pieces their bytes arrive, and
+/// the server names the client's user: where the server holds a record that the client's secret opens (a printable
+/// password, or keys of the record's), the count is from 1 on and within the client's limits, each side is handed
+/// what the other sends and takes all of it, and no frame is larger than 512 bytes or the limit of its receiver.
+pub fn unaltered_connections()
+    ensures { JoinedSidesLogIn }
+{}
+
+/// What a connection costs, whatever its bytes are and in whatever calls they are handed in: a SCRAM server makes
+/// two HMAC values at most, and a SCRAM client as many as its limit of iterations and four more. The sum is over
+/// the calls that are answered; what one costs that wants memory stands in its own contract.
+pub fn costs()
+    ensures server { ServersCost }
+    ensures client { ClientsCost }
+{}
+
+/// What a connection sends and holds, whatever its bytes are and in whatever calls they are handed in: a server sends
+/// its header and three frames of at most 512 bytes at most, a client two such frames behind its header; and either
+/// holds less than eight bytes, or less than its limit of a frame.
+pub fn bounds()
+    ensures server { ServersAreBounded }
+    ensures client { ClientsAreBounded }
+{}

@@ -1,0 +1,16 @@
+//! The negotiation of AMQP's SASL layer over the bytes of a connection, without a socket: bytes in, bytes
+//! out (AMQP 1.0, part 5, section 5.3).
+//!
+//! A [`ServerNegotiation`] and a [`ClientNegotiation`] read headers and sizes of frames, hold no more than one
+//! frame, answer each by an acceptor or a profile of `fe2o3_sasl`, and say when to close.
+#![tactic(auto)]
+
+mod client;
+mod framing;
+pub mod laws;
+mod server;
+mod standing;
+
+pub use client::ClientNegotiation;
+pub use server::ServerNegotiation;
+pub use standing::{ClosedBecause, Received, Standing};

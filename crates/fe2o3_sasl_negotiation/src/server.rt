@@ -1,0 +1,320 @@
+//! The server's side of a connection (AMQP 1.0, part 5, section 5.3.2).
+
+ghost use Rattle.std.specs.Prelude.{◌≡◌, ◌≢◌, ◌<◌, ◌≤◌, ◌^◌, ◌++◌, ℕ, List, Option, Some, None, [], IfOk, OnOk, OnErr, option_map, length, drop, min};
+ghost use Rattle.fe2o3_sasl.specs.Runs.{AcceptorSteps, server_reply, server_answer};
+ghost use Rattle.fe2o3_sasl.specs.Events.{Failed};
+ghost use Rattle.fe2o3_sasl.specs.Costs.{AcceptorStepCosts};
+ghost use Rattle.fe2o3_sasl_negotiation.specs.Framing.{IsPart, IsPart-prop};
+ghost use Rattle.fe2o3_sasl_negotiation.specs.Negotiations.{Completes, Answer, Receives};
+ghost use Rattle.fe2o3_sasl_negotiation.specs.ServerNegotiation.{offer_body as offer_of, Opens, Says, Replies, ReplyCosts, UnitCosts, ServerAnswers, ServerReceives, ServerCosts};
+ghost use Rattle.fe2o3_sasl_negotiation.specs.private.Units.{Appends};
+ghost use Rattle.fe2o3_sasl_wire.specs.declared.sasl_frames.error.Error.TheVariants.{OutOfMemory as WireOutOfMemory};
+ghost use Rattle.fe2o3_sasl_negotiation.specs.declared.standing.Due.TheVariants.{Header, Frame as FrameDue};
+ghost use Rattle.fe2o3_sasl_negotiation.specs.declared.standing.Standing.TheVariants.{Wanting, LoggedIn};
+
+use crate::framing::{Arrived, MAX_FRAME, Step, end_unit, is_sasl, screen, send, take_unit};
+use crate::standing::{ClosedBecause, Due, Received, Standing, Turn};
+use bytes::BytesMut;
+use fe2o3_sasl::{
+    Meter, NamesUser, OutOfMemory, SaslAcceptor, SaslAcceptorExt, ServerReply, acceptor_body_step,
+};
+use fe2o3_sasl_wire::{Error, Frame, FrameCodec, ProtocolHeader, SaslCode};
+use std::alloc::Global;
+
+/// The server's side of one connection, which logs in by the acceptor.
+#[derive(Drop)]
+pub struct ServerNegotiation<A> {
+    acceptor: A,
+    standing: Standing,
+    due: Due,
+    limit: usize,
+    held: Vec<u8>,
+    ghost part: { IsPart due limit held.items } by { IsPart-prop due limit held.items },
+}
+
+/// The body of the list of mechanisms, or `None` where it has none.
+fn offer_body<A: SaslAcceptor>(alloc: Global, acceptor: &A) -> Result<Option<BytesMut>, OutOfMemory>
+    ensures { IfOk result (λ body. option_map (λ b. b.items) body ≡ offer_of (A.names (A.state acceptor.now))) }
+{
+    let mechanisms = acceptor.sasl_mechanisms(alloc)?;
+    let mut body = BytesMut::new(alloc);
+    match (FrameCodec {}).encode(Frame::Mechanisms(mechanisms), &mut body) {
+        Ok(()) => Ok(Some(body)),
+        Err(Error::OutOfMemory) => Err(OutOfMemory),
+        Err(_) => Ok(None),
+    }
+}
+
+/// Sends the header of SASL, and behind it the mechanisms to whoever has sent that header.
+fn open<A: SaslAcceptor>(
+    alloc: Global,
+    acceptor: &A,
+    header: &[u8],
+    out: &mut BytesMut,
+) -> Result<Step, OutOfMemory>
+    ensures ok { IfOk result (λ step.
+        Appends (Opens (A.names (A.state acceptor.now)) header.now) out.old.items out.new.items step) }
+    ensures err { OnErr result (out.new.items ≡ out.old.items) }
+{
+    let sasl = <[u8; 8]>::from(ProtocolHeader::sasl());
+    if !is_sasl(header) {
+        out.extend_from_slice(&sasl)?;
+        return Ok(Step::closed(ClosedBecause::OtherHeader, Due::Header));
+    }
+    let offer = offer_body(alloc, acceptor)?;
+    out.reserve(8 + MAX_FRAME)?;
+    out.extend_reserved(&sasl);
+    match offer {
+        Some(body) => Ok(send(
+            out,
+            body.as_slice(),
+            Standing::Wanting,
+            Due::Frame(Turn::Init),
+        )),
+        None => Ok(Step::closed(ClosedBecause::ReplyTooLarge, Due::Header)),
+    }
+}
+
+/// Sends what the acceptor replies.
+fn send_reply(out: &mut BytesMut, turn: Turn, reply: ServerReply) -> Step
+    requires { 512 ≤ out.old.spare }
+    ensures { Appends (Says (server_reply reply) turn) out.old.items out.new.items result }
+{
+    let due = Due::Frame(turn);
+    match reply {
+        ServerReply::Challenge { body } => match turn {
+            Turn::Init => send(out, &body, Standing::Wanting, Due::Frame(Turn::Response)),
+            _ => Step::closed(ClosedBecause::OutOfTurn, due),
+        },
+        ServerReply::Outcome {
+            code: SaslCode::Ok,
+            body,
+        } => send(out, &body, Standing::LoggedIn, due),
+        ServerReply::Outcome { code, body } => {
+            send(
+                out,
+                &body,
+                Standing::Closed(ClosedBecause::Refused(code)),
+                due,
+            )
+        }
+    }
+}
+
+/// A fault of the acceptor's step closes, but for want of memory.
+fn refuse(turn: Turn, fault: Error) -> Result<Step, OutOfMemory>
+    ensures ok { IfOk result (λ step. (out : List ℕ) → Appends (Says (Failed fault) turn) out out step) }
+    ensures err { OnErr result (fault ≡ WireOutOfMemory) }
+{
+    match fault {
+        Error::OutOfMemory => Err(OutOfMemory),
+        Error::DecodeError | Error::NotImplemented | Error::TooLarge => {
+            Ok(Step::closed(ClosedBecause::Unread(fault), Due::Frame(turn)))
+        }
+    }
+}
+
+/// What a server answers to the body of a frame.
+fn reply<A: SaslAcceptor>(
+    alloc: Global,
+    acceptor: &mut A,
+    turn: Turn,
+    body: &[u8],
+    nonce: &[u8; 32],
+    meter: &mut Meter,
+    out: &mut BytesMut,
+) -> Result<Step, OutOfMemory>
+    requires { meter.old ≤ 2 ^ 63 }
+    ensures ok { IfOk result (λ step. Appends (λ answer. Replies A.machine turn (A.state acceptor.old)
+        (record { body = body.now; nonce = nonce.now }) answer (A.state acceptor.new))
+        out.old.items out.new.items step) }
+    ensures unsent { OnErr result (out.new.items ≡ out.old.items) }
+    ensures unchanged { OnErr result (A.state acceptor.new ≡ A.state acceptor.old) }
+    ensures cost { ReplyCosts A.hmacs turn (A.state acceptor.old) (record { body = body.now; nonce = nonce.now })
+        meter.old meter.new }
+{
+    if let Some(why) = screen(turn, body) {
+        return Ok(Step::closed(why, Due::Frame(turn)));
+    }
+    out.reserve(MAX_FRAME)?;
+    match acceptor_body_step(alloc, acceptor, body, nonce, meter) {
+        Ok(reply) => Ok(send_reply(out, turn, reply)),
+        Err(fault) => refuse(turn, fault),
+    }
+}
+
+/// What a server answers to a unit.
+fn answer<A: SaslAcceptor>(
+    alloc: Global,
+    acceptor: &mut A,
+    due: Due,
+    unit: &[u8],
+    nonce: &[u8; 32],
+    meter: &mut Meter,
+    out: &mut BytesMut,
+) -> Result<Step, OutOfMemory>
+    requires four { 4 ≤ length unit.now }
+    requires meter { meter.old ≤ 2 ^ 63 }
+    ensures ok { IfOk result (λ step. Appends (λ answer. ServerAnswers A.names A.machine due (A.state acceptor.old)
+        nonce.now unit.now answer (A.state acceptor.new)) out.old.items out.new.items step) }
+    ensures unsent { OnErr result (out.new.items ≡ out.old.items) }
+    ensures unchanged { OnErr result (A.state acceptor.new ≡ A.state acceptor.old) }
+    ensures cost { UnitCosts A.hmacs due (A.state acceptor.old) nonce.now unit.now meter.old meter.new }
+{
+    match due {
+        Due::Header => open(alloc, acceptor, unit, out),
+        Due::Frame(turn) => reply(alloc, acceptor, turn, &unit[4..], nonce, meter, out),
+    }
+}
+
+impl<A: NamesUser> ServerNegotiation<A> {
+    ghost use Rattle.fe2o3_sasl_negotiation.specs.Sides.{acceptor_in, server_side};
+
+    /// The server's side of a new connection, by an acceptor that no connection has used. It waits for the
+    /// client's header.
+    pub fn new(alloc: Global, acceptor: A) -> Self
+        ensures { server_side A.state result
+            ≡ record { standing = Wanting; due = Header; limit = 512; held = []; state = A.state acceptor } }
+    {
+        Self::with_frame_limit(alloc, acceptor, MAX_FRAME)
+    }
+
+    /// The same, which refuses a frame of more bytes than the limit, if that is below 512.
+    pub fn with_frame_limit(alloc: Global, acceptor: A, limit: usize) -> Self
+        ensures { server_side A.state result ≡ record {
+          standing = Wanting;
+          due = Header;
+          limit = min limit 512;
+          held = [];
+          state = A.state acceptor;
+        } }
+    {
+        Self {
+            acceptor,
+            standing: Standing::Wanting,
+            due: Due::Header,
+            limit: limit.min(MAX_FRAME),
+            held: Vec::new(alloc),
+        }
+    }
+
+    /// The acceptor.
+    pub fn acceptor(&self) -> &A
+        ensures { result.now ≡ acceptor_in self.now }
+    {
+        &self.acceptor
+    }
+
+    /// How the negotiation stands.
+    pub fn standing(&self) -> Standing
+        ensures { result ≡ (server_side A.state self.now).standing }
+    {
+        self.standing
+    }
+
+    /// The name of the user who has logged in, and `None` while nobody has and where the mechanism names
+    /// nobody.
+    pub fn user(&self) -> Option<&str>
+        ensures logged_in { (server_side A.state self.now).standing ≡ LoggedIn
+            → option_map (λ user. user.now) result ≡ A.named (acceptor_in self.now) }
+        ensures before { (server_side A.state self.now).standing ≢ LoggedIn → result ≡ None }
+    {
+        match self.standing {
+            Standing::LoggedIn => self.acceptor.user(),
+            Standing::Wanting | Standing::Closed(_) => None,
+        }
+    }
+
+    /// Takes bytes as they came, to the end of the header or of the frame that is due, at least one of those
+    /// that are handed in while more are wanted, and appends what is to be sent to `out`. The nonce is the
+    /// frame's that these bytes complete: hand in fresh random bytes with each call. OutOfMemory changes
+    /// nothing but the meter: the same bytes can be handed in again. Once the client is logged in and once
+    /// the negotiation is closed, nothing is taken, sent or changed. The meter, of at most 2^63, counts the
+    /// HMAC values.
+    pub fn receive(
+        &mut self,
+        alloc: Global,
+        bytes: &[u8],
+        nonce: &[u8; 32],
+        meter: &mut Meter,
+        out: &mut BytesMut,
+    ) -> Result<Received, OutOfMemory>
+        requires { meter.old ≤ 2 ^ 63 }
+        ensures ok { IfOk result (λ received. (sent : List ℕ) × (out.new.items ≡ out.old.items ++ sent)
+            × ServerReceives A.names A.machine (server_side A.state self.old) bytes.now nonce.now received.taken sent
+            (server_side A.state self.new)) }
+        ensures within { IfOk result (λ received. received.taken ≤ length bytes.now) }
+        ensures moves { IfOk result (λ received. (server_side A.state self.old).standing ≡ Wanting
+            → 0 < length bytes.now → 0 < received.taken) }
+        ensures standing { IfOk result (λ received. received.standing ≡ (server_side A.state self.new).standing) }
+        ensures unsent { OnErr result (out.new.items ≡ out.old.items) }
+        ensures unchanged { OnErr result (server_side A.state self.new ≡ server_side A.state self.old) }
+        ensures cost { ServerCosts A.hmacs (server_side A.state self.old) bytes.now nonce.now meter.old meter.new }
+    {
+        self.take_bytes(alloc, bytes, nonce, meter, out)
+    }
+
+    /// What `receive` does.
+    fn take_bytes(
+        &mut self,
+        alloc: Global,
+        bytes: &[u8],
+        nonce: &[u8; 32],
+        meter: &mut Meter,
+        out: &mut BytesMut,
+    ) -> Result<Received, OutOfMemory>
+        requires { meter.old ≤ 2 ^ 63 }
+        ensures ok { IfOk result (λ received. (sent : List ℕ) × (out.new.items ≡ out.old.items ++ sent)
+            × ServerReceives A.names A.machine (server_side A.state self.old) bytes.now nonce.now received.taken sent
+            (server_side A.state self.new)) }
+        ensures standing { IfOk result (λ received. received.standing ≡ (server_side A.state self.new).standing) }
+        ensures unsent { OnErr result (out.new.items ≡ out.old.items) }
+        ensures unchanged { OnErr result (server_side A.state self.new ≡ server_side A.state self.old) }
+        ensures cost { ServerCosts A.hmacs (server_side A.state self.old) bytes.now nonce.now meter.old meter.new }
+    {
+        let Standing::Wanting = self.standing else {
+            return Ok(Received {
+                taken: 0,
+                standing: self.standing,
+            });
+        };
+        let had = self.held.len();
+        match take_unit(&mut self.held, self.due, self.limit, bytes)? {
+            Arrived::Part => Ok(Received {
+                taken: bytes.len(),
+                standing: Standing::Wanting,
+            }),
+            Arrived::Refused => {
+                let taken = end_unit(&mut self.held, had);
+                self.standing = Standing::Closed(ClosedBecause::FrameSize);
+                Ok(Received {
+                    taken,
+                    standing: self.standing,
+                })
+            }
+            Arrived::Whole => match answer(
+                alloc,
+                &mut self.acceptor,
+                self.due,
+                &self.held,
+                nonce,
+                meter,
+                out,
+            ) {
+                Ok(step) => {
+                    let taken = end_unit(&mut self.held, had);
+                    self.standing = step.standing;
+                    self.due = step.due;
+                    Ok(Received {
+                        taken,
+                        standing: step.standing,
+                    })
+                }
+                Err(fault) => {
+                    self.held.truncate(had);
+                    Err(fault)
+                }
+            },
+        }
+    }
+}
