@@ -8,6 +8,7 @@ use crate::accounts::{Account, Accounts};
 use anyhow::{Context, Result};
 use fe2o3_scram::{ScramAuthenticator, ScramClient, ScramRecord, ScramVersion};
 use std::alloc::Global;
+use std::random::RandomSource;
 use std::rc::Rc;
 
 /// The accounts as they are kept: a name, a record's text, and how many sessions the user may open.
@@ -48,10 +49,16 @@ pub fn accounts(alloc: Global) -> Result<Rc<Accounts>> {
 type Server = ScramAuthenticator<Rc<Accounts>>;
 
 /// A client's login on a connection of its own, and how many sessions it may then open.
-pub fn log_in(alloc: Global, accounts: &Rc<Accounts>, name: &str, password: &str) -> Result<u32> {
+pub fn log_in<R: RandomSource>(
+    alloc: Global,
+    rt: &R,
+    accounts: &Rc<Accounts>,
+    name: &str,
+    password: &str,
+) -> Result<u32> {
     let mut server = ScramAuthenticator::new(accounts.clone()?);
     let mut client = client(alloc, name, password)?;
-    exchange(alloc, &mut client, &mut server)?;
+    exchange(alloc, rt, &mut client, &mut server)?;
     let user = server.user().context("nobody")?;
     let account = accounts.account(user).context("no account")?;
     Ok(account.sessions)
@@ -66,10 +73,24 @@ fn client(alloc: Global, name: &str, password: &str) -> Result<ScramClient> {
     Ok(client.with_iteration_limit(100_000))
 }
 
-/// The four messages. Nonces are made of random bytes, here of fixed ones.
-fn exchange(alloc: Global, client: &mut ScramClient, server: &mut Server) -> Result<()> {
-    let client_first = client.compute_client_first_message(alloc, &[1; 32])?;
-    let server_first = challenge(alloc, server, &client_first)?;
+/// Fresh random bytes, for a nonce.
+fn fresh<R: RandomSource>(rt: &R) -> Result<[u8; 32]> {
+    let mut bytes = [0; 32];
+    rt.fill_bytes(&mut bytes)?;
+    Ok(bytes)
+}
+
+/// The four messages, with a fresh nonce of each side.
+fn exchange<R: RandomSource>(
+    alloc: Global,
+    rt: &R,
+    client: &mut ScramClient,
+    server: &mut Server,
+) -> Result<()> {
+    let client_nonce = fresh(rt)?;
+    let server_nonce = fresh(rt)?;
+    let client_first = client.compute_client_first_message(alloc, &client_nonce)?;
+    let server_first = challenge(alloc, server, &client_first, &server_nonce)?;
     let client_final = client.compute_client_final_message(alloc, str::from_utf8(&server_first)?)?;
     let server_final = conclude(alloc, server, &client_final)?;
     client.validate_server_final(alloc, &server_final)?;
@@ -77,8 +98,13 @@ fn exchange(alloc: Global, client: &mut ScramClient, server: &mut Server) -> Res
 }
 
 /// The server's first message, to a user whom the broker knows.
-fn challenge(alloc: Global, server: &mut Server, client_first: &[u8]) -> Result<Vec<u8>> {
-    let challenge = server.compute_server_first_message(alloc, client_first, &[2; 32])?;
+fn challenge(
+    alloc: Global,
+    server: &mut Server,
+    client_first: &[u8],
+    nonce: &[u8; 32],
+) -> Result<Vec<u8>> {
+    let challenge = server.compute_server_first_message(alloc, client_first, nonce)?;
     challenge.context("unknown user")
 }
 

@@ -11,6 +11,7 @@ use anyhow::Result;
 use std::alloc::Global;
 use std::io;
 use std::io::Write;
+use std::random::RandomSource;
 use std::rc::Rc;
 
 /// Names and passwords that are tried.
@@ -27,14 +28,15 @@ fn tries() -> &'static [(&'static str, &'static str)] {
 }
 
 /// Tries to log in, and prints what comes of it.
-fn report<W: Write>(
+fn report<R: RandomSource, W: Write>(
     alloc: Global,
+    rt: &R,
     accounts: &Rc<Accounts>,
     name: &str,
     password: &str,
     output: &mut W,
 ) -> Result<()> {
-    match log_in(alloc, accounts, name, password) {
+    match log_in(alloc, rt, accounts, name, password) {
         Ok(sessions) => writeln!(output, "{name}: logged in, with {sessions} sessions")?,
         Err(error) => writeln!(output, "{name}: refused, {error}")?,
     }
@@ -45,7 +47,7 @@ fn main(rt: HostRuntime) -> Result<()> {
     let mut output = io::writer(&rt);
     let accounts = broker::accounts(rt.alloc())?;
     for (name, password) in tries() {
-        report(rt.alloc(), &accounts, name, password, &mut output)?;
+        report(rt.alloc(), &rt, &accounts, name, password, &mut output)?;
     }
     Ok(())
 }

@@ -6,6 +6,7 @@ use bytes::BytesMut;
 use fe2o3_sasl::{Event, SaslAcceptorExt, SaslProfile};
 use fe2o3_sasl_wire::{Frame, FrameCodec};
 use std::alloc::Global;
+use std::random::RandomSource;
 
 /// The bodies that each side of a connection was given, in order, and who has logged in by them.
 #[derive(Drop)]
@@ -18,6 +19,16 @@ pub struct Transcript {
 
     /// Who has logged in.
     pub user: String,
+
+    /// The salt of the server's record.
+    pub salt: [u8; 32],
+}
+
+/// Fresh random bytes, for a nonce or a salt.
+pub fn fresh<R: RandomSource>(rt: &R) -> Result<[u8; 32]> {
+    let mut bytes = [0; 32];
+    rt.fill_bytes(&mut bytes)?;
+    Ok(bytes)
 }
 
 /// The body that the server sends first: the names of its mechanisms.
@@ -29,20 +40,23 @@ pub fn offer(alloc: Global, server: &server::Server) -> Result<Vec<u8>> {
 }
 
 /// A login, from the first body to the client's end.
-pub fn log_in(alloc: Global) -> Result<Transcript> {
+pub fn log_in<R: RandomSource>(rt: &R, alloc: Global) -> Result<Transcript> {
+    let salt = fresh(rt)?;
     let mut client = client::new_client(alloc)?;
-    let mut server = server::new_server(alloc, [3; 32])?;
+    let mut server = server::new_server(alloc, salt)?;
     let mut given = Transcript {
         client: Vec::new(alloc),
         server: Vec::new(alloc),
         user: String::new(alloc),
+        salt,
     };
-    carry(alloc, &mut client, &mut server, &mut given)?;
+    carry(rt, alloc, &mut client, &mut server, &mut given)?;
     Ok(given)
 }
 
 /// Carries bodies from side to side until the client is logged in.
-fn carry(
+fn carry<R: RandomSource>(
+    rt: &R,
     alloc: Global,
     client: &mut SaslProfile,
     server: &mut server::Server,
@@ -50,10 +64,10 @@ fn carry(
 ) -> Result<()> {
     let mut body = offer(alloc, server)?;
     for _ in 0..3 {
-        let Some(answer) = to_client(alloc, client, given, body)? else {
+        let Some(answer) = to_client(alloc, client, given, body, fresh(rt)?)? else {
             return name_user(alloc, server, given);
         };
-        body = to_server(alloc, server, given, answer)?;
+        body = to_server(alloc, server, given, answer, fresh(rt)?)?;
     }
     bail!("no outcome")
 }
@@ -65,15 +79,14 @@ fn name_user(alloc: Global, server: &server::Server, given: &mut Transcript) -> 
     Ok(())
 }
 
-/// Gives the client a body. A nonce is 32 random bytes, fresh for each event, here a fixed one, so
-/// that the login is the same at each run.
+/// Gives the client a body, with a nonce of its own.
 fn to_client(
     alloc: Global,
     client: &mut SaslProfile,
     given: &mut Transcript,
     body: Vec<u8>,
+    nonce: [u8; 32],
 ) -> Result<Option<Vec<u8>>> {
-    let nonce = [1; 32];
     let event = Event { body, nonce };
     let answer = client::answer(alloc, client, &event)?;
     given.client.push(event)?;
@@ -86,8 +99,8 @@ fn to_server(
     server: &mut server::Server,
     given: &mut Transcript,
     body: Vec<u8>,
+    nonce: [u8; 32],
 ) -> Result<Vec<u8>> {
-    let nonce = [2; 32];
     let event = Event { body, nonce };
     let (answer, _) = server::answer(alloc, server, &event)?;
     given.server.push(event)?;

@@ -1,9 +1,11 @@
 //! Logins with SCRAM-SHA-256, each of a client and a server in one program: over frame bodies, with
-//! what stands around them, what whole lists of them say, and over SCRAM's texts alone.
+//! what stands around them, what whole lists of them say, over the bytes of a connection, and over
+//! SCRAM's texts alone.
 #![tactic(auto)]
 
 mod audit;
 mod client;
+mod connection;
 mod login;
 mod runs;
 mod scram_client;
@@ -11,68 +13,78 @@ mod scram_server;
 mod server;
 mod wire;
 
-use crate::login::Transcript;
+use crate::login::{Transcript, fresh};
 use crate::scram_client::Connection;
 use anyhow::{Context, Result, ensure};
 use bytes::BytesMut;
 use std::alloc::Global;
 use std::io;
 use std::io::Write;
+use std::random::RandomSource;
 
-/// A connection to a server in memory, which prints what goes through it.
+/// A connection to a server in memory, which prints how long each message is that goes through it.
 #[derive(Drop)]
 struct Printed<'a, W: Write> {
     alloc: Global,
+    nonce: [u8; 32],
     server: scram_server::Server,
     output: &'a mut W,
 }
 
 impl<W: Write> Printed<'_, W> {
-    /// Prints a message on a line of its own.
-    fn print(&mut self, message: &[u8]) -> Result<()> {
-        self.output.write_all(message)?;
-        writeln!(self.output)?;
+    /// Prints the length of a message.
+    fn print(&mut self, name: &str, message: &[u8]) -> Result<()> {
+        writeln!(self.output, "{name}: {} bytes", message.len())?;
         Ok(())
     }
 }
 
 impl<W: Write> Connection for Printed<'_, W> {
     fn start(&mut self, client_first: &[u8]) -> Result<Vec<u8>> {
-        self.print(client_first)?;
-        let challenge = self.server.challenge(self.alloc, client_first)?;
-        self.print(&challenge)?;
+        self.print("client-first", client_first)?;
+        let challenge = self
+            .server
+            .challenge(self.alloc, client_first, &self.nonce)?;
+        self.print("server-first", &challenge)?;
         Ok(challenge)
     }
 
     fn respond(&mut self, client_final: &[u8]) -> Result<Vec<u8>> {
-        self.print(client_final)?;
+        self.print("client-final", client_final)?;
         let outcome = self.server.conclude(self.alloc, client_final)?;
-        self.print(&outcome)?;
+        self.print("server-final", &outcome)?;
         Ok(outcome)
     }
 }
 
-/// A login over texts, whose messages are printed.
-fn over_texts<W: Write>(alloc: Global, output: &mut W) -> Result<()> {
+/// A login over texts, whose messages are told by their lengths.
+fn over_texts<R: RandomSource, W: Write>(rt: &R, alloc: Global, output: &mut W) -> Result<()> {
+    let nonce = fresh(rt)?;
     let mut connection = Printed {
         alloc,
-        server: scram_server::Server::new(alloc)?,
+        nonce: fresh(rt)?,
+        server: scram_server::Server::new(alloc, fresh(rt)?)?,
         output,
     };
-    scram_client::log_in(alloc, &mut connection)?;
-    connection.print(b"logged in")
+    scram_client::log_in(alloc, &mut connection, &nonce)?;
+    writeln!(connection.output, "logged in")?;
+    Ok(())
 }
 
 /// A login over frame bodies.
-fn over_frames<W: Write>(alloc: Global, output: &mut W) -> Result<Transcript> {
-    let given = login::log_in(alloc)?;
+fn over_frames<R: RandomSource, W: Write>(
+    rt: &R,
+    alloc: Global,
+    output: &mut W,
+) -> Result<Transcript> {
+    let given = login::log_in(rt, alloc)?;
     writeln!(output, "{} logged in over frames", given.user)?;
     Ok(given)
 }
 
 /// What a server sends first: its header, and the names of its mechanisms in a frame.
-fn first_bytes(alloc: Global) -> Result<BytesMut> {
-    let server = server::new_server(alloc, [3; 32])?;
+fn first_bytes<R: RandomSource>(rt: &R, alloc: Global) -> Result<BytesMut> {
+    let server = server::new_server(alloc, fresh(rt)?)?;
     let offer = login::offer(alloc, &server)?;
     let mut bytes = BytesMut::new(alloc);
     wire::open(&mut bytes)?;
@@ -81,8 +93,8 @@ fn first_bytes(alloc: Global) -> Result<BytesMut> {
 }
 
 /// What a client reads of a server's first bytes.
-fn over_bytes<W: Write>(alloc: Global, output: &mut W) -> Result<()> {
-    let mut bytes = first_bytes(alloc)?;
+fn over_bytes<R: RandomSource, W: Write>(rt: &R, alloc: Global, output: &mut W) -> Result<()> {
+    let mut bytes = first_bytes(rt, alloc)?;
     writeln!(output, "{} bytes", bytes.len())?;
     ensure!(wire::is_open(&mut bytes)?, "a part of a header");
     let body = wire::receive(alloc, &mut bytes)?.context("a part of a frame")?;
@@ -98,9 +110,18 @@ fn print_names<W: Write>(body: &[u8], output: &mut W) -> Result<()> {
     Ok(())
 }
 
+/// A login over the bytes of a connection, whose salt and nonces are random.
+fn over_connection<R: RandomSource, W: Write>(rt: &R, alloc: Global, output: &mut W) -> Result<()> {
+    let mut server = Box::new(alloc, connection::new_server(alloc, fresh(rt)?)?)?;
+    connection::meet(rt, alloc, &mut server)?;
+    let user = server.user().context("nobody has logged in")?;
+    writeln!(output, "{user} logged in over a connection")?;
+    Ok(())
+}
+
 /// What the lists of bodies of a login say of each side.
 fn over_lists<W: Write>(alloc: Global, given: &Transcript, output: &mut W) -> Result<()> {
-    let server = server::new_server(alloc, [3; 32])?;
+    let server = server::new_server(alloc, given.salt)?;
     let let_in = runs::lets_in(alloc, server.credentials(), &given.server)?;
     writeln!(output, "the server lets the client in at {let_in:?}")?;
     let logged_in = runs::logs_in(alloc, &given.client)?;
@@ -110,7 +131,7 @@ fn over_lists<W: Write>(alloc: Global, given: &Transcript, output: &mut W) -> Re
 
 /// What they have in common.
 fn over_both<W: Write>(alloc: Global, given: &Transcript, output: &mut W) -> Result<()> {
-    let server = server::new_server(alloc, [3; 32])?;
+    let server = server::new_server(alloc, given.salt)?;
     for finding in &audit::findings(alloc, given, server.credentials())? {
         audit::print(finding, output)?;
     }
@@ -119,9 +140,10 @@ fn over_both<W: Write>(alloc: Global, given: &Transcript, output: &mut W) -> Res
 
 fn main(rt: HostRuntime) -> Result<()> {
     let mut output = io::writer(&rt);
-    over_texts(rt.alloc(), &mut output)?;
-    over_bytes(rt.alloc(), &mut output)?;
-    let given = over_frames(rt.alloc(), &mut output)?;
+    over_texts(&rt, rt.alloc(), &mut output)?;
+    over_bytes(&rt, rt.alloc(), &mut output)?;
+    over_connection(&rt, rt.alloc(), &mut output)?;
+    let given = over_frames(&rt, rt.alloc(), &mut output)?;
     over_lists(rt.alloc(), &given, &mut output)?;
     over_both(rt.alloc(), &given, &mut output)
 }

@@ -14,17 +14,17 @@ pub trait Connection {
     fn respond(&mut self, client_final: &[u8]) -> Result<Vec<u8>>;
 }
 
-/// Logs in as `user`, and believes the server only on the signature of this very exchange. A nonce is
-/// made of random bytes, here of a fixed one. The server names the iteration count, of which both
-/// bounds are the client's: 4096 is the least that RFC 7677 asks for.
-pub fn log_in<C: Connection>(alloc: Global, connection: &mut C) -> Result<()> {
+/// Logs in as `user`, and believes the server only on the signature of this very exchange. The nonce is
+/// random bytes, fresh for each login. The server names the iteration count, of which both bounds are
+/// the client's: 4096 is the least that RFC 7677 asks for.
+pub fn log_in<C: Connection>(alloc: Global, connection: &mut C, nonce: &[u8; 32]) -> Result<()> {
     let username = "user".to_string(alloc)?;
     let password = "pencil".to_string(alloc)?;
     let client = ScramClient::new(username, password, ScramVersion::Sha256);
     let mut client = client
         .with_least_iterations(4096)
         .with_iteration_limit(100_000);
-    let client_first = client.compute_client_first_message(alloc, &[1; 32])?;
+    let client_first = client.compute_client_first_message(alloc, nonce)?;
     let server_first = connection.start(&client_first)?;
     let client_final = client.compute_client_final_message(alloc, str::from_utf8(&server_first)?)?;
     let server_final = connection.respond(&client_final)?;

@@ -12,23 +12,26 @@ pub struct Server {
 }
 
 impl Server {
-    /// A server that knows `user`. A salt is made of random bytes, here of a fixed one.
-    pub fn new(alloc: Global) -> Result<Server> {
+    /// A server that knows `user`. The salt is random bytes, fresh for each record.
+    pub fn new(alloc: Global, salt: [u8; 32]) -> Result<Server> {
         let username = "user".to_string(alloc)?;
         let version = ScramVersion::Sha256;
-        let credential = SingleScramCredential::new(alloc, username, "pencil", version, [3; 32])?;
+        let credential = SingleScramCredential::new(alloc, username, "pencil", version, salt)?;
         Ok(Server {
             authenticator: ScramAuthenticator::new(credential),
         })
     }
 
-    /// Answers the client's first message with a challenge. A nonce is made of random bytes, here of
-    /// a fixed one.
-    pub fn challenge(&mut self, alloc: Global, client_first: &[u8]) -> Result<Vec<u8>> {
-        let nonce = [2; 32];
+    /// Answers the client's first message with a challenge. The nonce is random bytes, fresh for each.
+    pub fn challenge(
+        &mut self,
+        alloc: Global,
+        client_first: &[u8],
+        nonce: &[u8; 32],
+    ) -> Result<Vec<u8>> {
         let challenge = self
             .authenticator
-            .compute_server_first_message(alloc, client_first, &nonce)?;
+            .compute_server_first_message(alloc, client_first, nonce)?;
         challenge.context("unknown user")
     }
 

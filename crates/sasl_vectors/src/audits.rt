@@ -66,17 +66,24 @@ fn push_line(text: &mut String, line: &str) -> Result<(), AllocError> {
     text.push('\n')
 }
 
+/// The program's word for one of version, user, password and salt, of which the user and the password
+/// stand in hexadecimal digits.
+fn word_of(alloc: Global, place: usize, word: &str) -> Result<String, Unconfirmed> {
+    match place {
+        1 | 2 => text_of(alloc, word),
+        _ => Ok(word.to_string(alloc)?),
+    }
+}
+
 /// The program's words for what the two sides are made of.
 fn words_of(alloc: Global, sides: &str) -> Result<Vec<String>, Unconfirmed> {
-    let sides: Vec<&str> = sides.split(' ').collect(alloc)?;
-    let [version, user, password, salt] = sides.as_slice() else {
+    if sides.split(' ').count() != 4 {
         return Err(Unconfirmed::Malformed);
-    };
+    }
     let mut words = Vec::new(alloc);
     words.push("audit".to_string(alloc)?)?;
-    words.push(version.to_string(alloc)?)?;
-    words.push(text_of(alloc, user)?)?;
-    words.push(text_of(alloc, password)?)?;
-    words.push(salt.to_string(alloc)?)?;
+    for (place, word) in sides.split(' ').enumerate() {
+        words.push(word_of(alloc, place, word)?)?;
+    }
     Ok(words)
 }

@@ -131,28 +131,18 @@ fn push_fields(alloc: Global, text: &mut String, view: FrameView<'_>) -> Result<
             initial_response,
             hostname,
         } => {
-            text.push_str("Init ")?;
-            push_bytes(alloc, text, mechanism.as_bytes())?;
-            text.push_str(" ")?;
+            push_field(alloc, text, "Init ", mechanism.as_bytes())?;
             push_optional(alloc, text, initial_response)?;
-            text.push_str(" ")?;
             push_optional(alloc, text, hostname.map(|name| name.as_bytes()))
         }
-        FrameView::Challenge(challenge) => {
-            text.push_str("Challenge ")?;
-            push_bytes(alloc, text, challenge)
-        }
-        FrameView::Response(response) => {
-            text.push_str("Response ")?;
-            push_bytes(alloc, text, response)
-        }
+        FrameView::Challenge(challenge) => push_field(alloc, text, "Challenge ", challenge),
+        FrameView::Response(response) => push_field(alloc, text, "Response ", response),
         FrameView::Outcome {
             code,
             additional_data,
         } => {
             text.push_str("Outcome ")?;
             text.push_str(name_of_code(code))?;
-            text.push_str(" ")?;
             push_optional(alloc, text, additional_data)
         }
     }
@@ -178,12 +168,23 @@ fn push_symbols(
     Ok(())
 }
 
-/// A field that may be absent.
+/// A field that may be absent, behind a space.
 fn push_optional(alloc: Global, text: &mut String, bytes: Option<&[u8]>) -> Result<(), AllocError> {
     match bytes {
-        Some(bytes) => push_bytes(alloc, text, bytes),
-        None => text.push_str("none"),
+        Some(bytes) => push_field(alloc, text, " ", bytes),
+        None => text.push_str(" none"),
     }
+}
+
+/// Bytes in hexadecimal digits, behind what stands before them.
+fn push_field(
+    alloc: Global,
+    text: &mut String,
+    before: &str,
+    bytes: &[u8],
+) -> Result<(), AllocError> {
+    text.push_str(before)?;
+    push_bytes(alloc, text, bytes)
 }
 
 /// Bytes in hexadecimal digits.

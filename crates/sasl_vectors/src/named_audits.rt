@@ -1,10 +1,11 @@
 //! Audits of two transcripts, each with its name and its findings, by the calls of the library.
 
 use crate::Unconfirmed;
-use crate::runs::event_of;
 use crate::runs::servers::credential;
 use crate::runs::words::{number_of, text_of, version_of};
+use crate::runs::{confirm_all, event_of};
 use fe2o3_sasl::audit::{Finding, FindingKind, Parameters, Verdict, audit, audit_limited};
+use fe2o3_sasl::credentials::SingleScramCredential;
 use fe2o3_sasl::runs::Event;
 use std::alloc::Global;
 
@@ -28,16 +29,17 @@ struct Audit<'a> {
 pub fn check(alloc: Global, paragraph: &str) -> Result<usize, Unconfirmed> {
     let wanted = read(alloc, paragraph)?;
     let found = findings(alloc, &wanted)?;
-    for (found, wanted) in found.iter().zip(wanted.findings.iter()) {
-        if found.as_str() != *wanted {
-            return Err(Unconfirmed::Other(found.clone()?));
-        }
-    }
-    if found.len() != wanted.findings.len() {
+    confirm_findings(alloc, &found, &wanted.findings)?;
+    Ok(found.len())
+}
+
+/// Whether these findings are those of the file.
+fn confirm_findings(alloc: Global, found: &[String], wanted: &[&str]) -> Result<(), Unconfirmed> {
+    if found.len() != wanted.len() {
         let len = found.len();
         return Err(Unconfirmed::Other(format!(in alloc; "{len} findings")?));
     }
-    Ok(found.len())
+    confirm_all(found, wanted)
 }
 
 /// Reads a paragraph: a line for the sides, one for each event, and one for each finding.
@@ -49,35 +51,38 @@ fn read<'a>(alloc: Global, paragraph: &'a str) -> Result<Audit<'a>, Unconfirmed>
         findings: Vec::new(alloc),
     };
     for line in paragraph.lines() {
-        if line.is_empty() {
-            continue;
-        }
-        let (mark, words) = line.split_once(' ').ok_or(Unconfirmed::Malformed)?;
-        match mark {
-            "audit" => {
-                for word in words.split(' ') {
-                    audit.sides.push(word)?;
-                }
-            }
-            "<" => read_event(alloc, &mut audit, words)?,
-            ">" => audit.findings.push(words)?,
-            "#" => {}
-            _ => return Err(Unconfirmed::Malformed),
+        if !line.is_empty() {
+            read_line(alloc, &mut audit, line)?;
         }
     }
     Ok(audit)
 }
 
+/// Reads a line.
+fn read_line<'a>(alloc: Global, audit: &mut Audit<'a>, line: &'a str) -> Result<(), Unconfirmed> {
+    let (mark, words) = line.split_once(' ').ok_or(Unconfirmed::Malformed)?;
+    match mark {
+        "audit" => {
+            for word in words.split(' ') {
+                audit.sides.push(word)?;
+            }
+            Ok(())
+        }
+        "<" => read_event(alloc, audit, words),
+        ">" => Ok(audit.findings.push(words)?),
+        "#" => Ok(()),
+        _ => Err(Unconfirmed::Malformed),
+    }
+}
+
 /// Reads the event of a side.
 fn read_event(alloc: Global, audit: &mut Audit<'_>, words: &str) -> Result<(), Unconfirmed> {
     let (side, event) = words.split_once(' ').ok_or(Unconfirmed::Malformed)?;
-    let event = event_of(alloc, event)?;
     match side {
-        "c" => audit.client.push(event)?,
-        "s" => audit.server.push(event)?,
-        _ => return Err(Unconfirmed::Malformed),
+        "c" => Ok(audit.client.push(event_of(alloc, event)?)?),
+        "s" => Ok(audit.server.push(event_of(alloc, event)?)?),
+        _ => Err(Unconfirmed::Malformed),
     }
-    Ok(())
 }
 
 /// What the two sides are made of, in the words of the file.
@@ -139,31 +144,42 @@ fn found(
 ) -> Result<Vec<Finding>, Unconfirmed> {
     let (user, password) = (sides.server_user, sides.server_password);
     let credential = credential(alloc, sides.version, user, password, sides.salt)?;
-    let version = version_of(sides.version)?;
+    found_of(alloc, sides, client, &credential, server)
+}
+
+/// What is found of the client's side, and of a server with this credential.
+fn found_of(
+    alloc: Global,
+    sides: Sides<'_>,
+    client: &[Event],
+    credential: &SingleScramCredential,
+    server: &[Event],
+) -> Result<Vec<Finding>, Unconfirmed> {
     let user = text_of(alloc, sides.user)?;
     let password = text_of(alloc, sides.password)?;
-    let Some(limit) = sides.limit else {
-        return Ok(audit(
-            alloc,
-            &user,
-            &password,
-            version,
-            client,
-            &credential,
-            server,
-        )?);
+    audited(alloc, sides, (&user, &password), client, credential, server)
+}
+
+/// What an audit finds with this user and password.
+fn audited(
+    alloc: Global,
+    sides: Sides<'_>,
+    (user, password): (&str, &str),
+    client: &[Event],
+    credential: &SingleScramCredential,
+    server: &[Event],
+) -> Result<Vec<Finding>, Unconfirmed> {
+    let version = version_of(sides.version)?;
+    let found = match sides.limit {
+        None => audit(alloc, user, password, version, client, credential, server)?,
+        Some(limit) => {
+            let limit = number_of(limit)?;
+            audit_limited(
+                alloc, user, password, version, limit, client, credential, server,
+            )?
+        }
     };
-    let limit = number_of(limit)?;
-    Ok(audit_limited(
-        alloc,
-        &user,
-        &password,
-        version,
-        limit,
-        client,
-        &credential,
-        server,
-    )?)
+    Ok(found)
 }
 
 /// A finding in the words of the file.
@@ -172,42 +188,53 @@ fn line_of(alloc: Global, finding: &Finding) -> Result<String, Unconfirmed> {
         FindingKind::Verifier => "verifier",
         FindingKind::Proof => "proof",
     };
-    let verdict = verdict_of(alloc, &finding.verdict)?;
     let (client, server) = (finding.client, finding.server);
-    Ok(format!(in alloc; "{kind} {client} {server} {verdict}")?)
+    let mut line = format!(in alloc; "{kind} {client} {server}")?;
+    push_verdict(alloc, &mut line, &finding.verdict)?;
+    Ok(line)
 }
 
-/// A verdict in the words of the file, which has no other than agreed ones.
-fn verdict_of(alloc: Global, verdict: &Verdict) -> Result<String, Unconfirmed> {
-    let Verdict::Agreed {
-        username,
-        client_nonce,
-        parameters,
-    } = verdict
-    else {
-        return Ok(format!(in alloc; "{verdict:?}")?);
-    };
-    let user = word_of(alloc, username.as_bytes())?;
-    let nonce = word_of(alloc, client_nonce.as_bytes())?;
-    let Some(parameters) = parameters else {
-        return Ok(format!(in alloc; "agreed {user} {nonce}")?);
-    };
-    let more = parameters_of(alloc, parameters)?;
-    Ok(format!(in alloc; "agreed {user} {nonce} {more}")?)
-}
-
-/// Parameters in the words of the file.
-fn parameters_of(alloc: Global, parameters: &Parameters) -> Result<String, Unconfirmed> {
-    let nonce = word_of(alloc, parameters.full_nonce.as_bytes())?;
-    let salt = word_of(alloc, &parameters.salt)?;
-    let iterations = parameters.iterations;
-    Ok(format!(in alloc; "{nonce} {salt} {iterations}")?)
-}
-
-/// Bytes in hexadecimal digits, where `-` is none.
-fn word_of(alloc: Global, bytes: &[u8]) -> Result<String, Unconfirmed> {
-    if bytes.is_empty() {
-        return Ok("-".to_string(alloc)?);
+/// Adds a verdict in the words of the file, which has no other than agreed ones.
+fn push_verdict(alloc: Global, line: &mut String, verdict: &Verdict) -> Result<(), Unconfirmed> {
+    match verdict {
+        Verdict::Agreed {
+            username,
+            client_nonce,
+            parameters,
+        } => {
+            line.push_str(" agreed")?;
+            push_bytes(alloc, line, username.as_bytes())?;
+            push_bytes(alloc, line, client_nonce.as_bytes())?;
+            match parameters {
+                Some(parameters) => push_parameters(alloc, line, parameters),
+                None => Ok(()),
+            }
+        }
+        _ => push_word(line, &format!(in alloc; "{verdict:?}")?),
     }
-    Ok(hex::encode(alloc, bytes)?)
+}
+
+/// Adds parameters in the words of the file.
+fn push_parameters(
+    alloc: Global,
+    line: &mut String,
+    parameters: &Parameters,
+) -> Result<(), Unconfirmed> {
+    push_bytes(alloc, line, parameters.full_nonce.as_bytes())?;
+    push_bytes(alloc, line, &parameters.salt)?;
+    push_word(line, &parameters.iterations.to_string(alloc)?)
+}
+
+/// Adds bytes in hexadecimal digits, where `-` is none.
+fn push_bytes(alloc: Global, line: &mut String, bytes: &[u8]) -> Result<(), Unconfirmed> {
+    if bytes.is_empty() {
+        return push_word(line, "-");
+    }
+    push_word(line, &hex::encode(alloc, bytes)?)
+}
+
+/// Adds a word behind a space.
+fn push_word(line: &mut String, word: &str) -> Result<(), Unconfirmed> {
+    line.push(' ')?;
+    Ok(line.push_str(word)?)
 }

@@ -23,22 +23,27 @@ pub struct Run<'a> {
     answers: Vec<&'a str>,
 }
 
-impl Run<'_> {
-    /// The first half of the events, and the other half.
-    fn halves(&self) -> (&[Event], &[Event]) {
-        self.events.as_slice().split_at(self.events.len() / 2)
-    }
+/// Events, and what is answered to each.
+type Part<'b, 'a> = (&'b [Event], &'b [&'a str]);
 
-    /// Whether the answers behind the first so many are these.
-    fn confirm(&self, skipped: usize, found: &[String]) -> Result<(), Unconfirmed> {
-        if found.len() != self.answers.len().saturating_sub(skipped) {
-            return Err(Unconfirmed::Malformed);
-        }
-        for (found, wanted) in found.iter().zip(self.answers.iter().skip(skipped)) {
-            confirm(found, wanted)?;
-        }
-        Ok(())
+impl<'a> Run<'a> {
+    /// The first half of the run, and the other half.
+    fn halves<'b>(&'b self) -> (Part<'b, 'a>, Part<'b, 'a>) {
+        let (events, next_events) = self.events.as_slice().split_at(self.events.len() / 2);
+        let (answers, next_answers) = self.answers.as_slice().split_at(self.answers.len() / 2);
+        ((events, answers), (next_events, next_answers))
     }
+}
+
+/// Whether these answers are those of the file.
+pub fn confirm_all(found: &[String], wanted: &[&str]) -> Result<(), Unconfirmed> {
+    if found.len() != wanted.len() {
+        return Err(Unconfirmed::Malformed);
+    }
+    for (found, wanted) in found.iter().zip(wanted.iter()) {
+        confirm(found, wanted)?;
+    }
+    Ok(())
 }
 
 /// Whether an answer is the one of the file.
@@ -68,19 +73,25 @@ fn read<'a>(alloc: Global, paragraph: &'a str) -> Result<Run<'a>, Unconfirmed> {
         if line.is_empty() || line.starts_with('#') {
             continue;
         }
-        match line.split_once(" => ") {
-            Some((event, answer)) => {
-                run.events.push(event_of(alloc, event)?)?;
-                run.answers.push(answer)?;
-            }
-            None => {
-                for word in line.split(' ') {
-                    run.side.push(word)?;
-                }
+        read_line(alloc, &mut run, line)?;
+    }
+    Ok(run)
+}
+
+/// Reads a line.
+fn read_line<'a>(alloc: Global, run: &mut Run<'a>, line: &'a str) -> Result<(), Unconfirmed> {
+    match line.split_once(" => ") {
+        Some((event, answer)) => {
+            run.answers.push(answer)?;
+            run.events.push(event_of(alloc, event)?)?;
+        }
+        None => {
+            for word in line.split(' ') {
+                run.side.push(word)?;
             }
         }
     }
-    Ok(run)
+    Ok(())
 }
 
 /// The event of a nonce and a body.
@@ -101,20 +112,22 @@ fn check_side(alloc: Global, run: &Run<'_>) -> Result<(), Unconfirmed> {
         ["records", version, records @ ..] => servers::check_records(alloc, run, version, records),
         ["acceptor", "ANONYMOUS"] => servers::check_anonymous(alloc, run),
         ["acceptor", "PLAIN", user, password] => servers::check_plain(alloc, run, user, password),
-        ["client", version, user, password] => clients::check(alloc, run, version, user, password),
+        ["client", version, user, password] => {
+            clients::check(alloc, run, version, user, password, None)
+        }
         ["client", version, user, password, limit] => {
-            clients::check_limited(alloc, run, version, user, password, limit)
+            clients::check(alloc, run, version, user, password, Some(number_of(limit)?))
         }
         ["profile", mechanism, user, password, limit, hostname] => {
             let limit = number_of(limit)?;
-            let mut profile = profiles::of_password(alloc, mechanism, user, password, limit)?;
-            profiles::check(alloc, &mut profile, run, hostname)
+            let profile = profiles::of_password(alloc, mechanism, user, password, limit)?;
+            profiles::check(alloc, profile, run, hostname)
         }
         ["keyed", mechanism, user, password, salt, count, limit] => {
             let (count, limit) = (number_of(count)?, number_of(limit)?);
             let keys = profiles::keys(alloc, mechanism, password, salt, count)?;
-            let mut profile = profiles::of_keys(text_of(alloc, user)?, keys, limit)?;
-            profiles::check(alloc, &mut profile, run, "none")
+            let profile = profiles::of_keys(text_of(alloc, user)?, keys, limit)?;
+            profiles::check(alloc, profile, run, "none")
         }
         ["both", words @ ..] => check_both(alloc, run, words),
         _ => Err(Unconfirmed::Malformed),
@@ -129,6 +142,6 @@ fn check_both(alloc: Global, run: &Run<'_>, words: &[&str]) -> Result<(), Unconf
     let (least, limit) = (number_of(least)?, number_of(limit)?);
     let keys = profiles::keys(alloc, version, kept, salt, number_of(count)?)?;
     let (user, password) = (text_of(alloc, user)?, text_of(alloc, password)?);
-    let mut profile = profiles::of_both(user, password, keys, least, limit)?;
-    profiles::check(alloc, &mut profile, run, "none")
+    let profile = profiles::of_both(user, password, keys, least, limit)?;
+    profiles::check(alloc, profile, run, "none")
 }

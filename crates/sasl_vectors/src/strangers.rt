@@ -9,7 +9,7 @@ mod sides;
 use crate::Unconfirmed;
 use crate::strangers::logins::{Login, Quick, logins};
 use crate::strangers::numbers::Numbers;
-use crate::strangers::sides::{Sides, altered, client_list, server_list};
+use crate::strangers::sides::{Sides, alter, client_list, server_list};
 use std::alloc::Global;
 
 /// How many lists each side is given.
@@ -59,8 +59,10 @@ fn play_once(
     logins: &[Login],
     numbers: &mut Numbers,
 ) -> Result<Counts, Unconfirmed> {
-    let client = altered(alloc, client_list(alloc, logins, numbers)?, numbers)?;
-    let server = altered(alloc, server_list(alloc, logins, numbers)?, numbers)?;
+    let mut client = client_list(alloc, logins, numbers)?;
+    alter(alloc, &mut client, numbers)?;
+    let mut server = server_list(alloc, logins, numbers)?;
+    alter(alloc, &mut server, numbers)?;
     let sides = Sides {
         credentials,
         logins,

@@ -71,18 +71,26 @@ fn scram_offers_its_version(rt: HostRuntime) -> Result<(), Fail> {
     Ok(())
 }
 
-/// The body of what an acceptor answers to the frame of a body, with a nonce of 32 bytes 02.
+/// What an acceptor answers to a frame, with a nonce of 32 bytes 02.
+fn reply<A: SaslAcceptor>(
+    alloc: Global,
+    acceptor: &mut A,
+    given: Frame,
+) -> Result<SaslServerFrame, Fail> {
+    match given {
+        Frame::Init(init) => Ok(acceptor.on_init(alloc, init, &[2; 32])?),
+        Frame::Response(response) => Ok(acceptor.on_response(alloc, response)?),
+        _ => Err("an init or a response".into()),
+    }
+}
+
+/// The body of what an acceptor answers to the frame of a body.
 pub fn answer<A: SaslAcceptor>(
     alloc: Global,
     acceptor: &mut A,
     given: &str,
 ) -> Result<String, Fail> {
-    let reply = match frame(alloc, given)? {
-        Frame::Init(init) => acceptor.on_init(alloc, init, &[2; 32])?,
-        Frame::Response(response) => acceptor.on_response(alloc, response)?,
-        _ => return Err("an init or a response".into()),
-    };
-    match reply {
+    match reply(alloc, acceptor, frame(alloc, given)?)? {
         SaslServerFrame::Challenge(challenge) => digits(alloc, Frame::Challenge(challenge)),
         SaslServerFrame::Outcome(outcome) => digits(alloc, Frame::Outcome(outcome)),
     }
@@ -112,13 +120,23 @@ fn scram_answers(alloc: Global, login: &Login) -> Result<bool, Fail> {
     answers(alloc, &mut ScramAuthenticator::new(credential), &rows)
 }
 
+/// Whether an acceptor of PLAIN takes the password of its user.
+fn plain_answers(alloc: Global) -> Result<bool, Fail> {
+    let mut plain = plain(alloc, USER, PASSWORD)?;
+    answers(alloc, &mut plain, &[(INIT_PLAIN, OUTCOME_OK)])
+}
+
+/// Whether an acceptor of ANONYMOUS takes anyone.
+fn anonymous_answers(alloc: Global) -> Result<bool, Fail> {
+    let mut anonymous = SaslAnonymousMechanism::new();
+    answers(alloc, &mut anonymous, &[(INIT_ANONYMOUS, OUTCOME_OK)])
+}
+
 #[test]
 fn acceptors_answer_frames(rt: HostRuntime) -> Result<(), Fail> {
     let alloc = rt.alloc();
-    let rows = [(INIT_PLAIN, OUTCOME_OK)];
-    assert!(rt; answers(alloc, &mut plain(alloc, USER, PASSWORD)?, &rows)?);
-    let rows = [(INIT_ANONYMOUS, OUTCOME_OK)];
-    assert!(rt; answers(alloc, &mut SaslAnonymousMechanism::new(), &rows)?);
+    assert!(rt; plain_answers(alloc)?);
+    assert!(rt; anonymous_answers(alloc)?);
     for login in &LOGINS {
         assert!(rt; scram_answers(alloc, login)?, "{}", login.mechanisms);
     }

@@ -1,6 +1,7 @@
 //! Profiles of PLAIN from addresses.
 
 use fe2o3_sasl::sasl_profile::{SaslProfile, UrlError};
+use std::alloc::Global;
 use std::test::Fail;
 use url::Url;
 
@@ -43,13 +44,17 @@ fn is_made(made: &Result<SaslProfile, UrlError>, wanted: Option<(&str, &str)>) -
     }
 }
 
+/// Whether the address of this text makes such a profile.
+fn makes(alloc: Global, address: &str, wanted: Option<(&str, &str)>) -> Result<bool, Fail> {
+    let url = Url::parse(alloc, address).ok().ok_or("an address")?;
+    Ok(is_made(&SaslProfile::from_url(alloc, &url), wanted))
+}
+
 #[test]
 fn an_address_with_both_words_is_a_profile(rt: HostRuntime) -> Result<(), Fail> {
-    let alloc = rt.alloc();
     for (address, wanted) in &ADDRESSES {
-        let url = Url::parse(alloc, address).ok().ok_or("an address")?;
-        let made = SaslProfile::from_url(alloc, &url);
-        assert!(rt; is_made(&made, *wanted), "{address}");
+        let right = makes(rt.alloc(), address, *wanted)?;
+        assert!(rt; right, "{address}");
     }
     Ok(())
 }

@@ -1,6 +1,6 @@
 //! What `Debug` prints of what holds a password, or the message of PLAIN: neither of them.
 
-use crate::profiles::{plain, profiles};
+use crate::profiles::profile;
 use fe2o3_sasl::client_keys::ScramClientKeys;
 use fe2o3_sasl::hmac::{Meter, ScramVersion};
 use fe2o3_sasl::sasl_profile::{SaslProfile, SaslScramSha256};
@@ -10,57 +10,61 @@ use help_bodies::replies::bytes_of;
 use std::alloc::Global;
 use std::test::Fail;
 
-/// The text of each profile of user `user`.
-static TEXTS: [&str; 6] = [
-    "Anonymous",
-    "Plain { username: \"user\", .. }",
-    "External",
-    "ScramSha1(SaslScramSha1 { client: ScramClient { username: \"user\", scram: Sha1, iteration_limit: 4294967295, \
+/// The text of the profile of each mechanism, of user `user`.
+static TEXTS: [(&str, &str); 6] = [
+    ("ANONYMOUS", "Anonymous"),
+    ("PLAIN", "Plain { username: \"user\", .. }"),
+    ("EXTERNAL", "External"),
+    (
+        "SCRAM-SHA-1",
+        "ScramSha1(SaslScramSha1 { client: ScramClient { username: \"user\", scram: Sha1, iteration_limit: 4294967295, \
         .. } })",
-    "ScramSha256(SaslScramSha256 { client: ScramClient { username: \"user\", scram: Sha256, iteration_limit: \
+    ),
+    (
+        "SCRAM-SHA-256",
+        "ScramSha256(SaslScramSha256 { client: ScramClient { username: \"user\", scram: Sha256, iteration_limit: \
         4294967295, .. } })",
-    "ScramSha512(SaslScramSha512 { client: ScramClient { username: \"user\", scram: Sha512, iteration_limit: \
+    ),
+    (
+        "SCRAM-SHA-512",
+        "ScramSha512(SaslScramSha512 { client: ScramClient { username: \"user\", scram: Sha512, iteration_limit: \
         4294967295, .. } })",
+    ),
 ];
 
 #[test]
 fn hides_the_password_of_a_profile(rt: HostRuntime) -> Result<(), Fail> {
     let alloc = rt.alloc();
-    let profiles = profiles(alloc, "user", "pencil")?;
-    for (profile, wanted) in profiles.iter().zip(TEXTS.iter()) {
-        let text = format!(in alloc; "{profile:?}")?;
+    for (mechanism, wanted) in &TEXTS {
+        let profile = profile(alloc, mechanism, "user", "pencil")?;
+        let text = format!(in alloc; "{:?}", *profile)?;
         assert!(rt; text.as_str() == *wanted, "{text}");
     }
     Ok(())
 }
 
 /// The text of a profile of SCRAM-SHA-256 that has its password and keys of a salt of bytes 03.
-fn text_of_both(alloc: Global, keys: ScramClientKeys) -> Result<Option<String>, Fail> {
+fn text_of_both(alloc: Global, keys: ScramClientKeys) -> Result<String, Fail> {
     let username = "user".to_string(alloc)?;
     let password = "pencil".to_string(alloc)?;
-    match SaslScramSha256::with_password_and_keys(username, password, keys) {
-        Some(scram) => Ok(Some(format!(in alloc; "{scram:?}")?)),
-        None => Ok(None),
-    }
+    let scram = SaslScramSha256::with_password_and_keys(username, password, keys);
+    let scram = Box::new(alloc, scram.ok_or("keys of its version")?)?;
+    Ok(format!(in alloc; "{:?}", *scram)?)
+}
+
+/// The keys of the password with a salt of bytes 03 and count 1.
+fn keys(alloc: Global) -> Result<ScramClientKeys, Fail> {
+    let (version, salt, mut meter) = (ScramVersion::Sha256, b"\x03\x03\x03\x03", Meter::new());
+    Ok(ScramClientKeys::from_password(alloc, version, "pencil", salt, 1, &mut meter)?)
 }
 
 #[test]
 fn hides_the_password_beside_keys(rt: HostRuntime) -> Result<(), Fail> {
     let alloc = rt.alloc();
-    let salt = b"\x03\x03\x03\x03";
-    let mut meter = Meter::new();
-    let keys = ScramClientKeys::from_password(
-        alloc,
-        ScramVersion::Sha256,
-        "pencil",
-        salt,
-        1,
-        &mut meter,
-    )?;
-    let text = format!(in alloc; "{keys:?}")?;
+    let text = format!(in alloc; "{:?}", keys(alloc)?)?;
     let wanted = "ScramClientKeys { scram_version: Sha256, iterations: 1, .. }";
     assert!(rt; text.as_str() == wanted, "{text}");
-    let text = text_of_both(alloc, keys)?.ok_or("keys of its version")?;
+    let text = text_of_both(alloc, keys(alloc)?)?;
     let wanted =
         "SaslScramSha256 { client: ScramClient { username: \"user\", scram: Sha256, iteration_limit: \
         4294967295, .. } }";
@@ -86,7 +90,8 @@ static ANSWERS: [(&str, &str); 2] = [
 fn hides_what_a_profile_says(rt: HostRuntime) -> Result<(), Fail> {
     let alloc = rt.alloc();
     for (given, wanted) in &ANSWERS {
-        let text = answer(alloc, &mut plain(alloc, "user", "pencil")?, given)?;
+        let mut profile = profile(alloc, "PLAIN", "user", "pencil")?;
+        let text = answer(alloc, &mut profile, given)?;
         assert!(rt; text.as_str() == *wanted, "{text}");
     }
     Ok(())

@@ -326,6 +326,7 @@ fn a_profile_is_taken_up_before_the_challenge(rt: HostRuntime) -> Result<(), Fai
 fn a_profile_without_scram_has_no_keys(rt: HostRuntime) -> Result<(), Fail> {
     let signature = bytes_of(rt.alloc(), "00")?;
     let profile = SaslProfile::External.waiting_for(signature, None);
+    let profile = Box::new(rt.alloc(), profile)?;
     assert!(rt; shown(&profile) == [false, false, false, false]);
     Ok(())
 }

@@ -2,7 +2,7 @@
 
 use crate::acceptors::digits;
 use crate::closed::Closed;
-use fe2o3_sasl::runs::{ServerReply, acceptor_step, run_acceptor};
+use fe2o3_sasl::runs::{Event, ServerReply, acceptor_step, run_acceptor};
 use fe2o3_sasl::sasl_acceptor::{SaslAcceptor, SaslAcceptorExt};
 use fe2o3_sasl_wire::{Error, Frame, SaslCode};
 use help_bodies::bodies::{
@@ -24,6 +24,37 @@ fn is_wanted(reply: &Result<ServerReply, Error>, sys: &[u8], wanted: Option<Erro
     }
 }
 
+/// Whether the acceptor answers these events so in a run.
+fn runs(
+    alloc: Global,
+    closed: &mut Closed,
+    events: &[Event],
+    sys: &[u8],
+    wanted: &[Option<Error>],
+) -> Result<bool, Fail> {
+    let replies = run_acceptor(alloc, closed, events)?;
+    let mut right = replies.len() == wanted.len();
+    for (reply, wanted) in replies.iter().zip(wanted.iter()) {
+        right &= is_wanted(reply, sys, *wanted);
+    }
+    Ok(right)
+}
+
+/// Whether the acceptor answers these events so step by step.
+fn steps(
+    alloc: Global,
+    closed: &mut Closed,
+    events: &[Event],
+    sys: &[u8],
+    wanted: &[Option<Error>],
+) -> bool {
+    let mut right = events.len() == wanted.len();
+    for (event, wanted) in events.iter().zip(wanted.iter()) {
+        right &= is_wanted(&acceptor_step(alloc, closed, event), sys, *wanted);
+    }
+    right
+}
+
 /// Whether the acceptor answers these bodies so, in a run, and a copy step by step.
 fn answers(
     alloc: Global,
@@ -34,15 +65,8 @@ fn answers(
     let sys = bytes_of(alloc, OUTCOME_SYS)?;
     let events = events(alloc, 2, bodies)?;
     let mut copy = closed.clone()?;
-    let replies = run_acceptor(alloc, closed, &events)?;
-    let mut right = replies.len() == wanted.len() && events.len() == wanted.len();
-    for (reply, wanted) in replies.iter().zip(wanted.iter()) {
-        right &= is_wanted(reply, &sys, *wanted);
-    }
-    for (event, wanted) in events.iter().zip(wanted.iter()) {
-        right &= is_wanted(&acceptor_step(alloc, &mut copy, event), &sys, *wanted);
-    }
-    Ok(right)
+    let right = runs(alloc, closed, &events, &sys, wanted)?;
+    Ok(right && steps(alloc, &mut copy, &events, &sys, wanted))
 }
 
 /// Bodies that nobody is asked by, and the fault of each.

@@ -5,49 +5,28 @@ use fe2o3_sasl::sasl_profile::{SaslProfile, SaslScramSha1, SaslScramSha256, Sasl
 use std::alloc::{AllocError, Global};
 use std::test::Fail;
 
-/// A profile of each variant, all of this user with this password: ANONYMOUS, PLAIN, EXTERNAL,
-/// SCRAM-SHA-1, SCRAM-SHA-256 and SCRAM-SHA-512.
-pub fn profiles(
+/// The profile of a mechanism, of this user with this password, in a box.
+pub fn profile(
     alloc: Global,
+    mechanism: &str,
     username: &str,
     password: &str,
-) -> Result<Vec<SaslProfile>, AllocError> {
-    let mut profiles = Vec::with_capacity(alloc, 6)?;
-    profiles.push(SaslProfile::Anonymous)?;
-    profiles.push(plain(alloc, username, password)?)?;
-    profiles.push(SaslProfile::External)?;
-    profiles.push(sha1(alloc, username, password)?)?;
-    profiles.push(sha256(alloc, username, password)?)?;
-    profiles.push(sha512(alloc, username, password)?)?;
-    Ok(profiles)
-}
-
-/// A profile of PLAIN.
-pub fn plain(alloc: Global, username: &str, password: &str) -> Result<SaslProfile, AllocError> {
+) -> Result<Box<SaslProfile>, AllocError> {
     let username = username.to_string(alloc)?;
     let password = password.to_string(alloc)?;
-    Ok(SaslProfile::plain(username, password))
+    Ok(Box::new(alloc, of_mechanism(mechanism, username, password))?)
 }
 
-/// A profile of SCRAM-SHA-1.
-pub fn sha1(alloc: Global, username: &str, password: &str) -> Result<SaslProfile, AllocError> {
-    let username = username.to_string(alloc)?;
-    let password = password.to_string(alloc)?;
-    Ok(SaslProfile::from(SaslScramSha1::new(username, password)))
-}
-
-/// A profile of SCRAM-SHA-256.
-pub fn sha256(alloc: Global, username: &str, password: &str) -> Result<SaslProfile, AllocError> {
-    let username = username.to_string(alloc)?;
-    let password = password.to_string(alloc)?;
-    Ok(SaslProfile::from(SaslScramSha256::new(username, password)))
-}
-
-/// A profile of SCRAM-SHA-512.
-pub fn sha512(alloc: Global, username: &str, password: &str) -> Result<SaslProfile, AllocError> {
-    let username = username.to_string(alloc)?;
-    let password = password.to_string(alloc)?;
-    Ok(SaslProfile::from(SaslScramSha512::new(username, password)))
+/// The profile of a mechanism: EXTERNAL where it is none of the others.
+fn of_mechanism(mechanism: &str, username: String, password: String) -> SaslProfile {
+    match mechanism {
+        "ANONYMOUS" => SaslProfile::Anonymous,
+        "PLAIN" => SaslProfile::plain(username, password),
+        "SCRAM-SHA-1" => SaslProfile::from(SaslScramSha1::new(username, password)),
+        "SCRAM-SHA-256" => SaslProfile::from(SaslScramSha256::new(username, password)),
+        "SCRAM-SHA-512" => SaslProfile::from(SaslScramSha512::new(username, password)),
+        _ => SaslProfile::External,
+    }
 }
 
 /// The mechanism of each profile, and what it says first.
@@ -77,20 +56,26 @@ fn speaks_first(
     message: Option<&str>,
 ) -> Result<bool, Fail> {
     let name = profile.mechanism(alloc)?;
-    let response = profile.initial_response(alloc, &[1; 32])?;
-    let said = response.as_ref().map(|bytes| bytes.0.as_slice());
-    Ok(name.as_str() == mechanism && said == message.map(|text| text.as_bytes()))
+    Ok(name.as_str() == mechanism && says(alloc, profile, message)?)
+}
+
+/// Whether the profile says this first.
+fn says(alloc: Global, profile: &mut SaslProfile, message: Option<&str>) -> Result<bool, Fail> {
+    let said = profile.initial_response(alloc, &[1; 32])?;
+    Ok(match (&said, message) {
+        (Some(said), Some(text)) => said.0.as_slice() == text.as_bytes(),
+        (None, None) => true,
+        _ => false,
+    })
 }
 
 #[test]
 fn names_its_mechanism_and_speaks_first(rt: HostRuntime) -> Result<(), Fail> {
     let alloc = rt.alloc();
-    let mut profiles = profiles(alloc, "user", "pencil")?;
-    for (profile, (mechanism, message)) in profiles.iter_mut().zip(FIRST_WORDS.iter()) {
-        assert!(rt;
-            speaks_first(alloc, profile, mechanism, *message)?,
-            "{mechanism}"
-        );
+    for (mechanism, message) in &FIRST_WORDS {
+        let mut profile = profile(alloc, mechanism, "user", "pencil")?;
+        let speaks = speaks_first(alloc, &mut profile, mechanism, *message)?;
+        assert!(rt; speaks, "{mechanism}");
     }
     Ok(())
 }

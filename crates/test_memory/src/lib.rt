@@ -1,4 +1,4 @@
-//! Tests of every call of the three libraries while there is too little memory: those that can want it, and
+//! Tests of every call of the four libraries while there is too little memory: those that can want it, and
 //! those that take none. Expected values come from the standards, from worked examples, from other programs,
 //! and from Python's `hmac` and `hashlib`.
 #![tactic(auto)]
@@ -7,6 +7,8 @@
 mod acceptors;
 #[cfg(test)]
 mod audits;
+#[cfg(test)]
+mod connections;
 #[cfg(test)]
 mod constructors;
 #[cfg(test)]

@@ -329,20 +329,28 @@ fn client_is_taken_up(parts: &mut Parts) -> bool {
         && client.keys().is_none()
 }
 
-fn record_is_made(parts: &mut Parts) -> bool {
-    let (Some(salt), Some(stored_key), Some(server_key)) = (
-        parts.keys.pop(),
-        parts.keys.pop(),
-        parts.keys.pop(),
-    ) else {
-        return false;
-    };
-    let record = ScramRecord::from_parts(VERSION, salt, 1, stored_key, server_key);
+/// A record of the three keys.
+fn record_of(parts: &mut Parts) -> Option<ScramRecord> {
+    let salt = parts.keys.pop()?;
+    let stored_key = parts.keys.pop()?;
+    let server_key = parts.keys.pop()?;
+    Some(ScramRecord::from_parts(VERSION, salt, 1, stored_key, server_key))
+}
+
+/// Whether the record has its version and what is kept of the password.
+fn is_the_record(record: &ScramRecord) -> bool {
     let kept = record.as_stored_password();
     *record.scram_version() == VERSION
         && kept.salt == SALT.as_slice()
         && kept.stored_key == STORED_KEY.as_slice()
         && kept.server_key == SERVER_KEY.as_slice()
+}
+
+fn record_is_made(parts: &mut Parts) -> bool {
+    match record_of(parts) {
+        Some(record) => is_the_record(&record),
+        None => false,
+    }
 }
 
 fn credential_is_made(parts: &mut Parts) -> bool {

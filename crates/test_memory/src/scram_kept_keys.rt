@@ -156,33 +156,34 @@ fn cost(by: Secret) -> u64 {
 }
 
 /// A client that has sent nothing.
-fn client(alloc: Global, by: Secret) -> Result<ScramClient, Fail> {
+fn client(alloc: Global, by: Secret) -> Result<Box<ScramClient>, Fail> {
     let username = USER.to_string(alloc)?;
     let password = PASSWORD.to_string(alloc)?;
     let keys = keys(alloc)?;
-    Ok(match by {
+    let client = match by {
         Secret::Password => ScramClient::new(username, password, ScramVersion::Sha256),
         Secret::Keys => ScramClient::with_keys(username, keys),
         Secret::Both => ScramClient::with_password_and_keys(username, password, keys),
-    })
+    };
+    Ok(Box::new(alloc, client)?)
 }
 
 /// A client that has sent its first message.
-fn started(alloc: Global, by: Secret) -> Result<ScramClient, Fail> {
+fn started(alloc: Global, by: Secret) -> Result<Box<ScramClient>, Fail> {
     let mut client = client(alloc, by)?;
     client.compute_client_first_message(alloc, &[1; 32])?;
     Ok(client)
 }
 
 /// A client that has answered the server-first message.
-fn responded(alloc: Global, by: Secret) -> Result<ScramClient, Fail> {
+fn responded(alloc: Global, by: Secret) -> Result<Box<ScramClient>, Fail> {
     let mut client = started(alloc, by)?;
     client.compute_client_final_message(alloc, SERVER_FIRST)?;
     Ok(client)
 }
 
 /// A client that has believed the server.
-fn believed(alloc: Global, by: Secret) -> Result<ScramClient, Fail> {
+fn believed(alloc: Global, by: Secret) -> Result<Box<ScramClient>, Fail> {
     let mut client = responded(alloc, by)?;
     client.validate_server_final(alloc, SERVER_FINAL.as_bytes())?;
     Ok(client)
@@ -247,9 +248,9 @@ fn copy_has_keys(client: &ScramClient) -> Result<bool, OutOfMemory> {
 }
 
 impl Call for OfClient {
-    type Subject = ScramClient;
+    type Subject = Box<ScramClient>;
 
-    fn subject(&self, alloc: Global) -> Result<ScramClient, Fail> {
+    fn subject(&self, alloc: Global) -> Result<Box<ScramClient>, Fail> {
         match self.does {
             Does::Start => client(alloc, self.by),
             Does::Respond | Does::Clone => started(alloc, self.by),
@@ -258,7 +259,8 @@ impl Call for OfClient {
         }
     }
 
-    fn answer(&self, alloc: Global, client: &mut ScramClient) -> Answer {
+    fn answer(&self, alloc: Global, client: &mut Box<ScramClient>) -> Answer {
+        let client = &mut **client;
         let (cost, want) = (cost(self.by), ScramErrorKind::OutOfMemory);
         match self.does {
             Does::Start => told(start(alloc, client), OutOfMemory),
@@ -270,7 +272,8 @@ impl Call for OfClient {
         }
     }
 
-    fn stays(&self, alloc: Global, client: &mut ScramClient) -> Answer {
+    fn stays(&self, alloc: Global, client: &mut Box<ScramClient>) -> Answer {
+        let client = &mut **client;
         right(match self.does {
             Does::Start => is_early(alloc, client),
             Does::Respond | Does::Clone => waits_for_challenge(client),

@@ -38,21 +38,22 @@ enum OfClient {
 }
 
 /// A client that has sent nothing.
-fn client(alloc: Global) -> Result<ScramClient, Fail> {
+fn client(alloc: Global) -> Result<Box<ScramClient>, Fail> {
     let username = USER.to_string(alloc)?;
     let password = PASSWORD.to_string(alloc)?;
-    Ok(ScramClient::new(username, password, ScramVersion::Sha256))
+    let client = ScramClient::new(username, password, ScramVersion::Sha256);
+    Ok(Box::new(alloc, client)?)
 }
 
 /// A client that has sent its first message.
-fn started(alloc: Global) -> Result<ScramClient, Fail> {
+fn started(alloc: Global) -> Result<Box<ScramClient>, Fail> {
     let mut client = client(alloc)?;
     client.compute_client_first_message(alloc, &[1; 32])?;
     Ok(client)
 }
 
 /// A client that has answered the server-first message.
-fn responded(alloc: Global) -> Result<ScramClient, Fail> {
+fn responded(alloc: Global) -> Result<Box<ScramClient>, Fail> {
     let mut client = started(alloc)?;
     client.compute_client_final_message(alloc, SERVER_FIRST)?;
     Ok(client)
@@ -103,9 +104,9 @@ pub fn is_early(alloc: Global, client: &mut ScramClient) -> bool {
 }
 
 impl Call for OfClient {
-    type Subject = ScramClient;
+    type Subject = Box<ScramClient>;
 
-    fn subject(&self, alloc: Global) -> Result<ScramClient, Fail> {
+    fn subject(&self, alloc: Global) -> Result<Box<ScramClient>, Fail> {
         match self {
             OfClient::Start => client(alloc),
             OfClient::StartAfresh => started(alloc),
@@ -117,7 +118,8 @@ impl Call for OfClient {
         }
     }
 
-    fn answer(&self, alloc: Global, client: &mut ScramClient) -> Answer {
+    fn answer(&self, alloc: Global, client: &mut Box<ScramClient>) -> Answer {
+        let client = &mut **client;
         match self {
             OfClient::Start => told(start(alloc, client), OutOfMemory),
             OfClient::StartAfresh => told(start_afresh(alloc, client), OutOfMemory),
@@ -133,7 +135,8 @@ impl Call for OfClient {
     }
 
     /// A client that is started stays where it was; the other calls are right in one state alone.
-    fn stays(&self, alloc: Global, client: &mut ScramClient) -> Answer {
+    fn stays(&self, alloc: Global, client: &mut Box<ScramClient>) -> Answer {
+        let client = &mut **client;
         match self {
             OfClient::Start => right(is_early(alloc, client)),
             OfClient::StartAfresh => told(respond(alloc, client), ScramErrorKind::OutOfMemory),
@@ -180,12 +183,12 @@ enum OfServer {
 type Server = ScramAuthenticator<StoredScramCredential>;
 
 /// A server that has read nothing.
-fn server(alloc: Global) -> Result<Server, Fail> {
-    Ok(ScramAuthenticator::new(stored(alloc)?))
+fn server(alloc: Global) -> Result<Box<Server>, Fail> {
+    Ok(Box::new(alloc, ScramAuthenticator::new(stored(alloc)?))?)
 }
 
 /// A server whose challenge is open.
-fn challenged(alloc: Global) -> Result<Server, Fail> {
+fn challenged(alloc: Global) -> Result<Box<Server>, Fail> {
     let mut server = server(alloc)?;
     server.compute_server_first_message(alloc, CLIENT_FIRST.as_bytes(), &[2; 32])?;
     Ok(server)
@@ -236,16 +239,17 @@ fn is_not_challenged(alloc: Global, server: &mut Server) -> bool {
 }
 
 impl Call for OfServer {
-    type Subject = Server;
+    type Subject = Box<Server>;
 
-    fn subject(&self, alloc: Global) -> Result<Server, Fail> {
+    fn subject(&self, alloc: Global) -> Result<Box<Server>, Fail> {
         match self {
             OfServer::Challenge => server(alloc),
             _ => challenged(alloc),
         }
     }
 
-    fn answer(&self, alloc: Global, server: &mut Server) -> Answer {
+    fn answer(&self, alloc: Global, server: &mut Box<Server>) -> Answer {
+        let server = &mut **server;
         match self {
             OfServer::Challenge => told(
                 challenge(alloc, server),
@@ -268,7 +272,8 @@ impl Call for OfServer {
     }
 
     /// The challenge stays where it was; the other calls are right in one state alone.
-    fn stays(&self, alloc: Global, server: &mut Server) -> Answer {
+    fn stays(&self, alloc: Global, server: &mut Box<Server>) -> Answer {
+        let server = &mut **server;
         match self {
             OfServer::Challenge => right(is_not_challenged(alloc, server)),
             OfServer::ChallengeAfresh => told(

@@ -163,24 +163,37 @@ struct Users {
 fn store(alloc: Global, others: usize) -> Result<ScramCredentials, Fail> {
     let mut users = ScramCredentials::new(alloc, VERSION);
     for _ in 0..others {
-        users.add(OTHER_USER.to_string(alloc)?, record(alloc)?)?;
+        add_user(alloc, &mut users, OTHER_USER)?;
     }
     Ok(users)
+}
+
+/// Adds the record under this name.
+fn add_user(alloc: Global, users: &mut ScramCredentials, name: &str) -> Result<(), Fail> {
+    let name = name.to_string(alloc)?;
+    Ok(users.add(name, record(alloc)?)?)
 }
 
 /// A store of another user and the user.
 fn two_users(alloc: Global) -> Result<ScramCredentials, Fail> {
     let mut users = store(alloc, 1)?;
-    users.add(USER.to_string(alloc)?, record(alloc)?)?;
+    add_user(alloc, &mut users, USER)?;
     Ok(users)
 }
 
 /// Two users of one name.
 fn new_users(alloc: Global) -> Result<Vec<(String, ScramRecord)>, Fail> {
     let mut new = Vec::new(alloc);
-    new.push((USER.to_string(alloc)?, record(alloc)?))?;
-    new.push((USER.to_string(alloc)?, record(alloc)?))?;
+    for _ in 0..2 {
+        new.push(new_user(alloc)?)?;
+    }
     Ok(new)
+}
+
+/// A user.
+fn new_user(alloc: Global) -> Result<(String, ScramRecord), Fail> {
+    let name = USER.to_string(alloc)?;
+    Ok((name, record(alloc)?))
 }
 
 fn user_is_added(store: &mut Users) -> Result<bool, AddRecordError> {

@@ -19,8 +19,9 @@ pub fn stored(alloc: Global) -> Result<StoredScramCredential, Fail> {
 /// The user's name, twice: one for each call that is handed it.
 pub fn two_names(alloc: Global) -> Result<Vec<String>, Fail> {
     let mut names = Vec::with_capacity(alloc, 2)?;
-    names.push(USER.to_string(alloc)?)?;
-    names.push(USER.to_string(alloc)?)?;
+    for _ in 0..2 {
+        names.push(USER.to_string(alloc)?)?;
+    }
     Ok(names)
 }
 

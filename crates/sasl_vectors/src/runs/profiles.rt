@@ -1,16 +1,16 @@
-//! Profiles. None is held where something may fail: it is made last, and lent.
+//! Profiles. Each is put into a box before anything else may fail.
 
 use crate::Unconfirmed;
 use crate::runs::words::{
     bytes_of, client_word, client_words, negotiation_word, text_of, version_of,
 };
-use crate::runs::{Run, confirm};
+use crate::runs::{Part, Run, confirm, confirm_all};
 use fe2o3_sasl::client_keys::ScramClientKeys;
 use fe2o3_sasl::credentials::RecordError;
 use fe2o3_sasl::hmac::{Meter, ScramVersion};
 use fe2o3_sasl::runs::{Event, profile_step, run_profile};
 use fe2o3_sasl::sasl_profile::{SaslProfile, SaslScramSha1, SaslScramSha256, SaslScramSha512};
-use fe2o3_sasl_wire::{Frame, FrameView, view_frame};
+use fe2o3_sasl_wire::{FrameView, view_frame};
 use std::alloc::Global;
 
 impl From<RecordError> for Unconfirmed {
@@ -134,15 +134,21 @@ pub fn of_both(
 /// Checks a profile: a copy in runs, and itself and copies of it step by step.
 pub fn check(
     alloc: Global,
-    profile: &mut SaslProfile,
+    profile: SaslProfile,
     run: &Run<'_>,
     hostname: &str,
 ) -> Result<(), Unconfirmed> {
+    let mut profile = Box::new(alloc, profile)?;
     if hostname == "none" {
-        return check_all(alloc, profile, run, None);
+        return check_all(alloc, &mut profile, run, None);
     }
     let hostname = text_of(alloc, hostname)?;
-    check_all(alloc, profile, run, Some(&hostname))
+    check_all(alloc, &mut profile, run, Some(&hostname))
+}
+
+/// A copy of a profile, in a box.
+fn copy_of(alloc: Global, profile: &SaslProfile) -> Result<Box<SaslProfile>, Unconfirmed> {
+    Ok(Box::new(alloc, profile.clone()?)?)
 }
 
 /// Checks a profile with this hostname.
@@ -152,13 +158,24 @@ fn check_all(
     run: &Run<'_>,
     hostname: Option<&str>,
 ) -> Result<(), Unconfirmed> {
-    check_halves(alloc, &mut profile.clone()?, run, hostname)?;
+    check_halves(alloc, &mut *copy_of(alloc, profile)?, run, hostname)?;
     for (event, wanted) in run.events.iter().zip(run.answers.iter()) {
         check_copies(alloc, profile, event, wanted, hostname)?;
-        let reply = profile_step(alloc, profile, event, hostname);
-        confirm(&client_word(alloc, &reply)?, wanted)?;
+        check_step(alloc, profile, event, wanted, hostname)?;
     }
     Ok(())
+}
+
+/// Checks what a profile answers to an event.
+fn check_step(
+    alloc: Global,
+    profile: &mut SaslProfile,
+    event: &Event,
+    wanted: &str,
+    hostname: Option<&str>,
+) -> Result<(), Unconfirmed> {
+    let reply = profile_step(alloc, profile, event, hostname);
+    confirm(&client_word(alloc, &reply)?, wanted)
 }
 
 /// Checks a profile in two runs, of which a copy makes the second one first.
@@ -169,27 +186,23 @@ fn check_halves(
     hostname: Option<&str>,
 ) -> Result<(), Unconfirmed> {
     let (first, second) = run.halves();
-    let mut words = client_words(alloc, &run_profile(alloc, profile, first, hostname)?)?;
-    check_second(alloc, &mut profile.clone()?, run, hostname)?;
-    for word in client_words(alloc, &run_profile(alloc, profile, second, hostname)?)? {
-        words.push(word)?;
-    }
-    run.confirm(0, &words)
+    check_part(alloc, profile, first, hostname)?;
+    check_part(alloc, &mut *copy_of(alloc, profile)?, second, hostname)?;
+    check_part(alloc, profile, second, hostname)
 }
 
-/// Checks a copy that was made after the first half.
-fn check_second(
+/// Checks what a profile answers in a run.
+fn check_part(
     alloc: Global,
-    copy: &mut SaslProfile,
-    run: &Run<'_>,
+    profile: &mut SaslProfile,
+    (events, answers): Part<'_, '_>,
     hostname: Option<&str>,
 ) -> Result<(), Unconfirmed> {
-    let (first, second) = run.halves();
-    let replies = run_profile(alloc, copy, second, hostname)?;
-    run.confirm(first.len(), &client_words(alloc, &replies)?)
+    let replies = run_profile(alloc, profile, events, hostname)?;
+    confirm_all(&client_words(alloc, &replies)?, answers)
 }
 
-/// Checks what copies of a profile answer to an event: to its view, and to its frame.
+/// Checks what copies of a profile answer to an event: to its frame, and to its view.
 fn check_copies(
     alloc: Global,
     profile: &SaslProfile,
@@ -200,11 +213,14 @@ fn check_copies(
     let Ok((view, _)) = view_frame(&event.body) else {
         return Ok(());
     };
-    let frame = view.to_frame(alloc)?;
-    let word = to_view(alloc, profile, view, hostname, &event.nonce)?;
-    confirm(&word, wanted)?;
-    let word = to_frame(alloc, profile, frame, hostname, &event.nonce)?;
-    confirm(&word, wanted)
+    confirm(
+        &to_frame(alloc, profile, &view, hostname, &event.nonce)?,
+        wanted,
+    )?;
+    confirm(
+        &to_view(alloc, profile, view, hostname, &event.nonce)?,
+        wanted,
+    )
 }
 
 /// What a copy of a profile answers to a view.
@@ -215,18 +231,19 @@ fn to_view(
     hostname: Option<&str>,
     nonce: &[u8; 32],
 ) -> Result<String, Unconfirmed> {
-    let mut copy = profile.clone()?;
+    let mut copy = copy_of(alloc, profile)?;
     negotiation_word(alloc, copy.on_view(alloc, view, hostname, nonce))
 }
 
-/// What a copy of a profile answers to a frame.
+/// What a copy of a profile answers to the frame of a view.
 fn to_frame(
     alloc: Global,
     profile: &SaslProfile,
-    frame: Frame,
+    view: &FrameView<'_>,
     hostname: Option<&str>,
     nonce: &[u8; 32],
 ) -> Result<String, Unconfirmed> {
-    let mut copy = profile.clone()?;
+    let mut copy = copy_of(alloc, profile)?;
+    let frame = view.to_frame(alloc)?;
     negotiation_word(alloc, copy.on_frame(alloc, frame, hostname, nonce))
 }

@@ -4,10 +4,11 @@ use crate::Unconfirmed;
 use crate::runs::words::{
     bytes_of, number_of, salt_of, server_word, server_words, text_of, version_of,
 };
-use crate::runs::{Run, confirm};
+use crate::runs::{Part, Run, confirm, confirm_all};
 use fe2o3_sasl::credentials::{
     AddRecordError, ScramCredentialProvider, ScramCredentials, ScramRecord, SingleScramCredential,
 };
+use fe2o3_sasl::hmac::ScramVersion;
 use fe2o3_sasl::runs::{Event, acceptor_step, run_acceptor, scram_server_run};
 use fe2o3_sasl::sasl_acceptor::{SaslAcceptor, SaslAnonymousMechanism, SaslPlainMechanism};
 use fe2o3_sasl::scram_messages::ServerScramErrorKind;
@@ -77,19 +78,30 @@ fn add_record(
     store: &mut ScramCredentials,
     record: &str,
 ) -> Result<(), Unconfirmed> {
-    let mut words = Vec::new(alloc);
-    for word in record.split(':') {
-        words.push(word)?;
-    }
-    let [name, salt, count, stored_key, server_key] = words.as_slice() else {
-        return Err(Unconfirmed::Malformed);
-    };
-    let version = *store.scram_version();
-    let name = text_of(alloc, name)?;
-    let (salt, count) = (bytes_of(alloc, salt)?, number_of(count)?);
-    let (stored_key, server_key) = (bytes_of(alloc, stored_key)?, bytes_of(alloc, server_key)?);
-    let record = ScramRecord::from_parts(version, salt, count, stored_key, server_key);
-    Ok(store.add(name, record)?)
+    let (name, parts) = halves_of(record)?;
+    let record = record_of(alloc, *store.scram_version(), parts)?;
+    Ok(store.add(text_of(alloc, name)?, record)?)
+}
+
+/// What stands before the first colon, and what stands behind it.
+fn halves_of(words: &str) -> Result<(&str, &str), Unconfirmed> {
+    words.split_once(':').ok_or(Unconfirmed::Malformed)
+}
+
+/// The record of salt, count, stored key and server key, with colons between them.
+fn record_of(
+    alloc: Global,
+    version: ScramVersion,
+    parts: &str,
+) -> Result<ScramRecord, Unconfirmed> {
+    let (salt, parts) = halves_of(parts)?;
+    let (count, keys) = halves_of(parts)?;
+    let (stored_key, server_key) = halves_of(keys)?;
+    let count = number_of(count)?;
+    let salt = bytes_of(alloc, salt)?;
+    let stored_key = bytes_of(alloc, stored_key)?;
+    let server_key = bytes_of(alloc, server_key)?;
+    Ok(ScramRecord::from_parts(version, salt, count, stored_key, server_key))
 }
 
 /// Checks a server of these credentials, by themselves, shared, and as an acceptor.
@@ -111,7 +123,7 @@ fn check_run<C: ScramCredentialProvider>(
     credentials: &C,
 ) -> Result<(), Unconfirmed> {
     let replies = scram_server_run(alloc, credentials, &run.events)?;
-    run.confirm(0, &server_words(alloc, &replies)?)
+    confirm_all(&server_words(alloc, &replies)?, &run.answers)
 }
 
 /// Checks an acceptor of ANONYMOUS.
@@ -139,11 +151,8 @@ fn check_acceptor<A: SaslAcceptor + Drop>(
 ) -> Result<(), Unconfirmed> {
     check_halves(alloc, run, &mut acceptor.clone()?)?;
     for (event, wanted) in run.events.iter().zip(run.answers.iter()) {
-        check_copy(alloc, acceptor, event, wanted)?;
-        confirm(
-            &server_word(alloc, &acceptor_step(alloc, acceptor, event))?,
-            wanted,
-        )?;
+        check_step(alloc, &mut acceptor.clone()?, event, wanted)?;
+        check_step(alloc, acceptor, event, wanted)?;
     }
     Ok(())
 }
@@ -155,35 +164,28 @@ fn check_halves<A: SaslAcceptor + Drop>(
     acceptor: &mut A,
 ) -> Result<(), Unconfirmed> {
     let (first, second) = run.halves();
-    let mut words = server_words(alloc, &run_acceptor(alloc, acceptor, first)?)?;
-    check_second(alloc, run, &mut acceptor.clone()?)?;
-    for word in server_words(alloc, &run_acceptor(alloc, acceptor, second)?)? {
-        words.push(word)?;
-    }
-    run.confirm(0, &words)
+    check_part(alloc, acceptor, first)?;
+    check_part(alloc, &mut acceptor.clone()?, second)?;
+    check_part(alloc, acceptor, second)
 }
 
-/// Checks a copy that was made after the first half.
-fn check_second<A: SaslAcceptor>(
+/// Checks what an acceptor answers in a run.
+fn check_part<A: SaslAcceptor>(
     alloc: Global,
-    run: &Run<'_>,
-    copy: &mut A,
+    acceptor: &mut A,
+    (events, answers): Part<'_, '_>,
 ) -> Result<(), Unconfirmed> {
-    let (first, second) = run.halves();
-    let replies = run_acceptor(alloc, copy, second)?;
-    run.confirm(first.len(), &server_words(alloc, &replies)?)
+    let replies = run_acceptor(alloc, acceptor, events)?;
+    confirm_all(&server_words(alloc, &replies)?, answers)
 }
 
-/// Checks what a copy of an acceptor answers to an event.
-fn check_copy<A: SaslAcceptor + Drop>(
+/// Checks what an acceptor answers to an event.
+fn check_step<A: SaslAcceptor>(
     alloc: Global,
-    acceptor: &A,
+    acceptor: &mut A,
     event: &Event,
     wanted: &str,
 ) -> Result<(), Unconfirmed> {
-    let mut copy = acceptor.clone()?;
-    confirm(
-        &server_word(alloc, &acceptor_step(alloc, &mut copy, event))?,
-        wanted,
-    )
+    let reply = acceptor_step(alloc, acceptor, event);
+    confirm(&server_word(alloc, &reply)?, wanted)
 }

@@ -5,7 +5,7 @@ use bytes::BytesMut;
 use fe2o3_sasl::hmac::ScramVersion;
 use fe2o3_sasl::runs::{ClientReply, ServerReply};
 use fe2o3_sasl::sasl_profile::{Negotiation, ProfileError};
-use fe2o3_sasl_wire::{Error, Frame, FrameCodec, SaslOutcome};
+use fe2o3_sasl_wire::{Error, Frame, FrameCodec, SaslCode, SaslOutcome};
 use hex::FromHex;
 use std::alloc::Global;
 
@@ -47,11 +47,23 @@ pub fn number_of(digits: &str) -> Result<u32, Unconfirmed> {
     }
 }
 
-/// The body of a frame, in hexadecimal digits.
-fn digits_of(alloc: Global, frame: Frame) -> Result<String, Unconfirmed> {
+/// The body of a frame.
+fn body_of(alloc: Global, frame: Frame) -> Result<BytesMut, Unconfirmed> {
     let mut body = BytesMut::new(alloc);
     FrameCodec {}.encode(frame, &mut body)?;
-    Ok(hex::encode(alloc, body.as_slice())?)
+    Ok(body)
+}
+
+/// A word, and the bytes of a body behind it.
+fn body_word(alloc: Global, mut word: String, body: &[u8]) -> Result<String, Unconfirmed> {
+    word.push(' ')?;
+    word.push_str(&hex::encode(alloc, body)?)?;
+    Ok(word)
+}
+
+/// An outcome with this body.
+fn code_word(alloc: Global, code: SaslCode, body: &[u8]) -> Result<String, Unconfirmed> {
+    body_word(alloc, format!(in alloc; "Outcome:{code:?}")?, body)
 }
 
 /// A server's reply in the words of the file.
@@ -61,11 +73,9 @@ pub fn server_word(
 ) -> Result<String, Unconfirmed> {
     match reply {
         Ok(ServerReply::Challenge { body }) => {
-            Ok(format!(in alloc; "Challenge {}", hex::encode(alloc, body)?)?)
+            body_word(alloc, "Challenge".to_string(alloc)?, body)
         }
-        Ok(ServerReply::Outcome { code, body }) => {
-            Ok(format!(in alloc; "Outcome:{code:?} {}", hex::encode(alloc, body)?)?)
-        }
+        Ok(ServerReply::Outcome { code, body }) => code_word(alloc, *code, body),
         Err(fault) => Ok(format!(in alloc; "{fault:?}")?),
     }
 }
@@ -84,15 +94,18 @@ pub fn server_words(
 
 /// A frame's body behind a word.
 fn frame_word(alloc: Global, word: &str, frame: Frame) -> Result<String, Unconfirmed> {
-    let body = digits_of(alloc, frame)?;
-    Ok(format!(in alloc; "{word} {body}")?)
+    let body = body_of(alloc, frame)?;
+    body_word(alloc, word.to_string(alloc)?, body.as_slice())
 }
 
 /// An outcome in the words of the file.
 fn outcome_word(alloc: Global, outcome: SaslOutcome) -> Result<String, Unconfirmed> {
     let code = outcome.code;
-    let body = digits_of(alloc, Frame::Outcome(outcome))?;
-    Ok(format!(in alloc; "Outcome:{code:?} {body}")?)
+    code_word(
+        alloc,
+        code,
+        body_of(alloc, Frame::Outcome(outcome))?.as_slice(),
+    )
 }
 
 /// A profile's fault in the words of the file.
@@ -106,12 +119,8 @@ pub fn client_word(
     reply: &Result<ClientReply, ProfileError>,
 ) -> Result<String, Unconfirmed> {
     match reply {
-        Ok(ClientReply::Init { body }) => {
-            Ok(format!(in alloc; "Init {}", hex::encode(alloc, body)?)?)
-        }
-        Ok(ClientReply::Response { body }) => {
-            Ok(format!(in alloc; "Response {}", hex::encode(alloc, body)?)?)
-        }
+        Ok(ClientReply::Init { body }) => body_word(alloc, "Init".to_string(alloc)?, body),
+        Ok(ClientReply::Response { body }) => body_word(alloc, "Response".to_string(alloc)?, body),
         Ok(ClientReply::Outcome(outcome)) => outcome_word(alloc, outcome.clone()?),
         Err(fault) => fault_word(alloc, fault),
     }

@@ -4,12 +4,14 @@ use crate::Unconfirmed;
 use crate::runs::words::{client_words, server_words};
 use crate::strangers::logins::{Login, PASSWORD, Quick, USER, copy_of};
 use crate::strangers::numbers::Numbers;
+use fe2o3_sasl::OutOfMemory;
 use fe2o3_sasl::audit::{Verdict, audit_limited};
 use fe2o3_sasl::hmac::ScramVersion;
 use fe2o3_sasl::runs::{
     ClientReply, Event, ServerReply, scram_client_run_limited, scram_server_run,
 };
-use fe2o3_sasl_wire::{FrameView, SaslCode, view_frame};
+use fe2o3_sasl::sasl_profile::ProfileError;
+use fe2o3_sasl_wire::{Error, FrameView, SaslCode, view_frame};
 use std::alloc::Global;
 
 /// The limit of the client's on the count.
@@ -51,12 +53,12 @@ pub fn server_list(
     Ok(events)
 }
 
-/// The list with none to three of its events altered.
-pub fn altered(
+/// Alters none to three of the events of a list.
+pub fn alter(
     alloc: Global,
-    mut events: Vec<Event>,
+    events: &mut Vec<Event>,
     numbers: &mut Numbers,
-) -> Result<Vec<Event>, Unconfirmed> {
+) -> Result<(), Unconfirmed> {
     for _ in 0..numbers.below(4) {
         let (place, other) = (numbers.below(events.len()), numbers.below(events.len()));
         if place >= events.len() || other >= events.len() {
@@ -73,7 +75,7 @@ pub fn altered(
             _ => events[place].nonce = [(numbers.below(6) & 0xff) as u8; 32],
         }
     }
-    Ok(events)
+    Ok(())
 }
 
 /// Cuts the event's body off somewhere.
@@ -111,12 +113,26 @@ impl Sides<'_> {
     /// last, and the same when it is asked again.
     pub fn accepted(&self, alloc: Global) -> Result<usize, Unconfirmed> {
         let replies = scram_server_run(alloc, self.credentials, self.server)?;
+        self.replies_again(alloc, &replies)?;
+        match self.count_accepted(&replies) {
+            Some(count) => Ok(count),
+            None => fault(alloc, "an ok without its response"),
+        }
+    }
+
+    /// The server replies the same when it is asked again.
+    fn replies_again(
+        &self,
+        alloc: Global,
+        replies: &[Result<ServerReply, Error>],
+    ) -> Result<(), Unconfirmed> {
+        let first = server_words(alloc, replies)?;
         let again = scram_server_run(alloc, self.credentials, self.server)?;
-        are_same(
-            alloc,
-            &server_words(alloc, &replies)?,
-            &server_words(alloc, &again)?,
-        )?;
+        are_same(alloc, &first, &server_words(alloc, &again)?)
+    }
+
+    /// How often the server ends well, if each time stands at its response.
+    fn count_accepted(&self, replies: &[Result<ServerReply, Error>]) -> Option<usize> {
         let mut challenge: Option<&[u8]> = None;
         let mut count = 0usize;
         for (event, reply) in self.server.iter().zip(replies.iter()) {
@@ -129,14 +145,14 @@ impl Sides<'_> {
                     },
                 ) => {
                     if !self.is_response(challenge.take(), &event.body) {
-                        return fault(alloc, "an ok without its response");
+                        return None;
                     }
                     count = count.saturating_add(1);
                 }
                 _ => {}
             }
         }
-        Ok(count)
+        Some(count)
     }
 
     /// Whether a body has the response of a login that has this challenge.
@@ -157,14 +173,16 @@ impl Sides<'_> {
     /// How often the client reports that it ended well: each time at the signature of a login whose
     /// response it gave last, and the same when it is asked again.
     pub fn reported(&self, alloc: Global) -> Result<usize, Unconfirmed> {
-        let version = ScramVersion::Sha256;
-        let replies = scram_client_run_limited(alloc, USER, PASSWORD, version, LIMIT, self.client)?;
-        let again = scram_client_run_limited(alloc, USER, PASSWORD, version, LIMIT, self.client)?;
-        are_same(
-            alloc,
-            &client_words(alloc, &replies)?,
-            &client_words(alloc, &again)?,
-        )?;
+        let replies = client_replies(alloc, self.client)?;
+        says_again(alloc, self.client, &replies)?;
+        match self.count_reported(&replies) {
+            Some(count) => Ok(count),
+            None => fault(alloc, "a report without its signature"),
+        }
+    }
+
+    /// How often the client reports that it ended well, if each time stands at its signature.
+    fn count_reported(&self, replies: &[Result<ClientReply, ProfileError>]) -> Option<usize> {
         let mut response: Option<&[u8]> = None;
         let mut count = 0usize;
         for (event, reply) in self.client.iter().zip(replies.iter()) {
@@ -173,14 +191,14 @@ impl Sides<'_> {
                 Ok(ClientReply::Response { body }) => response = Some(body),
                 Ok(ClientReply::Outcome(outcome)) if outcome.code == SaslCode::Ok => {
                     if !self.is_signed(response.take(), &event.body) {
-                        return fault(alloc, "a report without its signature");
+                        return None;
                     }
                     count = count.saturating_add(1);
                 }
                 _ => {}
             }
         }
-        Ok(count)
+        Some(count)
     }
 
     /// Whether a body has the signature of a login that has this response.
@@ -217,6 +235,25 @@ impl Sides<'_> {
         }
         Ok(findings.len())
     }
+}
+
+/// What the client says to these events.
+fn client_replies(
+    alloc: Global,
+    events: &[Event],
+) -> Result<Vec<Result<ClientReply, ProfileError>>, OutOfMemory> {
+    scram_client_run_limited(alloc, USER, PASSWORD, ScramVersion::Sha256, LIMIT, events)
+}
+
+/// The client says the same when it is asked again.
+fn says_again(
+    alloc: Global,
+    events: &[Event],
+    replies: &[Result<ClientReply, ProfileError>],
+) -> Result<(), Unconfirmed> {
+    let first = client_words(alloc, replies)?;
+    let again = client_replies(alloc, events)?;
+    are_same(alloc, &first, &client_words(alloc, &again)?)
 }
 
 /// What was not to be.
