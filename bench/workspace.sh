@@ -1,5 +1,6 @@
 #!/bin/sh
-# Lays out a workspace of the libraries and the two crates of exports: workspace.sh REPOSITORY WORK LIBRARY..
+# Lays out a workspace of the libraries, the two crates of exports, and the program of connections:
+# workspace.sh REPOSITORY WORK LIBRARY..
 set -eu
 repository=$1
 work=$2
@@ -19,7 +20,8 @@ for library in "$@"; do
         cp -a "$from/$part" "$to/$part"
     done
 done
-libraries=$*
+# (the exports are over the lower three)
+libraries="fe2o3_sasl_wire fe2o3_scram fe2o3_sasl"
 
 # lay CRATE FILE..: a crate of these files, of which it has no other.
 lay() {
@@ -38,4 +40,12 @@ lay() {
 # Two, since LLVM inlines a function less where one library calls it from more places.
 lay sasl_bench_calls_c "$exports/answers.rt.in" "$exports"/calls/*.rt.in
 lay sasl_bench_c "$exports"/*.rt.in
+mkdir -p "$work/crates/sasl_bench_connections/src"
+connections=$work/crates/sasl_bench_connections
+cp "$repository/bench/connections/main.rt.in" "$connections/src/main.rt"
+for loop in serve log_in; do
+    mkdir -p "$connections/proofs/$loop"
+    cp "$repository/bench/connections/proofs/$loop.antt.in" "$connections/proofs/$loop/Invariants.antt"
+done
+echo "sasl_bench_connections: $libraries fe2o3_sasl_negotiation anyhow bytes" >> "$work/crates.new"
 mv "$work/crates.new" "$work/crates.txt"
