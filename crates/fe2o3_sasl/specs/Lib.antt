@@ -5,9 +5,14 @@ pub mod ServerHistory
 pub mod ClientHistory
 pub mod Complete
 pub mod SaslAcceptor
+pub mod OneOf
+pub mod OffersOnly
+pub mod OneOfSides
+pub mod ExternalAcceptor
 pub mod ProfileFaults
 pub mod Profiles
 pub mod SaslProfile
+pub mod ClientPolicy
 pub mod Costs
 pub mod Runs
 pub mod Hex
@@ -16,6 +21,7 @@ pub mod Audit
 pub mod UnalteredRuns
 pub mod Laws
 pub mod MechanismLaws
+pub mod OneOfLaws
 pub mod StepLaws
 pub mod CostLaws
 pub mod Headline

@@ -9,9 +9,11 @@ ghost use Rattle.fe2o3_sasl.specs.examples.MemoryExamples.{AcceptorsAskForNone, 
 ghost use Rattle.fe2o3_sasl.specs.Profiles.{StepAllocates, ViewAllocates};
 ghost use Rattle.fe2o3_sasl.specs.Headline.{EveryServer, EveryClient, AnswersOkExactly, ReportsOkExactly, TakenVerifiersAgree};
 ghost use Rattle.fe2o3_sasl.specs.CostLaws.{ServerRunsCost, ClientRunsCost};
+ghost use Rattle.fe2o3_sasl.specs.OneOfLaws.{OneOfRunsAreSplit, ScramFirstAnswersOkExactly, ScramSecondAnswersOkExactly, OfferingRunsPassOn};
 ghost use Rattle.fe2o3_sasl.specs.StepLaws.{OksLogIn, ReportedOksAreSigned};
 ghost use Rattle.fe2o3_sasl.specs.Laws.{OneServerHistory, OneClientHistory, SomeServerHistory, SomeClientHistory, AcceptorRunsAreHistories, AcceptorRunsNameUsers, AgreedUsersAreNamed, ProfileRunsAreHistories, KeyedRunsAreRuns, KeyedRunsAreHistories, OksWithinChallenges, RepeatedResponsesAreRefused, OneResponseOneNonce, RefusalsLeaveOpen, PositionsAreUsedOnce, EqualMessagesAgree, NoShortExtensions, TakenVerifiersAreJudged, ShownProofsAreJudged, OneVerdictEach, OneAuditEach, RepeatedClientPositions, RepeatedServerPositions, RepeatedClientFindings, RepeatedServerFindings, ClientsLogIn, ServersLogIn, ServersWantMemory, ClientsWantMemory, ProfilesWantMemory};
 
+use crate::one_of::HasMechanism;
 pub use fe2o3_scram::laws::{
     accepted_messages, base64_texts, clone_of_version, digests, each_text_is_read, escaped_names,
     kept_keys, mechanism_names, one_answer_each, parts, record_texts, texts_without_memory,
@@ -68,6 +70,25 @@ pub fn users()
     ensures runs { AcceptorRunsNameUsers }
     ensures plain { PlainRunsNameUsers }
     ensures agreed { AgreedUsersAreNamed }
+{}
+
+/// A server of several mechanisms, over any list of bodies: each body goes to one of its two acceptors or to
+/// neither, what goes to one is a run of that one by itself, and what goes to neither is refused.
+pub fn one_of<A: HasMechanism, B: HasMechanism>()
+    ensures { OneOfRunsAreSplit A.names B.names A.machine B.machine }
+{}
+
+/// So a SCRAM acceptor in it answers Ok exactly as the headline says, to the bodies that go to it, whatever the
+/// other is.
+pub fn scram_in_one_of<A: HasMechanism>()
+    ensures first { ScramFirstAnswersOkExactly A.names A.machine }
+    ensures second { ScramSecondAnswersOkExactly A.names A.machine }
+{}
+
+/// A server that offers only some of its mechanisms, over any list of bodies: what it passes on is a run of its
+/// acceptor by itself, and the rest is refused.
+pub fn offers_only<A: HasMechanism>()
+    ensures { OfferingRunsPassOn A.names A.machine }
 {}
 
 /// A client that keeps the keys of a password runs as the client with the password, as long as servers

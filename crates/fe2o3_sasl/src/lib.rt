@@ -11,9 +11,13 @@
 #![tactic(auto)]
 
 pub mod audit;
+pub mod client_policy;
 mod events;
+pub mod external_acceptor;
 pub mod laws;
 mod mechanism_names;
+pub mod offers_only;
+pub mod one_of;
 pub mod runs;
 pub mod sasl_acceptor;
 pub mod sasl_profile;
@@ -21,6 +25,10 @@ mod steps;
 mod whole_runs;
 
 pub use crate::audit::{AuditError, Finding, FindingKind, Parameters, Verdict, audit_limited};
+pub use crate::client_policy::{ChoiceError, ClientPolicy, Mechanism, best_profile};
+pub use crate::external_acceptor::ExternalAcceptor;
+pub use crate::offers_only::{OfferError, OffersOnly};
+pub use crate::one_of::{HasMechanism, OneOf, Part};
 pub use crate::runs::{
     ClientReply, Event, EventError, ServerReply, acceptor_body_step, acceptor_step,
     acceptor_step_metered, profile_body_step, profile_step, profile_step_metered, run_acceptor,

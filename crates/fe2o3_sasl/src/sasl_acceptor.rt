@@ -153,7 +153,7 @@ pub trait NamesUser: SaslAcceptor {
 }
 
 /// The list of one ASCII name.
-fn one_name(alloc: Global, name: &str) -> Result<Array<Symbol>, OutOfMemory>
+pub(crate) fn one_name(alloc: Global, name: &str) -> Result<Array<Symbol>, OutOfMemory>
     requires { IsAscii name.now }
     ensures { IfOk result (λ array. array.0.items ≡ name.now ∷ []) }
 {
@@ -163,7 +163,7 @@ fn one_name(alloc: Global, name: &str) -> Result<Array<Symbol>, OutOfMemory>
 }
 
 /// An outcome without data.
-fn outcome(code: SaslCode) -> SaslServerFrame
+pub(crate) fn outcome(code: SaslCode) -> SaslServerFrame
     ensures { sent_frame result ≡ ends_with code }
 {
     SaslServerFrame::Outcome(SaslOutcome {

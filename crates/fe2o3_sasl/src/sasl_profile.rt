@@ -120,8 +120,16 @@ impl SaslProfile {
         ensures { profile_of result ≡ scram_profile (login_of version (string_bytes username)
             (string_bytes password) limit) }
     {
-        let client = ScramClient::new(username, password, version).with_iteration_limit(limit);
-        match version {
+        SaslProfile::scram_of(ScramClient::new(username, password, version).with_iteration_limit(
+            limit,
+        ))
+    }
+
+    /// SCRAM by this client.
+    pub(crate) fn scram_of(client: ScramClient) -> SaslProfile
+        ensures { profile_of result ≡ ScramProfile client }
+    {
+        match client.version() {
             ScramVersion::Sha1 => SaslProfile::ScramSha1(SaslScramSha1::of(client)),
             ScramVersion::Sha256 => SaslProfile::ScramSha256(SaslScramSha256::of(client)),
             ScramVersion::Sha512 => SaslProfile::ScramSha512(SaslScramSha512::of(client)),

@@ -10,3 +10,8 @@ pub mod SomeReplyLemmas
 pub mod SomeRunLemmas
 pub mod ResponseCostLemmas
 pub mod RunCostLemmas
+pub mod NameLemmas
+pub mod OneOfLemmas
+pub mod OffersOnlyLemmas
+pub mod ScramInOneOfLemmas
+pub mod PolicyLemmas

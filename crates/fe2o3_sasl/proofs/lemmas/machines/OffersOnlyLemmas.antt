@@ -1,0 +1,125 @@
+-- What a server does that offers only some names is what its acceptor does.
+use Rattle.std.proofs.Common.{◌≡◌, ℕ, suc, Bool, true, false, Option, Some, None, List, [], ◌∷◌, length, refl, sym, ap, ◌∙◌, subst, inl, inr, Result, Ok, Err}
+use Rattle.std.specs.Prelude.{not}
+use Rattle.std.specs.List.{AllByRecursion}
+use Rattle.fe2o3_sasl_wire.specs.declared.amqp_types.SaslCode.TheVariants as outcomes
+use Rattle.fe2o3_sasl_wire.specs.declared.sasl_frames.error.Error.{Error}
+use Rattle.fe2o3_sasl_wire.specs.declared.sasl_frames.error.Error.TheVariants as faults
+use Rattle.fe2o3_sasl_wire.specs.SaslFrames as frames
+use Rattle.fe2o3_sasl_wire.specs.SaslFrames.{SaslFrame, canonical}
+use Rattle.fe2o3_sasl.specs.Bodies.{SpellsBody, carried}
+use Rattle.fe2o3_sasl.specs.Events.{Given, ServerSays, Failed}
+use Rattle.fe2o3_sasl.specs.OffersOnly.{Offering, OfferingReplies, is_passed_on, offering_machine}
+use Rattle.fe2o3_sasl.specs.OneOfLaws.{those, IsRefusal, PassesOn, OfferingRunsPassOn}
+use Rattle.fe2o3_sasl.specs.Runs.{Runs, AcceptorSteps, AcceptorAnswers, AcceptorGives, server_says}
+use Rattle.fe2o3_sasl.specs.SaslAcceptor.{ends_with}
+use Rattle.fe2o3_sasl.proofs.lemmas.machines.OneOfLemmas.{Machine, auth_is_refusal, unmoved}
+
+-- what is passed on is a step of the acceptor, and the rest is refused
+abbrev Passes : {S : Type 0} → Machine S → Offering S → Bool → Given → ServerSays → Offering S → Type 0
+Passes machine offering true event says next = AcceptorSteps machine offering.inner event says next.inner
+Passes machine offering false event says next = IsRefusal says × (next ≡ offering)
+
+-- the same of an answer to a frame
+abbrev AnswersAs : {S : Type 0} → Machine S → Offering S → Bool → List ℕ → SaslFrame → ServerSays → Offering S → Type 0
+AnswersAs machine offering true nonce frame says next =
+    AcceptorAnswers machine offering.inner nonce frame says next.inner
+AnswersAs machine offering false nonce frame says next = IsRefusal says × (next ≡ offering)
+
+inner_moved : {S : Type 0} (offering moved next : Offering S) (state : S) (body : Option (List ℕ))
+    → moved ≡ record offering { inner = state } → next ≡ carried offering (λ _. moved) body
+    → next.inner ≡ carried offering.inner (λ _. state) body
+inner_moved {S} offering moved next state None same is = ap (λ (o : Offering S). o.inner) is
+inner_moved {S} offering moved next state (Some body) same is = ap (λ (o : Offering S). o.inner) (is ∙ same)
+
+answered : {S : Type 0} (machine : Machine S) (offering : Offering S) (mark : Bool) (nonce : List ℕ)
+    (frame : SaslFrame) (says : ServerSays) (next : Offering S)
+    → AcceptorAnswers (λ (at : Offering S). OfferingReplies machine at mark) offering nonce frame says next
+    → AnswersAs machine offering mark nonce frame says next
+answered {S} machine offering true nonce frame says next (inl want) =
+    inl (want.0, ap (λ (o : Offering S). o.inner) want.1)
+answered machine offering false nonce frame says next (inl want) = (subst IsRefusal (sym want.0) tt, want.1)
+answered machine offering true nonce frame says next (inr (reply, moved, (state, replies, is), sent)) =
+    inr (reply, state, replies, (sent.0, inner_moved offering moved next state (canonical reply) is sent.1))
+answered machine offering false nonce frame says next (inr (reply, moved, is, sent)) = (
+  subst IsRefusal (sym (sent.0 ∙ ap (λ (reply : SaslFrame). carried (Failed faults.TooLarge) (server_says reply)
+      (canonical reply)) is.0)) (auth_is_refusal (canonical (ends_with outcomes.Auth))),
+  unmoved offering moved next (canonical reply) is.1 sent.1,
+)
+
+as_step : {S : Type 0} (machine : Machine S) (offering : Offering S) (mark : Bool) (event : Given) (frame : SaslFrame)
+    (says : ServerSays) (next : Offering S)
+    → ((state after : S) → AcceptorAnswers machine state event.nonce frame says after
+    → AcceptorSteps machine state event says after)
+    → AnswersAs machine offering mark event.nonce frame says next → Passes machine offering mark event says next
+as_step machine offering true event frame says next steps is = steps offering.inner next.inner is
+as_step machine offering false event frame says next steps is = is
+
+-- each step is one of the acceptor, or a refusal
+one_passes : {S : Type 0} (names : S → List (List ℕ)) (machine : Machine S) (offering : Offering S) (event : Given)
+    (spelled : Result SaslFrame Error) (says : ServerSays) (next : Offering S) → SpellsBody event.body spelled
+    → AcceptorGives (offering_machine names machine) offering event spelled says next
+    → (mark : Bool) × Passes machine offering mark event says next
+one_passes names machine offering event (Err fault) says next spells is =
+    (false, (subst IsRefusal (sym is.0) tt, is.1))
+one_passes names machine offering event (Ok (frames.Mechanisms list)) says next spells is =
+    (false, (subst IsRefusal (sym is.0) tt, is.1))
+one_passes names machine offering event (Ok (frames.Challenge text)) says next spells is =
+    (false, (subst IsRefusal (sym is.0) tt, is.1))
+one_passes names machine offering event (Ok (frames.Outcome code more)) says next spells is =
+    (false, (subst IsRefusal (sym is.0) tt, is.1))
+one_passes names machine offering event (Ok (frames.Init mechanism response hostname)) says next spells is =
+    let frame = frames.Init mechanism response hostname in
+    let mark = is_passed_on names offering frame in (
+      mark,
+      as_step machine offering mark event frame says next (λ state after answers. (Ok frame, spells, answers))
+          (answered machine offering mark event.nonce frame says next is),
+    )
+one_passes names machine offering event (Ok (frames.Response text)) says next spells is =
+    let frame = frames.Response text in (
+      true,
+      as_step machine offering true event frame says next (λ state after answers. (Ok frame, spells, answers))
+          (answered machine offering true event.nonce frame says next is),
+    )
+
+passes_more : {S : Type 0} (machine : Machine S) (offering next last : Offering S) (mark : Bool) (event : Given)
+    (events : List Given) (says : ServerSays) (replies all : List ServerSays) (marks : List Bool)
+    → Passes machine offering mark event says next → all ≡ says ∷ replies
+    → PassesOn machine next events replies last marks
+    → PassesOn machine offering (event ∷ events) all last (mark ∷ marks)
+passes_more {S} machine offering next last true event events says replies all marks passes is on =
+    subst (λ (all : List ServerSays). PassesOn machine offering (event ∷ events) all last (true ∷ marks)) (sym is)
+    (record {
+      count = ap suc on.count;
+      passed = (says, next.inner, those (λ mark. mark) marks replies, passes, refl, on.passed);
+      rest = on.rest;
+    })
+passes_more {S} machine offering next last false event events says replies all marks passes is on =
+    subst (λ (all : List ServerSays). PassesOn machine offering (event ∷ events) all last (false ∷ marks)) (sym is)
+    (record {
+      count = ap suc on.count;
+      passed =
+          subst (λ (at : Offering S). Runs (AcceptorSteps machine) at.inner (those (λ mark. mark) marks events)
+          (those (λ mark. mark) marks replies) last.inner) passes.1 on.passed;
+      rest = (passes.0, on.rest);
+    })
+
+pub offering_runs : {S : Type 0} (names : S → List (List ℕ)) (machine : Machine S) → OfferingRunsPassOn names machine
+offering_runs {S} names machine offering last [] replies runs = (
+  [],
+  record {
+    count = refl;
+    passed = (refl, ap (λ (o : Offering S). o.inner) runs.1);
+    rest = subst (λ (all : List ServerSays). AllByRecursion IsRefusal (those not [] all)) (sym runs.0) tt;
+  },
+)
+offering_runs names machine offering last (event ∷ events) replies runs =
+    let says = runs.0 in
+    let next = runs.1 in
+    let step = runs.3 in
+    let passes = one_passes names machine offering event step.0 says next step.1 step.2 in
+    let rest = offering_runs names machine next last events runs.2 runs.5 in (
+      passes.0 ∷ rest.0,
+      passes_more machine offering next last passes.0 event events says runs.2 replies rest.0 passes.1
+          runs.4 rest.1,
+    )

@@ -1,0 +1,193 @@
+-- What a server of two acceptors does, and one that offers only some names, is what an acceptor in it does.
+use Rattle.std.proofs.Common.{◌≡◌, ℕ, suc, Bool, true, false, Option, Some, None, List, [], ◌∷◌, length, refl, sym, ap, ◌∙◌, subst, inl, inr, Result, Ok, Err}
+use Rattle.std.specs.Prelude.{not}
+use Rattle.std.specs.List.{AllByRecursion}
+use Rattle.fe2o3_sasl_wire.specs.declared.amqp_types.SaslCode.TheVariants as outcomes
+use Rattle.fe2o3_sasl_wire.specs.declared.sasl_frames.error.Error.{Error}
+use Rattle.fe2o3_sasl_wire.specs.declared.sasl_frames.error.Error.TheVariants as faults
+use Rattle.fe2o3_sasl_wire.specs.SaslFrames as frames
+use Rattle.fe2o3_sasl_wire.specs.SaslFrames.{SaslFrame, canonical}
+use Rattle.fe2o3_sasl.specs.Bodies.{SpellsBody, carried}
+use Rattle.fe2o3_sasl.specs.Events.{Given, ServerSays, Failed}
+use Rattle.fe2o3_sasl.specs.OneOf.{Parts, PartReplies, part_for, one_of_machine}
+use Rattle.fe2o3_sasl.specs.OneOfLaws.{those, to_first, to_second, to_neither, IsRefusal, Splits, OneOfRunsAreSplit}
+use Rattle.fe2o3_sasl.specs.Runs.{Runs, AcceptorSteps, AcceptorAnswers, AcceptorGives, Sends, server_says}
+use Rattle.fe2o3_sasl.specs.SaslAcceptor.{ends_with}
+use Rattle.fe2o3_sasl.specs.declared.one_of.Part.{Part}
+use Rattle.fe2o3_sasl.specs.declared.one_of.Part.TheVariants.{First, Second}
+
+-- a machine
+abbrev pub Machine : Type 0 → Type 1
+Machine S = S → List ℕ → SaslFrame → SaslFrame → S → Type 0
+
+-- what went to a part is a step of it, and the other stays; what went to neither is refused
+abbrev pub Goes : {S T : Type 0} → Machine S → Machine T → Parts S T → Option Part → Given → ServerSays → Parts S T
+    → Type 0
+Goes machine other parts None event says next = IsRefusal says × (next ≡ parts)
+Goes machine other parts (Some First) event says next =
+    AcceptorSteps machine parts.first event says next.first × (next.second ≡ parts.second)
+Goes machine other parts (Some Second) event says next =
+    AcceptorSteps other parts.second event says next.second × (next.first ≡ parts.first)
+
+-- the same of an answer to a frame
+abbrev AnswersAs : {S T : Type 0} → Machine S → Machine T → Parts S T → Option Part → List ℕ → SaslFrame → ServerSays
+    → Parts S T → Type 0
+AnswersAs machine other parts None nonce frame says next = IsRefusal says × (next ≡ parts)
+AnswersAs machine other parts (Some First) nonce frame says next =
+    AcceptorAnswers machine parts.first nonce frame says next.first × (next.second ≡ parts.second)
+AnswersAs machine other parts (Some Second) nonce frame says next =
+    AcceptorAnswers other parts.second nonce frame says next.second × (next.first ≡ parts.first)
+
+-- Auth and a fault are refusals, in whatever body
+pub auth_is_refusal : (body : Option (List ℕ))
+    → IsRefusal (carried (Failed faults.TooLarge) (server_says (ends_with outcomes.Auth)) body)
+auth_is_refusal None = tt
+auth_is_refusal (Some body) = tt
+
+pub unmoved : {S : Type 0} (state moved next : S) (body : Option (List ℕ)) → moved ≡ state
+    → next ≡ carried state (λ _. moved) body → next ≡ state
+unmoved state moved next None same is = is
+unmoved state moved next (Some body) same is = is ∙ same
+
+first_moved : {S T : Type 0} (parts moved next : Parts S T) (state : S) (body : Option (List ℕ))
+    → moved ≡ record { first = state; second = parts.second; asked = Some First }
+    → next ≡ carried parts (λ _. moved) body
+    → (next.first ≡ carried parts.first (λ _. state) body) × (next.second ≡ parts.second)
+first_moved {S} {T} parts moved next state None same is =
+    (ap (λ (p : Parts S T). p.first) is, ap (λ (p : Parts S T). p.second) is)
+first_moved {S} {T} parts moved next state (Some body) same is =
+    (ap (λ (p : Parts S T). p.first) (is ∙ same), ap (λ (p : Parts S T). p.second) (is ∙ same))
+
+second_moved : {S T : Type 0} (parts moved next : Parts S T) (state : T) (body : Option (List ℕ))
+    → moved ≡ record { first = parts.first; second = state; asked = Some Second }
+    → next ≡ carried parts (λ _. moved) body
+    → (next.second ≡ carried parts.second (λ _. state) body) × (next.first ≡ parts.first)
+second_moved {S} {T} parts moved next state None same is =
+    (ap (λ (p : Parts S T). p.second) is, ap (λ (p : Parts S T). p.first) is)
+second_moved {S} {T} parts moved next state (Some body) same is =
+    (ap (λ (p : Parts S T). p.second) (is ∙ same), ap (λ (p : Parts S T). p.first) (is ∙ same))
+
+answered : {S T : Type 0} (machine : Machine S) (other : Machine T) (parts : Parts S T) (mark : Option Part)
+    (nonce : List ℕ) (frame : SaslFrame) (says : ServerSays) (next : Parts S T)
+    → AcceptorAnswers (λ (at : Parts S T). PartReplies machine other at mark) parts nonce frame says next
+    → AnswersAs machine other parts mark nonce frame says next
+answered machine other parts None nonce frame says next (inl want) = (subst IsRefusal (sym want.0) tt, want.1)
+answered {S} {T} machine other parts (Some First) nonce frame says next (inl want) =
+    (inl (want.0, ap (λ (p : Parts S T). p.first) want.1), ap (λ (p : Parts S T). p.second) want.1)
+answered {S} {T} machine other parts (Some Second) nonce frame says next (inl want) =
+    (inl (want.0, ap (λ (p : Parts S T). p.second) want.1), ap (λ (p : Parts S T). p.first) want.1)
+answered machine other parts None nonce frame says next (inr (reply, moved, is, sent)) = (
+  subst IsRefusal (sym (sent.0 ∙ ap (λ (reply : SaslFrame). carried (Failed faults.TooLarge) (server_says reply)
+      (canonical reply)) is.0)) (auth_is_refusal (canonical (ends_with outcomes.Auth))),
+  unmoved parts moved next (canonical reply) is.1 sent.1,
+)
+answered machine other parts (Some First) nonce frame says next (inr (reply, moved, (state, replies, is), sent)) =
+    let both = first_moved parts moved next state (canonical reply) is sent.1 in
+    (inr (reply, state, replies, (sent.0, both.0)), both.1)
+answered machine other parts (Some Second) nonce frame says next (inr (reply, moved, (state, replies, is), sent)) =
+    let both = second_moved parts moved next state (canonical reply) is sent.1 in
+    (inr (reply, state, replies, (sent.0, both.0)), both.1)
+
+-- an answer to a frame that acceptors take is a step
+as_step : {S T : Type 0} (machine : Machine S) (other : Machine T) (parts : Parts S T) (mark : Option Part)
+    (event : Given) (frame : SaslFrame) (says : ServerSays) (next : Parts S T)
+    → ((R : Type 0) (any : Machine R) (state after : R) → AcceptorAnswers any state event.nonce frame says after
+    → AcceptorSteps any state event says after)
+    → AnswersAs machine other parts mark event.nonce frame says next → Goes machine other parts mark event says next
+as_step machine other parts None event frame says next steps is = is
+as_step {S} machine other parts (Some First) event frame says next steps is =
+    (steps S machine parts.first next.first is.0, is.1)
+as_step {S} {T} machine other parts (Some Second) event frame says next steps is =
+    (steps T other parts.second next.second is.0, is.1)
+
+-- each step goes to a part or to neither
+pub one_goes : {S T : Type 0} (names : S → List (List ℕ)) (others : T → List (List ℕ)) (machine : Machine S)
+    (other : Machine T) (parts : Parts S T) (event : Given) (spelled : Result SaslFrame Error) (says : ServerSays)
+    (next : Parts S T) → SpellsBody event.body spelled
+    → AcceptorGives (one_of_machine names others machine other) parts event spelled says next
+    → (mark : Option Part) × Goes machine other parts mark event says next
+one_goes names others machine other parts event (Err fault) says next spells is =
+    (None, (subst IsRefusal (sym is.0) tt, is.1))
+one_goes names others machine other parts event (Ok (frames.Mechanisms list)) says next spells is =
+    (None, (subst IsRefusal (sym is.0) tt, is.1))
+one_goes names others machine other parts event (Ok (frames.Challenge text)) says next spells is =
+    (None, (subst IsRefusal (sym is.0) tt, is.1))
+one_goes names others machine other parts event (Ok (frames.Outcome code more)) says next spells is =
+    (None, (subst IsRefusal (sym is.0) tt, is.1))
+one_goes names others machine other parts event (Ok (frames.Init mechanism response hostname)) says next spells is =
+    let frame = frames.Init mechanism response hostname in
+    let mark = part_for names others parts frame in (
+      mark,
+      as_step machine other parts mark event frame says next
+          (λ R any state after answers. (Ok frame, spells, answers))
+          (answered machine other parts mark event.nonce frame says next is),
+    )
+one_goes names others machine other parts event (Ok (frames.Response text)) says next spells is =
+    let frame = frames.Response text in
+    let mark = part_for names others parts frame in (
+      mark,
+      as_step machine other parts mark event frame says next
+          (λ R any state after answers. (Ok frame, spells, answers))
+          (answered machine other parts mark event.nonce frame says next is),
+    )
+
+-- one body more in front
+split_more : {S T : Type 0} (machine : Machine S) (other : Machine T) (parts next last : Parts S T) (mark : Option Part)
+    (event : Given) (events : List Given) (says : ServerSays) (replies all : List ServerSays)
+    (marks : List (Option Part)) → Goes machine other parts mark event says next → all ≡ says ∷ replies
+    → Splits machine other next events replies last marks
+    → Splits machine other parts (event ∷ events) all last (mark ∷ marks)
+split_more {S} {T} machine other parts next last None event events says replies all marks goes is split =
+    subst (λ (all : List ServerSays). Splits machine other parts (event ∷ events) all last (None ∷ marks)) (sym is)
+    (record {
+      count = ap suc split.count;
+      first =
+          subst (λ (at : Parts S T). Runs (AcceptorSteps machine) at.first (those to_first marks events)
+          (those to_first marks replies) last.first) goes.1 split.first;
+      second =
+          subst (λ (at : Parts S T). Runs (AcceptorSteps other) at.second (those to_second marks events)
+          (those to_second marks replies) last.second) goes.1 split.second;
+      neither = (goes.0, split.neither);
+    })
+split_more {S} {T} machine other parts next last (Some First) event events says replies all marks goes is split =
+    subst (λ (all : List ServerSays). Splits machine other parts (event ∷ events) all last (Some First ∷ marks)) (sym is)
+    (record {
+      count = ap suc split.count;
+      first = (says, next.first, those to_first marks replies, goes.0, refl, split.first);
+      second =
+          subst (λ (at : T). Runs (AcceptorSteps other) at (those to_second marks events)
+          (those to_second marks replies) last.second) goes.1 split.second;
+      neither = split.neither;
+    })
+split_more {S} {T} machine other parts next last (Some Second) event events says replies all marks goes is split =
+    subst (λ (all : List ServerSays). Splits machine other parts (event ∷ events) all last (Some Second ∷ marks)) (sym is)
+    (record {
+      count = ap suc split.count;
+      first =
+          subst (λ (at : S). Runs (AcceptorSteps machine) at (those to_first marks events)
+          (those to_first marks replies) last.first) goes.1 split.first;
+      second = (says, next.second, those to_second marks replies, goes.0, refl, split.second);
+      neither = split.neither;
+    })
+
+pub one_of_runs : {S T : Type 0} (names : S → List (List ℕ)) (others : T → List (List ℕ)) (machine : Machine S)
+    (other : Machine T) → OneOfRunsAreSplit names others machine other
+one_of_runs {S} {T} names others machine other parts last [] replies runs = (
+  [],
+  record {
+    count = refl;
+    first = (refl, ap (λ (p : Parts S T). p.first) runs.1);
+    second = (refl, ap (λ (p : Parts S T). p.second) runs.1);
+    neither = subst (λ (all : List ServerSays). AllByRecursion IsRefusal (those to_neither [] all)) (sym runs.0) tt;
+  },
+)
+one_of_runs names others machine other parts last (event ∷ events) replies runs =
+    let says = runs.0 in
+    let next = runs.1 in
+    let step = runs.3 in
+    let goes = one_goes names others machine other parts event step.0 says next step.1 step.2 in
+    let rest = one_of_runs names others machine other next last events runs.2 runs.5 in (
+      goes.0 ∷ rest.0,
+      split_more machine other parts next last goes.0 event events says runs.2 replies rest.0 goes.1
+          runs.4 rest.1,
+    )
