@@ -1,6 +1,8 @@
 //! Faults: their texts, and what they are made of.
 
 use fe2o3_sasl::OutOfMemory;
+use fe2o3_sasl::client_policy::ChoiceError;
+use fe2o3_sasl::offers_only::OfferError;
 use fe2o3_sasl::sasl_profile::{ProfileError, UrlError};
 use fe2o3_sasl::scram_messages::ScramErrorKind;
 use fe2o3_sasl_wire::Error;
@@ -24,6 +26,17 @@ static URL_TEXTS: [(UrlError, &str); 2] = [
     (UrlError::OutOfMemory, "OutOfMemory"),
 ];
 
+/// A text for each kind of the faults of an offer and of a choice.
+static OFFER_TEXTS: [(OfferError, &str); 2] = [
+    (OfferError::NothingOffered, "Nothing offered"),
+    (OfferError::OutOfMemory, "Out of memory"),
+];
+
+static CHOICE_TEXTS: [(ChoiceError, &str); 2] = [
+    (ChoiceError::NothingToTake, "No mechanism to take"),
+    (ChoiceError::OutOfMemory, "Out of memory"),
+];
+
 #[test]
 fn texts_of_faults(rt: HostRuntime) -> Result<(), Fail> {
     let alloc = rt.alloc();
@@ -31,6 +44,12 @@ fn texts_of_faults(rt: HostRuntime) -> Result<(), Fail> {
         assert!(rt; fault.to_string(alloc)?.as_str() == *text, "{text}");
     }
     for (fault, text) in &URL_TEXTS {
+        assert!(rt; fault.to_string(alloc)?.as_str() == *text, "{text}");
+    }
+    for (fault, text) in &OFFER_TEXTS {
+        assert!(rt; fault.to_string(alloc)?.as_str() == *text, "{text}");
+    }
+    for (fault, text) in &CHOICE_TEXTS {
         assert!(rt; fault.to_string(alloc)?.as_str() == *text, "{text}");
     }
     Ok(())

@@ -28,4 +28,6 @@ mod own_acceptor;
 #[cfg(test)]
 mod profiles;
 #[cfg(test)]
+mod several;
+#[cfg(test)]
 mod users;
