@@ -114,25 +114,27 @@ fn refuse(turn: Turn, fault: Error) -> Result<Step, OutOfMemory>
     }
 }
 
-/// What a server answers to the body of a frame.
+/// What a server answers to a frame, which begins with its size.
 fn reply<A: SaslAcceptor>(
     alloc: Global,
     acceptor: &mut A,
     turn: Turn,
-    body: &[u8],
+    unit: &[u8],
     nonce: &[u8; 32],
     meter: &mut Meter,
     out: &mut BytesMut,
 ) -> Result<Step, OutOfMemory>
-    requires { meter.old ≤ 2 ^ 63 }
+    requires four { 4 ≤ length unit.now }
+    requires meter { meter.old ≤ 2 ^ 63 }
     ensures ok { IfOk result (λ step. Appends (λ answer. Replies A.machine turn (A.state acceptor.old)
-        (record { body = body.now; nonce = nonce.now }) answer (A.state acceptor.new))
+        (record { body = drop 4 unit.now; nonce = nonce.now }) answer (A.state acceptor.new))
         out.old.items out.new.items step) }
     ensures unsent { OnErr result (out.new.items ≡ out.old.items) }
     ensures unchanged { OnErr result (A.state acceptor.new ≡ A.state acceptor.old) }
-    ensures cost { ReplyCosts A.hmacs turn (A.state acceptor.old) (record { body = body.now; nonce = nonce.now })
+    ensures cost { ReplyCosts A.hmacs turn (A.state acceptor.old) (record { body = drop 4 unit.now; nonce = nonce.now })
         meter.old meter.new }
 {
+    let body = &unit[4..];
     if let Some(why) = screen(turn, body) {
         return Ok(Step::closed(why, Due::Frame(turn)));
     }
@@ -163,7 +165,7 @@ fn answer<A: SaslAcceptor>(
 {
     match due {
         Due::Header => open(alloc, acceptor, unit, out),
-        Due::Frame(turn) => reply(alloc, acceptor, turn, &unit[4..], nonce, meter, out),
+        Due::Frame(turn) => reply(alloc, acceptor, turn, unit, nonce, meter, out),
     }
 }
 
