@@ -7,6 +7,7 @@ pub mod FittingKeyLemmas
 pub mod KeptKeyLemmas
 pub mod LoginLemmas
 pub mod MemoryExampleLemmas
+pub mod MixedLinesLemmas
 pub mod OneValueLemmas
 pub mod RecordLawLemmas
 pub mod RecordLinesLawLemmas

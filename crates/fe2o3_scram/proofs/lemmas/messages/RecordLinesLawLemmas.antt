@@ -62,7 +62,7 @@ names-space Sha1 = without-test 32 (mechanism_name Sha1) refl
 names-space Sha256 = without-test 32 (mechanism_name Sha256) refl
 names-space Sha512 = without-test 32 (mechanism_name Sha512) refl
 
-no_feed-line : (version : ScramVersion) (user : List ℕ × Record) → IsLineReadable version user
+pub no_feed-line : (version : ScramVersion) (user : List ℕ × Record) → IsLineReadable version user
     → Without 10 (user_line version user)
 no_feed-line version user is =
     without-append 10 (escaped user.0) (32 ∷ record_text (record_of_user version user))
@@ -80,7 +80,7 @@ no_space-record version user is =
 
 -- ---- one cut, one line, one head
 
-line_cut : (version : ScramVersion) (user : List ℕ × Record) → IsLineReadable version user
+pub line_cut : (version : ScramVersion) (user : List ℕ × Record) → IsLineReadable version user
     → LastCut 32 (user_line version user) (escaped user.0) (record_text (record_of_user version user))
 line_cut version user is = (no_space-record version user is, refl)
 

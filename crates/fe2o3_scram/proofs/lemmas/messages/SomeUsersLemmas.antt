@@ -53,7 +53,7 @@ line_or version line without = elim (last_cut_or 32 line) [
 
 -- a text begins with a user's line, or it has a fault
 
-head_fault : (version : ScramVersion) (text line rest : List ℕ) (kind : ReadLinesErrorKind) → Cut 10 text line rest
+pub head_fault : (version : ScramVersion) (text line rest : List ℕ) (kind : ReadLinesErrorKind) → Cut 10 text line rest
     → LineFault version line kind → HeadFault version text kind
 head_fault version text line rest LineFeedMissing cut fault = absurd fault.3
 head_fault version text line rest kind cut fault = (line, rest, cut, fault)
