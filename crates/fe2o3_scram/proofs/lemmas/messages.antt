@@ -5,6 +5,7 @@ pub mod ClientFirstLemmas
 pub mod ExchangeLemmas
 pub mod FittingKeyLemmas
 pub mod KeptKeyLemmas
+pub mod LineListLemmas
 pub mod LoginLemmas
 pub mod MemoryExampleLemmas
 pub mod MixedLinesLemmas

@@ -85,7 +85,11 @@ impl MixedUser {
         ensures { IsTrue result ↔ IsMixedWritable self.now }
     {
         let record = self.record();
-        is_writable(self.username(), *record.scram_version(), &record.as_stored_password())
+        is_writable(
+            self.username(),
+            *record.scram_version(),
+            &record.as_stored_password(),
+        )
     }
 
     /// Writes the user's line at the end of the text, and its line feed.

@@ -319,7 +319,13 @@ fn push_users(
     ensures { OnOk result (text.new.items ≡ text.old.items ++ users_text scram_version users.now) }
 {
     for user in users {
-        push_line(alloc, text, user.username(), scram_version, &user.stored_password())?;
+        push_line(
+            alloc,
+            text,
+            user.username(),
+            scram_version,
+            &user.stored_password(),
+        )?;
     }
     Ok(())
 }

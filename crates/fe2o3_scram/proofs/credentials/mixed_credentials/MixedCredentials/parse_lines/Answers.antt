@@ -1,8 +1,8 @@
 use Rattle.std.proofs.Common.{rules, ◌≡◌, ◌+◌, ◌++◌, length, sym, ◌∙◌, ap, subst}
 use Rattle.std.specs.List.{AllByRecursion}
 use Rattle.fe2o3_scram.specs.Credentials.{MixedRecords}
-use Rattle.fe2o3_scram.specs.MixedLines.{IsMixedReadable, mixed_text}
-use Rattle.fe2o3_scram.proofs.lemmas.messages.MixedLinesLemmas.{one_more_mixed}
+use Rattle.fe2o3_scram.specs.MixedLines.{IsMixedReadable, mixed_line, mixed_text}
+use Rattle.fe2o3_scram.proofs.lemmas.messages.LineListLemmas.{one_more_line}
 use Rattle.fe2o3_scram.proofs.lemmas.messages.RecordLinesLemmas.{all-more}
 use Rattle.fe2o3_scram.proofs.credentials.mixed_credentials.MixedCredentials.parse_lines.Goals as goal
 
@@ -17,7 +17,7 @@ loop-rest-preserved c =
           subst (λ (users : MixedRecords). AllByRecursion IsMixedReadable users) added
           (all-more IsMixedReadable c.loop-rest.store user before.readable line.1);
       read =
-          one_more_mixed c.args.text.now c.loop-rest.rest.now more c.loop-rest.store user before.read line.2
+          one_more_line mixed_line c.args.text.now c.loop-rest.rest.now more c.loop-rest.store user before.read line.2
           ∙ ap (λ (users : MixedRecords). mixed_text users ++ more) added;
       utf8 = search rules;
     }

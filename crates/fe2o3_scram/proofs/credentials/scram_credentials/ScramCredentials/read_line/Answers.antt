@@ -13,5 +13,5 @@ pub returns-in-Err-VersionMismatch-clause-err : goal.returns-in-Err-VersionMisma
 returns-in-Err-VersionMismatch-clause-err c =
     let differ : c.in_ok-username.kept.version ≢ c.args.self.now.version = search rules in
     λ _. other_version c.args.self.now.version c.args.text.now c.in_ok-username.rest.now
-        (string_bytes c.in_ok-username.username, c.in_ok-username.kept) c.in_ok-username.ensures.ok.0
-        c.in_ok-username.ensures.ok.1 differ
+    (string_bytes c.in_ok-username.username, c.in_ok-username.kept) c.in_ok-username.ensures.ok.0
+    c.in_ok-username.ensures.ok.1 differ
