@@ -21,8 +21,8 @@ loop-rest-preserved c =
           (all-more (IsLineReadable version) c.loop-rest.store.records user before.readable
           (subst (λ (of : ScramVersion). IsLineReadable of user) before.version line.1));
       read =
-          one_more_line (user_line version) c.args.text.now c.loop-rest.rest.now more c.loop-rest.store.records user before.read
-          (line.2 ∙ ap (λ (of : ScramVersion). user_line of user ++ 10 ∷ more) before.version)
+          one_more_line (user_line version) c.args.text.now c.loop-rest.rest.now more c.loop-rest.store.records user
+          before.read (line.2 ∙ ap (λ (of : ScramVersion). user_line of user ++ 10 ∷ more) before.version)
           ∙ ap (λ (records : Records). users_text version records ++ more) added;
       utf8 = search rules;
     }
