@@ -12,7 +12,8 @@ use Rattle.fe2o3_scram.specs.ClientSecret.{Password, Keys, Both}
 use Rattle.fe2o3_scram.specs.SaslprepAscii.{IsPrintable}
 use Rattle.fe2o3_scram.specs.declared.client_secret.IterationLimits.{IterationLimits}
 use Rattle.fe2o3_scram.specs.declared.scram_messages.error.ScramErrorKind.TheVariants.{OtherKeys}
-use Rattle.fe2o3_scram.specs.Credentials.{MixedRecords, Record, Records, VersionedRecord, record_of, unversioned}
+use Rattle.fe2o3_scram.specs.Credentials.{Record, Records, VersionedRecord, record_of}
+use Rattle.fe2o3_scram.specs.Mixed.{MixedRecords, unversioned}
 use Rattle.fe2o3_scram.specs.Escape.{escaped}
 use Rattle.fe2o3_scram.specs.Exchanges.{Exchange, IsSound, Succeeds}
 use Rattle.fe2o3_scram.specs.Hmac.{mechanism_name, digest, digest_len, hmac_of}

@@ -4,7 +4,8 @@ use Rattle.std.specs.Prelude.{ℕ, List, Result}
 use Rattle.fe2o3_scram.specs.declared.hmac.ScramVersion.{ScramVersion}
 use Rattle.fe2o3_scram.specs.declared.credentials.record_lines.ReadLinesError.{ReadLinesError}
 use Rattle.fe2o3_scram.specs.declared.credentials.record_lines.ReadLinesErrorKind.{ReadLinesErrorKind}
-use Rattle.fe2o3_scram.specs.Credentials.{MixedRecords, VersionedRecord, unversioned}
+use Rattle.fe2o3_scram.specs.Credentials.{VersionedRecord}
+use Rattle.fe2o3_scram.specs.Mixed.{MixedRecords, unversioned}
 use Rattle.fe2o3_scram.specs.RecordLines.{HeadFault, IsLineReadable, IsWritable, ReadsLines, SpellsLines, UpTo, lines_text, user_line}
 
 -- a user's line, without the line feed behind it

@@ -4,7 +4,8 @@ ghost use Rattle.std.specs.Prelude.{◌≡◌, ◌++◌, ◌∷◌, [], IfOk, On
 ghost use Rattle.std.specs.Borrow.{Bor};
 ghost use Rattle.std.specs.Cmp.Lexicographic.{pointwise};
 ghost use Rattle.std.specs.String.{string_bytes};
-ghost use Rattle.fe2o3_scram.specs.Credentials.{VersionedRecord, provider_for, records_named};
+ghost use Rattle.fe2o3_scram.specs.Credentials.{VersionedRecord};
+ghost use Rattle.fe2o3_scram.specs.Mixed.{provider_for, records_named};
 
 use crate::OutOfMemory;
 use crate::credentials::scram_credentials::ScramCredentials;
@@ -72,7 +73,7 @@ pub struct MixedCredentials {
 
 impl Model for MixedCredentials {
     ghost use Rattle.std.specs.Prelude.{◌≡◌};
-    ghost use Rattle.fe2o3_scram.specs.Credentials.{MixedRecords, provider_for};
+    ghost use Rattle.fe2o3_scram.specs.Mixed.{MixedRecords, provider_for};
     ghost use Rattle.fe2o3_scram.specs.declared.hmac.ScramVersion.TheVariants.{Sha1, Sha256, Sha512};
 
     ghost Value = { MixedRecords };

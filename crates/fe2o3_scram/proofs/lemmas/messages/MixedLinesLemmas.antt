@@ -2,7 +2,8 @@
 use Rattle.std.proofs.Common.{◌≡◌, ◌<◌, ◌+◌, ℕ, List, [], ◌∷◌, ◌++◌, length, get_or, take, refl, append-nil}
 use Rattle.fe2o3_scram.specs.declared.hmac.ScramVersion.{ScramVersion}
 use Rattle.fe2o3_scram.specs.declared.credentials.record_lines.ReadLinesErrorKind.TheVariants.{VersionMismatch}
-use Rattle.fe2o3_scram.specs.Credentials.{MixedRecords, VersionedRecord, unversioned}
+use Rattle.fe2o3_scram.specs.Credentials.{VersionedRecord}
+use Rattle.fe2o3_scram.specs.Mixed.{MixedRecords, unversioned}
 use Rattle.fe2o3_scram.specs.Escape.{escaped}
 use Rattle.fe2o3_scram.specs.MixedLines.{IsMixedReadable, mixed_line, mixed_text}
 use Rattle.fe2o3_scram.specs.RecordLines.{HeadFault}

@@ -5,7 +5,8 @@ use Rattle.fe2o3_scram.specs.declared.credentials.record_lines.ReadLinesError.{R
 use Rattle.fe2o3_scram.specs.declared.credentials.record_lines.ReadLinesErrorKind.{ReadLinesErrorKind}
 use Rattle.fe2o3_scram.specs.declared.credentials.record_lines.ReadLinesErrorKind.TheVariants.{LineFeedMissing, SpaceMissing, InvalidName, InvalidRecord, VersionMismatch}
 use Rattle.fe2o3_scram.specs.declared.credentials.record_text.RecordTextError.{RecordTextError}
-use Rattle.fe2o3_scram.specs.Credentials.{MixedRecords, Records, VersionedRecord, unversioned}
+use Rattle.fe2o3_scram.specs.Credentials.{Records, VersionedRecord}
+use Rattle.fe2o3_scram.specs.Mixed.{MixedRecords, unversioned}
 use Rattle.fe2o3_scram.specs.Escape.{escaped}
 use Rattle.fe2o3_scram.specs.Hmac.{mechanism_name}
 use Rattle.fe2o3_scram.specs.MixedLines.{IsMixedReadable, MixedFault, ReadsMixed, mixed_line}

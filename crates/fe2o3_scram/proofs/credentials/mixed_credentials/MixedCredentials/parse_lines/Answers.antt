@@ -1,6 +1,6 @@
 use Rattle.std.proofs.Common.{rules, ◌≡◌, ◌+◌, ◌++◌, length, sym, ◌∙◌, ap, subst}
 use Rattle.std.specs.List.{AllByRecursion}
-use Rattle.fe2o3_scram.specs.Credentials.{MixedRecords}
+use Rattle.fe2o3_scram.specs.Mixed.{MixedRecords}
 use Rattle.fe2o3_scram.specs.MixedLines.{IsMixedReadable, mixed_line, mixed_text}
 use Rattle.fe2o3_scram.proofs.lemmas.messages.LineListLemmas.{one_more_line}
 use Rattle.fe2o3_scram.proofs.lemmas.messages.RecordLinesLemmas.{all-more}

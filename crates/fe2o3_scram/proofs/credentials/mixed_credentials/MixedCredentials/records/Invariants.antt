@@ -1,7 +1,8 @@
 use Rattle.std.proofs.Common.{◌≡◌, take}
 use Rattle.std.specs.Borrow.{Bor}
 use Rattle.std.specs.Prelude.{map}
-use Rattle.fe2o3_scram.specs.Credentials.{VersionedRecord, records_named}
+use Rattle.fe2o3_scram.specs.Credentials.{VersionedRecord}
+use Rattle.fe2o3_scram.specs.Mixed.{records_named}
 use Rattle.fe2o3_scram.proofs.credentials.mixed_credentials.MixedCredentials.records.Given as goal
 
 abbrev pub invariant-loop-user : goal.invariant-loop-user
