@@ -16,8 +16,8 @@ ghost use Rattle.fe2o3_sasl.specs.Laws.{OneServerHistory, OneClientHistory, Some
 use crate::one_of::HasMechanism;
 pub use fe2o3_scram::laws::{
     accepted_messages, base64_texts, clone_of_version, digests, each_text_is_read, escaped_names,
-    kept_keys, mechanism_names, one_answer_each, parts, record_texts, texts_without_memory,
-    unaltered_exchanges, users_texts,
+    kept_keys, mechanism_names, mixed_texts, one_answer_each, parts, record_texts,
+    texts_without_memory, unaltered_exchanges, users_texts,
 };
 
 /// The headline theorem. Over every list of frame bodies, a SCRAM server answers Ok exactly when a

@@ -45,9 +45,9 @@ pub use crate::sasl_profile::{
 pub use fe2o3_scram::client_keys::ScramClientKeys;
 pub use fe2o3_scram::client_secret::{ClientSecret, IterationLimits};
 pub use fe2o3_scram::credentials::{
-    AddRecordError, DEFAULT_SCRAM_ITERATIONS, ReadLinesError, ReadLinesErrorKind, RecordError,
-    RecordTextError, ScramCredentialProvider, ScramCredentials, ScramRecord, SingleScramCredential,
-    StoredPassword, StoredScramCredential, WriteLinesError,
+    AddRecordError, DEFAULT_SCRAM_ITERATIONS, MixedCredentials, ReadLinesError, ReadLinesErrorKind,
+    RecordError, RecordTextError, ScramCredentialProvider, ScramCredentials, ScramRecord,
+    SingleScramCredential, StoredPassword, StoredScramCredential, WriteLinesError,
 };
 pub use fe2o3_scram::hmac::{DigestBytes, Meter, ScramVersion, UnknownMechanism};
 pub use fe2o3_scram::keys::auth_message;

@@ -13,14 +13,17 @@ use Rattle.fe2o3_scram.specs.SaslprepAscii.{IsPrintable}
 use Rattle.fe2o3_scram.specs.declared.client_secret.IterationLimits.{IterationLimits}
 use Rattle.fe2o3_scram.specs.declared.scram_messages.error.ScramErrorKind.TheVariants.{OtherKeys}
 use Rattle.fe2o3_scram.specs.Credentials.{Record, Records, VersionedRecord, record_of}
+use Rattle.fe2o3_scram.specs.Mixed.{MixedRecords, unversioned}
 use Rattle.fe2o3_scram.specs.Escape.{escaped}
 use Rattle.fe2o3_scram.specs.Exchanges.{Exchange, IsSound, Succeeds}
 use Rattle.fe2o3_scram.specs.Hmac.{mechanism_name, digest, digest_len, hmac_of}
 use Rattle.fe2o3_scram.specs.ServerFirstAnswers.{AnswersServerFirst}
 use Rattle.fe2o3_scram.specs.ClientFinal.{Answer, Server, ClientFinal, ReadsFinalText, ReadsClientFinal}
+use Rattle.fe2o3_scram.specs.MixedLines.{IsMixedWritable, MixedFault, ReadsMixed, SpellsMixed, mixed_text}
 use Rattle.fe2o3_scram.specs.RecordText.{IsReadable, ReadsRecord, record_text}
 use Rattle.fe2o3_scram.specs.declared.credentials.record_text.RecordTextError.{RecordTextError}
 use Rattle.fe2o3_scram.specs.declared.credentials.record_lines.ReadLinesError.{ReadLinesError}
+use Rattle.fe2o3_scram.specs.declared.credentials.record_lines.ReadLinesErrorKind.TheVariants.{VersionMismatch}
 use Rattle.fe2o3_scram.specs.RecordLines.{IsWritable, ReadsUsers, users_text}
 use Rattle.std.specs.List.{AllByRecursion}
 use Rattle.fe2o3_scram.specs.ServerFinal.{ReadsSignature, ReadsServerFinal}
@@ -189,3 +192,30 @@ OneUsersAnswer = (version : ScramVersion) (text : List ℕ) (answer other : Resu
 abbrev pub SomeUsersAnswer : Type 0
 SomeUsersAnswer = (version : ScramVersion) (text : List ℕ)
     → (answer : Result Records ReadLinesError) × ReadsUsers version text answer
+
+-- the same of a user of a mixed store
+abbrev pub HoldsMixedBytes : List ℕ × VersionedRecord → Type 0
+HoldsMixedBytes user = HoldsBytes (unversioned user)
+
+-- users of several versions who can be written are read again from their text
+abbrev pub MixedAreReadAgain : Type 0
+MixedAreReadAgain = (users : MixedRecords) → AllByRecursion IsMixedWritable users
+    → AllByRecursion HoldsMixedBytes users → ReadsMixed (mixed_text users) (Ok users)
+
+-- and those who were read can be written, as the very text that was read
+abbrev pub MixedAreWrittenBack : Type 0
+MixedAreWrittenBack = (text : List ℕ) (users : MixedRecords) → SpellsMixed text users
+    → AllByRecursion IsMixedWritable users × (mixed_text users ≡ text)
+
+-- no line is refused for its version, since its record fits that
+abbrev pub NoMismatch : Type 0
+NoMismatch = (text : List ℕ) → ¬ MixedFault text VersionMismatch
+
+-- a text of lines has at most one answer for whatever version
+abbrev pub OneMixedAnswer : Type 0
+OneMixedAnswer = (text : List ℕ) (answer other : Result MixedRecords ReadLinesError) → ReadsMixed text answer
+    → ReadsMixed text other → answer ≡ other
+
+-- and it has one, whatever the text
+abbrev pub SomeMixedAnswer : Type 0
+SomeMixedAnswer = (text : List ℕ) → (answer : Result MixedRecords ReadLinesError) × ReadsMixed text answer

@@ -9,6 +9,8 @@ pub mod Stores
 pub mod Readings
 pub mod RecordText
 pub mod RecordLines
+pub mod Mixed
+pub mod MixedLines
 pub mod Error
 pub mod ClientFirst
 pub mod ClientKeys

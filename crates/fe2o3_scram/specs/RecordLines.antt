@@ -24,18 +24,26 @@ record_of_user version user = record { version = version; stored = user.1 }
 abbrev pub user_line : ScramVersion → List ℕ × Record → List ℕ
 user_line version user = escaped user.0 ++ 32 ∷ record_text (record_of_user version user)
 
--- the users' text: each line with a line feed behind it
+-- the text of users who have such lines: each line with a line feed behind it
+abbrev pub lines_text : {U : Type 0} → (U → List ℕ) → List U → List ℕ
+lines_text line_of [] = []
+lines_text line_of (user ∷ users) = line_of user ++ 10 ∷ lines_text line_of users
+
+-- the users' text, for records of this version
 abbrev pub users_text : ScramVersion → Records → List ℕ
-users_text version [] = []
-users_text version (user ∷ users) = user_line version user ++ 10 ∷ users_text version users
+users_text version users = lines_text (user_line version) users
 
 -- a user that a line can name: no line feed stands in the name, and the record's text is read as the record
 abbrev pub IsLineReadable : ScramVersion → List ℕ × Record → Type 0
 IsLineReadable version user = Without 10 user.0 × IsReadable (record_of_user version user)
 
--- the text is that of these users
+-- the text is that of these users, whom lines can name
+abbrev pub SpellsLines : {U : Type 0} → (U → List ℕ) → (U → Type 0) → List ℕ → List U → Type 0
+SpellsLines line_of IsRead text users = AllByRecursion IsRead users × (text ≡ lines_text line_of users)
+
+-- the same, for records of this version
 abbrev pub SpellsUsers : ScramVersion → List ℕ → Records → Type 0
-SpellsUsers version text users = AllByRecursion (IsLineReadable version) users × (text ≡ users_text version users)
+SpellsUsers version text users = SpellsLines (user_line version) (IsLineReadable version) text users
 
 -- why a line with a space is not read: its name, then its record, then the version of that
 abbrev pub UserFault : ScramVersion → List ℕ → List ℕ → ReadLinesErrorKind → Type 0
@@ -59,16 +67,25 @@ HeadFault version text kind =
     (line : List ℕ) × (rest : List ℕ) × Cut 10 text line rest × LineFault version line kind
 
 -- the text is that of users up to this line, counted from 1, and the rest of it begins so
-abbrev pub UpToLine : ScramVersion → List ℕ → ℕ → (List ℕ → Type 0) → Type 0
-UpToLine version text line Begins = (users : Records) × (rest : List ℕ)
-    × AllByRecursion (IsLineReadable version) users × (text ≡ users_text version users ++ rest)
-    × (line ≡ length users + 1) × Begins rest
+abbrev pub UpTo : {U : Type 0} → (U → List ℕ) → (U → Type 0) → List ℕ → ℕ → (List ℕ → Type 0) → Type 0
+UpTo {U} line_of IsRead text line Begins = (users : List U) × (rest : List ℕ) × AllByRecursion IsRead users
+    × (text ≡ lines_text line_of users ++ rest) × (line ≡ length users + 1) × Begins rest
 
--- what a text says, for records of this version: the users that it spells, or its first line that is not read, and why
+-- the same, for records of this version
+abbrev pub UpToLine : ScramVersion → List ℕ → ℕ → (List ℕ → Type 0) → Type 0
+UpToLine version text line Begins = UpTo (user_line version) (IsLineReadable version) text line Begins
+
+-- what a text says: the users that it spells, or its first line that is not read, and why
+abbrev pub ReadsLines : {U : Type 0} → (U → List ℕ) → (U → Type 0) → (List ℕ → ReadLinesErrorKind → Type 0)
+    → List ℕ → Result (List U) ReadLinesError → Type 0
+ReadsLines line_of IsRead Fault text (Ok users) = SpellsLines line_of IsRead text users
+ReadsLines line_of IsRead Fault text (Err error) =
+    UpTo line_of IsRead text error.line (λ (rest : List ℕ). Fault rest error.kind)
+
+-- the same, for records of this version
 abbrev pub ReadsUsers : ScramVersion → List ℕ → Result Records ReadLinesError → Type 0
-ReadsUsers version text (Ok users) = SpellsUsers version text users
-ReadsUsers version text (Err error) =
-    UpToLine version text error.line (λ (rest : List ℕ). HeadFault version rest error.kind)
+ReadsUsers version text answer =
+    ReadsLines (user_line version) (IsLineReadable version) (HeadFault version) text answer
 
 -- the reader of a line comes to ask for memory, for its name: the line has a space, and no comma stands before its
 -- last one

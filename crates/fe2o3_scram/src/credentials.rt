@@ -5,6 +5,8 @@ ghost use Rattle.std.specs.String.{string_bytes};
 ghost use Rattle.fe2o3_scram.specs.Credentials.{record_of};
 ghost use Rattle.fe2o3_scram.specs.SaslprepAscii.{IsPrintable};
 
+pub mod mixed_credentials;
+pub mod mixed_lines;
 pub mod record_lines;
 pub mod record_text;
 pub mod scram_credentials;
@@ -12,6 +14,7 @@ pub mod scram_record;
 pub mod stored_credential;
 mod users;
 
+pub use crate::credentials::mixed_credentials::MixedCredentials;
 pub use crate::credentials::record_lines::{ReadLinesError, ReadLinesErrorKind, WriteLinesError};
 pub use crate::credentials::record_text::RecordTextError;
 pub use crate::credentials::scram_credentials::{AddRecordError, ScramCredentials};

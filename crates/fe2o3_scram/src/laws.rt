@@ -4,7 +4,7 @@
 ghost use Rattle.std.specs.Prelude.{◌≡◌};
 ghost use Rattle.fe2o3_scram.specs.Agreement.{BelievedTextsAgree};
 ghost use Rattle.fe2o3_scram.specs.Logins.{AcceptedTextsLogIn, BelievedTextsAreSigned};
-ghost use Rattle.fe2o3_scram.specs.Laws.{OneVersion, OneFinalText, OneSignature, DigestsAreSized, MacsAreSized, OneBytesOfBase64, Base64IsReadAgain, NoCommaInBase64, PartsExist, OneListOfParts, OneEscapedName, NoCommaInEscapedNames, OneClientFirst, OneServerFirst, OneClientFinal, OneServerFinal, SomeClientFirst, SomeServerFirst, SomeClientFinal, SomeServerFinal, UnalteredExchangesSucceed, MadeRecordsAreReadable, OneRecord, OneSpelling, RecordsAreReadAgain, SomeRecord, OneUsersAnswer, SomeUsersAnswer, UsersAreReadAgain, KeysStandForPassword, KeysAnswerAsPassword, BothAnswerAsPassword};
+ghost use Rattle.fe2o3_scram.specs.Laws.{OneVersion, OneFinalText, OneSignature, DigestsAreSized, MacsAreSized, OneBytesOfBase64, Base64IsReadAgain, NoCommaInBase64, PartsExist, OneListOfParts, OneEscapedName, NoCommaInEscapedNames, OneClientFirst, OneServerFirst, OneClientFinal, OneServerFinal, SomeClientFirst, SomeServerFirst, SomeClientFinal, SomeServerFinal, UnalteredExchangesSucceed, MadeRecordsAreReadable, OneRecord, OneSpelling, RecordsAreReadAgain, SomeRecord, OneUsersAnswer, SomeUsersAnswer, UsersAreReadAgain, OneMixedAnswer, SomeMixedAnswer, MixedAreReadAgain, MixedAreWrittenBack, NoMismatch, KeysStandForPassword, KeysAnswerAsPassword, BothAnswerAsPassword};
 ghost use Rattle.fe2o3_scram.specs.MemoryExamples.{AnsweredClientsTakeNone, CommasTakeNone, ErrorsTakeNone, OtherNoncesTakeNone, UnboundTextsTakeNone, UnknownMechanismsTakeNone, UnknownUsersTakeNone};
 
 use crate::hmac::ScramVersion;
@@ -107,6 +107,16 @@ pub fn users_texts()
     ensures again { UsersAreReadAgain }
     ensures one { OneUsersAnswer }
     ensures some { SomeUsersAnswer }
+{}
+
+/// The same of users whose records are of several versions. Those who were read are written as the very
+/// text that was read, and no line is refused for its version.
+pub fn mixed_texts()
+    ensures again { MixedAreReadAgain }
+    ensures back { MixedAreWrittenBack }
+    ensures version { NoMismatch }
+    ensures one { OneMixedAnswer }
+    ensures some { SomeMixedAnswer }
 {}
 
 /// Worked examples of the words of memory: of each of these texts want of memory is no answer, since it is

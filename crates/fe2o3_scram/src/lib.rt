@@ -30,8 +30,9 @@ mod texts;
 
 pub use crate::client_secret::{ClientSecret, IterationLimits};
 pub use crate::credentials::{
-    AddRecordError, DEFAULT_SCRAM_ITERATIONS, ReadLinesError, ReadLinesErrorKind, RecordTextError,
-    ScramCredentials, ScramRecord, SingleScramCredential, StoredScramCredential, WriteLinesError,
+    AddRecordError, DEFAULT_SCRAM_ITERATIONS, MixedCredentials, ReadLinesError, ReadLinesErrorKind,
+    RecordTextError, ScramCredentials, ScramRecord, SingleScramCredential, StoredScramCredential,
+    WriteLinesError,
 };
 pub use crate::hmac::{DigestBytes, Meter, ScramVersion, UnknownMechanism, XorLengthMismatch};
 pub use crate::keys::{RecordError, ScramClientKeys, auth_message};

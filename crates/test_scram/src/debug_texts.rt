@@ -3,8 +3,8 @@
 
 use crate::kept_keys::KEPT;
 use fe2o3_scram::credentials::{
-    ScramCredentialProvider, ScramCredentials, ScramRecord, SingleScramCredential, StoredPassword,
-    StoredScramCredential,
+    MixedCredentials, ScramCredentialProvider, ScramCredentials, ScramRecord,
+    SingleScramCredential, StoredPassword, StoredScramCredential,
 };
 use fe2o3_scram::hmac::ScramVersion;
 use fe2o3_scram::scram_client::ScramClient;
@@ -99,6 +99,14 @@ fn hides_what_a_store_holds(rt: HostRuntime) -> Result<(), Fail> {
     store.add("user".to_string(rt.alloc())?, record(rt.alloc())?)?;
     let wanted = "ScramCredentials { scram_version: Sha256, .. }";
     assert!(rt; shows(rt.alloc(), &store, wanted)?);
+    Ok(())
+}
+
+#[test]
+fn hides_what_a_store_of_several_versions_holds(rt: HostRuntime) -> Result<(), Fail> {
+    let mut store = MixedCredentials::new(rt.alloc());
+    store.add("user".to_string(rt.alloc())?, record(rt.alloc())?)?;
+    assert!(rt; shows(rt.alloc(), &store, "MixedCredentials { .. }")?);
     Ok(())
 }
 

@@ -32,6 +32,8 @@ mod machines;
 #[cfg(test)]
 mod map_store;
 #[cfg(test)]
+mod mixed;
+#[cfg(test)]
 mod providers;
 #[cfg(test)]
 mod published;

@@ -24,7 +24,7 @@ fn store(alloc: Global) -> Result<ScramCredentials, Fail> {
 }
 
 /// One exchange over a clone of the store.
-fn log_in(
+pub fn log_in(
     alloc: Global,
     store: &ScramCredentials,
     name: &str,

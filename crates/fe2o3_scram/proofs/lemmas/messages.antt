@@ -5,8 +5,10 @@ pub mod ClientFirstLemmas
 pub mod ExchangeLemmas
 pub mod FittingKeyLemmas
 pub mod KeptKeyLemmas
+pub mod LineListLemmas
 pub mod LoginLemmas
 pub mod MemoryExampleLemmas
+pub mod MixedLinesLemmas
 pub mod OneValueLemmas
 pub mod RecordLawLemmas
 pub mod RecordLinesLawLemmas

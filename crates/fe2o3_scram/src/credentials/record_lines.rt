@@ -2,8 +2,9 @@
 
 ghost use Rattle.std.specs.Prelude.{◌≡◌, ◌≢◌, ◌↔◌, ◌⊎◌, ◌<◌, ◌+◌, ◌++◌, [], ◌∷◌, ℕ, List, IsTrue, IfOk, IfErr, OnOk, MatchOption, length, string_bytes};
 ghost use Rattle.std.specs.List.{AllByRecursion};
-ghost use Rattle.fe2o3_scram.specs.Credentials.{Record, VersionedRecord};
+ghost use Rattle.fe2o3_scram.specs.Credentials.{Record, VersionedRecord, kept};
 ghost use Rattle.fe2o3_scram.specs.Escape.{escaped};
+ghost use Rattle.fe2o3_scram.specs.MixedLines.{IsMixedReadable, MixedFault, mixed_line};
 ghost use Rattle.fe2o3_scram.specs.RecordLines.{HeadFault, IsLineReadable, IsWritable, LastCut, LineFault, ReachesName, ReachesUser, ReadsUsers, SpellsUsers, UpToLine, UserFault, user_line, users_text};
 ghost use Rattle.fe2o3_scram.specs.RecordText.{ReachesValues, ReadsRecord};
 ghost use Rattle.fe2o3_scram.specs.Texts.{NoComma, Without};
@@ -12,11 +13,11 @@ ghost use Rattle.fe2o3_scram.specs.declared.credentials.record_lines.WriteLinesE
 
 use crate::OutOfMemory;
 use crate::credentials::record_text::{RecordTextError, record_text};
-use crate::credentials::scram_credentials::ScramCredentials;
+use crate::credentials::scram_credentials::{AddRecordError, ScramCredentials};
 use crate::credentials::scram_record::ScramRecord;
 use crate::credentials::users::User;
 use crate::hmac::ScramVersion;
-use crate::provider::ScramCredentialProvider;
+use crate::provider::{ScramCredentialProvider, StoredPassword};
 use crate::scram_messages::escape::{UnescapeError, push_escaped, unescape_username};
 use crate::texts::cut;
 use std::alloc::{AllocError, AllocFailed, Global};
@@ -147,12 +148,12 @@ impl ScramCredentials {
         ensures memory { IfErr result (λ kind. kind ≡ ReadLinesErrorKind.OutOfMemory → ReachesUser text.now) }
         ensures unchanged { IfErr result (λ _. self.new ≡ self.old) }
     {
-        let Some((line, rest)) = cut(text, '\n') else {
-            return Err(ReadLinesErrorKind::LineFeedMissing);
-        };
-        let (username, kept) = read_user(alloc, *self.scram_version(), line)?;
-        self.add_of_version(username, kept)?;
-        Ok(rest)
+        let (username, kept, rest) = read_head(alloc, text)?;
+        match self.add(username, kept) {
+            Ok(()) => Ok(rest),
+            Err(AddRecordError::VersionMismatch) => Err(ReadLinesErrorKind::VersionMismatch),
+            Err(AddRecordError::OutOfMemory) => Err(ReadLinesErrorKind::OutOfMemory),
+        }
     }
 
     /// The users' text in UTF-8, a line for each, in one spelling. It is read again by `parse_lines`.
@@ -183,17 +184,33 @@ fn last_cut(text: &str, separator: char) -> Option<(&str, &str)>
     text.rsplit_once(separator)
 }
 
-/// The name and the record of a line, which stands here without its line feed.
-fn read_user(
+/// The name and the record, for whatever version, of the first line of a text that is not empty, and
+/// what follows the line.
+pub(crate) fn read_head(
     alloc: Global,
-    scram_version: ScramVersion,
-    line: &str,
-) -> Result<(String, ScramRecord), ReadLinesErrorKind>
+    text: &str,
+) -> Result<(String, ScramRecord, &str), ReadLinesErrorKind>
+    requires { text.now ≢ [] }
+    ensures ok { IfOk result (λ head. IsMixedReadable (string_bytes head.0, head.1)
+        × (text.now ≡ mixed_line (string_bytes head.0, head.1) ++ 10 ∷ head.2.now)) }
+    ensures err { IfErr result (λ kind. kind ≢ ReadLinesErrorKind.OutOfMemory → MixedFault text.now kind) }
+    ensures memory { IfErr result (λ kind. kind ≡ ReadLinesErrorKind.OutOfMemory → ReachesUser text.now) }
+    ensures reached { IfOk result (λ _. ReachesUser text.now) }
+{
+    let Some((line, rest)) = cut(text, '\n') else {
+        return Err(ReadLinesErrorKind::LineFeedMissing);
+    };
+    let (username, kept) = read_user(alloc, line)?;
+    Ok((username, kept, rest))
+}
+
+/// The name and the record, for whatever version, of a line, which stands here without its line feed.
+fn read_user(alloc: Global, line: &str) -> Result<(String, ScramRecord), ReadLinesErrorKind>
     requires { Without 10 line.now }
-    ensures ok { IfOk result (λ user. IsLineReadable scram_version (string_bytes user.0, user.1.stored)
-        × (line.now ≡ user_line scram_version (string_bytes user.0, user.1.stored))) }
-    ensures version { IfOk result (λ user. user.1.version ≡ scram_version) }
-    ensures err { IfErr result (λ kind. kind ≢ ReadLinesErrorKind.OutOfMemory → LineFault scram_version line.now kind) }
+    ensures ok { IfOk result (λ user. IsMixedReadable (string_bytes user.0, user.1)
+        × (line.now ≡ mixed_line (string_bytes user.0, user.1))) }
+    ensures err { IfErr result (λ kind. kind ≢ ReadLinesErrorKind.OutOfMemory
+        → (version : ScramVersion) → LineFault version line.now kind) }
     ensures memory { IfErr result (λ kind. kind ≡ ReadLinesErrorKind.OutOfMemory → ReachesName line.now) }
     ensures reached { IfOk result (λ _. ReachesName line.now) }
 {
@@ -202,9 +219,6 @@ fn read_user(
     };
     let username = read_name(alloc, name)?;
     let kept = read_record(alloc, kept)?;
-    if *kept.scram_version() != scram_version {
-        return Err(ReadLinesErrorKind::VersionMismatch);
-    }
     Ok((username, kept))
 }
 
@@ -239,35 +253,38 @@ fn read_record(alloc: Global, text: &str) -> Result<ScramRecord, ReadLinesErrorK
     }
 }
 
-impl User {
-    /// Whether the user's line is read again, by a reader of this version.
-    fn is_writable(&self, scram_version: ScramVersion) -> bool
-        ensures { IsTrue result ↔ IsWritable scram_version self.now }
-    {
-        let kept = self.stored_password();
-        let digest_len = scram_version.digest_len();
-        has_no_line_feed(&self.username)
-            && kept.iterations != 0
-            && kept.stored_key.len() == digest_len
-            && kept.server_key.len() == digest_len
-    }
+/// Whether the line of a user is read again.
+pub(crate) fn is_writable(
+    username: &str,
+    scram_version: ScramVersion,
+    stored_password: &StoredPassword<'_>,
+) -> bool
+    ensures { IsTrue result ↔ IsWritable scram_version (username.now, kept stored_password.now) }
+{
+    let digest_len = scram_version.digest_len();
+    has_no_line_feed(username)
+        && stored_password.iterations != 0
+        && stored_password.stored_key.len() == digest_len
+        && stored_password.server_key.len() == digest_len
+}
 
-    /// Writes the user's line at the end of the text, and its line feed.
-    fn push_line(
-        &self,
-        alloc: Global,
-        text: &mut Vec<u8>,
-        scram_version: ScramVersion,
-    ) -> Result<(), OutOfMemory>
-        ensures { OnOk result (text.new.items ≡ text.old.items ++ (user_line scram_version self.now ++ (10 ∷ []))) }
-    {
-        let kept = record_text(alloc, scram_version, &self.stored_password())?;
-        push_escaped(text, self.username.as_bytes())?;
-        text.push(b' ')?;
-        text.extend_from_slice(kept.as_bytes())?;
-        text.push(b'\n')?;
-        Ok(())
-    }
+/// Writes the line of a user at the end of the text, and its line feed.
+pub(crate) fn push_line(
+    alloc: Global,
+    text: &mut Vec<u8>,
+    username: &str,
+    scram_version: ScramVersion,
+    stored_password: &StoredPassword<'_>,
+) -> Result<(), OutOfMemory>
+    ensures { OnOk result (text.new.items ≡ text.old.items
+        ++ (user_line scram_version (username.now, kept stored_password.now) ++ (10 ∷ []))) }
+{
+    let record = record_text(alloc, scram_version, stored_password)?;
+    push_escaped(text, username.as_bytes())?;
+    text.push(b' ')?;
+    text.extend_from_slice(record.as_bytes())?;
+    text.push(b'\n')?;
+    Ok(())
 }
 
 /// Whether no line feed stands in the name.
@@ -284,7 +301,7 @@ fn are_writable(users: &[User], scram_version: ScramVersion) -> bool
     ensures { IsTrue result ↔ AllByRecursion (IsWritable scram_version) users.now }
 {
     for user in users {
-        if !user.is_writable(scram_version) {
+        if !is_writable(user.username(), scram_version, &user.stored_password()) {
             return false;
         }
     }
@@ -302,7 +319,13 @@ fn push_users(
     ensures { OnOk result (text.new.items ≡ text.old.items ++ users_text scram_version users.now) }
 {
     for user in users {
-        user.push_line(alloc, text, scram_version)?;
+        push_line(
+            alloc,
+            text,
+            user.username(),
+            scram_version,
+            &user.stored_password(),
+        )?;
     }
     Ok(())
 }

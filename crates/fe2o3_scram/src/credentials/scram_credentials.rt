@@ -104,20 +104,20 @@ impl ScramCredentials {
         if *kept.scram_version() != self.scram_version {
             return Err(AddRecordError::VersionMismatch);
         }
-        self.add_of_version(username, kept)?;
+        self.add_shared(username, Arc::new(self.alloc, kept)?)?;
         Ok(())
     }
 
-    /// Adds a user behind the others, whose record is for the store's version.
-    pub(crate) fn add_of_version(
+    /// Adds a user behind the others, whose record, which is shared, is for the store's version.
+    pub(crate) fn add_shared(
         &mut self,
         username: String,
-        kept: ScramRecord,
+        kept: Arc<ScramRecord>,
     ) -> Result<(), OutOfMemory>
-        requires { kept.version ≡ self.old.version }
+        requires { kept.value.version ≡ self.old.version }
         ensures ok { OnOk result (self.new ≡ record {
           version = self.old.version;
-          records = self.old.records ++ ((string_bytes username, kept.stored) ∷ []);
+          records = self.old.records ++ ((string_bytes username, kept.value.stored) ∷ []);
         }) }
         ensures err { OnErr result (self.new ≡ self.old) }
     {

@@ -17,7 +17,7 @@ use std::sync::Arc;
 /// A user and the record of the user's password, which is shared.
 #[derive(Drop)]
 pub(crate) struct User {
-    pub(crate) username: String,
+    username: String,
     kept: Arc<ScramRecord>,
 }
 
@@ -37,6 +37,13 @@ impl User {
         ensures { result ≡ pointwise nat_eq self.now.0 username.now }
     {
         self.username.as_str() == username
+    }
+
+    /// The name, plain, and not escaped.
+    pub(crate) fn username(&self) -> &str
+        ensures { result.now ≡ self.now.0 }
+    {
+        &self.username
     }
 
     /// What is kept of the user's password.
@@ -118,16 +125,15 @@ impl Users {
         &mut self,
         alloc: Global,
         username: String,
-        kept: ScramRecord,
+        kept: Arc<ScramRecord>,
     ) -> Result<(), OutOfMemory>
-        requires { kept.version ≡ self.old.version }
+        requires { kept.value.version ≡ self.old.version }
         ensures ok { OnOk result (self.new ≡ record {
           version = self.old.version;
-          records = self.old.records ++ ((string_bytes username, kept.stored) ∷ []);
+          records = self.old.records ++ ((string_bytes username, kept.value.stored) ∷ []);
         }) }
         ensures err { OnErr result (self.new ≡ self.old) }
     {
-        let kept = Arc::new(alloc, kept)?;
         if self.by_name.contains_key(username.as_str()) {
             self.in_order.push(User { username, kept })?;
             return Ok(());

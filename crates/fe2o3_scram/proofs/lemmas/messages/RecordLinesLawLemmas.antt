@@ -1,5 +1,5 @@
 -- Users are read again from their text, and a text has one answer.
-use Rattle.std.proofs.Common.{◌≡◌, ◌≢◌, ◌⊎◌, ◌<◌, ◌+◌, ℕ, suc, List, [], ◌∷◌, ◌++◌, length, codes, Result, Ok, Err, refl, sym, ◌∙◌, ap, subst, inl, inr, arith, append_assoc}
+use Rattle.std.proofs.Common.{◌≡◌, ◌≢◌, ◌⊎◌, ◌<◌, ℕ, List, [], ◌∷◌, ◌++◌, codes, Result, Ok, Err, refl, sym, ◌∙◌, ap, subst, inl, inr, arith}
 use Rattle.std.proofs.lemmas.Fmt.{decimal_is_IsNumeral}
 use Rattle.std.specs.Fmt.{decimal}
 use Rattle.std.specs.List.{AllByRecursion}
@@ -10,12 +10,15 @@ use Rattle.fe2o3_scram.specs.declared.credentials.record_lines.ReadLinesErrorKin
 use Rattle.fe2o3_scram.specs.declared.credentials.record_lines.ReadLinesErrorKind.TheVariants.{LineFeedMissing, SpaceMissing, InvalidName, InvalidRecord, VersionMismatch}
 use Rattle.fe2o3_scram.specs.declared.credentials.record_text.RecordTextError.{RecordTextError}
 use Rattle.fe2o3_scram.specs.Credentials.{Record, Records, VersionedRecord}
+use Rattle.fe2o3_scram.specs.Mixed.{MixedRecords, unversioned}
 use Rattle.fe2o3_scram.specs.Escape.{escaped, escaped_byte}
 use Rattle.fe2o3_scram.specs.Hmac.{mechanism_name}
-use Rattle.fe2o3_scram.specs.Laws.{HoldsBytes}
+use Rattle.fe2o3_scram.specs.Laws.{HoldsBytes, HoldsMixedBytes}
+use Rattle.fe2o3_scram.specs.MixedLines.{IsMixedReadable, IsMixedWritable, MixedFault, ReadsMixed, SpellsMixed, mixed_line, mixed_text}
 use Rattle.fe2o3_scram.specs.RecordLines.{HeadFault, IsLineReadable, IsWritable, LastCut, LineFault, ReadsUsers, UserFault, record_of_user, user_line, users_text}
 use Rattle.fe2o3_scram.specs.RecordText.{IsReadable, ReadsRecord, record_text}
 use Rattle.fe2o3_scram.specs.Texts.{Cut, Without, alphabet, base64_text}
+use Rattle.fe2o3_scram.proofs.lemmas.messages.LineListLemmas.{one_lines_answer}
 use Rattle.fe2o3_scram.proofs.lemmas.messages.RecordLawLemmas.{one_record, read_again}
 use Rattle.fe2o3_scram.proofs.lemmas.texts.CutLemmas.{one_cut, one_last_cut}
 use Rattle.fe2o3_scram.proofs.lemmas.texts.EachByteLemmas.{each-base64_text, not_without-in, without-append, without-digits, without-test}
@@ -62,7 +65,7 @@ names-space Sha1 = without-test 32 (mechanism_name Sha1) refl
 names-space Sha256 = without-test 32 (mechanism_name Sha256) refl
 names-space Sha512 = without-test 32 (mechanism_name Sha512) refl
 
-no_feed-line : (version : ScramVersion) (user : List ℕ × Record) → IsLineReadable version user
+pub no_feed-line : (version : ScramVersion) (user : List ℕ × Record) → IsLineReadable version user
     → Without 10 (user_line version user)
 no_feed-line version user is =
     without-append 10 (escaped user.0) (32 ∷ record_text (record_of_user version user))
@@ -80,7 +83,7 @@ no_space-record version user is =
 
 -- ---- one cut, one line, one head
 
-line_cut : (version : ScramVersion) (user : List ℕ × Record) → IsLineReadable version user
+pub line_cut : (version : ScramVersion) (user : List ℕ × Record) → IsLineReadable version user
     → LastCut 32 (user_line version user) (escaped user.0) (record_text (record_of_user version user))
 line_cut version user is = (no_space-record version user is, refl)
 
@@ -92,23 +95,32 @@ one_kept kept other is too same =
     (subst (λ (text : List ℕ). ReadsRecord text (Ok other)) (sym same) (read_again other too)) in
     cc
 
-one_line : (version : ScramVersion) (user other : List ℕ × Record) → IsLineReadable version user
-    → IsLineReadable version other → user_line version user ≡ user_line version other → user ≡ other
-one_line version user other is too same =
-    let cut = one_last_cut 32 (user_line version user) (escaped user.0) (record_text (record_of_user version user))
-    (escaped other.0) (record_text (record_of_user version other)) (line_cut version user is)
-    (no_space-record version other too, same) in
+one_line : (user other : List ℕ × VersionedRecord) → IsMixedReadable user → IsMixedReadable other
+    → mixed_line user ≡ mixed_line other → user ≡ other
+one_line user other is too same =
+    let cut = one_last_cut 32 (mixed_line user) (escaped user.0) (record_text user.1) (escaped other.0)
+    (record_text other.1) (line_cut user.1.version (unversioned user) is)
+    (no_space-record other.1.version (unversioned other) too, same) in
     let name = one_escaped user.0 other.0 cut.0 in
-    let kept = one_kept (record_of_user version user) (record_of_user version other) is.1 too.1 cut.1 in
-    λ i. (name i, (kept i).stored)
+    let kept = one_kept user.1 other.1 is.1 too.1 cut.1 in
+    λ i. (name i, kept i)
+
+one_mixed_head : (text rest more : List ℕ) (user other : List ℕ × VersionedRecord) → IsMixedReadable user
+    → IsMixedReadable other → text ≡ mixed_line user ++ 10 ∷ rest → text ≡ mixed_line other ++ 10 ∷ more
+    → (user ≡ other) × (rest ≡ more)
+one_mixed_head text rest more user other is too same so =
+    let cut = one_cut 10 text (mixed_line user) rest (mixed_line other) more
+    (no_feed-line user.1.version (unversioned user) is, same)
+    (no_feed-line other.1.version (unversioned other) too, so) in
+    (one_line user other is too cut.0, cut.1)
 
 one_head : (version : ScramVersion) (text rest more : List ℕ) (user other : List ℕ × Record)
     → IsLineReadable version user → IsLineReadable version other → text ≡ user_line version user ++ 10 ∷ rest
     → text ≡ user_line version other ++ 10 ∷ more → (user ≡ other) × (rest ≡ more)
 one_head version text rest more user other is too same so =
-    let cut = one_cut 10 text (user_line version user) rest (user_line version other) more
-    (no_feed-line version user is, same) (no_feed-line version other too, so) in
-    (one_line version user other is too cut.0, cut.1)
+    let both = one_mixed_head text rest more (user.0, record_of_user version user)
+    (other.0, record_of_user version other) is too same so in
+    (ap unversioned both.0, both.1)
 
 -- ---- a head with a fault
 
@@ -242,110 +254,91 @@ no_empty_fault version kind fault = head (of_line version [] kind fault)
     head (inl plain) = plain.0 refl
     head (inr (line, rest, cut, fault)) = no_cut line rest cut.1
 
+-- a record fits its own version, so no fault whatever the version is that of another
+pub no_mismatch : (text : List ℕ) → ¬ MixedFault text VersionMismatch
+no_mismatch text fault =
+    let one = fault Sha1 in
+    let read = one.3.3.1.0 in
+    let own = fault read.version in
+    let line = one_cut 10 text own.0 own.1 one.0 one.1 own.2 one.2 in
+    let cut = subst (λ (line : List ℕ). LastCut 32 line own.3.0 own.3.1) line.0 own.3.2 in
+    let kept = one_last_cut 32 one.0 own.3.0 own.3.1 one.3.0 one.3.1 cut one.3.2 in
+    let reads = subst (λ (text : List ℕ). ReadsRecord text (Ok own.3.3.1.0)) kept.1 own.3.3.1.1 in
+    own.3.3.1.2 (ap (λ (kept : VersionedRecord). kept.version)
+    (one_read one.3.1 own.3.3.1.0 read reads one.3.3.1.1))
+
 -- ---- one answer
-
-not_empty : (version : ScramVersion) (user : List ℕ × Record) (rest : List ℕ)
-    → [] ≢ user_line version user ++ 10 ∷ rest
-not_empty version user rest same = go (user_line version user) same
-  where
-    go : (line : List ℕ) → [] ≡ line ++ 10 ∷ rest → ⊥
-    go [] same = absurd (cc)
-    go (x ∷ line) same = absurd (cc)
-
-one_list : (version : ScramVersion) (users others : Records) → AllByRecursion (IsLineReadable version) users
-    → AllByRecursion (IsLineReadable version) others → users_text version users ≡ users_text version others
-    → users ≡ others
-one_list version [] [] are too same = refl
-one_list version [] (other ∷ others) are too same =
-    absurd (not_empty version other (users_text version others) same)
-one_list version (user ∷ users) [] are too same =
-    absurd (not_empty version user (users_text version users) (sym same))
-one_list version (user ∷ users) (other ∷ others) are too same =
-    let head = one_head version (users_text version (user ∷ users)) (users_text version users)
-    (users_text version others) user other are.0 too.0 refl same in
-    let tail = one_list version users others are.1 too.1 head.1 in
-    λ i. head.0 i ∷ tail i
-
-behind : (version : ScramVersion) (user : List ℕ × Record) (users : Records) (rest : List ℕ)
-    → users_text version (user ∷ users) ++ rest ≡ user_line version user ++ 10 ∷ (users_text version users ++ rest)
-behind version user users rest = append_assoc (user_line version user) (10 ∷ users_text version users) rest
-
--- users and a fault are not both said
-not_both : (version : ScramVersion) (users front : Records) (rest : List ℕ) (kind : ReadLinesErrorKind)
-    → AllByRecursion (IsLineReadable version) users → AllByRecursion (IsLineReadable version) front
-    → users_text version users ≡ users_text version front ++ rest → ¬ HeadFault version rest kind
-not_both version [] [] rest kind are too same fault =
-    no_empty_fault version kind (subst (λ (text : List ℕ). HeadFault version text kind) (sym same) fault)
-not_both version [] (other ∷ front) rest kind are too same fault =
-    not_empty version other (users_text version front ++ rest) (same ∙ behind version other front rest)
-not_both version (user ∷ users) [] rest kind are too same fault =
-    no_fault version rest (users_text version users) user kind are.0 (sym same) fault
-not_both version (user ∷ users) (other ∷ front) rest kind are too same fault =
-    let head = one_head version (users_text version (user ∷ users)) (users_text version users)
-    (users_text version front ++ rest) user other are.0 too.0 refl (same ∙ behind version other front rest) in
-    not_both version users front rest kind are.1 too.1 head.1 fault
-
--- a fault is said in one line
-one_place : (version : ScramVersion) (users front : Records) (rest more : List ℕ) (kind other : ReadLinesErrorKind)
-    → AllByRecursion (IsLineReadable version) users → AllByRecursion (IsLineReadable version) front
-    → users_text version users ++ rest ≡ users_text version front ++ more → HeadFault version rest kind
-    → HeadFault version more other → (length users ≡ length front) × (kind ≡ other)
-one_place version [] [] rest more kind other are too same fault so = (
-  refl,
-  one_fault version more kind other (subst (λ (text : List ℕ). HeadFault version text kind) same fault) so,
-)
-one_place version [] (one ∷ front) rest more kind other are too same fault so =
-    absurd (no_fault version rest (users_text version front ++ more) one kind too.0
-    (same ∙ behind version one front more) fault)
-one_place version (user ∷ users) [] rest more kind other are too same fault so =
-    absurd (no_fault version more (users_text version users ++ rest) user other are.0
-    (sym same ∙ behind version user users rest) so)
-one_place version (user ∷ users) (one ∷ front) rest more kind other are too same fault so =
-    let head = one_head version (users_text version (user ∷ users) ++ rest) (users_text version users ++ rest)
-    (users_text version front ++ more) user one are.0 too.0 (behind version user users rest)
-    (same ∙ behind version one front more) in
-    let tail = one_place version users front rest more kind other are.1 too.1 head.1 fault so in
-    (ap suc tail.0, tail.1)
-
-abbrev error_of : ℕ → ReadLinesErrorKind → ReadLinesError
-error_of line kind = record { line = line; kind = kind }
 
 pub one_users_answer : (version : ScramVersion) (text : List ℕ) (answer other : Result Records ReadLinesError)
     → ReadsUsers version text answer → ReadsUsers version text other → answer ≡ other
-one_users_answer version text (Ok users) (Ok others) is too =
-    ap Ok (one_list version users others is.0 too.0 (sym is.1 ∙ too.1))
-one_users_answer version text (Ok users) (Err error) is (front, rest, are, whole, line, fault) =
-    absurd (not_both version users front rest error.kind is.0 are (sym is.1 ∙ whole) fault)
-one_users_answer version text (Err error) (Ok users) (front, rest, are, whole, line, fault) is =
-    absurd (not_both version users front rest error.kind is.0 are (sym is.1 ∙ whole) fault)
-one_users_answer version text (Err error) (Err other) (users, rest, are, whole, line, fault)
-    (front, more, are_too, whole_too, line_too, too) =
-    let place = one_place version users front rest more error.kind other.kind are are_too (sym whole ∙ whole_too)
-    fault too in
-    let lines : error.line ≡ other.line = line ∙ ap (λ (n : ℕ). n + 1) place.0 ∙ sym line_too in
-    let kinds = place.1 in
-    λ i. Err (error_of (lines i) (kinds i))
+one_users_answer version text answer other is too =
+    one_lines_answer (user_line version) (IsLineReadable version) (HeadFault version) (record {
+      one_head = one_head version;
+      one_fault = one_fault version;
+      no_fault = no_fault version;
+      no_empty_fault = no_empty_fault version;
+    }) text answer other is too
+
+pub one_mixed_answer : (text : List ℕ) (answer other : Result MixedRecords ReadLinesError) → ReadsMixed text answer
+    → ReadsMixed text other → answer ≡ other
+one_mixed_answer text answer other is too = one_lines_answer mixed_line IsMixedReadable MixedFault (record {
+  one_head = one_mixed_head;
+  one_fault = λ text kind other fault too. one_fault Sha1 text kind other (fault Sha1) (too Sha1);
+  no_fault =
+      λ text rest user kind is same fault. no_fault user.1.version text rest (unversioned user) kind is same
+      (fault user.1.version);
+  no_empty_fault = λ kind fault. no_empty_fault Sha1 kind (fault Sha1);
+}) text answer other is too
 
 -- ---- what is written is read again
+
+readable : (version : ScramVersion) (user : List ℕ × Record) → IsWritable version user → HoldsBytes user
+    → IsLineReadable version user
+readable version user is holds = (
+  is.name,
+  record {
+    some = is.count;
+    small = holds.0;
+    salt = holds.1;
+    stored_key = (holds.2, is.stored_key);
+    server_key = (holds.3, is.server_key);
+  },
+)
 
 pub users_read_again : (version : ScramVersion) (users : Records) → AllByRecursion (IsWritable version) users
     → AllByRecursion HoldsBytes users → ReadsUsers version (users_text version users) (Ok users)
 users_read_again version users writable bytes = (go users writable bytes, refl)
   where
-    readable : (user : List ℕ × Record) → IsWritable version user → HoldsBytes user → IsLineReadable version user
-    readable user is holds = (
-      is.name,
-      record {
-        some = is.count;
-        small = holds.0;
-        salt = holds.1;
-        stored_key = (holds.2, is.stored_key);
-        server_key = (holds.3, is.server_key);
-      },
-    )
-
     go : (users : Records) → AllByRecursion (IsWritable version) users → AllByRecursion HoldsBytes users
         → AllByRecursion (IsLineReadable version) users
     go [] writable bytes = tt
     go (user ∷ users) writable bytes =
-        (readable user writable.0 bytes.0, go users writable.1 bytes.1)
+        (readable version user writable.0 bytes.0, go users writable.1 bytes.1)
+
+pub mixed_read_again : (users : MixedRecords) → AllByRecursion IsMixedWritable users
+    → AllByRecursion HoldsMixedBytes users → ReadsMixed (mixed_text users) (Ok users)
+mixed_read_again users writable bytes = (go users writable bytes, refl)
+  where
+    go : (users : MixedRecords) → AllByRecursion IsMixedWritable users → AllByRecursion HoldsMixedBytes users
+        → AllByRecursion IsMixedReadable users
+    go [] writable bytes = tt
+    go (user ∷ users) writable bytes =
+        (readable user.1.version (unversioned user) writable.0 bytes.0, go users writable.1 bytes.1)
+
+-- ---- what was read is written as it was
+
+pub written_back : (text : List ℕ) (users : MixedRecords) → SpellsMixed text users
+    → AllByRecursion IsMixedWritable users × (mixed_text users ≡ text)
+written_back text users spells = (go users spells.0, sym spells.1)
+  where
+    writable : (user : List ℕ × VersionedRecord) → IsMixedReadable user → IsMixedWritable user
+    writable user is = record {
+      name = is.0;
+      count = is.1.some;
+      stored_key = is.1.stored_key.1;
+      server_key = is.1.server_key.1;
+    }
+
+    go : (users : MixedRecords) → AllByRecursion IsMixedReadable users → AllByRecursion IsMixedWritable users
+    go [] are = tt
+    go (user ∷ users) are = (writable user are.0, go users are.1)

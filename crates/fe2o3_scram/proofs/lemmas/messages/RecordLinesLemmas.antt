@@ -1,5 +1,5 @@
 -- The lines of users, as they are read and written.
-use Rattle.std.proofs.Common.{◌≡◌, ◌≢◌, ◌<◌, ◌+◌, ℕ, List, [], ◌∷◌, ◌++◌, length, get_or, take, Ok, refl, sym, ◌∙◌, ap, subst, arith, append_assoc, append-nil}
+use Rattle.std.proofs.Common.{◌≡◌, ◌≢◌, ◌<◌, ◌+◌, ℕ, List, [], ◌∷◌, ◌++◌, length, get_or, take, Ok, sym, ◌∙◌, ap, subst, arith, append-nil}
 use Rattle.std.proofs.lemmas.List.{take_more}
 use Rattle.std.specs.List.{AllByRecursion}
 use Rattle.fe2o3_scram.specs.declared.hmac.ScramVersion.{ScramVersion}
@@ -8,6 +8,7 @@ use Rattle.fe2o3_scram.specs.Escape.{escaped}
 use Rattle.fe2o3_scram.specs.RecordLines.{IsLineReadable, LastCut, record_of_user, user_line, users_text}
 use Rattle.fe2o3_scram.specs.RecordText.{IsReadable, ReadsRecord, record_text}
 use Rattle.fe2o3_scram.specs.Texts.{NoComma, Without}
+use Rattle.fe2o3_scram.proofs.lemmas.messages.LineListLemmas.{lines_text-more}
 use Rattle.fe2o3_scram.proofs.lemmas.messages.RecordLawLemmas.{one_spelling}
 use Rattle.fe2o3_scram.proofs.lemmas.texts.EachByteLemmas.{all-at, each-append, each-front}
 use Rattle.fe2o3_scram.proofs.lemmas.texts.EscapingLemmas.{by_cases, escaped-cons, no_comma-escaped}
@@ -54,30 +55,7 @@ pub all-more : {X : Type 0} (P : X → Type 0) (items : List X) (item : X) → A
     → AllByRecursion P (items ++ (item ∷ []))
 all-more P items item all holds = each-append P items (item ∷ []) all (holds, tt)
 
-users_text-append : (version : ScramVersion) (users others : Records)
-    → users_text version (users ++ others) ≡ users_text version users ++ users_text version others
-users_text-append version [] others = refl
-users_text-append version (user ∷ users) others =
-    ap (λ (rest : List ℕ). user_line version user ++ 10 ∷ rest) (users_text-append version users others)
-    ∙ sym (append_assoc (user_line version user) (10 ∷ users_text version users) (users_text version others))
-
--- one more line is read
-pub one_more_user : (version : ScramVersion) (text rest more : List ℕ) (users : Records) (user : List ℕ × Record)
-    → text ≡ users_text version users ++ rest → rest ≡ user_line version user ++ 10 ∷ more
-    → text ≡ users_text version (users ++ (user ∷ [])) ++ more
-one_more_user version text rest more users user is line =
-    is ∙ ap (λ (tail : List ℕ). users_text version users ++ tail)
-    (line ∙ sym (append_assoc (user_line version user) (10 ∷ []) more))
-    ∙ sym (append_assoc (users_text version users) (user_line version user ++ (10 ∷ [])) more)
-    ∙ ap (λ (start : List ℕ). start ++ more) (sym (users_text-append version users (user ∷ [])))
-
 -- one more line is written
-users_text-next : (version : ScramVersion) (users : Records) (k : ℕ) (other : List ℕ × Record) → k < length users
-    → users_text version (take (k + 1) users)
-    ≡ users_text version (take k users) ++ (user_line version (get_or users k other) ++ (10 ∷ []))
-users_text-next version users k other below = ap (users_text version) (take_more users k other below)
-    ∙ users_text-append version (take k users) (get_or users k other ∷ [])
-
 pub users_text-start : (version : ScramVersion) (before : List ℕ) → before ++ users_text version [] ≡ before
 users_text-start version before = append-nil before
 
@@ -85,10 +63,7 @@ pub users_text-more : (version : ScramVersion) (before : List ℕ) (users : Reco
     → k < length users
     → before ++ users_text version (take (k + 1) users)
     ≡ (before ++ users_text version (take k users)) ++ (user_line version (get_or users k other) ++ (10 ∷ []))
-users_text-more version before users k other below =
-    ap (λ (rest : List ℕ). before ++ rest) (users_text-next version users k other below)
-    ∙ sym (append_assoc before (users_text version (take k users))
-    (user_line version (get_or users k other) ++ (10 ∷ [])))
+users_text-more version before users k other below = lines_text-more (user_line version) before users k other below
 
 pub ruleset writing = (users_text-start, users_text-more)
 

@@ -3,7 +3,8 @@ use Rattle.std.specs.List.{AllByRecursion}
 use Rattle.fe2o3_scram.specs.declared.hmac.ScramVersion.{ScramVersion}
 use Rattle.fe2o3_scram.specs.Credentials.{Provider, Records}
 use Rattle.fe2o3_scram.specs.RecordLines.{IsLineReadable, user_line, users_text}
-use Rattle.fe2o3_scram.proofs.lemmas.messages.RecordLinesLemmas.{all-more, one_more_user}
+use Rattle.fe2o3_scram.proofs.lemmas.messages.LineListLemmas.{one_more_line}
+use Rattle.fe2o3_scram.proofs.lemmas.messages.RecordLinesLemmas.{all-more}
 use Rattle.fe2o3_scram.proofs.credentials.scram_credentials.ScramCredentials.parse_lines.Goals as goal
 
 pub loop-rest-preserved : goal.loop-rest-preserved
@@ -20,8 +21,8 @@ loop-rest-preserved c =
           (all-more (IsLineReadable version) c.loop-rest.store.records user before.readable
           (subst (λ (of : ScramVersion). IsLineReadable of user) before.version line.1));
       read =
-          one_more_user version c.args.text.now c.loop-rest.rest.now more c.loop-rest.store.records user before.read
-          (line.2 ∙ ap (λ (of : ScramVersion). user_line of user ++ 10 ∷ more) before.version)
+          one_more_line (user_line version) c.args.text.now c.loop-rest.rest.now more c.loop-rest.store.records user
+          before.read (line.2 ∙ ap (λ (of : ScramVersion). user_line of user ++ 10 ∷ more) before.version)
           ∙ ap (λ (records : Records). users_text version records ++ more) added;
       utf8 = search rules;
     }

@@ -11,13 +11,13 @@ invariant_of-self-then-contains_key c =
     let map = c.self.inside.by_name in
     let has : is_some (get_by_text map (string_bytes c.args.username)) ≡ true = search rules in
     rw c.in_ok-push.ensures.items (by_name-again arc_value c.self.inside.scram_version map
-    c.self.inside.in_order.items (string_bytes c.args.username, c.in_ok-kept.kept.value.stored) c.self.invariant has)
+    c.self.inside.in_order.items (string_bytes c.args.username, c.args.kept.value.stored) c.self.invariant has)
 
 pub invariant_of-self-in-Ok : goal.invariant_of-self-in-Ok
 invariant_of-self-in-Ok c =
     let map = c.self.inside.by_name in
     let version = c.self.inside.scram_version in
-    let kept = c.in_ok-kept.kept.value in
+    let kept = c.args.kept.value in
     let has : is_some (get_by_text map (string_bytes c.args.username)) ≡ false = search rules in
     let shared : arc_value c.in_ok-shared.shared ≡ kept = search rules in
     let same : kept.version ≡ version = search rules in

@@ -1,0 +1,35 @@
+-- A store whose records are of several versions.
+use Rattle.std.specs.Prelude.{ℕ, List, Bool, true, false, filter, map, nat_eq}
+use Rattle.std.specs.Cmp.Lexicographic.{pointwise}
+use Rattle.fe2o3_scram.specs.declared.hmac.ScramVersion.{ScramVersion}
+use Rattle.fe2o3_scram.specs.declared.hmac.ScramVersion.TheVariants.{Sha1, Sha256, Sha512}
+use Rattle.fe2o3_scram.specs.Credentials.{Provider, Record, VersionedRecord}
+
+-- user names and their records, each for the version that it names (RFC 5803, section 2), several for a name
+abbrev pub MixedRecords : Type 0
+MixedRecords = List (List ℕ × VersionedRecord)
+
+-- whether two versions are one
+abbrev pub is_version : ScramVersion → ScramVersion → Bool
+is_version Sha1 Sha1 = true
+is_version Sha256 Sha256 = true
+is_version Sha512 Sha512 = true
+is_version version other = false
+
+-- a user without the version
+abbrev pub unversioned : List ℕ × VersionedRecord → List ℕ × Record
+unversioned user = (user.0, user.1.stored)
+
+-- what a provider for one version means (RFC 5802, section 3): the records of that version, in their order
+abbrev pub provider_for : ScramVersion → MixedRecords → Provider
+provider_for version users = record {
+  version = version;
+  records =
+      map unversioned (filter (λ (user : List ℕ × VersionedRecord). is_version user.1.version version) users);
+}
+
+-- the records of a name, for whatever version, in their order
+abbrev pub records_named : MixedRecords → List ℕ → List VersionedRecord
+records_named users name =
+    map (λ (user : List ℕ × VersionedRecord). user.1)
+    (filter (λ (user : List ℕ × VersionedRecord). pointwise nat_eq user.0 name) users)
