@@ -32,17 +32,29 @@ const INIT_EXTERNAL_OTHER: &str = "02010000005341c01202a30845585445524e414ca0056
 /// An init of EXTERNAL that asks for the empty name.
 const INIT_EXTERNAL_EMPTY: &str = "02010000005341c00d02a30845585445524e414ca000";
 
+/// Whether an acceptor answers a body by this one.
+fn says<A: NamesUser>(
+    alloc: Global,
+    acceptor: &mut A,
+    given: &str,
+    wanted: &str,
+) -> Result<bool, Fail> {
+    Ok(answer(alloc, acceptor, given)?.as_str() == wanted)
+}
+
+/// Whether an acceptor names this user.
+fn names<A: NamesUser>(acceptor: &A, user: Option<&str>) -> bool {
+    acceptor.user() == user
+}
+
 /// Whether an acceptor answers each body by the one beside it, and names that user then.
 fn answers<A: NamesUser>(
     alloc: Global,
     acceptor: &mut A,
     rows: &[(&str, &str, Option<&str>)],
 ) -> Result<bool, Fail> {
-    for (given, wanted, user) in rows {
-        if answer(alloc, acceptor, given)?.as_str() != *wanted {
-            return Ok(false);
-        }
-        if acceptor.user() != *user {
+    for &(given, wanted, user) in rows {
+        if !says(alloc, acceptor, given, wanted)? || !names(acceptor, user) {
             return Ok(false);
         }
     }
