@@ -52,7 +52,7 @@ fn equals_its_clone<R: Abort + AllocGlobal>(rt: &R, frame: &Frame, digits: &str)
 
 #[test]
 fn a_frame_equals_its_clone(rt: HostRuntime) {
-    for digits in UNEQUAL {
+    for &digits in &UNEQUAL {
         let frame = decoded(&rt, digits);
         assert!(rt; equals_its_clone(&rt, &frame, digits), "{digits}");
     }
@@ -71,7 +71,7 @@ fn frames_are_equal_by_kind_and_fields(rt: HostRuntime) {
 
 #[test]
 fn frames_of_two_forms_are_equal(rt: HostRuntime) {
-    for (left, right) in [
+    for &(left, right) in &[
         (RESPONSE_7, RESPONSE_7_WIDE),
         (MECHANISM_ANONYMOUS, MECHANISMS_ANONYMOUS),
     ] {
@@ -84,7 +84,7 @@ fn frames_of_two_forms_are_equal(rt: HostRuntime) {
 
 #[test]
 fn writes_the_worked_bodies(rt: HostRuntime) {
-    for (code, body) in [(SaslCode::Ok, OUTCOME_OK), (SaslCode::Auth, OUTCOME_AUTH)] {
+    for &(code, body) in &[(SaslCode::Ok, OUTCOME_OK), (SaslCode::Auth, OUTCOME_AUTH)] {
         assert!(rt; writes(&rt, Frame::Outcome(outcome(code)), body), "{body}");
     }
     assert!(rt; writes(&rt, Frame::Response(response(&rt, &[7])), RESPONSE_7));
@@ -126,7 +126,7 @@ fn zeros<R: Abort + AllocGlobal>(rt: &R, len: usize) -> Frame {
 
 #[test]
 fn writes_the_shortest_forms(rt: HostRuntime) {
-    for (len, start) in [
+    for &(len, start) in &[
         (252, "02010000005342c0ff01a0fc"),
         (253, "02010000005342d00000010300000001a0fd"),
         (256, "02010000005342d00000010900000001b000000100"),
@@ -148,7 +148,7 @@ fn is_ok_outcome(frame: &Frame) -> bool {
 
 #[test]
 fn reads_every_form(rt: HostRuntime) {
-    for (digits, left) in [
+    for &(digits, left) in &[
         (OUTCOME_OK, b"".as_slice()),
         ("0201ffff00800000000000000044c003015000", b"".as_slice()),
         (
@@ -178,7 +178,7 @@ pub fn refuses<R: Abort + AllocGlobal>(rt: &R, body: &[u8], fault: Error) -> boo
 
 #[test]
 fn refuses_what_is_no_frame(rt: HostRuntime) {
-    for (digits, fault) in [
+    for &(digits, fault) in &[
         ("", Error::DecodeError),
         ("020100", Error::DecodeError),
         ("0200000045", Error::NotImplemented),
@@ -200,7 +200,7 @@ fn refuses_what_is_no_frame(rt: HostRuntime) {
 
 #[test]
 fn texts_of_refusals(rt: HostRuntime) {
-    for (fault, text) in [
+    for &(fault, text) in &[
         (Error::DecodeError, "Decode Error"),
         (Error::NotImplemented, "AmqpError: NotImplemented"),
         (Error::TooLarge, "Too large"),
@@ -252,7 +252,7 @@ fn ends_the_login(frame: &Frame) -> bool {
 
 #[test]
 fn copies_what_a_view_shows(rt: HostRuntime) {
-    let body = bytes_of(&rt, LOGIN[4]);
+    let body = bytes_of(&rt, LOGIN_OUTCOME);
     let (view, len) = view_frame(&body).expect(&rt, "a frame");
     assert!(rt; len == body.len());
     let frame = view.to_frame(rt.alloc()).expect(&rt, "a frame");
@@ -281,7 +281,7 @@ fn offers(body: &[u8], len: usize, symbols: &[&str]) -> bool {
 
 #[test]
 fn views_the_symbols_of_each_form(rt: HostRuntime) {
-    for (digits, len, symbols) in [
+    for &(digits, len, symbols) in &[
         (MECHANISMS_ANONYMOUS, 24, ["ANONYMOUS"].as_slice()),
         (MECHANISM_ANONYMOUS, 21, ["ANONYMOUS"].as_slice()),
         (NO_MECHANISMS, 14, [].as_slice()),
@@ -304,10 +304,10 @@ fn is_response_7(body: &[u8]) -> bool {
 
 #[test]
 fn views_a_response_and_a_challenge(rt: HostRuntime) {
-    for digits in [RESPONSE_7, RESPONSE_7_WIDE] {
+    for &digits in &[RESPONSE_7, RESPONSE_7_WIDE] {
         assert!(rt; is_response_7(&bytes_of(&rt, digits)), "{digits}");
     }
-    let body = bytes_of(&rt, LOGIN[2]);
+    let body = bytes_of(&rt, LOGIN_CHALLENGE);
     let (view, _) = view_frame(&body).expect(&rt, "a frame");
     let is_challenge = match view {
         FrameView::Challenge(challenge) => challenge.starts_with(b"r=AQEB"),
@@ -328,7 +328,7 @@ fn is_written_again<R: Abort + AllocGlobal>(rt: &R, read: &str, written: &str) -
 
 #[test]
 fn writes_the_canonical_body_of_what_it_read(rt: HostRuntime) {
-    for (read, written) in [
+    for &(read, written) in &[
         (OUTCOME_OK, OUTCOME_OK),
         (OUTCOME_AUTH, OUTCOME_AUTH),
         (INIT_PLAIN, INIT_PLAIN),
@@ -339,11 +339,11 @@ fn writes_the_canonical_body_of_what_it_read(rt: HostRuntime) {
         (MECHANISMS_TWO, MECHANISMS_TWO),
         (RESPONSE_7, RESPONSE_7),
         (RESPONSE_7_WIDE, RESPONSE_7),
-        (LOGIN[0], LOGIN[0]),
-        (LOGIN[1], LOGIN[1]),
-        (LOGIN[2], LOGIN[2]),
-        (LOGIN[3], LOGIN[3]),
-        (LOGIN[4], LOGIN[4]),
+        (LOGIN_MECHANISMS, LOGIN_MECHANISMS),
+        (LOGIN_INIT, LOGIN_INIT),
+        (LOGIN_CHALLENGE, LOGIN_CHALLENGE),
+        (LOGIN_RESPONSE, LOGIN_RESPONSE),
+        (LOGIN_OUTCOME, LOGIN_OUTCOME),
     ] {
         assert!(rt; is_written_again(&rt, read, written), "{read}");
     }

@@ -35,7 +35,7 @@ fn walks(symbols: &SymbolsView<'_>, names: &[&str]) -> bool {
 
 #[test]
 fn walks_the_names_in_order(rt: HostRuntime) {
-    for (digits, names) in LISTS {
+    for &(digits, names) in &LISTS {
         let body = bytes_of(&rt, digits);
         assert!(rt; walks(&symbols_of(&rt, &body), names), "{digits}");
     }
@@ -43,7 +43,7 @@ fn walks_the_names_in_order(rt: HostRuntime) {
 
 #[test]
 fn counts_the_names(rt: HostRuntime) {
-    for (digits, names) in LISTS {
+    for &(digits, names) in &LISTS {
         let body = bytes_of(&rt, digits);
         let symbols = symbols_of(&rt, &body);
         assert!(rt; symbols.len() == names.len(), "{digits}");
@@ -53,10 +53,10 @@ fn counts_the_names(rt: HostRuntime) {
 
 #[test]
 fn has_no_name_past_the_end(rt: HostRuntime) {
-    for (digits, names) in LISTS {
+    for &(digits, names) in &LISTS {
         let body = bytes_of(&rt, digits);
         let symbols = symbols_of(&rt, &body);
-        for index in [names.len(), 65536, usize::MAX] {
+        for &index in &[names.len(), 65536, usize::MAX] {
             assert!(rt; symbols.get(index).is_none(), "{index} of {digits}");
         }
     }
