@@ -136,66 +136,11 @@ fn writes_the_shortest_forms(rt: HostRuntime) {
     }
 }
 
-/// Whether a frame is an outcome of code ok without data.
-fn is_ok_outcome(frame: &Frame) -> bool {
-    match frame {
-        Frame::Outcome(outcome) => {
-            outcome.code == SaslCode::Ok && outcome.additional_data.is_none()
-        }
-        _ => false,
-    }
-}
-
-#[test]
-fn reads_every_form(rt: HostRuntime) {
-    for &(digits, left) in &[
-        (OUTCOME_OK, b"".as_slice()),
-        ("0201ffff00800000000000000044c003015000", b"".as_slice()),
-        (
-            "0201000000a316616d71703a7361736c2d6f7574636f6d653a6c697374c003015000",
-            b"".as_slice(),
-        ),
-        ("02010000005344c00402500040", b"".as_slice()),
-        ("02010000005344c003015000ff", b"\xff".as_slice()),
-    ] {
-        let mut buffer = buffer_of(&rt, digits);
-        let frame = FrameCodec {}
-            .decode(rt.alloc(), &mut buffer)
-            .expect(&rt, "a frame");
-        assert!(rt;
-            is_ok_outcome(&frame) && buffer.as_slice() == left,
-            "{digits}"
-        );
-    }
-}
-
 /// Whether a body is refused so by the view and by the codec, which leaves its buffer.
 pub fn refuses<R: Abort + AllocGlobal>(rt: &R, body: &[u8], fault: Error) -> bool {
     let mut buffer = BytesMut::copy_from_slice(rt.alloc(), body).expect(rt, "memory");
     let read = FrameCodec {}.decode(rt.alloc(), &mut buffer).err();
     read == Some(fault) && view_frame(body).err() == Some(fault) && buffer.as_slice() == body
-}
-
-#[test]
-fn refuses_what_is_no_frame(rt: HostRuntime) {
-    for &(digits, fault) in &[
-        ("", Error::DecodeError),
-        ("020100", Error::DecodeError),
-        ("0200000045", Error::NotImplemented),
-        ("0301000045", Error::NotImplemented),
-        // The size counts one byte more than the items have.
-        ("02010000005344c004015000", Error::DecodeError),
-        // One item and its count, and then a byte too many.
-        ("02010000005344c00401500040", Error::DecodeError),
-        // There is no such code.
-        ("02010000005344c003015005", Error::DecodeError),
-        // The code is absent.
-        ("0201000000534445", Error::DecodeError),
-        // A symbol is not ASCII.
-        ("02010000005340c00401a30180", Error::DecodeError),
-    ] {
-        assert!(rt; refuses(&rt, &bytes_of(&rt, digits), fault), "{digits}");
-    }
 }
 
 #[test]
@@ -209,31 +154,6 @@ fn texts_of_refusals(rt: HostRuntime) {
         let told = fault.to_string(rt.alloc()).expect(&rt, "memory");
         assert!(rt; told.as_str() == text, "{text}");
     }
-}
-
-/// Whether a view shows the init of PLAIN.
-fn is_plain_init(view: &FrameView<'_>) -> bool {
-    match view {
-        FrameView::Init {
-            mechanism,
-            initial_response,
-            hostname,
-        } => {
-            *mechanism == "PLAIN"
-                && *initial_response == Some(b"\0user\0example".as_slice())
-                && hostname.is_none()
-        }
-        _ => false,
-    }
-}
-
-#[test]
-fn views_an_init_in_place(rt: HostRuntime) {
-    let mut body = bytes_of(&rt, INIT_PLAIN);
-    body.push(0xff).expect(&rt, "memory");
-    let (view, len) = view_frame(&body).expect(&rt, "a frame");
-    assert!(rt; len == 32);
-    assert!(rt; is_plain_init(&view));
 }
 
 /// Whether a frame is the outcome at the end of the login.
@@ -288,64 +208,6 @@ fn views_the_symbols_of_each_form(rt: HostRuntime) {
         (MECHANISMS_TWO, 29, ["PLAIN", "EXTERNAL"].as_slice()),
     ] {
         assert!(rt; offers(&bytes_of(&rt, digits), len, symbols), "{digits}");
-    }
-}
-
-/// Whether a body is a frame and nothing else, and that frame the response of the byte 7.
-fn is_response_7(body: &[u8]) -> bool {
-    match view_frame(body) {
-        Ok((view, len)) => match view {
-            FrameView::Response(response) => len == body.len() && response == b"\x07".as_slice(),
-            _ => false,
-        },
-        Err(_) => false,
-    }
-}
-
-#[test]
-fn views_a_response_and_a_challenge(rt: HostRuntime) {
-    for &digits in &[RESPONSE_7, RESPONSE_7_WIDE] {
-        assert!(rt; is_response_7(&bytes_of(&rt, digits)), "{digits}");
-    }
-    let body = bytes_of(&rt, LOGIN_CHALLENGE);
-    let (view, _) = view_frame(&body).expect(&rt, "a frame");
-    let is_challenge = match view {
-        FrameView::Challenge(challenge) => challenge.starts_with(b"r=AQEB"),
-        _ => false,
-    };
-    assert!(rt; is_challenge);
-}
-
-/// Whether a body is read before two other bytes, and this one is written for its frame.
-fn is_written_again<R: Abort + AllocGlobal>(rt: &R, read: &str, written: &str) -> bool {
-    let mut buffer = buffer_of(rt, read);
-    buffer.extend_from_slice(b"\xfe\xff").expect(rt, "memory");
-    let frame = FrameCodec {}
-        .decode(rt.alloc(), &mut buffer)
-        .expect(rt, "a frame");
-    buffer.as_slice() == b"\xfe\xff".as_slice() && writes(rt, frame, written)
-}
-
-#[test]
-fn writes_the_canonical_body_of_what_it_read(rt: HostRuntime) {
-    for &(read, written) in &[
-        (OUTCOME_OK, OUTCOME_OK),
-        (OUTCOME_AUTH, OUTCOME_AUTH),
-        (INIT_PLAIN, INIT_PLAIN),
-        (INIT_ANONYMOUS, INIT_ANONYMOUS),
-        (MECHANISMS_ANONYMOUS, MECHANISMS_ANONYMOUS),
-        (MECHANISM_ANONYMOUS, MECHANISMS_ANONYMOUS),
-        (NO_MECHANISMS, NO_MECHANISMS),
-        (MECHANISMS_TWO, MECHANISMS_TWO),
-        (RESPONSE_7, RESPONSE_7),
-        (RESPONSE_7_WIDE, RESPONSE_7),
-        (LOGIN_MECHANISMS, LOGIN_MECHANISMS),
-        (LOGIN_INIT, LOGIN_INIT),
-        (LOGIN_CHALLENGE, LOGIN_CHALLENGE),
-        (LOGIN_RESPONSE, LOGIN_RESPONSE),
-        (LOGIN_OUTCOME, LOGIN_OUTCOME),
-    ] {
-        assert!(rt; is_written_again(&rt, read, written), "{read}");
     }
 }
 

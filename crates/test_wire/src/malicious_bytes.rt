@@ -61,16 +61,3 @@ fn refuses_each_other_size_count_and_length(rt: HostRuntime) {
         }
     }
 }
-
-#[test]
-fn refuses_huge_counts(rt: HostRuntime) {
-    for &digits in &[
-        "02010000005340d00000000e00000001f000000005ffffffffa3",
-        "02010000005343d0ffffffffffffffff",
-    ] {
-        assert!(rt;
-            refuses(&rt, &bytes_of(&rt, digits), Error::DecodeError),
-            "{digits}"
-        );
-    }
-}
