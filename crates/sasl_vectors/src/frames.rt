@@ -3,6 +3,7 @@
 use crate::Unconfirmed;
 use bytes::BytesMut;
 use fe2o3_sasl_wire::{Error, Frame, FrameCodec, FrameView, SaslCode, SymbolsView, view_frame};
+use sasl_commands::digits::digits_of;
 use std::alloc::{AllocError, AllocFailed, Global};
 
 impl From<AllocError> for Unconfirmed {
@@ -86,7 +87,7 @@ fn answer_of(alloc: Global, body: &[u8]) -> Result<String, Unconfirmed> {
     let decoded = FrameCodec {}.decode(alloc, &mut buffer);
     match (view_frame(body), decoded) {
         (Ok((view, len)), Ok(frame)) => {
-            let takes_as_much = buffer.as_slice().len().saturating_add(len) == body.len();
+            let takes_as_much = body.get(len..) == Some(buffer.as_slice());
             let written = written(alloc, frame)?;
             read_answer(alloc, view, len, takes_as_much, written.as_str())
         }
@@ -187,10 +188,7 @@ fn push_field(
     push_bytes(alloc, text, bytes)
 }
 
-/// Bytes in hexadecimal digits.
+/// Bytes in hexadecimal digits, where `-` is none.
 fn push_bytes(alloc: Global, text: &mut String, bytes: &[u8]) -> Result<(), AllocError> {
-    if bytes.is_empty() {
-        return text.push_str("-");
-    }
-    text.push_str(hex::encode(alloc, bytes)?.as_str())
+    text.push_str(digits_of(alloc, bytes)?.as_str())
 }

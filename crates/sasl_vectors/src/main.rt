@@ -1,11 +1,13 @@
 //! Replays outside vectors, the files of `data/`, and prints one line a file. A line of a file that
 //! the libraries do not confirm is printed with what they answer, and ends the program with status 1.
-//! Then plays the strangers, and prints a line of what came of them.
+//! Then plays the strangers, and prints what came of them.
 #![tactic(auto)]
 
-mod audits;
+mod commands;
+mod connections;
 mod frames;
 mod named_audits;
+mod numbers;
 mod runs;
 mod strangers;
 
@@ -15,7 +17,7 @@ use std::io::{self, Write};
 use std::process::ExitCode;
 
 /// Why a line was not confirmed.
-#[derive(Debug, Drop)]
+#[derive(Drop)]
 pub enum Unconfirmed {
     /// The libraries answer this in its place.
     Other(String),
@@ -32,12 +34,14 @@ fn report<W: Write>(
     output: &mut W,
     name: &str,
     text: &str,
-    fault: Unconfirmed,
+    fault: &Unconfirmed,
 ) -> Result<(), io::Error> {
-    match fault {
-        Unconfirmed::Other(answer) => writeln!(output, "{name}: {text}: not confirmed: {answer}"),
-        fault => writeln!(output, "{name}: {text}: not confirmed: {fault:?}"),
-    }
+    let answer = match fault {
+        Unconfirmed::Other(answer) => answer.as_str(),
+        Unconfirmed::Malformed => "Malformed",
+        Unconfirmed::Failed => "Failed",
+    };
+    writeln!(output, "{name}: {text}: not confirmed: {answer}")
 }
 
 /// Checks each line of a file that is neither empty nor a comment, and prints how many there are.
@@ -56,7 +60,7 @@ fn replay_bodies<W: Write>(
         lines = lines.saturating_add(1);
         if let Err(fault) = frames::check(alloc, line) {
             confirmed = false;
-            report(output, name, line, fault)?;
+            report(output, name, line, &fault)?;
         }
     }
     writeln!(output, "{name}: {lines} bodies")?;
@@ -67,31 +71,40 @@ fn replay_bodies<W: Write>(
 #[derive(Clone, Copy)]
 enum Paragraphs {
     Runs,
+    Commands,
     Audits,
     NamedAudits,
+    Connections,
+    Cuts,
 }
 
 impl Paragraphs {
-    /// Checks a paragraph, and answers how many bodies or findings it has.
-    fn check(self, alloc: Global, paragraph: &str) -> Result<usize, Unconfirmed> {
-        match self {
-            Paragraphs::Runs => runs::check(alloc, paragraph),
-            Paragraphs::Audits => audits::check(alloc, paragraph),
-            Paragraphs::NamedAudits => named_audits::check(alloc, paragraph),
-        }
+    /// Checks a paragraph, and answers how many runs, audits or connections it is, and how many bodies,
+    /// findings, calls or lines they have.
+    fn check(self, alloc: Global, paragraph: &str) -> Result<(usize, usize), Unconfirmed> {
+        let items = match self {
+            Paragraphs::Runs => runs::check(alloc, paragraph)?,
+            Paragraphs::Commands | Paragraphs::Audits => commands::check(alloc, paragraph)?,
+            Paragraphs::NamedAudits => named_audits::check(alloc, paragraph)?,
+            Paragraphs::Connections => connections::check(alloc, paragraph)?,
+            Paragraphs::Cuts => return connections::cuts::check(alloc, paragraph),
+        };
+        Ok((1, items))
     }
 
-    /// The words for a paragraph and for what it has.
+    /// The words for what it is and for what it has.
     fn words(self) -> (&'static str, &'static str) {
         match self {
             Paragraphs::Runs => ("runs", "bodies"),
+            Paragraphs::Commands => ("commands", "lines"),
             Paragraphs::Audits | Paragraphs::NamedAudits => ("audits", "findings"),
+            Paragraphs::Connections | Paragraphs::Cuts => ("connections", "calls"),
         }
     }
 }
 
-/// Checks each paragraph of a file behind the first, and prints how many there are, and how many
-/// bodies or findings they have.
+/// Checks each paragraph of a file behind the first, and prints how many runs, audits or connections are
+/// confirmed, and how many bodies, findings, calls or lines they have.
 fn replay_paragraphs<W: Write>(
     alloc: Global,
     kind: Paragraphs,
@@ -99,15 +112,17 @@ fn replay_paragraphs<W: Write>(
     text: &str,
     output: &mut W,
 ) -> Result<bool, io::Error> {
-    let (mut count, mut items) = (0u64, 0usize);
+    let (mut count, mut items) = (0usize, 0usize);
     let mut confirmed = true;
     for paragraph in text.split("\n\n").skip(1) {
-        count = count.saturating_add(1);
         match kind.check(alloc, paragraph) {
-            Ok(len) => items = items.saturating_add(len),
+            Ok((more, parts)) => {
+                count = count.saturating_add(more);
+                items = items.saturating_add(parts);
+            }
             Err(fault) => {
                 confirmed = false;
-                report(output, name, paragraph, fault)?;
+                report(output, name, paragraph, &fault)?;
             }
         }
     }
@@ -129,31 +144,81 @@ fn play_strangers<W: Write>(alloc: Global, output: &mut W) -> Result<bool, io::E
             Ok(true)
         }
         Err(fault) => {
-            report(output, "strangers", "play", fault)?;
+            report(output, "strangers", "play", &fault)?;
             Ok(false)
         }
     }
 }
 
+/// Plays the connections of strangers of each side, and prints what came of them.
+fn play_connections<W: Write>(
+    alloc: Global,
+    text: &str,
+    output: &mut W,
+) -> Result<bool, io::Error> {
+    let mut confirmed = true;
+    for paragraph in text.split("\n\n").skip(1) {
+        match connections::strangers::play(alloc, paragraph) {
+            Ok(text) => write!(output, "{text}")?,
+            Err(fault) => {
+                confirmed = false;
+                report(output, "connection-strangers.txt", paragraph, &fault)?;
+            }
+        }
+    }
+    Ok(confirmed)
+}
+
+/// Replays files of bodies.
+fn replay_frames<W: Write>(rt: &HostRuntime, output: &mut W) -> Result<bool, io::Error> {
+    let mut confirmed = true;
+    for &name in &["frames.txt", "worked-frames.txt", "peers.txt"] {
+        let text = fs::read_to_string(rt, name)?;
+        confirmed &= replay_bodies(rt.alloc(), name, text.as_str(), output)?;
+    }
+    Ok(confirmed)
+}
+
+/// Replays files of paragraphs.
+fn replay_files<W: Write>(
+    rt: &HostRuntime,
+    files: &[(Paragraphs, &str)],
+    output: &mut W,
+) -> Result<bool, io::Error> {
+    let mut confirmed = true;
+    for (kind, name) in files {
+        let text = fs::read_to_string(rt, name)?;
+        confirmed &= replay_paragraphs(rt.alloc(), *kind, name, text.as_str(), output)?;
+    }
+    Ok(confirmed)
+}
+
+/// The files of runs, of audits and of what the program does.
+static RUNS: [(Paragraphs, &str); 6] = [
+    (Paragraphs::Runs, "runs.txt"),
+    (Paragraphs::Runs, "peer-runs.txt"),
+    (Paragraphs::Runs, "named-runs.txt"),
+    (Paragraphs::Audits, "audits.txt"),
+    (Paragraphs::NamedAudits, "named-audits.txt"),
+    (Paragraphs::Commands, "commands.txt"),
+];
+
+/// The files of connections.
+static CONNECTIONS: [(Paragraphs, &str); 3] = [
+    (Paragraphs::Connections, "connections.txt"),
+    (Paragraphs::Connections, "peer-connections.txt"),
+    (Paragraphs::Cuts, "cuts.txt"),
+];
+
 /// Replays every file, and plays the strangers.
 fn replay_all(rt: &HostRuntime) -> Result<bool, io::Error> {
     let mut output = io::writer(rt);
-    let mut confirmed = true;
-    for name in ["frames.txt", "peers.txt"] {
-        let text = fs::read_to_string(rt, name)?;
-        confirmed &= replay_bodies(rt.alloc(), name, text.as_str(), &mut output)?;
-    }
-    for (kind, name) in [
-        (Paragraphs::Runs, "runs.txt"),
-        (Paragraphs::Runs, "peer-runs.txt"),
-        (Paragraphs::Runs, "named-runs.txt"),
-        (Paragraphs::Audits, "audits.txt"),
-        (Paragraphs::NamedAudits, "named-audits.txt"),
-    ] {
-        let text = fs::read_to_string(rt, name)?;
-        confirmed &= replay_paragraphs(rt.alloc(), kind, name, text.as_str(), &mut output)?;
-    }
+    let mut confirmed = replay_frames(rt, &mut output)?;
+    confirmed &= replay_files(rt, &RUNS, &mut output)?;
     confirmed &= play_strangers(rt.alloc(), &mut output)?;
+    confirmed &= replay_files(rt, &CONNECTIONS, &mut output)?;
+    let text = fs::read_to_string(rt, "connection-strangers.txt")?;
+    confirmed &= play_connections(rt.alloc(), text.as_str(), &mut output)?;
     Ok(confirmed)
 }
 

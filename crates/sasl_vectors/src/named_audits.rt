@@ -1,13 +1,21 @@
-//! Audits of two transcripts, each with its name and its findings, by the calls of the library.
+//! Audits of two transcripts, each with its name and its findings, by the calls of the library. A finding
+//! is a line as the program `sasl_lab` writes it.
 
 use crate::Unconfirmed;
 use crate::runs::servers::credential;
 use crate::runs::words::{number_of, text_of, version_of};
 use crate::runs::{confirm_all, event_of};
-use fe2o3_sasl::audit::{Finding, FindingKind, Parameters, Verdict, audit, audit_limited};
+use fe2o3_sasl::audit::{AuditError, Finding, audit, audit_limited};
 use fe2o3_sasl::credentials::SingleScramCredential;
 use fe2o3_sasl::runs::Event;
+use sasl_commands::audit::line_of;
 use std::alloc::Global;
+
+impl From<AuditError> for Unconfirmed {
+    fn from(_error: AuditError) -> Self {
+        Unconfirmed::Failed
+    }
+}
 
 /// An audit as the file has it.
 #[derive(Drop)]
@@ -180,61 +188,4 @@ fn audited(
         }
     };
     Ok(found)
-}
-
-/// A finding in the words of the file.
-fn line_of(alloc: Global, finding: &Finding) -> Result<String, Unconfirmed> {
-    let kind = match finding.kind {
-        FindingKind::Verifier => "verifier",
-        FindingKind::Proof => "proof",
-    };
-    let (client, server) = (finding.client, finding.server);
-    let mut line = format!(in alloc; "{kind} {client} {server}")?;
-    push_verdict(alloc, &mut line, &finding.verdict)?;
-    Ok(line)
-}
-
-/// Adds a verdict in the words of the file, which has no other than agreed ones.
-fn push_verdict(alloc: Global, line: &mut String, verdict: &Verdict) -> Result<(), Unconfirmed> {
-    match verdict {
-        Verdict::Agreed {
-            username,
-            client_nonce,
-            parameters,
-        } => {
-            line.push_str(" agreed")?;
-            push_bytes(alloc, line, username.as_bytes())?;
-            push_bytes(alloc, line, client_nonce.as_bytes())?;
-            match parameters {
-                Some(parameters) => push_parameters(alloc, line, parameters),
-                None => Ok(()),
-            }
-        }
-        _ => push_word(line, &format!(in alloc; "{verdict:?}")?),
-    }
-}
-
-/// Adds parameters in the words of the file.
-fn push_parameters(
-    alloc: Global,
-    line: &mut String,
-    parameters: &Parameters,
-) -> Result<(), Unconfirmed> {
-    push_bytes(alloc, line, parameters.full_nonce.as_bytes())?;
-    push_bytes(alloc, line, &parameters.salt)?;
-    push_word(line, &parameters.iterations.to_string(alloc)?)
-}
-
-/// Adds bytes in hexadecimal digits, where `-` is none.
-fn push_bytes(alloc: Global, line: &mut String, bytes: &[u8]) -> Result<(), Unconfirmed> {
-    if bytes.is_empty() {
-        return push_word(line, "-");
-    }
-    push_word(line, &hex::encode(alloc, bytes)?)
-}
-
-/// Adds a word behind a space.
-fn push_word(line: &mut String, word: &str) -> Result<(), Unconfirmed> {
-    line.push(' ')?;
-    Ok(line.push_str(word)?)
 }

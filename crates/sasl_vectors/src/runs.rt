@@ -1,7 +1,7 @@
 //! Runs over bodies of frames, each with the replies of one side.
 
 mod clients;
-mod profiles;
+pub mod profiles;
 pub mod servers;
 pub mod words;
 
@@ -121,12 +121,12 @@ fn check_side(alloc: Global, run: &Run<'_>) -> Result<(), Unconfirmed> {
         ["profile", mechanism, user, password, limit, hostname] => {
             let limit = number_of(limit)?;
             let profile = profiles::of_password(alloc, mechanism, user, password, limit)?;
-            profiles::check(alloc, profile, run, hostname)
+            profiles::check(alloc, Some(profile), run, hostname)
         }
         ["keyed", mechanism, user, password, salt, count, limit] => {
             let (count, limit) = (number_of(count)?, number_of(limit)?);
             let keys = profiles::keys(alloc, mechanism, password, salt, count)?;
-            let profile = profiles::of_keys(text_of(alloc, user)?, keys, limit)?;
+            let profile = profiles::of_keys(text_of(alloc, user)?, keys, limit);
             profiles::check(alloc, profile, run, "none")
         }
         ["both", words @ ..] => check_both(alloc, run, words),
@@ -142,6 +142,6 @@ fn check_both(alloc: Global, run: &Run<'_>, words: &[&str]) -> Result<(), Unconf
     let (least, limit) = (number_of(least)?, number_of(limit)?);
     let keys = profiles::keys(alloc, version, kept, salt, number_of(count)?)?;
     let (user, password) = (text_of(alloc, user)?, text_of(alloc, password)?);
-    let profile = profiles::of_both(user, password, keys, least, limit)?;
+    let profile = profiles::of_both(user, password, keys, least, limit);
     profiles::check(alloc, profile, run, "none")
 }

@@ -3,12 +3,11 @@
 //! end well only where a whole login stands behind it, and an audit has to find no more than that.
 
 mod logins;
-mod numbers;
 mod sides;
 
 use crate::Unconfirmed;
+use crate::numbers::Numbers;
 use crate::strangers::logins::{Login, Quick, logins};
-use crate::strangers::numbers::Numbers;
 use crate::strangers::sides::{Sides, alter, client_list, server_list};
 use std::alloc::Global;
 

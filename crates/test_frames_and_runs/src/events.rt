@@ -92,7 +92,7 @@ fn refuses_what_is_no_event(rt: HostRuntime) {
 
 #[test]
 fn texts_of_refusals(rt: HostRuntime) -> Result<(), Fail> {
-    for (fault, text) in [
+    for &(fault, text) in &[
         (EventError::Invalid, "Invalid"),
         (EventError::OutOfMemory, "OutOfMemory"),
     ] {

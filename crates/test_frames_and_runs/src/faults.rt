@@ -71,7 +71,7 @@ fn other_keys_are_inside_no_other_fault(rt: HostRuntime) {
 
 #[test]
 fn other_faults_are_kept(rt: HostRuntime) {
-    for kind in [
+    for &kind in &[
         ScramErrorKind::Utf8Error,
         ScramErrorKind::IllegalClientState,
         ScramErrorKind::IterationCountTooSmall,
@@ -80,7 +80,7 @@ fn other_faults_are_kept(rt: HostRuntime) {
         let wanted = ProfileError::Scram(kind);
         assert!(rt; ProfileError::from(kind) == wanted, "{kind:?}");
     }
-    for fault in [Error::DecodeError, Error::NotImplemented, Error::TooLarge] {
+    for &fault in &[Error::DecodeError, Error::NotImplemented, Error::TooLarge] {
         assert!(rt;
             ProfileError::from(fault) == ProfileError::Frame(fault),
             "{fault:?}"

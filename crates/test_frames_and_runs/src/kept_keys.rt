@@ -63,9 +63,9 @@ static VERSIONS: [ScramVersion; 3] = [
 
 #[test]
 fn keys_of_another_version_give_no_profile(rt: HostRuntime) -> Result<(), Fail> {
-    for of_keys in VERSIONS {
+    for &of_keys in &VERSIONS {
         let keys = keys(rt.alloc(), of_keys)?;
-        for version in VERSIONS {
+        for &version in &VERSIONS {
             let made = made(rt.alloc(), version, &keys)?;
             let wanted = version == of_keys;
             assert!(rt; made == (wanted, wanted), "{of_keys:?} {version:?}");

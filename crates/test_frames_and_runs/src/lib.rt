@@ -1,5 +1,6 @@
-//! Tests of the acceptors, the profiles, the runs and the audits of `fe2o3_sasl`: what no run shows. Runs
-//! and audits themselves are data, which `sasl_vectors` replays. Expected values come from the standards
+//! Tests of the acceptors, the profiles, the runs and the audits of `fe2o3_sasl`, and of the program
+//! `sasl_lab`, by the library of its commands: what no run shows. Runs and audits themselves, and what the
+//! program prints, are data, which `sasl_vectors` replays. Expected values come from the standards
 //! and from Python's `hmac` and `hashlib`.
 #![tactic(auto)]
 
@@ -27,6 +28,10 @@ mod metered;
 mod own_acceptor;
 #[cfg(test)]
 mod profiles;
+#[cfg(test)]
+mod program_findings;
+#[cfg(test)]
+mod program_refusals;
 #[cfg(test)]
 mod several;
 #[cfg(test)]

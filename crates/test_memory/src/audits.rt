@@ -133,7 +133,7 @@ fn a_refusal_in_any_step_is_the_audits(rt: HostRuntime) -> Result<(), Fail> {
     let alloc = rt.alloc();
     let client = events(alloc, 1, &[MECHANISMS, CHALLENGE, OUTCOME])?;
     let server = events(alloc, 2, &[INIT, RESPONSE])?;
-    for (copies, wanted) in [(0, false), (1, false), (2, false), (9, true)] {
+    for &(copies, wanted) in &[(0, false), (1, false), (2, false), (9, true)] {
         let provider = Refusing::new(alloc, copies)?;
         let finds = match audit(alloc, USER, PASSWORD, VERSION, &client, &provider, &server) {
             Ok(findings) => are_found(&findings),

@@ -73,8 +73,8 @@ static TO_NO_CLIENT: [(&str, ProfileError); 5] = [
 
 #[test]
 fn each_profile_keeps_its_faults_without_memory(rt: HostRuntime) -> Result<(), Fail> {
-    for (given, fault) in TO_NO_CLIENT {
-        for is in [Is::Plain, Is::Anonymous, Is::External, Is::Scram(&[])] {
+    for &(given, fault) in &TO_NO_CLIENT {
+        for &is in &[Is::Plain, Is::Anonymous, Is::External, Is::Scram(&[])] {
             keeps(rt.alloc(), is, given, Some(fault))?;
         }
     }
@@ -91,8 +91,8 @@ static TO_OTHERS: [(&str, Option<ProfileError>); 4] = [
 
 #[test]
 fn other_profiles_than_scram_take_no_memory(rt: HostRuntime) -> Result<(), Fail> {
-    for (given, fault) in TO_OTHERS {
-        for is in [Is::Plain, Is::Anonymous, Is::External] {
+    for &(given, fault) in &TO_OTHERS {
+        for &is in &[Is::Plain, Is::Anonymous, Is::External] {
             keeps(rt.alloc(), is, given, fault)?;
         }
     }

@@ -295,7 +295,7 @@ static DOES: [Does; 6] = [
 
 /// Each call of a client with this secret wants memory.
 fn client_wants_memory(alloc: Global, by: Secret) -> Result<(), Fail> {
-    for does in DOES {
+    for &does in &DOES {
         stand(alloc, &[OfClient { by, does }])?;
     }
     Ok(())

@@ -170,7 +170,7 @@ static BODIES: [&str; 7] = [
 
 /// The call of each of the bodies wants memory.
 fn stands(alloc: Global, does: Does) -> Result<(), Fail> {
-    for digits in BODIES {
+    for &digits in &BODIES {
         stand(alloc, &[OfFrame { does, digits }])?;
     }
     Ok(())
@@ -206,7 +206,7 @@ fn copies_of_what_is_in_frames_want_memory(rt: HostRuntime) -> Result<(), Fail> 
 #[test]
 fn an_outcome_without_data_takes_no_memory(rt: HostRuntime) -> Result<(), Fail> {
     let digits = OUTCOME_OK;
-    for does in [Does::Decode, Does::ToFrame, Does::Clone, Does::CloneInner] {
+    for &does in &[Does::Decode, Does::ToFrame, Does::Clone, Does::CloneInner] {
         take_none(rt.alloc(), &[OfFrame { does, digits }])?;
     }
     Ok(())

@@ -131,7 +131,7 @@ fn another_password_is_refused(rt: HostRuntime) -> Result<(), Fail> {
     let alloc = rt.alloc();
     let users = Users::new(alloc)?;
     let mut server = Box::new(alloc, ScramAuthenticator::new(users))?;
-    for (name, password) in [("user", "crayon"), ("guest", "pencil")] {
+    for &(name, password) in &[("user", "crayon"), ("guest", "pencil")] {
         assert!(rt; refuses(alloc, &mut server, name, password)?, "{name}");
     }
     Ok(())
@@ -142,7 +142,7 @@ fn others_are_unknown(rt: HostRuntime) -> Result<(), Fail> {
     let alloc = rt.alloc();
     let users = Users::new(alloc)?;
     let mut server = Box::new(alloc, ScramAuthenticator::new(users))?;
-    for message in ["n,,n=nobody,r=a", "n,,n=,r=a", "n,,n=users,r=a"] {
+    for &message in &["n,,n=nobody,r=a", "n,,n=,r=a", "n,,n=users,r=a"] {
         let answer = server.compute_server_first_message(alloc, message.as_bytes(), &[2; 32])?;
         assert!(rt; answer.is_none(), "{message}");
     }

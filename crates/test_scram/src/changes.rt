@@ -5,6 +5,7 @@ use fe2o3_scram::credentials::{
 };
 use fe2o3_scram::hmac::ScramVersion;
 use std::alloc::Global;
+use std::process::Abort;
 use std::test::Fail;
 
 /// Users with the records of GNU SASL 2.2, of whom one stands twice.
@@ -51,20 +52,19 @@ fn is_of(alloc: Global, store: &ScramCredentials, lines: &str) -> Result<bool, F
     Ok(store.to_lines(alloc)?.as_slice() == lines.as_bytes())
 }
 
-/// The text of the user's record.
-fn shown(alloc: Global, store: &ScramCredentials, name: &str) -> Result<Option<String>, Fail> {
+/// Whether the user has a record, of this text.
+fn shows(alloc: Global, store: &ScramCredentials, name: &str, text: &str) -> Result<bool, Fail> {
     match store.record(name) {
-        Some(record) => Ok(Some(record.to_text(alloc)?)),
-        None => Ok(None),
+        Some(record) => Ok(record.to_text(alloc)?.as_str() == text),
+        None => Ok(false),
     }
 }
 
 #[test]
 fn shows_the_record_that_counts(rt: HostRuntime) -> Result<(), Fail> {
     let store = store(rt.alloc())?;
-    let text = shown(rt.alloc(), &store, "user")?.ok_or("no record")?;
-    assert!(rt; text.as_str() == FIRST);
-    for name in ["nobody", "", "use", "user "] {
+    assert!(rt; shows(rt.alloc(), &store, "user", FIRST)?);
+    for &name in &["nobody", "", "use", "user "] {
         assert!(rt; store.record(name).is_none(), "{name}");
     }
     let empty = ScramCredentials::new(rt.alloc(), ScramVersion::Sha1);
@@ -78,10 +78,15 @@ fn removes_each_record_of_a_name(rt: HostRuntime) -> Result<(), Fail> {
     let found = store.remove("user")?;
     assert!(rt; found && store.get_stored_password("user").is_none());
     assert!(rt; is_of(rt.alloc(), &store, OTHERS)?);
-    for name in ["user", "nobody"] {
+    for name in &["user", "nobody"] {
         let found = store.remove(name)?;
         assert!(rt; !found && is_of(rt.alloc(), &store, OTHERS)?, "{name}");
     }
+    Ok(())
+}
+
+#[test]
+fn removes_nobody_where_nobody_is(rt: HostRuntime) -> Result<(), Fail> {
     let mut empty = ScramCredentials::new(rt.alloc(), ScramVersion::Sha1);
     let found = empty.remove("user")?;
     assert!(rt; !found);
@@ -109,18 +114,42 @@ fn add_first(alloc: Global, store: &mut ScramCredentials) -> Result<(), Fail> {
     Ok(())
 }
 
+/// Whether the user is removed, and is left in the copy.
+fn leaves_the_copy(
+    alloc: Global,
+    store: &mut ScramCredentials,
+    copy: &ScramCredentials,
+) -> Result<bool, Fail> {
+    let found = store.remove("user")?;
+    Ok(
+        found
+            && is_of(alloc, store, OTHERS)?
+            && is_of(alloc, copy, ALL)?
+            && copy.record("user").is_some(),
+    )
+}
+
+/// Whether a store and its copy are emptied, and the store is filled again, and the clone that was taken
+/// before is left as it was.
+fn leaves_the_clone(
+    alloc: Global,
+    store: &mut ScramCredentials,
+    copy: &mut ScramCredentials,
+    clone: &ScramCredentials,
+) -> Result<bool, Fail> {
+    let emptied = is_emptied(copy)? && is_emptied(store)?;
+    let is_left = emptied && is_of(alloc, clone, OTHERS)?;
+    add_first(alloc, store)?;
+    Ok(is_left && is_of(alloc, store, FIRST_LINE)? && clone.record("user").is_none())
+}
+
 #[test]
 fn a_change_leaves_the_other_clone_as_it_was(rt: HostRuntime) -> Result<(), Fail> {
     let mut store = store(rt.alloc())?;
     let mut copy = store.clone()?;
-    let found = store.remove("user")?;
-    assert!(rt; found && is_of(rt.alloc(), &store, OTHERS)?);
-    assert!(rt; is_of(rt.alloc(), &copy, ALL)? && copy.record("user").is_some());
-    let again = store.clone()?;
-    let emptied = is_emptied(&mut copy)? && is_emptied(&mut store)?;
-    assert!(rt; emptied && is_of(rt.alloc(), &again, OTHERS)?);
-    add_first(rt.alloc(), &mut store)?;
-    assert!(rt; is_of(rt.alloc(), &store, FIRST_LINE)? && again.record("user").is_none());
+    assert!(rt; leaves_the_copy(rt.alloc(), &mut store, &copy)?);
+    let clone = store.clone()?;
+    assert!(rt; leaves_the_clone(rt.alloc(), &mut store, &mut copy, &clone)?);
     Ok(())
 }
 
@@ -134,23 +163,30 @@ fn replaced(
     Ok(store.replace(name, ScramRecord::parse(alloc, text)?))
 }
 
+/// Names and the texts of other records, what comes of the replacement, and the lines behind it.
+static REPLACEMENTS: [(&str, &str, Result<bool, AddRecordError>, &str); 4] = [
+    ("user", SHA_256, Err(AddRecordError::VersionMismatch), ALL),
+    ("nobody", SHA_256, Err(AddRecordError::VersionMismatch), ALL),
+    ("nobody", OTHER, Ok(false), ALL),
+    ("user", OTHER, Ok(true), REPLACED),
+];
+
+/// Makes each replacement in a store of all users.
+fn replaces<R: Abort + AllocGlobal>(rt: &R, store: &mut ScramCredentials) -> Result<(), Fail> {
+    for (name, text, wanted, lines) in &REPLACEMENTS {
+        let answer = replaced(rt.alloc(), store, name, text)?;
+        let right = answer == *wanted && is_of(rt.alloc(), store, lines)?;
+        assert!(rt; right, "{name} {text}");
+    }
+    Ok(())
+}
+
 #[test]
 fn gives_the_first_of_a_name_another_record(rt: HostRuntime) -> Result<(), Fail> {
     let mut store = store(rt.alloc())?;
     let copy = store.clone()?;
-    let mismatch = Err(AddRecordError::VersionMismatch);
-    for (name, text, wanted, lines) in [
-        ("user", SHA_256, mismatch, ALL),
-        ("nobody", SHA_256, mismatch, ALL),
-        ("nobody", OTHER, Ok(false), ALL),
-        ("user", OTHER, Ok(true), REPLACED),
-    ] {
-        let answer = replaced(rt.alloc(), &mut store, name, text)?;
-        assert!(rt; answer == wanted, "{name} {text}");
-        assert!(rt; is_of(rt.alloc(), &store, lines)?, "{name} {text}");
-    }
-    let text = shown(rt.alloc(), &store, "user")?.ok_or("no record")?;
-    assert!(rt; text.as_str() == OTHER);
+    replaces(&rt, &mut store)?;
+    assert!(rt; shows(rt.alloc(), &store, "user", OTHER)?);
     assert!(rt; is_of(rt.alloc(), &copy, ALL)?);
     Ok(())
 }

@@ -118,7 +118,7 @@ impl Kept {
             least: 4096,
             most: 4096,
         };
-        for limits in [IterationLimits::none(), IterationLimits::up_to(4096), least] {
+        for &limits in &[IterationLimits::none(), IterationLimits::up_to(4096), least] {
             let (answer, cost) = self.answer(alloc, ClientSecret::Keys(keys), limits)?;
             if cost != 2 || !self.is_answer(alloc, &answer)? {
                 return Ok(false);
@@ -213,7 +213,7 @@ fn refusal(alloc: Global, client_len: usize, server_len: usize) -> Option<XorLen
 #[test]
 fn a_key_of_another_length_is_refused(rt: HostRuntime) {
     let mismatch = Some(XorLengthMismatch);
-    for (client_len, server_len, wanted) in [
+    for &(client_len, server_len, wanted) in &[
         (32, 32, None),
         (31, 32, mismatch),
         (32, 33, mismatch),

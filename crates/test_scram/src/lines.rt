@@ -28,7 +28,7 @@ fn read(alloc: Global, text: &str) -> Result<ScramCredentials, ReadLinesError> {
 
 #[test]
 fn writes_what_it_reads(rt: HostRuntime) -> Result<(), Fail> {
-    for text in [LINES, ""] {
+    for &text in &[LINES, ""] {
         let lines = read(rt.alloc(), text)?.to_lines(rt.alloc())?;
         assert!(rt; lines.as_slice() == text.as_bytes(), "{text}");
     }
@@ -43,7 +43,7 @@ fn count(store: &ScramCredentials, name: &str) -> Option<u32> {
 #[test]
 fn finds_the_users_of_lines(rt: HostRuntime) -> Result<(), Fail> {
     let store = read(rt.alloc(), LINES)?;
-    for (name, wanted) in [
+    for &(name, wanted) in &[
         ("", Some(1)),
         ("user", Some(4096)),
         ("a,b=c", Some(2)),
@@ -88,7 +88,7 @@ fn written(
 #[test]
 fn writes_no_line_that_is_not_read_again(rt: HostRuntime) -> Result<(), Fail> {
     let refused = Some(WriteLinesError::UserNotWritable);
-    for (name, count, key_len, wanted) in [
+    for &(name, count, key_len, wanted) in &[
         ("user", 1, 20, None),
         ("user\nroot", 1, 20, refused),
         ("\n", 1, 20, refused),

@@ -39,7 +39,7 @@ pub fn log_in(
 fn serves_the_users_of_its_file(rt: HostRuntime) -> Result<(), Fail> {
     let store = store(rt.alloc())?;
     let refused = Login::ProofRefused(ServerScramErrorKind::AuthenticationFailed);
-    for (name, password, wanted) in [
+    for &(name, password, wanted) in &[
         ("user", "pencil", Login::Accepted),
         ("a,b=c", "x", Login::Accepted),
         ("user", "x", refused),
@@ -59,7 +59,7 @@ fn serves_no_user_who_was_removed(rt: HostRuntime) -> Result<(), Fail> {
     let before = store.clone()?;
     let found = store.remove("user")?;
     assert!(rt; found);
-    for (users, name, password, wanted) in [
+    for &(users, name, password, wanted) in &[
         (&store, "user", "pencil", Login::Unknown),
         (&store, "a,b=c", "x", Login::Accepted),
         (&before, "user", "pencil", Login::Accepted),

@@ -71,19 +71,32 @@ fn refuses(alloc: Global, client: &mut ScramClient, wanted: (Option<ScramErrorKi
     refusal(alloc, client) == wanted && refusal(alloc, client) == wanted
 }
 
+/// Whether the client refuses the count so, and so does its clone.
+fn both_refuse(
+    alloc: Global,
+    client: &mut ScramClient,
+    wanted: (Option<ScramErrorKind>, u64),
+) -> Result<bool, Fail> {
+    let mut same = Box::new(alloc, ScramClient::clone(client)?)?;
+    Ok(refuses(alloc, client, wanted) && refuses(alloc, &mut same, wanted))
+}
+
 /// Whether the client answers the challenge.
 fn answers(alloc: Global, client: &mut ScramClient) -> Result<bool, ScramErrorKind> {
     let answer = client.compute_client_final_message(alloc, SERVER_FIRST)?;
     Ok(answer.as_slice() == CLIENT_FINAL.as_bytes())
 }
 
+/// A client that has sent its first message and accepts no higher count than this.
+fn started_with_limit(alloc: Global, limit: u32) -> Result<Box<ScramClient>, Fail> {
+    let client = started(alloc)?;
+    limited(alloc, &client, limit)
+}
+
 #[test]
 fn a_client_keeps_its_limit(rt: HostRuntime) -> Result<(), Fail> {
-    let client = started(rt.alloc())?;
-    let mut low = limited(rt.alloc(), &client, 4095)?;
-    let mut same = Box::new(rt.alloc(), ScramClient::clone(&low)?)?;
-    assert!(rt; refuses(rt.alloc(), &mut low, TOO_LARGE));
-    assert!(rt; refuses(rt.alloc(), &mut same, TOO_LARGE));
+    let mut low = started_with_limit(rt.alloc(), 4095)?;
+    assert!(rt; both_refuse(rt.alloc(), &mut low, TOO_LARGE)?);
     let mut raised = limited(rt.alloc(), &low, 4096)?;
     assert!(rt; answers(rt.alloc(), &mut raised) == Ok(true));
     Ok(())
@@ -95,41 +108,62 @@ fn floored(alloc: Global, client: &ScramClient, least: u32) -> Result<Box<ScramC
     Ok(Box::new(alloc, client.with_least_iterations(least))?)
 }
 
+/// A client that has sent its first message and accepts no lower count than this.
+fn started_with_least(alloc: Global, least: u32) -> Result<Box<ScramClient>, Fail> {
+    let client = started(alloc)?;
+    floored(alloc, &client, least)
+}
+
 /// A refusal of a count below the least.
 const TOO_SMALL: (Option<ScramErrorKind>, u64) = (Some(ScramErrorKind::IterationCountTooSmall), 0);
 
 #[test]
 fn a_client_keeps_its_least_count(rt: HostRuntime) -> Result<(), Fail> {
-    let client = started(rt.alloc())?;
-    let mut high = floored(rt.alloc(), &client, 4097)?;
-    let mut same = Box::new(rt.alloc(), ScramClient::clone(&high)?)?;
-    assert!(rt; refuses(rt.alloc(), &mut high, TOO_SMALL));
-    assert!(rt; refuses(rt.alloc(), &mut same, TOO_SMALL));
+    let mut high = started_with_least(rt.alloc(), 4097)?;
+    assert!(rt; both_refuse(rt.alloc(), &mut high, TOO_SMALL)?);
     let mut lowered = floored(rt.alloc(), &high, 4096)?;
     assert!(rt; answers(rt.alloc(), &mut lowered) == Ok(true));
     Ok(())
 }
 
+/// A client that was given a limit below the count and then a least count above it.
+fn low_then_high(alloc: Global) -> Result<Box<ScramClient>, Fail> {
+    let low = started_with_limit(alloc, 4095)?;
+    floored(alloc, &low, 4097)
+}
+
+/// The same in the other order.
+fn high_then_low(alloc: Global) -> Result<Box<ScramClient>, Fail> {
+    let high = started_with_least(alloc, 4097)?;
+    limited(alloc, &high, 4095)
+}
+
 #[test]
 fn a_client_keeps_both_limits(rt: HostRuntime) -> Result<(), Fail> {
-    let client = started(rt.alloc())?;
-    let low = limited(rt.alloc(), &client, 4095)?;
-    let high = floored(rt.alloc(), &client, 4097)?;
-    let mut low_then_high = floored(rt.alloc(), &low, 4097)?;
-    let mut high_then_low = limited(rt.alloc(), &high, 4095)?;
-    assert!(rt; refusal(rt.alloc(), &mut low_then_high) == TOO_SMALL);
-    assert!(rt; refusal(rt.alloc(), &mut high_then_low) == TOO_SMALL);
-    let mut low_from_1 = floored(rt.alloc(), &low_then_high, 1)?;
+    let mut client = high_then_low(rt.alloc())?;
+    assert!(rt; refusal(rt.alloc(), &mut client) == TOO_SMALL);
+    Ok(())
+}
+
+#[test]
+fn a_client_keeps_both_limits_in_either_order(rt: HostRuntime) -> Result<(), Fail> {
+    let mut client = low_then_high(rt.alloc())?;
+    assert!(rt; refusal(rt.alloc(), &mut client) == TOO_SMALL);
+    let mut low_from_1 = floored(rt.alloc(), &client, 1)?;
     assert!(rt; refusal(rt.alloc(), &mut low_from_1) == TOO_LARGE);
     Ok(())
 }
 
 #[test]
-fn a_client_counts_its_answer(rt: HostRuntime) -> Result<(), Fail> {
-    let client = started(rt.alloc())?;
-    let mut low = limited(rt.alloc(), &client, 4095)?;
+fn a_client_counts_its_refusal(rt: HostRuntime) -> Result<(), Fail> {
+    let mut low = started_with_limit(rt.alloc(), 4095)?;
     assert!(rt; refusal(rt.alloc(), &mut low) == TOO_LARGE);
-    let mut enough = limited(rt.alloc(), &client, 4096)?;
+    Ok(())
+}
+
+#[test]
+fn a_client_counts_its_answer(rt: HostRuntime) -> Result<(), Fail> {
+    let mut enough = started_with_limit(rt.alloc(), 4096)?;
     assert!(rt; refusal(rt.alloc(), &mut enough) == (None, 4100));
     Ok(())
 }
@@ -145,16 +179,21 @@ fn shows_user(credentials: &SingleScramCredential) -> bool {
         && stored_password.iterations == 4096
 }
 
+/// Whether a server of this credential shows it.
+fn is_shown(credential: SingleScramCredential) -> bool {
+    shows_user(ScramAuthenticator::new(credential).credentials())
+}
+
 #[test]
 fn a_server_shows_its_credentials(rt: HostRuntime) -> Result<(), Fail> {
-    let server = ScramAuthenticator::new(credential(rt.alloc())?);
-    assert!(rt; shows_user(server.credentials()));
+    let credential = credential(rt.alloc())?;
+    assert!(rt; is_shown(credential));
     Ok(())
 }
 
 #[test]
 fn a_client_has_its_version(rt: HostRuntime) -> Result<(), Fail> {
-    for version in [
+    for &version in &[
         ScramVersion::Sha1,
         ScramVersion::Sha256,
         ScramVersion::Sha512,

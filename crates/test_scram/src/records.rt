@@ -50,7 +50,7 @@ fn made(alloc: Global, password: &str, iterations: u32) -> (Option<RecordError>,
 
 #[test]
 fn makes_no_record_without_a_count(rt: HostRuntime) {
-    for (password, iterations, wanted) in [
+    for &(password, iterations, wanted) in &[
         ("pencil", 1, (None, 3)),
         ("pencil", 0, (Some(RecordError::ZeroIterations), 0)),
         ("pencil\n", 0, (Some(RecordError::NormalizeError), 0)),

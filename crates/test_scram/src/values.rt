@@ -255,7 +255,7 @@ fn sends_escaped(alloc: Global, version: ScramVersion) -> Result<bool, Fail> {
 
 #[test]
 fn a_client_sends_the_escaped_name(rt: HostRuntime) -> Result<(), Fail> {
-    for version in [
+    for &version in &[
         ScramVersion::Sha1,
         ScramVersion::Sha256,
         ScramVersion::Sha512,

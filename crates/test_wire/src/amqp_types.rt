@@ -33,15 +33,15 @@ fn is_symbol(symbol: &Symbol, text: &str) -> bool {
 
 #[test]
 fn a_symbol_is_its_text(rt: HostRuntime) {
-    for text in ["ANONYMOUS", "SCRAM-SHA-256", "", "\x7f"] {
+    for &text in &["ANONYMOUS", "SCRAM-SHA-256", "", "\x7f"] {
         assert!(rt; is_symbol(&symbol(&rt, text), text), "{text:?}");
     }
     assert!(rt; symbol(&rt, "a") != symbol(&rt, "b"));
-    for text in ["é", "PLAIN\u{80}"] {
+    for &text in &["é", "PLAIN\u{80}"] {
         let fault = Symbol::new(rt.alloc(), text).err();
         assert!(rt; fault == Some(SymbolError::NotAscii), "{text:?}");
     }
-    for (fault, text) in [
+    for &(fault, text) in &[
         (SymbolError::NotAscii, "NotAscii"),
         (SymbolError::OutOfMemory, "OutOfMemory"),
     ] {
@@ -57,7 +57,7 @@ fn want_of_memory_is_a_fault_of_symbols(rt: HostRuntime) {
 
 #[test]
 fn reads_the_code_of_a_byte(rt: HostRuntime) {
-    for (byte, code) in [
+    for &(byte, code) in &[
         (0, Ok(SaslCode::Ok)),
         (1, Ok(SaslCode::Auth)),
         (2, Ok(SaslCode::Sys)),
@@ -162,7 +162,7 @@ fn challenges_and_responses_are_equal_by_their_bytes(rt: HostRuntime) {
 
 #[test]
 fn plain_values_are_copied_without_memory(rt: HostRuntime) {
-    for code in [
+    for &code in &[
         SaslCode::Ok,
         SaslCode::Auth,
         SaslCode::Sys,

@@ -7,7 +7,7 @@ use std::process::Abort;
 
 #[test]
 fn refuses_each_beginning(rt: HostRuntime) {
-    for digits in [
+    for &digits in &[
         OUTCOME_OK,
         OUTCOME_AUTH,
         INIT_PLAIN,
@@ -15,11 +15,11 @@ fn refuses_each_beginning(rt: HostRuntime) {
         MECHANISMS_ANONYMOUS,
         MECHANISM_ANONYMOUS,
         NO_MECHANISMS,
-        LOGIN[0],
-        LOGIN[1],
-        LOGIN[2],
-        LOGIN[3],
-        LOGIN[4],
+        LOGIN_MECHANISMS,
+        LOGIN_INIT,
+        LOGIN_CHALLENGE,
+        LOGIN_RESPONSE,
+        LOGIN_OUTCOME,
     ] {
         let body = bytes_of(&rt, digits);
         for len in 0..body.len() {
@@ -51,7 +51,7 @@ fn refuses_each_other_byte<R: Abort + AllocGlobal>(rt: &R, digits: &str, place: 
 
 #[test]
 fn refuses_each_other_size_count_and_length(rt: HostRuntime) {
-    for (digits, places) in [
+    for &(digits, places) in &[
         (OUTCOME_OK, [8, 9].as_slice()),
         (INIT_PLAIN, [8, 9, 11, 18].as_slice()),
         (MECHANISMS_ANONYMOUS, [8, 9, 11, 12, 14].as_slice()),
@@ -59,18 +59,5 @@ fn refuses_each_other_size_count_and_length(rt: HostRuntime) {
         for place in places {
             refuses_each_other_byte(&rt, digits, *place);
         }
-    }
-}
-
-#[test]
-fn refuses_huge_counts(rt: HostRuntime) {
-    for digits in [
-        "02010000005340d00000000e00000001f000000005ffffffffa3",
-        "02010000005343d0ffffffffffffffff",
-    ] {
-        assert!(rt;
-            refuses(&rt, &bytes_of(&rt, digits), Error::DecodeError),
-            "{digits}"
-        );
     }
 }

@@ -58,7 +58,7 @@ fn printed<R: Abort + AllocGlobal>(rt: &R, frame: Frame) -> String {
 
 #[test]
 fn frames_show_no_response(rt: HostRuntime) {
-    for (digits, frame_text, _) in PRINTED {
+    for &(digits, frame_text, _) in &PRINTED {
         let text = printed(&rt, decoded(&rt, digits));
         assert!(rt; text.as_str() == frame_text, "{digits}");
     }
@@ -72,7 +72,7 @@ fn printed_view<R: Abort + AllocGlobal>(rt: &R, body: &[u8]) -> String {
 
 #[test]
 fn views_show_no_response(rt: HostRuntime) {
-    for (digits, _, view_text) in PRINTED {
+    for &(digits, _, view_text) in &PRINTED {
         let text = printed_view(&rt, &bytes_of(&rt, digits));
         assert!(rt; text.as_str() == view_text, "{digits}");
     }

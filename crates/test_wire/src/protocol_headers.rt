@@ -12,7 +12,7 @@ const TLS_BYTES: [u8; 8] = *b"AMQP\x02\x01\x00\x00";
 
 #[test]
 fn reads_the_protocol_of_a_byte(rt: HostRuntime) {
-    for (byte, id) in [
+    for &(byte, id) in &[
         (0, Ok(ProtocolId::Amqp)),
         (1, Err(1)),
         (2, Ok(ProtocolId::Tls)),
@@ -46,7 +46,7 @@ fn are_handed_back<R: Abort + AllocGlobal>(rt: &R, bytes: &[u8]) -> bool {
 fn hands_back_what_is_no_header(rt: HostRuntime) {
     let bytes = *b"AMQQ\x00\x01\x00\x00";
     assert!(rt; ProtocolHeader::try_from(bytes) == Err(bytes));
-    for bytes in [
+    for &bytes in &[
         b"AMQQ\x00\x01\x00\x00".as_slice(),
         b"AMQP\x03\x01\x00".as_slice(),
         b"AMQP\x03\x01\x00\x00\x00".as_slice(),
@@ -73,7 +73,7 @@ fn is_made<R: Abort + AllocGlobal>(
 
 #[test]
 fn makes_the_three_headers(rt: HostRuntime) {
-    for (header, bytes, is) in [
+    for &(header, bytes, is) in &[
         (ProtocolHeader::amqp(), AMQP_BYTES, (true, false, false)),
         (ProtocolHeader::tls(), TLS_BYTES, (false, true, false)),
         (ProtocolHeader::sasl(), SASL_BYTES, (false, false, true)),

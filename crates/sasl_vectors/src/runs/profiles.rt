@@ -65,29 +65,21 @@ pub fn keys(
 }
 
 /// The profile of a user that keeps these keys, which accepts counts up to the limit.
-pub fn of_keys(
-    user: String,
-    keys: ScramClientKeys,
-    limit: u32,
-) -> Result<SaslProfile, Unconfirmed> {
-    let profile = match keys.scram_version() {
+pub fn of_keys(user: String, keys: ScramClientKeys, limit: u32) -> Option<SaslProfile> {
+    Some(match keys.scram_version() {
         ScramVersion::Sha1 => {
-            SaslScramSha1::with_keys(user, keys).map(|scram| SaslProfile::from(
-                scram.with_iteration_limit(limit),
-            ))
+            let scram = SaslScramSha1::with_keys(user, keys)?;
+            SaslProfile::from(scram.with_iteration_limit(limit))
         }
         ScramVersion::Sha256 => {
-            SaslScramSha256::with_keys(user, keys).map(|scram| SaslProfile::from(
-                scram.with_iteration_limit(limit),
-            ))
+            let scram = SaslScramSha256::with_keys(user, keys)?;
+            SaslProfile::from(scram.with_iteration_limit(limit))
         }
         ScramVersion::Sha512 => {
-            SaslScramSha512::with_keys(user, keys).map(|scram| SaslProfile::from(
-                scram.with_iteration_limit(limit),
-            ))
+            let scram = SaslScramSha512::with_keys(user, keys)?;
+            SaslProfile::from(scram.with_iteration_limit(limit))
         }
-    };
-    profile.ok_or(Unconfirmed::Malformed)
+    })
 }
 
 /// The profile of a user with a password and with these keys, which accepts counts from the least to the
@@ -98,46 +90,36 @@ pub fn of_both(
     keys: ScramClientKeys,
     least: u32,
     limit: u32,
-) -> Result<SaslProfile, Unconfirmed> {
-    let profile = match keys.scram_version() {
+) -> Option<SaslProfile> {
+    Some(match keys.scram_version() {
         ScramVersion::Sha1 => {
-            SaslScramSha1::with_password_and_keys(user, password, keys).map(
-                |scram| SaslProfile::from(
-                    scram
-                        .with_least_iterations(least)
-                        .with_iteration_limit(limit),
-                ),
-            )
+            let scram = SaslScramSha1::with_password_and_keys(user, password, keys)?;
+            let scram = scram.with_least_iterations(least);
+            SaslProfile::from(scram.with_iteration_limit(limit))
         }
         ScramVersion::Sha256 => {
-            SaslScramSha256::with_password_and_keys(user, password, keys).map(
-                |scram| SaslProfile::from(
-                    scram
-                        .with_least_iterations(least)
-                        .with_iteration_limit(limit),
-                ),
-            )
+            let scram = SaslScramSha256::with_password_and_keys(user, password, keys)?;
+            let scram = scram.with_least_iterations(least);
+            SaslProfile::from(scram.with_iteration_limit(limit))
         }
         ScramVersion::Sha512 => {
-            SaslScramSha512::with_password_and_keys(user, password, keys).map(
-                |scram| SaslProfile::from(
-                    scram
-                        .with_least_iterations(least)
-                        .with_iteration_limit(limit),
-                ),
-            )
+            let scram = SaslScramSha512::with_password_and_keys(user, password, keys)?;
+            let scram = scram.with_least_iterations(least);
+            SaslProfile::from(scram.with_iteration_limit(limit))
         }
-    };
-    profile.ok_or(Unconfirmed::Malformed)
+    })
 }
 
-/// Checks a profile: a copy in runs, and itself and copies of it step by step.
+/// Checks a profile, if it is one: a copy in runs, and itself and copies of it step by step.
 pub fn check(
     alloc: Global,
-    profile: SaslProfile,
+    profile: Option<SaslProfile>,
     run: &Run<'_>,
     hostname: &str,
 ) -> Result<(), Unconfirmed> {
+    let Some(profile) = profile else {
+        return Err(Unconfirmed::Malformed);
+    };
     let mut profile = Box::new(alloc, profile)?;
     if hostname == "none" {
         return check_all(alloc, &mut profile, run, None);

@@ -6,7 +6,6 @@ use fe2o3_sasl::hmac::ScramVersion;
 use fe2o3_sasl::runs::{ClientReply, ServerReply};
 use fe2o3_sasl::sasl_profile::{Negotiation, ProfileError};
 use fe2o3_sasl_wire::{Error, Frame, FrameCodec, SaslCode, SaslOutcome};
-use hex::FromHex;
 use std::alloc::Global;
 
 /// The version of this name.
@@ -16,10 +15,7 @@ pub fn version_of(mechanism: &str) -> Result<ScramVersion, Unconfirmed> {
 
 /// The 32 bytes of hexadecimal digits.
 pub fn salt_of(digits: &str) -> Result<[u8; 32], Unconfirmed> {
-    match <[u8; 32] as FromHex>::from_hex(digits) {
-        Ok(salt) => Ok(salt),
-        Err(_) => Err(Unconfirmed::Malformed),
-    }
+    sasl_commands::digits::bytes_of(digits).ok_or(Unconfirmed::Malformed)
 }
 
 /// The bytes of hexadecimal digits, where `-` is none.

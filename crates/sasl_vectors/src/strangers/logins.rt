@@ -215,7 +215,7 @@ fn login_of(
 /// Four logins: of two client's nonces, each with two server's nonces.
 pub fn logins(alloc: Global, credentials: &Quick) -> Result<Vec<Login>, Unconfirmed> {
     let mut logins = Vec::with_capacity(alloc, 4)?;
-    for (client, server) in [(1, 2), (1, 4), (5, 2), (5, 4)] {
+    for &(client, server) in &[(1, 2), (1, 4), (5, 2), (5, 4)] {
         logins.push(login_of(alloc, credentials, client, server)?)?;
     }
     Ok(logins)

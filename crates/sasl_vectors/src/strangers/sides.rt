@@ -1,9 +1,9 @@
 //! The lists of each side, and what may come of them.
 
 use crate::Unconfirmed;
+use crate::numbers::Numbers;
 use crate::runs::words::{client_words, server_words};
 use crate::strangers::logins::{Login, PASSWORD, Quick, USER, copy_of};
-use crate::strangers::numbers::Numbers;
 use fe2o3_sasl::OutOfMemory;
 use fe2o3_sasl::audit::{Verdict, audit_limited};
 use fe2o3_sasl::hmac::ScramVersion;
@@ -28,7 +28,7 @@ pub fn client_list(
         let login = logins
             .get(numbers.below(logins.len()))
             .ok_or(Unconfirmed::Malformed)?;
-        for event in [&login.mechanisms, &login.challenge, &login.outcome] {
+        for &event in &[&login.mechanisms, &login.challenge, &login.outcome] {
             events.push(copy_of(alloc, event)?)?;
         }
     }
@@ -46,7 +46,7 @@ pub fn server_list(
         let login = logins
             .get(numbers.below(logins.len()))
             .ok_or(Unconfirmed::Malformed)?;
-        for event in [&login.init, &login.response] {
+        for &event in &[&login.init, &login.response] {
             events.push(copy_of(alloc, event)?)?;
         }
     }

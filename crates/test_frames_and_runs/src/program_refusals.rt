@@ -1,9 +1,10 @@
-//! Tests of the last line where the program stops, for refusals that no command line is known to meet
-//! too.
+//! The last line where the program `sasl_lab` stops, for refusals that no command line is known to meet too,
+//! and its usage.
 
 use fe2o3_sasl::audit::AuditError;
 use fe2o3_sasl::{ProfileError, ScramErrorKind, ServerScramErrorKind};
 use fe2o3_sasl_wire::{Error, SaslCode};
+use sasl_commands::USAGE;
 use sasl_commands::stop::Stop;
 use std::alloc::{AllocError, Global};
 
@@ -127,7 +128,15 @@ fn names_each_refusal(rt: HostRuntime) {
 #[test]
 fn names_want_of_memory(rt: HostRuntime) {
     let wanted = "refused OutOfMemory\n";
-    for stop in [Stop::from(AllocError), Stop::from(AuditError::OutOfMemory)] {
+    for &stop in &[Stop::from(AllocError), Stop::from(AuditError::OutOfMemory)] {
         assert!(rt; is_told(rt.alloc(), stop, wanted));
+    }
+}
+
+#[test]
+fn the_usage_names_each_command(rt: HostRuntime) {
+    assert!(rt; USAGE.lines().count() == 10);
+    for command in &["client-final", "login", "audit"] {
+        assert!(rt; USAGE.contains(command), "{command}");
     }
 }

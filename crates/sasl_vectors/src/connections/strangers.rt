@@ -4,14 +4,13 @@
 
 mod counts;
 mod logins;
-mod numbers;
 
 use crate::Unconfirmed;
-use crate::fed::Fed;
-use crate::sides::play_side;
-use crate::strangers::counts::Counts;
-use crate::strangers::logins::{Login, altered, login_of};
-use crate::strangers::numbers::Numbers;
+use crate::connections::fed::Fed;
+use crate::connections::sides::play_side;
+use crate::connections::strangers::counts::Counts;
+use crate::connections::strangers::logins::{Login, altered, login_of};
+use crate::numbers::Numbers;
 use std::alloc::Global;
 
 /// How many connections each side is given.

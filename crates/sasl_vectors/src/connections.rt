@@ -1,9 +1,17 @@
 //! Connections, each with what one side answers to each call.
 
+pub mod cuts;
+mod fed;
+mod sides;
+pub mod strangers;
+mod words;
+
 use crate::Unconfirmed;
-use crate::sides::{Play, Side, play_side};
-use crate::words::{bytes_of, digits_of, nonce_of};
+use crate::connections::sides::{Play, Side, play_side};
+use crate::connections::words::nonce_of;
+use crate::runs::words::bytes_of;
 use bytes::BytesMut;
+use sasl_commands::digits::digits_of;
 use std::alloc::Global;
 
 /// A call, and what is answered to it.
@@ -29,12 +37,11 @@ pub struct Connection<'a> {
     pub calls: Vec<Call<'a>>,
 }
 
-/// Checks the connection that a paragraph spells, and answers that it is one, and how many calls it has.
-pub fn check(alloc: Global, paragraph: &str) -> Result<(usize, usize), Unconfirmed> {
+/// Checks the connection that a paragraph spells, and answers how many calls it has.
+pub fn check(alloc: Global, paragraph: &str) -> Result<usize, Unconfirmed> {
     let connection = read(alloc, paragraph)?;
-    let calls = connection.calls.len();
     play_side(alloc, &connection.side, &mut Replay(&connection.calls))?;
-    Ok((1, calls))
+    Ok(connection.calls.len())
 }
 
 /// Reads a paragraph: a line for the side, and one for each call.

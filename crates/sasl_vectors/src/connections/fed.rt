@@ -1,10 +1,10 @@
 //! A stream of bytes that is handed in in pieces.
 
 use crate::Unconfirmed;
-use crate::sides::{Play, Side};
-use crate::words::digits_of;
+use crate::connections::sides::{Play, Side};
 use bytes::BytesMut;
 use fe2o3_sasl_negotiation::Standing;
+use sasl_commands::digits::digits_of;
 use std::alloc::Global;
 
 /// A stream, and what came of it.

@@ -1,7 +1,7 @@
 //! What came of the connections.
 
 use crate::Unconfirmed;
-use crate::fed::Fed;
+use crate::connections::fed::Fed;
 use std::alloc::Global;
 
 /// What came of the connections.

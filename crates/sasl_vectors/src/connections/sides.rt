@@ -1,12 +1,13 @@
 //! Both sides of a connection as one: bytes in, bytes out, and a word for how the side stands.
 
 use crate::Unconfirmed;
-use crate::words::{bytes_of, number_of, standing_word, text_of, user_word};
+use crate::connections::words::{standing_word, user_word};
+use crate::runs::profiles::of_password;
+use crate::runs::words::{bytes_of, number_of, text_of};
 use bytes::BytesMut;
 use fe2o3_sasl::credentials::{ScramRecord, StoredScramCredential};
 use fe2o3_sasl::hmac::{Meter, ScramVersion};
 use fe2o3_sasl::sasl_acceptor::{NamesUser, SaslAnonymousMechanism, SaslPlainMechanism};
-use fe2o3_sasl::sasl_profile::{SaslProfile, SaslScramSha1, SaslScramSha256, SaslScramSha512};
 use fe2o3_sasl::scram_server::ScramAuthenticator;
 use fe2o3_sasl_negotiation::{ClientNegotiation, Received, ServerNegotiation, Standing};
 use std::alloc::{AllocError, Global};
@@ -85,14 +86,7 @@ pub fn play_side<P: Play>(alloc: Global, words: &[&str], play: &mut P) -> Result
             play_scram(alloc, Rc::new(alloc, stored)?, play)
         }
         ["client", mechanism, user, password, limit, hostname] => {
-            let (limit, hostname) = (number_of(limit)?, hostname_of(alloc, hostname)?);
-            let (user, password) = (text_of(alloc, user)?, text_of(alloc, password)?);
-            play_client(
-                alloc,
-                profile(mechanism, user, password, limit),
-                hostname,
-                play,
-            )
+            play_client(alloc, (mechanism, user, password, limit), hostname, play)
         }
         _ => Err(Unconfirmed::Malformed),
     }
@@ -145,37 +139,14 @@ fn hostname_of(alloc: Global, word: &str) -> Result<Option<String>, Unconfirmed>
     }
 }
 
-/// The profile of a mechanism, a user and a password, which accepts counts up to the limit.
-fn profile(mechanism: &str, user: String, password: String, limit: u32) -> Option<SaslProfile> {
-    match mechanism {
-        "ANONYMOUS" => Some(SaslProfile::Anonymous),
-        "EXTERNAL" => Some(SaslProfile::External),
-        "PLAIN" => Some(SaslProfile::plain(user, password)),
-        "SCRAM-SHA-1" => {
-            let scram = SaslScramSha1::new(user, password).with_iteration_limit(limit);
-            Some(SaslProfile::from(scram))
-        }
-        "SCRAM-SHA-256" => {
-            let scram = SaslScramSha256::new(user, password).with_iteration_limit(limit);
-            Some(SaslProfile::from(scram))
-        }
-        "SCRAM-SHA-512" => {
-            let scram = SaslScramSha512::new(user, password).with_iteration_limit(limit);
-            Some(SaslProfile::from(scram))
-        }
-        _ => None,
-    }
-}
-
-/// Plays with a client.
+/// Plays with the client of a mechanism, a user and a password, which accepts counts up to the limit.
 fn play_client<P: Play>(
     alloc: Global,
-    profile: Option<SaslProfile>,
-    hostname: Option<String>,
+    (mechanism, user, password, limit): (&str, &str, &str, &str),
+    hostname: &str,
     play: &mut P,
 ) -> Result<(), Unconfirmed> {
-    match profile {
-        Some(profile) => play.play(alloc, &mut ClientNegotiation::new(alloc, profile, hostname)),
-        None => Err(Unconfirmed::Malformed),
-    }
+    let hostname = hostname_of(alloc, hostname)?;
+    let profile = of_password(alloc, mechanism, user, password, number_of(limit)?)?;
+    play.play(alloc, &mut ClientNegotiation::new(alloc, profile, hostname))
 }

@@ -1,8 +1,9 @@
 //! Logins, and what a stranger makes of them.
 
 use crate::Unconfirmed;
-use crate::strangers::numbers::Numbers;
-use crate::words::{bytes_of, nonce_of};
+use crate::connections::words::nonce_of;
+use crate::numbers::Numbers;
+use crate::runs::words::bytes_of;
 use std::alloc::Global;
 
 /// What one side is given in a login.

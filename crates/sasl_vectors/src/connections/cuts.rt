@@ -1,9 +1,9 @@
 //! Logins that are cut at each pair of places.
 
 use crate::Unconfirmed;
+use crate::connections::fed::Fed;
+use crate::connections::sides::play_side;
 use crate::connections::{Call, read};
-use crate::fed::Fed;
-use crate::sides::play_side;
 use std::alloc::Global;
 
 /// Checks the login that a paragraph spells, cut at each pair of places, and answers how many connections

@@ -1,0 +1,91 @@
+//! An output that has room for so much, and an input that can fail.
+
+use crate::Unconfirmed;
+use std::alloc::Global;
+use std::io;
+use std::io::{Read, Write};
+
+/// A writer with room for so many bytes, which then refuses every write.
+#[derive(Drop)]
+pub struct Full {
+    most: usize,
+    written: Vec<u8>,
+    refused: u32,
+}
+
+impl Full {
+    /// A writer with this much room.
+    pub fn new(alloc: Global, most: usize) -> Full {
+        Full {
+            most,
+            written: Vec::new(alloc),
+            refused: 0,
+        }
+    }
+
+    /// Whether it holds this text and refused nothing, or, where it has not so much room, whether it holds what
+    /// it has room for, and refused one write.
+    pub fn holds(&self, text: &[u8]) -> bool {
+        match text.get(..self.most) {
+            Some(beginning) if beginning.len() < text.len() => {
+                self.refused == 1 && self.written.as_slice() == beginning
+            }
+            _ => self.refused == 0 && self.written.as_slice() == text,
+        }
+    }
+
+    /// The text that it holds.
+    pub fn text(self) -> Result<String, Unconfirmed> {
+        match String::from_utf8(self.written) {
+            Ok(text) => Ok(text),
+            Err(_) => Err(Unconfirmed::Malformed),
+        }
+    }
+}
+
+impl Write for Full {
+    fn write(&mut self, bytes: &[u8]) -> io::Result<usize> {
+        let room = self.most.saturating_sub(self.written.len());
+        let taken = &bytes[..bytes.len().min(room)];
+        if taken.is_empty() {
+            self.refused = self.refused.saturating_add(1);
+            return Err(io::Error::from(io::ErrorKind::BrokenPipe));
+        }
+        self.written.extend_from_slice(taken)?;
+        Ok(taken.len())
+    }
+
+    fn flush(&mut self) -> io::Result<()> {
+        Ok(())
+    }
+}
+
+/// A reader that gives its bytes, and then fails where it has a fault.
+#[derive(Drop)]
+pub struct Text<'a> {
+    bytes: &'a [u8],
+    fault: Option<io::ErrorKind>,
+}
+
+impl<'a> Text<'a> {
+    /// A reader of these bytes, with this fault.
+    pub fn new(bytes: &'a [u8], fault: Option<io::ErrorKind>) -> Text<'a> {
+        Text { bytes, fault }
+    }
+}
+
+impl Read for Text<'_> {
+    fn read(&mut self, buffer: &mut [u8]) -> io::Result<usize> {
+        let len = self.bytes.len().min(buffer.len());
+        if len == 0 {
+            return match self.fault {
+                Some(kind) => Err(io::Error::from(kind)),
+                None => Ok(0),
+            };
+        }
+        let (now, later) = self.bytes.split_at(len);
+        buffer[..len].copy_from_slice(now);
+        self.bytes = later;
+        Ok(len)
+    }
+}
