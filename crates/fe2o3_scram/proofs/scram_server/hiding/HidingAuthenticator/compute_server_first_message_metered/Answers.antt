@@ -50,7 +50,8 @@ returns-in_err-username-clause-cost g c =
 
 pub returns-in-Err-clause-cost : goal.returns-in-Err-clause-cost
 returns-in-Err-clause-cost g c =
-    refusal_costs (Option (Vec ℕ Global)) c.args.client_first_message.now (client_first_values c.in_ok-client_first.client_first)
+    refusal_costs (Option (Vec ℕ Global)) c.args.client_first_message.now (client_first_values
+    c.in_ok-client_first.client_first)
     c.in-Err.kind c.args.meter.now _ c.in_ok-client_first.ensures.answer
     (λ other. (c.in-Err.ensures.answer.1 other).0) c.of_nobody_metered.ensures.counted
 
@@ -82,7 +83,8 @@ invariant_of-self g c =
     keeps_made_up (g.C.ScramCredentialProvider.meaning c.self.inside.authenticator.credentials.credentials) nobody
     c.replace-before.new.dest _
     (state_in c.self.inside.authenticator) (state_in c.compute_server_first_message.new.self) c.args.nonce.now
-    c.args.client_first_message.now (client_first_values c.in_ok-client_first.client_first) _ (c.replace-before.ensures.after ∙ ap Some made) kept
+    c.args.client_first_message.now (client_first_values c.in_ok-client_first.client_first) _
+    (c.replace-before.ensures.after ∙ ap Some made) kept
     reads c.in-Ok.ensures.answer
 
 pub invariant_of-self-in-Ok-2 : goal.invariant_of-self-in-Ok-2
@@ -102,5 +104,6 @@ invariant_of-self-in-Ok-2 g c =
     keeps_made_up (g.C.ScramCredentialProvider.meaning c.self.inside.authenticator.credentials.credentials) nobody
     c.replace-before.new.dest _
     (state_in c.self.inside.authenticator) (state_in c.compute_server_first_message.new.self) c.args.nonce.now
-    c.args.client_first_message.now (client_first_values c.in_ok-client_first.client_first) _ (c.replace-before.ensures.after ∙ ap Some made) kept
+    c.args.client_first_message.now (client_first_values c.in_ok-client_first.client_first) _
+    (c.replace-before.ensures.after ∙ ap Some made) kept
     reads c.in-Ok.ensures.answer
