@@ -6,6 +6,7 @@ pub mod Pbkdf2Hi
 pub mod Keys
 pub mod Credentials
 pub mod Stores
+pub mod Nobody
 pub mod Readings
 pub mod RecordText
 pub mod RecordLines
@@ -21,6 +22,7 @@ pub mod ServerFirstAnswers
 pub mod ServerFinal
 pub mod ScramClient
 pub mod ScramServer
+pub mod HidingServer
 pub mod Exchanges
 pub mod Logins
 pub mod Agreement

@@ -45,4 +45,5 @@ pub use crate::scram_messages::{
     ServerFirstMessage, ServerScramErrorKind, UnescapeError, escape_username, unescape_username,
 };
 pub use crate::scram_server::ScramAuthenticator;
+pub use crate::scram_server::hiding::{HidingAuthenticator, SaltTooLong};
 pub use std::alloc::AllocError as OutOfMemory;

@@ -5,6 +5,9 @@ ghost use Rattle.fe2o3_scram.specs.ScramServer.{provider_in, state_in, Initial, 
 ghost use Rattle.fe2o3_scram.specs.ServerFirst.{Challenge, ReachesChallenge};
 ghost use Rattle.fe2o3_scram.specs.Readings.{Gives};
 
+pub mod hiding;
+mod hiding_store;
+
 use crate::OutOfMemory;
 use crate::hmac::Meter;
 use crate::provider::ScramCredentialProvider;

@@ -4,6 +4,7 @@ pub mod ClientFinalLemmas
 pub mod ClientFirstLemmas
 pub mod ExchangeLemmas
 pub mod FittingKeyLemmas
+pub mod HidingServerLemmas
 pub mod KeptKeyLemmas
 pub mod LineListLemmas
 pub mod LoginLemmas

@@ -1,2 +1,3 @@
 pub mod ByNameLemmas
+pub mod HidingLemmas
 pub mod LookUpLemmas

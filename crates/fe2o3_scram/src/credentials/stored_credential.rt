@@ -14,10 +14,8 @@ use std::marker::Model;
 /// One user and the record of the user's password: what a server with a store of its own makes for
 /// one exchange, once `ClientFirst::parse` has told it whose record to fetch.
 ///
-/// A server that is not to show which names it knows makes up a record for a name that it does not
-/// know, by `ScramRecord::from_parts`: with the count that its records have, keys that nobody can
-/// meet, and a salt that is the same for each login of that name and that nobody else can compute,
-/// as an HMAC value of the name under a secret of the server's.
+/// A server that is not to show which names it knows takes the record of `ScramRecord::of_nobody` for
+/// a name that it does not know.
 #[derive(Drop)]
 pub struct StoredScramCredential {
     username: String,

@@ -1,0 +1,137 @@
+-- What a hiding server answers to a client-first message.
+use Rattle.std.proofs.Common.{◌≡◌, ◌≢◌, ◌+◌, ℕ, Bool, true, false, cond, List, [], ◌∷◌, ◌++◌, Option, None, Some, Result, Ok, Err, refl, sym, ap, ◌∙◌, subst, inr, arith}
+use Rattle.std.proofs.lemmas.Bool.{cond-true}
+use Rattle.std.proofs.lemmas.Cmp.{nat_list_eq_equiv}
+use Rattle.std.specs.Cmp.Lexicographic.{pointwise}
+use Rattle.std.specs.Prelude.{nat_eq}
+use Rattle.fe2o3_scram.specs.declared.scram_messages.error.ServerScramErrorKind.{ServerScramErrorKind}
+use Rattle.fe2o3_scram.specs.declared.scram_messages.error.ServerScramErrorKind.TheVariants.{OutOfMemory}
+use Rattle.fe2o3_scram.specs.ClientFirst.{ClientFirst, ReadsClientFirst}
+use Rattle.fe2o3_scram.specs.Credentials.{Record, Records, Provider, record_at}
+use Rattle.fe2o3_scram.specs.HidingServer.{HidingCosts, NamedIn, NamedBy}
+use Rattle.fe2o3_scram.specs.Nobody.{Nobody, nobody_record, with_nobody}
+use Rattle.fe2o3_scram.specs.ScramServer.{ServerState, Initial, ServerFirstSent, ServerFinalSent, ChallengesFrom}
+use Rattle.fe2o3_scram.specs.ServerFirst.{Challenge, ReachesChallenge}
+use Rattle.fe2o3_scram.specs.private.MadeUp.{KeepsMadeUp, followed_by}
+use Rattle.fe2o3_scram.proofs.lemmas.messages.ClientFirstLemmas.{one_client_first}
+use Rattle.fe2o3_scram.proofs.lemmas.messages.OneValueLemmas.{one_client_first_value}
+use Rattle.fe2o3_scram.proofs.lemmas.messages.SomeReadingLemmas.{some_client_first}
+
+-- a name has a record where there is one of it behind the others
+pub has_made_up : (records : Records) (name : List ℕ) (made_up : Record)
+    → (stored : Record) × (record_at (records ++ ((name, made_up) ∷ [])) name ≡ Some stored)
+has_made_up [] name made_up =
+    (made_up, cond-true (pointwise nat_eq name name) (Some made_up) None (nat_list_eq_equiv.refl name))
+has_made_up (entry ∷ records) name made_up =
+    go (pointwise nat_eq entry.0 name) (has_made_up records name made_up)
+  where
+    go : (test : Bool)
+        → (stored : Record) × (record_at (records ++ ((name, made_up) ∷ [])) name ≡ Some stored)
+        → (stored : Record)
+        × (cond test (Some entry.1) (record_at (records ++ ((name, made_up) ∷ [])) name) ≡ Some stored)
+    go true behind = (entry.1, refl)
+    go false behind = behind
+
+-- a message that is read comes to a record
+pub reaches_made_up : (provider : Provider) (nobody : Nobody) (text name : List ℕ) (client : ClientFirst)
+    → ReadsClientFirst text (Ok client) → name ≡ client.user
+    → ReachesChallenge (with_nobody provider nobody (name ∷ [])).records text
+reaches_made_up provider nobody text name client reads same =
+    let has = has_made_up provider.records name (nobody_record nobody name) in
+    inr (
+      client,
+      has.0,
+      reads,
+      subst (λ (user : List ℕ). record_at (with_nobody provider nobody (name ∷ [])).records user
+          ≡ Some has.0) same has.1,
+    )
+
+-- behind the challenge the made-up record of its user is kept
+pub keeps_first : (provider : Provider) (nobody : Nobody) (state next : ServerState) (nonce text : List ℕ)
+    (client : ClientFirst) (answer : Option (List ℕ)) → ReadsClientFirst text (Ok client)
+    → ChallengesFrom state (with_nobody provider nobody (client.user ∷ [])) nonce text (Ok answer) next
+    → KeepsMadeUp next
+    (Some (record { version = nobody.version; records = (client.user, nobody_record nobody client.user) ∷ [] })) nobody
+keeps_first provider nobody state next nonce text client None reads answers =
+    let other = answers.0 in
+    let same = one_client_first_value text other.0 client other.1 reads in
+    let has = has_made_up provider.records client.user (nobody_record nobody client.user) in
+    let none : record_at (with_nobody provider nobody (client.user ∷ [])).records client.user ≡ None =
+    subst (λ (c : ClientFirst). record_at (with_nobody provider nobody (client.user ∷ [])).records c.user ≡ None) same
+    other.2 in
+    let both = sym none ∙ has.1 in
+    absurd (cc)
+keeps_first provider nobody state next nonce text client (Some message) reads answers =
+    let other = answers.1 in
+    let user = ap (λ (c : ClientFirst). c.user) (one_client_first_value text other.0 client other.2 reads) in
+    let kept : KeepsMadeUp (ServerFirstSent answers.0) (Some (record {
+      version = nobody.version;
+      records = (client.user, nobody_record nobody client.user) ∷ [];
+    })) nobody = ap (λ (user : List ℕ). Some (record {
+      version = nobody.version;
+      records = (user, nobody_record nobody user) ∷ [];
+    })) (sym (ap (λ (c : Challenge). c.user) other.4 ∙ user)) in
+    subst (λ (s : ServerState). KeepsMadeUp s (Some (record {
+      version = nobody.version;
+      records = (client.user, nobody_record nobody client.user) ∷ [];
+    })) nobody) (sym answers.3) kept
+
+-- the same of the code's values
+pub keeps_made_up : (provider : Provider) (nobody : Nobody) (held after : Option Provider) (state next : ServerState)
+    (nonce text : List ℕ) (client : ClientFirst) (answer : Option (List ℕ))
+    → held ≡ Some (record { version = nobody.version; records = (client.user, nobody_record nobody client.user) ∷ [] })
+    → after ≡ Some (record { version = nobody.version; records = (client.user, nobody_record nobody client.user) ∷ [] })
+    → ReadsClientFirst text (Ok client)
+    → ChallengesFrom state (followed_by provider held) nonce text (Ok answer) next → KeepsMadeUp next after nobody
+keeps_made_up provider nobody held after state next nonce text client answer is too reads answers =
+    subst (λ (made_up : Option Provider). KeepsMadeUp next made_up nobody) (sym too)
+    (keeps_first provider nobody state next nonce text client answer reads
+    (subst (λ (made_up : Option Provider). ChallengesFrom state (followed_by provider made_up) nonce text (Ok answer)
+    next) is answers))
+
+-- a message that is read is refused for want of memory alone
+pub read_or_refused : (text : List ℕ) (client : ClientFirst) (fault : ServerScramErrorKind)
+    → ReadsClientFirst text (Ok client) → ¬ ReadsClientFirst text (Err fault)
+read_or_refused text client fault reads refuses =
+    differ (one_client_first text (Ok client) (Err fault) reads refuses)
+  where
+    differ : ◌≡◌ {A = Result ClientFirst ServerScramErrorKind} (Ok client) (Err fault) → ⊥
+    differ same = absurd (cc)
+
+pub wants_costs : (A : Type 0) (text : List ℕ) (client : ClientFirst) (before after : ℕ)
+    → ReadsClientFirst text (Ok client) → after ≡ before + 3 → HidingCosts {A = A} text (Err OutOfMemory) before after
+wants_costs A text client before after reads counted = (
+  omega (counted, arith),
+  omega (counted, arith),
+  λ fault refuses. absurd (read_or_refused text client fault reads refuses),
+)
+
+pub refusal_costs : (A : Type 0) (text : List ℕ) (client : ClientFirst) (fault : ServerScramErrorKind)
+    (before after : ℕ) → ReadsClientFirst text (Ok client)
+    → (fault ≢ OutOfMemory → ReadsClientFirst text (Err fault)) → after ≡ before + 3
+    → HidingCosts {A = A} text (Err fault) before after
+refusal_costs A text client fault before after reads refuses counted =
+    go fault (λ other. read_or_refused text client fault reads (refuses other))
+  where
+    go : (fault : ServerScramErrorKind) → (fault ≢ OutOfMemory → ⊥)
+        → HidingCosts {A = A} text (Err fault) before after
+    go OutOfMemory none = wants_costs A text client before after reads counted
+    go fault none = absurd (none (λ same. absurd (cc)))
+
+-- ---- some name counts
+
+pub some_name : (text : List ℕ) → (name : List ℕ) × NamedIn text name
+some_name text = go (some_client_first text)
+  where
+    go : (answer : Result ClientFirst ServerScramErrorKind) × ReadsClientFirst text answer
+        → (name : List ℕ) × NamedIn text name
+    go (Ok client, reads) = (
+      client.user,
+      λ other too. ap (λ (c : ClientFirst). c.user) (one_client_first_value text client other reads too),
+    )
+    go (Err fault, refuses) = ([], λ other reads. absurd (read_or_refused text other fault reads refuses))
+
+pub some_user : (state : ServerState) → (name : List ℕ) × NamedBy state name
+some_user Initial = ([], tt)
+some_user (ServerFirstSent challenge) = (challenge.user, refl)
+some_user (ServerFinalSent user) = ([], tt)

@@ -1,0 +1,109 @@
+use Rattle.std.proofs.Common.{rules, ◌≡◌, ℕ, List, [], ◌∷◌, Vec, Global, Option, Some, ap, ◌∙◌}
+use Rattle.std.proofs.lemmas.Result.{err_from_is_err_and}
+use Rattle.std.specs.Cow.{cow_str_bytes}
+use Rattle.fe2o3_scram.specs.declared.scram_messages.error.ServerScramErrorKind.TheVariants.{OutOfMemory}
+use Rattle.fe2o3_scram.specs.ClientFirst.{client_first_values}
+use Rattle.fe2o3_scram.specs.Nobody.{Nobody, nobody_record}
+use Rattle.fe2o3_scram.specs.ScramServer.{state_in, provider_in}
+use Rattle.fe2o3_scram.proofs.lemmas.messages.HidingServerLemmas.{keeps_made_up, reaches_made_up, read_or_refused, refusal_costs, wants_costs}
+use Rattle.fe2o3_scram.proofs.scram_server.hiding.HidingAuthenticator.compute_server_first_message_metered.Goals as goal
+
+pub returns-in_err-made_up-clause-answer : goal.returns-in_err-made_up-clause-answer
+returns-in_err-made_up-clause-answer g c name named =
+    let from = err_from_is_err_and c.from_residual-in_err-made_up.result c.from_residual-in_err-made_up.ensures.1 in
+    let reads = c.in_ok-client_first.ensures.answer in
+    let is : from.0 ≡ OutOfMemory = search rules in
+    rw from.1 (
+      λ memory. reaches_made_up (g.C.ScramCredentialProvider.meaning c.args.self.now.credentials) c.args.self.now.nobody
+          c.args.client_first_message.now name (client_first_values c.in_ok-client_first.client_first) reads
+          (named _ reads),
+      λ other. absurd (other is),
+    )
+
+pub returns-in_err-username-clause-answer : goal.returns-in_err-username-clause-answer
+returns-in_err-username-clause-answer g c name named =
+    let from = err_from_is_err_and c.from_residual-in_err-username.result c.from_residual-in_err-username.ensures.1 in
+    let reads = c.in_ok-client_first.ensures.answer in
+    let is : from.0 ≡ OutOfMemory = search rules in
+    rw from.1 (
+      λ memory. reaches_made_up (g.C.ScramCredentialProvider.meaning c.args.self.now.credentials) c.args.self.now.nobody
+          c.args.client_first_message.now name (client_first_values c.in_ok-client_first.client_first) reads
+          (named _ reads),
+      λ other. absurd (other is),
+    )
+
+pub returns-in_err-made_up-clause-cost : goal.returns-in_err-made_up-clause-cost
+returns-in_err-made_up-clause-cost g c =
+    let from = err_from_is_err_and c.from_residual-in_err-made_up.result c.from_residual-in_err-made_up.ensures.1 in
+    let is : from.0 ≡ OutOfMemory = search rules in
+    rw (from.1, is) (wants_costs (Option (Vec ℕ Global)) c.args.client_first_message.now
+    (client_first_values c.in_ok-client_first.client_first) c.args.meter.now _ c.in_ok-client_first.ensures.answer
+    c.of_nobody_metered.ensures.counted)
+
+pub returns-in_err-username-clause-cost : goal.returns-in_err-username-clause-cost
+returns-in_err-username-clause-cost g c =
+    let from = err_from_is_err_and c.from_residual-in_err-username.result c.from_residual-in_err-username.ensures.1 in
+    let is : from.0 ≡ OutOfMemory = search rules in
+    rw (from.1, is) (wants_costs (Option (Vec ℕ Global)) c.args.client_first_message.now
+    (client_first_values c.in_ok-client_first.client_first) c.args.meter.now _ c.in_ok-client_first.ensures.answer
+    c.of_nobody_metered.ensures.counted)
+
+pub returns-in-Err-clause-cost : goal.returns-in-Err-clause-cost
+returns-in-Err-clause-cost g c =
+    refusal_costs (Option (Vec ℕ Global)) c.args.client_first_message.now (client_first_values
+    c.in_ok-client_first.client_first)
+    c.in-Err.kind c.args.meter.now _ c.in_ok-client_first.ensures.answer
+    (λ other. (c.in-Err.ensures.answer.1 other).0) c.of_nobody_metered.ensures.counted
+
+pub returns-in-Err-clause-answer : goal.returns-in-Err-clause-answer
+returns-in-Err-clause-answer g c name named =
+    let reads = c.in_ok-client_first.ensures.answer in (
+      λ memory. reaches_made_up (g.C.ScramCredentialProvider.meaning c.args.self.now.credentials) c.args.self.now.nobody
+          c.args.client_first_message.now name (client_first_values c.in_ok-client_first.client_first) reads
+          (named _ reads),
+      λ other. absurd (read_or_refused c.args.client_first_message.now
+          (client_first_values c.in_ok-client_first.client_first) c.in-Err.kind reads
+          (c.in-Err.ensures.answer.1 other).0),
+    )
+
+pub invariant_of-self : goal.invariant_of-self
+invariant_of-self g c =
+    let reads = c.in_ok-client_first.ensures.answer in
+    let user : List ℕ = cow_str_bytes c.in_ok-client_first.client_first.username in
+    let nobody : Nobody = record {
+      version = c.self.inside.scram_version;
+      secret = c.self.inside.secret.items;
+      salt_len = c.self.inside.salt_len;
+      count = c.self.inside.iterations;
+    } in
+    let made : c.new-made_up.result
+    ≡ record { version = nobody.version; records = (user, nobody_record nobody user) ∷ [] } = search rules in
+    let kept : (provider_in c.compute_server_first_message.new.self).made_up
+    ≡ Some (record { version = nobody.version; records = (user, nobody_record nobody user) ∷ [] }) = search rules in
+    keeps_made_up (g.C.ScramCredentialProvider.meaning c.self.inside.authenticator.credentials.credentials) nobody
+    c.replace-before.new.dest _
+    (state_in c.self.inside.authenticator) (state_in c.compute_server_first_message.new.self) c.args.nonce.now
+    c.args.client_first_message.now (client_first_values c.in_ok-client_first.client_first) _
+    (c.replace-before.ensures.after ∙ ap Some made) kept
+    reads c.in-Ok.ensures.answer
+
+pub invariant_of-self-in-Ok-2 : goal.invariant_of-self-in-Ok-2
+invariant_of-self-in-Ok-2 g c =
+    let reads = c.in_ok-client_first.ensures.answer in
+    let user : List ℕ = cow_str_bytes c.in_ok-client_first.client_first.username in
+    let nobody : Nobody = record {
+      version = c.self.inside.scram_version;
+      secret = c.self.inside.secret.items;
+      salt_len = c.self.inside.salt_len;
+      count = c.self.inside.iterations;
+    } in
+    let made : c.new-made_up.result
+    ≡ record { version = nobody.version; records = (user, nobody_record nobody user) ∷ [] } = search rules in
+    let kept : (provider_in c.compute_server_first_message.new.self).made_up
+    ≡ Some (record { version = nobody.version; records = (user, nobody_record nobody user) ∷ [] }) = search rules in
+    keeps_made_up (g.C.ScramCredentialProvider.meaning c.self.inside.authenticator.credentials.credentials) nobody
+    c.replace-before.new.dest _
+    (state_in c.self.inside.authenticator) (state_in c.compute_server_first_message.new.self) c.args.nonce.now
+    c.args.client_first_message.now (client_first_values c.in_ok-client_first.client_first) _
+    (c.replace-before.ensures.after ∙ ap Some made) kept
+    reads c.in-Ok.ensures.answer

@@ -1,0 +1,279 @@
+//! A SCRAM server that does not tell which users it knows.
+
+ghost use Rattle.std.specs.Prelude.{◌≡◌, ◌≤◌, ◌<◌, ◌^◌, ℕ, List, OnErr, MatchResult, option_map};
+ghost use Rattle.fe2o3_scram.specs.ScramServer.{Initial, logged_in, ChallengesFrom, ConcludesFrom, FinalCostsFrom, ReachesBase64In};
+ghost use Rattle.fe2o3_scram.specs.HidingServer.{HidingCosts, NamedBy, NamedIn, hiding_name, hiding_server};
+ghost use Rattle.fe2o3_scram.specs.Readings.{Gives};
+ghost use Rattle.fe2o3_scram.specs.ServerFirst.{ReachesChallenge};
+
+use crate::credentials::{ScramRecord, StoredScramCredential};
+use crate::hmac::{Meter, ScramVersion};
+use crate::provider::ScramCredentialProvider;
+use crate::scram_messages::ClientFirst;
+use crate::scram_messages::error::ServerScramErrorKind;
+use crate::scram_server::ScramAuthenticator;
+use crate::scram_server::hiding_store::HidingStore;
+use std::alloc::{AllocError, Global};
+use std::marker::Model;
+use std::{fmt, mem};
+use thiserror::Error;
+
+/// The longest salt that is made up, in bytes: a digest of SHA-512.
+const MAX_SALT_LEN: usize = 64;
+
+/// The salts are longer than the 64 bytes that can be made up.
+#[derive(Debug, Clone, Copy, PartialEq, Eq, Error)]
+#[error("Salt too long")]
+pub struct SaltTooLong;
+
+/// A server over a store of credentials that answers a user whom it does not know as one whom it
+/// knows: by the record that `ScramRecord::of_nobody` makes up for the name, which no login is known
+/// to meet. A client-first message opens a challenge, in place of an earlier one, and an accepted
+/// client-final message closes it. A call that is refused leaves the authenticator as it was.
+#[derive(Drop)]
+pub struct HidingAuthenticator<C: ScramCredentialProvider> {
+    authenticator: ScramAuthenticator<HidingStore<C>>,
+    scram_version: ScramVersion,
+    secret: Vec<u8>,
+    salt_len: usize,
+    iterations: u32,
+}
+
+impl<C: ScramCredentialProvider> Model for HidingAuthenticator<C> {
+    ghost use Rattle.fe2o3_scram.specs.HidingServer.{Hiding};
+    ghost use Rattle.fe2o3_scram.specs.ScramServer.{state_in, provider_in};
+    ghost use Rattle.fe2o3_scram.specs.private.MadeUp.{KeepsMadeUp};
+
+    ghost Value = { Hiding C };
+
+    ghost view = { λ hiding. record {
+      credentials = (provider_in hiding.authenticator).credentials;
+      nobody = record {
+        version = hiding.scram_version;
+        secret = hiding.secret.items;
+        salt_len = hiding.salt_len;
+        count = hiding.iterations;
+      };
+      state = state_in hiding.authenticator;
+    } };
+
+    ghost invariant = { λ hiding. KeepsMadeUp (state_in hiding.authenticator)
+        (provider_in hiding.authenticator).made_up (record {
+          version = hiding.scram_version;
+          secret = hiding.secret.items;
+          salt_len = hiding.salt_len;
+          count = hiding.iterations;
+        }) };
+}
+
+impl<C: ScramCredentialProvider> HidingAuthenticator<C> {
+    /// A server without an open challenge. What the secret has to be, `ScramRecord::of_nobody` says;
+    /// `salt_len` is the length of the salts of the store's records, in bytes, and `iterations` their
+    /// iteration count.
+    ///
+    /// The one refusal is `SaltTooLong`, where the salts are longer than 64 bytes.
+    pub fn new(
+        credentials: C,
+        secret: Vec<u8>,
+        salt_len: usize,
+        iterations: u32,
+    ) -> Result<Self, SaltTooLong>
+        ensures { MatchResult result (λ hiding. (salt_len ≤ 64) × (hiding ≡ record {
+          credentials = credentials;
+          nobody = record {
+            version = (C.meaning credentials).version;
+            secret = secret.items;
+            salt_len = salt_len;
+            count = iterations;
+          };
+          state = Initial;
+        })) (λ _. 64 < salt_len) }
+    {
+        if salt_len > MAX_SALT_LEN {
+            return Err(SaltTooLong);
+        }
+        let scram_version = *credentials.scram_version();
+        Ok(Self {
+            authenticator: ScramAuthenticator::new(HidingStore {
+                credentials,
+                made_up: None,
+            }),
+            scram_version,
+            secret,
+            salt_len,
+            iterations,
+        })
+    }
+
+    /// The store of credentials.
+    pub fn credentials(&self) -> &C
+        ensures { result.now ≡ self.now.credentials }
+    {
+        &self.authenticator.credentials.credentials
+    }
+
+    /// The name of the user who has logged in, as `user` of `ScramAuthenticator` tells it.
+    pub fn user(&self) -> Option<&str>
+        ensures { option_map (λ user. user.now) result ≡ logged_in self.now.state }
+    {
+        self.authenticator.user()
+    }
+
+    /// Answers a client-first message with the server-first message (RFC 5802, sections 5 and 7), of an
+    /// unknown user as of a known one, and never with `None`. The message is the client's text as it
+    /// came, with its GS2 header. The nonce is 32 bytes, which no exchange before had.
+    ///
+    /// The refusals are those of `ClientFirst::parse`, in its order, whatever the state.
+    /// `OutOfMemory` is answered only where the user name is escaped, or where the message is read.
+    pub fn compute_server_first_message(
+        &mut self,
+        alloc: Global,
+        client_first_message: &[u8],
+        nonce: &[u8; 32],
+    ) -> Result<Option<Vec<u8>>, ServerScramErrorKind>
+        ensures answer { (name : List ℕ) → NamedIn client_first_message.now name
+            → Gives ServerScramErrorKind.OutOfMemory
+            (ReachesChallenge (hiding_name (hiding_server C.meaning self.old) name).records client_first_message.now)
+            (option_map (λ message. message.items)) result
+            (λ answer. ChallengesFrom self.old.state
+            (hiding_name (hiding_server C.meaning self.old) name) nonce.now client_first_message.now answer
+            self.new.state) }
+        ensures provider { self.new.credentials ≡ self.old.credentials }
+        ensures nobody { self.new.nobody ≡ self.old.nobody }
+        ensures err { OnErr result (self.new.state ≡ self.old.state) }
+    {
+        self.compute_server_first_message_metered(
+            alloc,
+            client_first_message,
+            nonce,
+            &mut Meter::new(),
+        )
+    }
+
+    /// As `compute_server_first_message`. The meter, of at most 2^63, counts the HMAC values: three
+    /// where the message is read, of a known user too, none where it is refused, and at most so many
+    /// where memory ran out.
+    pub fn compute_server_first_message_metered(
+        &mut self,
+        alloc: Global,
+        client_first_message: &[u8],
+        nonce: &[u8; 32],
+        meter: &mut Meter,
+    ) -> Result<Option<Vec<u8>>, ServerScramErrorKind>
+        requires { meter.old ≤ 2 ^ 63 }
+        ensures answer { (name : List ℕ) → NamedIn client_first_message.now name
+            → Gives ServerScramErrorKind.OutOfMemory
+            (ReachesChallenge (hiding_name (hiding_server C.meaning self.old) name).records client_first_message.now)
+            (option_map (λ message. message.items)) result
+            (λ answer. ChallengesFrom self.old.state
+            (hiding_name (hiding_server C.meaning self.old) name) nonce.now client_first_message.now answer
+            self.new.state) }
+        ensures provider { self.new.credentials ≡ self.old.credentials }
+        ensures nobody { self.new.nobody ≡ self.old.nobody }
+        ensures err { OnErr result (self.new.state ≡ self.old.state) }
+        ensures cost { HidingCosts client_first_message.now result meter.old meter.new }
+    {
+        let client_first = ClientFirst::parse(alloc, client_first_message)?;
+        let made_up = ScramRecord::of_nobody_metered(
+            alloc,
+            self.scram_version,
+            &self.secret,
+            &client_first.username,
+            self.salt_len,
+            self.iterations,
+            meter,
+        )?;
+        let username = client_first.username.into_owned(alloc)?;
+        let made_up = StoredScramCredential::new(username, made_up);
+        let before = mem::replace(&mut self.authenticator.credentials.made_up, Some(made_up));
+        match self
+            .authenticator
+            .compute_server_first_message(alloc, client_first_message, nonce)
+        {
+            Ok(answer) => Ok(answer),
+            Err(kind) => {
+                self.authenticator.credentials.made_up = before;
+                Err(kind)
+            }
+        }
+    }
+
+    /// Answers a client-final message with the server-final message (RFC 5802, sections 5 and 7), and
+    /// never with `None`. The message is the client's text as it came.
+    ///
+    /// Refused are what `compute_server_final_message` of `ScramAuthenticator` refuses, in its order,
+    /// where the store has the made-up record of the open challenge's user behind its own.
+    pub fn compute_server_final_message(
+        &mut self,
+        alloc: Global,
+        client_final_message: &[u8],
+    ) -> Result<Option<Vec<u8>>, ServerScramErrorKind>
+        ensures answer { (name : List ℕ) → NamedBy self.old.state name
+            → Gives ServerScramErrorKind.OutOfMemory
+            (ReachesBase64In self.old.state (hiding_name (hiding_server C.meaning self.old) name)
+            client_final_message.now)
+            (option_map (λ message. message.items)) result
+            (λ answer. ConcludesFrom self.old.state
+            (hiding_name (hiding_server C.meaning self.old) name) client_final_message.now answer
+            self.new.state) }
+        ensures provider { self.new.credentials ≡ self.old.credentials }
+        ensures nobody { self.new.nobody ≡ self.old.nobody }
+        ensures err { OnErr result (self.new.state ≡ self.old.state) }
+    {
+        self.compute_server_final_message_metered(alloc, client_final_message, &mut Meter::new())
+    }
+
+    /// As `compute_server_final_message`. The meter, of at most 2^63, counts the HMAC values, also of
+    /// a refusal.
+    pub fn compute_server_final_message_metered(
+        &mut self,
+        alloc: Global,
+        client_final_message: &[u8],
+        meter: &mut Meter,
+    ) -> Result<Option<Vec<u8>>, ServerScramErrorKind>
+        requires { meter.old ≤ 2 ^ 63 }
+        ensures answer { (name : List ℕ) → NamedBy self.old.state name
+            → Gives ServerScramErrorKind.OutOfMemory
+            (ReachesBase64In self.old.state (hiding_name (hiding_server C.meaning self.old) name)
+            client_final_message.now)
+            (option_map (λ message. message.items)) result
+            (λ answer. ConcludesFrom self.old.state
+            (hiding_name (hiding_server C.meaning self.old) name) client_final_message.now answer
+            self.new.state) }
+        ensures provider { self.new.credentials ≡ self.old.credentials }
+        ensures nobody { self.new.nobody ≡ self.old.nobody }
+        ensures err { OnErr result (self.new.state ≡ self.old.state) }
+        ensures cost { (name : List ℕ) → NamedBy self.old.state name
+            → FinalCostsFrom self.old.state (hiding_name (hiding_server C.meaning self.old) name)
+            client_final_message.now result meter.old meter.new }
+    {
+        self.authenticator
+            .compute_server_final_message_metered(alloc, client_final_message, meter)
+    }
+}
+
+impl<C: ScramCredentialProvider> fmt::Debug for HidingAuthenticator<C> {
+    /// The version, without the store of credentials, the secret and the state.
+    fn fmt<W: fmt::Write>(&self, f: &mut fmt::Formatter<W>) -> fmt::Result {
+        write!(
+            f,
+            "HidingAuthenticator {{ scram_version: {:?}, .. }}",
+            self.scram_version
+        )
+    }
+}
+
+impl<C: ScramCredentialProvider> Clone for HidingAuthenticator<C> {
+    ghost is_clone = { λ hiding copy. C.is_clone hiding.credentials copy.credentials
+        × (copy.nobody ≡ hiding.nobody) × (copy.state ≡ hiding.state) };
+
+    fn clone(&self) -> Result<Self, AllocError> {
+        Ok(Self {
+            authenticator: self.authenticator.clone()?,
+            scram_version: self.scram_version,
+            secret: self.secret.clone()?,
+            salt_len: self.salt_len,
+            iterations: self.iterations,
+        })
+    }
+}
