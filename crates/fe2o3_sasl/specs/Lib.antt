@@ -9,6 +9,7 @@ pub mod ProfileFaults
 pub mod Profiles
 pub mod SaslProfile
 pub mod Costs
+pub mod HidingAcceptor
 pub mod Runs
 pub mod Hex
 pub mod TwoSides
@@ -18,6 +19,7 @@ pub mod Laws
 pub mod MechanismLaws
 pub mod StepLaws
 pub mod CostLaws
+pub mod HidingLaws
 pub mod Headline
 pub mod examples
 pub mod private
@@ -29,6 +31,7 @@ pub use Rattle.fe2o3_scram.specs.Pbkdf2Hi
 pub use Rattle.fe2o3_scram.specs.Keys
 pub use Rattle.fe2o3_scram.specs.Credentials
 pub use Rattle.fe2o3_scram.specs.Stores
+pub use Rattle.fe2o3_scram.specs.Nobody
 pub use Rattle.fe2o3_scram.specs.RecordText
 pub use Rattle.fe2o3_scram.specs.RecordLines
 pub use Rattle.fe2o3_scram.specs.Readings
@@ -42,5 +45,6 @@ pub use Rattle.fe2o3_scram.specs.ClientKeys
 pub use Rattle.fe2o3_scram.specs.ClientSecret
 pub use Rattle.fe2o3_scram.specs.ScramClient
 pub use Rattle.fe2o3_scram.specs.ScramServer
+pub use Rattle.fe2o3_scram.specs.HidingServer
 pub use Rattle.fe2o3_scram.specs.Exchanges
 pub use Rattle.fe2o3_scram.specs.Logins
