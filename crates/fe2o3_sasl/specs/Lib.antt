@@ -14,6 +14,7 @@ pub mod Profiles
 pub mod SaslProfile
 pub mod ClientPolicy
 pub mod Costs
+pub mod HidingAcceptor
 pub mod Runs
 pub mod Hex
 pub mod TwoSides
@@ -24,6 +25,7 @@ pub mod MechanismLaws
 pub mod OneOfLaws
 pub mod StepLaws
 pub mod CostLaws
+pub mod HidingLaws
 pub mod Headline
 pub mod examples
 pub mod private
@@ -35,6 +37,7 @@ pub use Rattle.fe2o3_scram.specs.Pbkdf2Hi
 pub use Rattle.fe2o3_scram.specs.Keys
 pub use Rattle.fe2o3_scram.specs.Credentials
 pub use Rattle.fe2o3_scram.specs.Stores
+pub use Rattle.fe2o3_scram.specs.Nobody
 pub use Rattle.fe2o3_scram.specs.RecordText
 pub use Rattle.fe2o3_scram.specs.RecordLines
 pub use Rattle.fe2o3_scram.specs.Readings
@@ -48,5 +51,6 @@ pub use Rattle.fe2o3_scram.specs.ClientKeys
 pub use Rattle.fe2o3_scram.specs.ClientSecret
 pub use Rattle.fe2o3_scram.specs.ScramClient
 pub use Rattle.fe2o3_scram.specs.ScramServer
+pub use Rattle.fe2o3_scram.specs.HidingServer
 pub use Rattle.fe2o3_scram.specs.Exchanges
 pub use Rattle.fe2o3_scram.specs.Logins

@@ -11,6 +11,8 @@ ghost use Rattle.fe2o3_scram.specs.ScramServer.{provider_in, state_in, logged_in
 ghost use Rattle.fe2o3_sasl.specs.Costs.{acceptor_hmacs, CostsAtMost};
 ghost use Rattle.fe2o3_sasl.specs.SaslAcceptor.{Acceptor, ScramAcceptor, PlainAcceptor, AnonymousAcceptor, acceptor_names, acceptor_machine, acceptor_allocates, acceptor_user, offered, NamesPlain, ZeroPart, ends_with, server_frame, plain_acceptor, sent_frame};
 
+mod hiding;
+
 use crate::OutOfMemory;
 use crate::mechanism_names::{ANONYMOUS, PLAIN, symbol_of};
 use fe2o3_sasl_wire::{

@@ -1,4 +1,5 @@
 pub mod ClientMachineLemmas
+pub mod HidingRunLemmas
 pub mod KeyedRunLemmas
 pub mod MechanismLemmas
 pub mod MemoryLemmas
