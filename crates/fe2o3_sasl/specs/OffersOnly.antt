@@ -18,7 +18,8 @@ offering_names names offering = filter (has_name offering.allowed) (names offeri
 
 -- whether a frame is passed on: of the inits those of a mechanism that is offered
 abbrev pub is_passed_on : {S : Type 0} → (S → List (List ℕ)) → Offering S → SaslFrame → Bool
-is_passed_on names offering (frames.Init mechanism response hostname) = has_name (offering_names names offering) mechanism
+is_passed_on names offering (frames.Init mechanism response hostname) =
+    has_name (offering_names names offering) mechanism
 is_passed_on names offering frame = true
 
 -- a frame that is passed on is answered by the acceptor, and else by Auth

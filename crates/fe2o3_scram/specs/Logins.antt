@@ -1,5 +1,5 @@
--- What an accepted message means to who calls the machines, in the words of the headline (RFC 5802, section 5). Each law
--- is the contract of a clause of `laws::accepted_messages`.
+-- What an accepted message means to who calls the machines, in the words of the headline (RFC 5802, section 5). Each
+-- law is the contract of a clause of `laws::accepted_messages`.
 use Rattle.std.specs.Prelude.{◌≡◌, ℕ, Option, Some, List, Ok}
 use Rattle.fe2o3_scram.specs.ClientFinal.{ClientFinal, ReadsClientFinal, server_of}
 use Rattle.fe2o3_scram.specs.ClientKeys.{ClientKeys}
