@@ -13,7 +13,7 @@ use Rattle.fe2o3_sasl.specs.declared.client_policy.ClientPolicy.{ClientPolicy}
 use Rattle.fe2o3_sasl.specs.declared.client_policy.Mechanism.{Mechanism}
 use Rattle.fe2o3_sasl.specs.declared.client_policy.Mechanism.TheVariants.{ScramSha512, ScramSha256, ScramSha1, External, Plain, Anonymous}
 
--- the mechanisms of clients, the strongest first
+-- the mechanisms of clients, the strongest first: no standard orders them all, so this order is this library's own
 abbrev pub by_strength : List Mechanism
 by_strength = ScramSha512 ∷ ScramSha256 ∷ ScramSha1 ∷ External ∷ Plain ∷ Anonymous ∷ []
 
@@ -26,7 +26,7 @@ name_of External = codes "EXTERNAL"
 name_of Plain = codes "PLAIN"
 name_of Anonymous = codes "ANONYMOUS"
 
--- whether a policy allows it: SCRAM by hashes that are no weaker than the policy's, and the others where it says so
+-- SCRAM by hashes that are no weaker than this one's; it is asked of SCRAM alone
 abbrev pub is_allowed_from : ScramVersion → Mechanism → Bool
 is_allowed_from Sha1 mechanism = true
 is_allowed_from Sha256 ScramSha1 = false
@@ -34,19 +34,21 @@ is_allowed_from Sha256 mechanism = true
 is_allowed_from Sha512 ScramSha512 = true
 is_allowed_from Sha512 mechanism = false
 
+-- whether a policy allows it: SCRAM from its floor on, and the others where it says so
 abbrev pub is_allowed : ClientPolicy → Mechanism → Bool
 is_allowed policy External = policy.external
 is_allowed policy Plain = policy.plain
 is_allowed policy Anonymous = policy.anonymous
 is_allowed policy mechanism = is_allowed_from policy.floor mechanism
 
--- what a secret is for SCRAM of a version (RFC 5802, section 3): keys serve only for the version that they are of
+-- the one or the other, by whether keys of the second version are of the first
 abbrev pub keys_for : ScramVersion → ScramVersion → Option Secret → Option Secret → Option Secret
 keys_for Sha1 Sha1 same other = same
 keys_for Sha256 Sha256 same other = same
 keys_for Sha512 Sha512 same other = same
 keys_for version of same other = other
 
+-- what a secret is for SCRAM of a version (RFC 5802, section 3): keys serve only for the version that they are of
 abbrev pub secret_for : ScramVersion → Secret → Option Secret
 secret_for version (Password password) = Some (Password password)
 secret_for version (Keys keys) = keys_for version keys.version (Some (Keys keys)) None
@@ -68,6 +70,7 @@ abbrev pub scram_by : IterationLimits → List ℕ → ScramVersion → Option S
 scram_by limits user version None = None
 scram_by limits user version (Some secret) = Some (ScramProfile (with_limits (fresh_client user version secret) limits))
 
+-- and by PLAIN (RFC 4616, section 2), which sends the password
 abbrev pub plain_by : List ℕ → Secret → Option Profile
 plain_by user (Password password) = Some (PlainProfile user password)
 plain_by user (Keys keys) = None

@@ -31,11 +31,12 @@ external_machine external nonce (frames.Response text) reply next =
     (reply ≡ ends_with outcomes.Auth) × (next ≡ external)
 external_machine external nonce frame reply next = ⊥
 
--- who has logged in
+-- this name where it is so, and else none
 abbrev pub named_where : Bool → List ℕ → Option (List ℕ)
 named_where true user = Some user
 named_where false user = None
 
+-- who has logged in: the name, once an init was accepted
 abbrev pub external_user : External → Option (List ℕ)
 external_user external = named_where external.accepted external.user
 

@@ -9,6 +9,7 @@ pub mod OneOf
 pub mod OffersOnly
 pub mod OneOfSides
 pub mod ExternalAcceptor
+pub mod PlainAuthenticator
 pub mod ProfileFaults
 pub mod Profiles
 pub mod SaslProfile

@@ -36,17 +36,18 @@ abbrev pub offering_machine : {S : Type 0} → (S → List (List ℕ)) → (S �
 offering_machine names machine offering nonce frame reply next =
     OfferingReplies machine offering (is_passed_on names offering frame) nonce frame reply next
 
--- where it asks for memory, and how many HMAC values it makes: as the acceptor does with what is passed on
+-- where it asks for memory: as the acceptor does with what is passed on
 abbrev pub offering_allocates : {S : Type 0} → (S → List (List ℕ)) → (S → SaslFrame → Type 0) → Offering S → SaslFrame
     → Type 0
 offering_allocates names allocates offering frame =
     (is_passed_on names offering frame ≡ true) × allocates offering.inner frame
 
--- none are made for what is not passed on
+-- so many where it is so, and else none
 abbrev pub TakesWhere : Bool → (ℕ → Type 0) → ℕ → Type 0
 TakesWhere true takes n = takes n
 TakesWhere false takes n = n ≡ 0
 
+-- how many HMAC values it makes (RFC 5802, section 3): as many as the acceptor does with what is passed on
 abbrev pub offering_hmacs : {S : Type 0} → (S → List (List ℕ)) → (S → SaslFrame → ℕ → Type 0) → Offering S → SaslFrame
     → ℕ → Type 0
 offering_hmacs names hmacs offering frame n =

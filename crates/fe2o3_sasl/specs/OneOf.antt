@@ -56,24 +56,27 @@ abbrev pub one_of_machine : {S T : Type 0} → (S → List (List ℕ)) → (T �
 one_of_machine names others machine other parts nonce frame reply next =
     PartReplies machine other parts (part_for names others parts frame) nonce frame reply next
 
--- where memory is asked for, and how many HMAC values are made: as the part does that the frame goes to
+-- this part asks for memory; none does for what goes to neither
 abbrev pub PartAllocates : {S T : Type 0} → (S → SaslFrame → Type 0) → (T → SaslFrame → Type 0) → Parts S T
     → Option Part → SaslFrame → Type 0
 PartAllocates allocates other parts None frame = ⊥
 PartAllocates allocates other parts (Some First) frame = allocates parts.first frame
 PartAllocates allocates other parts (Some Second) frame = other parts.second frame
 
+-- where both together ask for memory: where the part does that the frame goes to
 abbrev pub one_of_allocates : {S T : Type 0} → (S → List (List ℕ)) → (T → List (List ℕ)) → (S → SaslFrame → Type 0)
     → (T → SaslFrame → Type 0) → Parts S T → SaslFrame → Type 0
 one_of_allocates names others allocates other parts frame =
     PartAllocates allocates other parts (part_for names others parts frame) frame
 
+-- this part makes so many HMAC values, and none are made for what goes to neither
 abbrev pub PartTakes : {S T : Type 0} → (S → SaslFrame → ℕ → Type 0) → (T → SaslFrame → ℕ → Type 0) → Parts S T
     → Option Part → SaslFrame → ℕ → Type 0
 PartTakes hmacs other parts None frame n = n ≡ 0
 PartTakes hmacs other parts (Some First) frame n = hmacs parts.first frame n
 PartTakes hmacs other parts (Some Second) frame n = other parts.second frame n
 
+-- how many both together make (RFC 5802, section 3): as many as the part does that the frame goes to
 abbrev pub one_of_hmacs : {S T : Type 0} → (S → List (List ℕ)) → (T → List (List ℕ)) → (S → SaslFrame → ℕ → Type 0)
     → (T → SaslFrame → ℕ → Type 0) → Parts S T → SaslFrame → ℕ → Type 0
 one_of_hmacs names others hmacs other parts frame n =

@@ -66,8 +66,8 @@ impl Mechanism {
     }
 }
 
-/// Which mechanisms a client may log in by. An offer can be altered on its way: a server's own cannot take
-/// the client below what is allowed here.
+/// Which mechanisms a client may log in by. An offer can be altered on its way, but whatever it says, the
+/// client takes nothing that is not allowed here.
 #[derive(Clone, Copy, Debug, PartialEq, Eq)]
 pub struct ClientPolicy {
     floor: ScramVersion,

@@ -18,6 +18,7 @@ pub mod laws;
 mod mechanism_names;
 pub mod offers_only;
 pub mod one_of;
+pub mod plain_authenticator;
 pub mod runs;
 pub mod sasl_acceptor;
 pub mod sasl_profile;
@@ -29,6 +30,7 @@ pub use crate::client_policy::{ChoiceError, ClientPolicy, Mechanism, best_profil
 pub use crate::external_acceptor::ExternalAcceptor;
 pub use crate::offers_only::{OfferError, OffersOnly};
 pub use crate::one_of::{HasMechanism, OneOf, Part};
+pub use crate::plain_authenticator::{MAX_PASSWORD_LEN, PlainAuthenticator};
 pub use crate::runs::{
     ClientReply, Event, EventError, ServerReply, acceptor_body_step, acceptor_step,
     acceptor_step_metered, profile_body_step, profile_step, profile_step_metered, run_acceptor,

@@ -72,6 +72,8 @@ impl<A: HasMechanism> OffersOnly<A> {
         ensures some { IfOk result (λ offering. offering_names A.names (offering_of A.state offering) ≢ []) }
         ensures err { IfErr result (λ error. error ≡ OfferError.NothingOffered
             → filter (has_name (map (λ name. name.now) names.now)) (A.names (A.state acceptor)) ≡ []) }
+        ensures memory { IfErr result (λ error. error ≡ OfferError.OutOfMemory
+            → filter (has_name (map (λ name. name.now) names.now)) (A.names (A.state acceptor)) ≢ []) }
     {
         if !has_one(&acceptor, names) {
             return Err(OfferError::NothingOffered);
@@ -83,7 +85,9 @@ impl<A: HasMechanism> OffersOnly<A> {
     }
 
     /// The acceptor.
-    pub fn acceptor(&self) -> &A {
+    pub fn acceptor(&self) -> &A
+        ensures { A.state result.now ≡ (offering_of A.state self.now).inner }
+    {
         &self.acceptor
     }
 

@@ -125,17 +125,6 @@ impl SaslProfile {
         ))
     }
 
-    /// SCRAM by this client.
-    pub(crate) fn scram_of(client: ScramClient) -> SaslProfile
-        ensures { profile_of result ≡ ScramProfile client }
-    {
-        match client.version() {
-            ScramVersion::Sha1 => SaslProfile::ScramSha1(SaslScramSha1::of(client)),
-            ScramVersion::Sha256 => SaslProfile::ScramSha256(SaslScramSha256::of(client)),
-            ScramVersion::Sha512 => SaslProfile::ScramSha512(SaslScramSha512::of(client)),
-        }
-    }
-
     /// The client of a profile of SCRAM.
     fn client(&self) -> Option<&ScramClient>
         ensures state { MatchOption result (profile_state (profile_of self.now) ≡ Initial)

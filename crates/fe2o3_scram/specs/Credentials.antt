@@ -7,7 +7,7 @@ use Rattle.fe2o3_scram.specs.declared.keys.RecordError.{RecordError}
 use Rattle.fe2o3_scram.specs.declared.keys.RecordError.TheVariants.{NormalizeError, ZeroIterations, OutOfMemory}
 use Rattle.fe2o3_scram.specs.Keys.{client_key, stored_key, server_key}
 use Rattle.fe2o3_scram.specs.Pbkdf2Hi.{salted_of}
-use Rattle.fe2o3_scram.specs.Readings.{Reads}
+use Rattle.fe2o3_scram.specs.Readings.{NoneHolds, Reads}
 use Rattle.fe2o3_scram.specs.SaslprepAscii.{IsPrintable}
 
 -- what is kept of a password (RFC 5802, section 3)
@@ -53,6 +53,18 @@ abbrev pub MakingCosts : {A : Type 0} → ℕ → Result A RecordError → ℕ �
 MakingCosts count (Ok made) before after = after ≡ before + (count + 2)
 MakingCosts count (Err OutOfMemory) before after = (before ≤ after) × (after ≤ before + (count + 2))
 MakingCosts count (Err fault) before after = after ≡ before
+
+-- a password meets a record (RFC 5802, section 3): no test refuses it with the record's count, and the record that is
+-- made of it with this salt and this count is the same
+abbrev pub MeetsRecord : ScramVersion → List ℕ → Record → Type 0
+MeetsRecord version password stored = NoneHolds (making_tests password stored.count)
+    × (record_of version password stored.salt stored.count ≡ stored)
+
+-- the HMAC values of that test (RFC 5802, section 3), as a meter shows them before and after: those of making the
+-- record, and none where a test refuses it
+abbrev pub CheckingCosts : List ℕ → ℕ → ℕ → ℕ → Type 0
+CheckingCosts password count before after = (NoneHolds (making_tests password count) → after ≡ before + (count + 2))
+    × (¬ NoneHolds (making_tests password count) → after ≡ before)
 
 -- a finite map from user names to records (RFC 5802, section 3): of the pairs of one name the first counts
 abbrev pub Records : Type 0

@@ -8,6 +8,7 @@ ghost use Rattle.fe2o3_scram.specs.SaslprepAscii.{IsPrintable};
 pub mod mixed_credentials;
 pub mod mixed_lines;
 pub mod nobody;
+pub mod password_check;
 pub mod record_lines;
 pub mod record_text;
 pub mod scram_credentials;

@@ -5,6 +5,8 @@ pub mod MechanismLemmas
 pub mod MemoryLemmas
 pub mod OneReplyLemmas
 pub mod ServerMachineLemmas
+pub mod PlainMessageLemmas
+pub mod PlainAuthenticatorLemmas
 pub mod PlainRunLemmas
 pub mod ZeroPartLemmas
 pub mod SomeReplyLemmas

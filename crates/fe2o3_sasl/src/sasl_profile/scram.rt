@@ -7,7 +7,9 @@ ghost use Rattle.fe2o3_scram.specs.ClientSecret.{Keys, Both, no_limit, up_to};
 ghost use Rattle.fe2o3_scram.specs.ScramClient.{Initial, login_keys, with_limits};
 ghost use Rattle.fe2o3_sasl.specs.Profiles.{ScramProfile, scram_profile};
 ghost use Rattle.fe2o3_sasl.specs.Runs.{login_of};
+ghost use Rattle.fe2o3_sasl.specs.SaslProfile.{profile_of};
 
+use super::SaslProfile;
 use fe2o3_scram::client_keys::ScramClientKeys;
 use fe2o3_scram::hmac::ScramVersion;
 use fe2o3_scram::scram_client::ScramClient;
@@ -198,5 +200,18 @@ impl<V: OfVersion> fmt::Debug for SaslScram<V> {
             ScramVersion::Sha512 => "SaslScramSha512",
         };
         f.debug_struct(name).field("client", &self.client).finish()
+    }
+}
+
+impl SaslProfile {
+    /// SCRAM by this client, of the client's version.
+    pub(crate) fn scram_of(client: ScramClient) -> SaslProfile
+        ensures { profile_of result ≡ ScramProfile client }
+    {
+        match client.version() {
+            ScramVersion::Sha1 => SaslProfile::ScramSha1(SaslScramSha1::of(client)),
+            ScramVersion::Sha256 => SaslProfile::ScramSha256(SaslScramSha256::of(client)),
+            ScramVersion::Sha512 => SaslProfile::ScramSha512(SaslScramSha512::of(client)),
+        }
     }
 }

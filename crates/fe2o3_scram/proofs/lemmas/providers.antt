@@ -1,3 +1,4 @@
 pub mod ByNameLemmas
 pub mod HidingLemmas
 pub mod LookUpLemmas
+pub mod PasswordLemmas

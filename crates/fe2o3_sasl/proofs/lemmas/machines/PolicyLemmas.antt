@@ -90,5 +90,7 @@ pub scram_by_client : (limits : IterationLimits) (user : List ℕ) (version : Sc
     (client : ClientSide) → Some client ≡ option_map (fresh_client user version) secret
     → Some (ScramProfile (with_limits client limits)) ≡ scram_by limits user version secret
 scram_by_client limits user version (Some secret) client is =
-    ap (λ (found : Option ClientSide). option_map (λ (side : ClientSide). ScramProfile (with_limits side limits)) found) is
+    ap
+    (λ (found : Option ClientSide). option_map (λ (side : ClientSide). ScramProfile (with_limits side limits)) found)
+    is
 scram_by_client limits user version None client is = grind (arith, is)

@@ -1,4 +1,3 @@
-use Rattle.std.proofs.Common.{◌<◌, length}
 use Rattle.fe2o3_sasl.proofs.lemmas.machines.NameLemmas.{nothing, nothing_at, something_at}
 use Rattle.fe2o3_sasl.proofs.offers_only.has_one.Goals as goal
 

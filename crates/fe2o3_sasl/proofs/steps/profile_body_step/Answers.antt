@@ -12,7 +12,8 @@ event_of body nonce = record { body = body; nonce = nonce }
 
 pub returns-in-Err-clause-step : goal.returns-in-Err-clause-step
 returns-in-Err-clause-step c =
-    profile_unreadable (shown c.args.hostname) (profile_of c.args.profile.now) (event_of c.args.body.now c.args.nonce.now) c.in-Err.fault
+    profile_unreadable (shown c.args.hostname) (profile_of c.args.profile.now)
+    (event_of c.args.body.now c.args.nonce.now) c.in-Err.fault
     c.in-Err.ensures.reads
 
 pub returns-clause-step : goal.returns-clause-step
@@ -24,11 +25,13 @@ returns-clause-step c =
 
 pub returns-in-Err-clause-cost : goal.returns-in-Err-clause-cost
 returns-in-Err-clause-cost c =
-    unread_profile_costs (profile_of c.args.profile.now) (event_of c.args.body.now c.args.nonce.now) c.in-Err.fault _ c.args.meter.now
+    unread_profile_costs (profile_of c.args.profile.now) (event_of c.args.body.now c.args.nonce.now) c.in-Err.fault _
+    c.args.meter.now
     c.in-Err.ensures.reads
 
 pub returns-clause-cost : goal.returns-clause-cost
 returns-clause-cost c =
-    profile_step_costs (profile_of c.args.profile.now) (event_of c.args.body.now c.args.nonce.now) (viewed_frame c.in-Ok.read.0)
+    profile_step_costs (profile_of c.args.profile.now) (event_of c.args.body.now c.args.nonce.now)
+    (viewed_frame c.in-Ok.read.0)
     c.in-Ok.read.1 c.answer_view.result c.args.meter.now c.answer_view.new.meter
     c.in-Ok.ensures.reads c.answer_view.ensures.cost

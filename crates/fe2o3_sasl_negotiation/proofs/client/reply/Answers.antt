@@ -23,7 +23,8 @@ returns-in-Some-clause-ok c =
 pub returns-in-Ok-clause-ok : goal.returns-in-Ok-clause-ok
 returns-in-Ok-clause-ok c =
     let event : Given = record { body = c.args.body.now; nonce = c.args.nonce.now } in
-    asked (shown c.args.hostname) c.args.turn (profile_of c.args.profile.now) (profile_of c.profile_body_step.new.profile) event
+    asked (shown c.args.hostname) c.args.turn (profile_of c.args.profile.now)
+    (profile_of c.profile_body_step.new.profile) event
     (client_reply c.in-Ok.reply) c.args.out.now.items c.send_reply.new.out.items c.send_reply.result
     c.in_default.ensures (rw c.in-Ok.is at c.profile_body_step.ensures.step)
     (rw c.in_ok-reserve.ensures.items at c.send_reply.ensures)
@@ -38,7 +39,8 @@ pub returns-in-Err-clause-ok : goal.returns-in-Err-clause-ok
 returns-in-Err-clause-ok c =
     let event : Given = record { body = c.args.body.now; nonce = c.args.nonce.now } in
     rw c.in_ok-reserve.ensures.items
-    (asked_in_vain (shown c.args.hostname) c.args.turn (profile_of c.args.profile.now) (profile_of c.profile_body_step.new.profile)
+    (asked_in_vain (shown c.args.hostname) c.args.turn (profile_of c.args.profile.now)
+    (profile_of c.profile_body_step.new.profile)
     event c.in-Err.fault c.args.out.now.items c.refuse.result c.in_default.ensures
     (rw c.in-Err.is at c.profile_body_step.ensures.step) c.refuse.ensures.ok)
 
@@ -52,7 +54,8 @@ pub returns-in-Err-clause-unchanged : goal.returns-in-Err-clause-unchanged
 returns-in-Err-clause-unchanged c =
     let event : Given = record { body = c.args.body.now; nonce = c.args.nonce.now } in
     always c.refuse.result
-    (step_refused (shown c.args.hostname) (profile_of c.args.profile.now) (profile_of c.profile_body_step.new.profile) event
+    (step_refused (shown c.args.hostname) (profile_of c.args.profile.now) (profile_of c.profile_body_step.new.profile)
+    event
     (client_fault c.in-Err.fault) (rw c.in-Err.is at c.profile_body_step.ensures.step))
   where
     always : {A E P : Type 0} (result : Result A E) → P → OnErr result P

@@ -5,6 +5,7 @@ use Rattle.fe2o3_sasl_negotiation.proofs.client.ClientNegotiation.receive.Goals 
 
 pub returns-clause-moves : goal.returns-clause-moves
 returns-clause-moves c =
-    moves_on (ClientAnswers (hostname_in c.args.self.now)) (client_side c.args.self.now) (client_side c.take_bytes.new.self)
+    moves_on (ClientAnswers (hostname_in c.args.self.now)) (client_side c.args.self.now)
+    (client_side c.take_bytes.new.self)
     c.args.bytes.now c.args.nonce.now c.args.out.now.items c.take_bytes.new.out.items c.take_bytes.result
     c.args.self.now.part c.take_bytes.ensures.ok

@@ -17,7 +17,8 @@ returns-in-Ok-clause-ok g c =
     (hiding_server m.meaning c.compute_server_first_message_metered.new.self)
     (ap (λ p. m.meaning p) c.compute_server_first_message_metered.ensures.provider)
     c.compute_server_first_message_metered.ensures.nobody (search rules)
-    (Ok ((option_map (λ (message : Vec ℕ Global). message.items)) c.in-Ok.answer)) (sent_frame c.challenge.result) answers c.challenge.ensures)
+    (Ok ((option_map (λ (message : Vec ℕ Global). message.items)) c.in-Ok.answer)) (sent_frame c.challenge.result)
+    answers c.challenge.ensures)
 
 pub returns-clause-ok : goal.returns-clause-ok
 returns-clause-ok g c =
@@ -27,9 +28,11 @@ returns-clause-ok g c =
     c.in-Some.client_first.0.items (option_map string_bytes c.args.init.hostname)
     (hiding_server m.meaning c.compute_server_first_message_metered.new.self)
     (ap (λ p. m.meaning p) c.compute_server_first_message_metered.ensures.provider)
-    c.compute_server_first_message_metered.ensures.nobody (search rules) (λ name. ReachesChallenge (hiding_name (hiding_server m.meaning c.args.self.now) name).records
+    c.compute_server_first_message_metered.ensures.nobody (search rules)
+    (λ name. ReachesChallenge (hiding_name (hiding_server m.meaning c.args.self.now) name).records
     c.in-Some.client_first.0.items)
-    sent_frame (option_map (λ (message : Vec ℕ Global). message.items)) c.in-Err.kind c.refusal.result answers c.refusal.ensures.auth)
+    sent_frame (option_map (λ (message : Vec ℕ Global). message.items)) c.in-Err.kind c.refusal.result answers
+    c.refusal.ensures.auth)
 
 pub returns-clause-memory : goal.returns-clause-memory
 returns-clause-memory g c =
@@ -40,7 +43,8 @@ returns-clause-memory g c =
     (hiding_server m.meaning c.compute_server_first_message_metered.new.self)
     (ap (λ p. m.meaning p) c.compute_server_first_message_metered.ensures.provider)
     c.compute_server_first_message_metered.ensures.nobody (search rules)
-    (option_map (λ (message : Vec ℕ Global). message.items)) c.in-Err.kind c.refusal.result answers c.refusal.ensures.memory)
+    (option_map (λ (message : Vec ℕ Global). message.items)) c.in-Err.kind c.refusal.result answers
+    c.refusal.ensures.memory)
 
 pub returns-in-Ok-clause-cost : goal.returns-in-Ok-clause-cost
 returns-in-Ok-clause-cost g c =
@@ -51,7 +55,8 @@ returns-in-Ok-clause-cost g c =
     (hiding_server m.meaning c.compute_server_first_message_metered.new.self)
     (ap (λ p. m.meaning p) c.compute_server_first_message_metered.ensures.provider)
     c.compute_server_first_message_metered.ensures.nobody (search rules)
-    ((option_map (λ (message : Vec ℕ Global). message.items)) c.in-Ok.answer) c.args.meter.now _ answers c.in-Ok.ensures.cost)
+    ((option_map (λ (message : Vec ℕ Global). message.items)) c.in-Ok.answer) c.args.meter.now _ answers
+    c.in-Ok.ensures.cost)
 
 pub returns-clause-cost : goal.returns-clause-cost
 returns-clause-cost g c =
@@ -62,19 +67,22 @@ returns-clause-cost g c =
     (hiding_server m.meaning c.compute_server_first_message_metered.new.self)
     (ap (λ p. m.meaning p) c.compute_server_first_message_metered.ensures.provider)
     c.compute_server_first_message_metered.ensures.nobody (search rules)
-    (Option (Vec ℕ Global)) c.in-Err.kind c.args.meter.now _ (subst (λ (text : List ℕ). HidingCosts {A = Option (Vec ℕ Global)} text (Err c.in-Err.kind) c.args.meter.now
+    (Option (Vec ℕ Global)) c.in-Err.kind c.args.meter.now _
+    (subst (λ (text : List ℕ). HidingCosts {A = Option (Vec ℕ Global)} text (Err c.in-Err.kind) c.args.meter.now
     c.compute_server_first_message_metered.new.meter) c.deref.ensures.value c.in-Err.ensures.cost))
 
 pub returns-in-Ok-clause-exactly : goal.returns-in-Ok-clause-exactly
 returns-in-Ok-clause-exactly g c =
     let m = g.C.ScramCredentialProvider in
     let answers = rw c.deref.ensures.value at c.in-Ok.ensures.answer in
-    rw c.in-Some.is (λ n takes. answer_takes (hiding_server m.meaning c.args.self.now) c.args.nonce.now c.args.init.mechanism
+    rw c.in-Some.is (λ n takes. answer_takes (hiding_server m.meaning c.args.self.now) c.args.nonce.now
+    c.args.init.mechanism
     c.in-Some.client_first.0.items (option_map string_bytes c.args.init.hostname)
     (hiding_server m.meaning c.compute_server_first_message_metered.new.self)
     (ap (λ p. m.meaning p) c.compute_server_first_message_metered.ensures.provider)
     c.compute_server_first_message_metered.ensures.nobody (search rules)
-    ((option_map (λ (message : Vec ℕ Global). message.items)) c.in-Ok.answer) c.args.meter.now _ n answers c.in-Ok.ensures.cost takes)
+    ((option_map (λ (message : Vec ℕ Global). message.items)) c.in-Ok.answer) c.args.meter.now _ n answers
+    c.in-Ok.ensures.cost takes)
 
 pub returns-clause-exactly : goal.returns-clause-exactly
 returns-clause-exactly g c =
@@ -85,11 +93,14 @@ returns-clause-exactly g c =
     (hiding_server m.meaning c.compute_server_first_message_metered.new.self)
     (ap (λ p. m.meaning p) c.compute_server_first_message_metered.ensures.provider)
     c.compute_server_first_message_metered.ensures.nobody (search rules)
-    (Option (Vec ℕ Global)) (Option (Vec ℕ Global)) (λ name. ReachesChallenge (hiding_name (hiding_server m.meaning c.args.self.now) name).records
+    (Option (Vec ℕ Global)) (Option (Vec ℕ Global))
+    (λ name. ReachesChallenge (hiding_name (hiding_server m.meaning c.args.self.now) name).records
     c.in-Some.client_first.0.items)
-    (λ frame. sent_frame frame ≡ ends_with Auth) (option_map (λ (message : Vec ℕ Global). message.items)) c.in-Err.kind c.refusal.result c.args.meter.now _ answers
+    (λ frame. sent_frame frame ≡ ends_with Auth) (option_map (λ (message : Vec ℕ Global). message.items))
+    c.in-Err.kind c.refusal.result c.args.meter.now _ answers
     (subst (λ (text : List ℕ). HidingCosts {A = Option (Vec ℕ Global)} text (Err c.in-Err.kind) c.args.meter.now
-    c.compute_server_first_message_metered.new.meter) c.deref.ensures.value c.in-Err.ensures.cost) c.refusal.ensures.auth)
+    c.compute_server_first_message_metered.new.meter) c.deref.ensures.value c.in-Err.ensures.cost)
+    c.refusal.ensures.auth)
 
 pub returns-then-ne-clause-ok : goal.returns-then-ne-clause-ok
 returns-then-ne-clause-ok g c =

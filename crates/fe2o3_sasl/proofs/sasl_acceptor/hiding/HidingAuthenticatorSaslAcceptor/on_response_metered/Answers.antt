@@ -16,7 +16,8 @@ returns-in-Ok-clause-ok g c =
     (hiding_server m.meaning c.compute_server_final_message_metered.new.self) c.args.response.response.0.items
     (ap (λ p. m.meaning p) c.compute_server_final_message_metered.ensures.provider)
     c.compute_server_final_message_metered.ensures.nobody nonce
-    (Ok ((option_map (λ (message : Vec ℕ Global). message.items)) c.in-Ok.answer)) (sent_frame c.conclusion.result) answers c.conclusion.ensures
+    (Ok ((option_map (λ (message : Vec ℕ Global). message.items)) c.in-Ok.answer)) (sent_frame c.conclusion.result)
+    answers c.conclusion.ensures
 
 pub returns-clause-ok : goal.returns-clause-ok
 returns-clause-ok g c =
@@ -27,7 +28,8 @@ returns-clause-ok g c =
     (ap (λ p. m.meaning p) c.compute_server_final_message_metered.ensures.provider)
     c.compute_server_final_message_metered.ensures.nobody (λ name. ReachesBase64In c.args.self.now.state
     (hiding_name (hiding_server m.meaning c.args.self.now) name) c.args.response.response.0.items)
-    sent_frame (option_map (λ (message : Vec ℕ Global). message.items)) c.in-Err.kind c.refusal.result answers c.refusal.ensures.auth
+    sent_frame (option_map (λ (message : Vec ℕ Global). message.items)) c.in-Err.kind c.refusal.result answers
+    c.refusal.ensures.auth
 
 pub returns-clause-memory : goal.returns-clause-memory
 returns-clause-memory g c =
@@ -37,7 +39,8 @@ returns-clause-memory g c =
     (hiding_server m.meaning c.compute_server_final_message_metered.new.self) c.args.response.response.0.items
     (ap (λ p. m.meaning p) c.compute_server_final_message_metered.ensures.provider)
     c.compute_server_final_message_metered.ensures.nobody
-    (option_map (λ (message : Vec ℕ Global). message.items)) c.in-Err.kind c.refusal.result answers c.refusal.ensures.memory
+    (option_map (λ (message : Vec ℕ Global). message.items)) c.in-Err.kind c.refusal.result answers
+    c.refusal.ensures.memory
 
 pub returns-in-Ok-clause-cost : goal.returns-in-Ok-clause-cost
 returns-in-Ok-clause-cost g c =
@@ -72,7 +75,8 @@ returns-in-Ok-clause-exactly g c =
     (ap (λ p. m.meaning p) c.compute_server_final_message_metered.ensures.provider)
     c.compute_server_final_message_metered.ensures.nobody {E = ⊤} (λ name. ReachesBase64In c.args.self.now.state
     (hiding_name (hiding_server m.meaning c.args.self.now) name) c.args.response.response.0.items)
-    (option_map (λ (message : Vec ℕ Global). message.items)) c.in-Ok.answer (Ok c.conclusion.result) c.args.meter.now _ answers
+    (option_map (λ (message : Vec ℕ Global). message.items)) c.in-Ok.answer (Ok c.conclusion.result) c.args.meter.now
+    _ answers
     (rw c.deref.ensures.value at c.in-Ok.ensures.cost)
 
 pub returns-clause-exactly : goal.returns-clause-exactly
@@ -84,5 +88,6 @@ returns-clause-exactly g c =
     (ap (λ p. m.meaning p) c.compute_server_final_message_metered.ensures.provider)
     c.compute_server_final_message_metered.ensures.nobody (λ name. ReachesBase64In c.args.self.now.state
     (hiding_name (hiding_server m.meaning c.args.self.now) name) c.args.response.response.0.items)
-    (λ frame. sent_frame frame ≡ ends_with Auth) (option_map (λ (message : Vec ℕ Global). message.items)) c.in-Err.kind c.refusal.result c.args.meter.now _ answers
+    (λ frame. sent_frame frame ≡ ends_with Auth) (option_map (λ (message : Vec ℕ Global). message.items))
+    c.in-Err.kind c.refusal.result c.args.meter.now _ answers
     (rw c.deref.ensures.value at c.in-Err.ensures.cost) c.refusal.ensures.auth

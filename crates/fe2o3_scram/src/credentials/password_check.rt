@@ -1,0 +1,66 @@
+//! Whether a password is that of a record (RFC 5802, section 3).
+
+ghost use Rattle.std.specs.Prelude.{◌≡◌, ◌≤◌, ◌+◌, ◌^◌, ◌↔◌, IsTrue};
+ghost use Rattle.fe2o3_scram.specs.Credentials.{CheckingCosts, MeetsRecord, kept, record_of};
+
+use crate::hmac::{Meter, ScramVersion};
+use crate::provider::StoredPassword;
+use crate::same_bytes::same_bytes;
+use crate::saslprep_ascii::saslprep;
+
+impl StoredPassword<'_> {
+    /// Whether the password is that of which this was kept, for the version of its provider: what a
+    /// server asks that is told the password itself, as by PLAIN (RFC 4616). A password that is not
+    /// printable ASCII is not, nor is any where the iteration count is 0 or a key is not as long as a
+    /// digest. It takes no memory.
+    ///
+    /// That keys are compared over the whole length, whatever the bytes are, is read in the code and
+    /// not proved; no claim is made about time.
+    pub fn verify_password(&self, scram_version: ScramVersion, password: &str) -> bool
+        ensures { IsTrue result ↔ MeetsRecord scram_version password.now (kept self.now) }
+    {
+        self.verify_password_metered(scram_version, password, &mut Meter::new())
+    }
+
+    /// As `verify_password`. The meter, of at most 2^63, counts the HMAC values: two more than the
+    /// iterations, and none where the password is not printable ASCII or the count is 0.
+    pub fn verify_password_metered(
+        &self,
+        scram_version: ScramVersion,
+        password: &str,
+        meter: &mut Meter,
+    ) -> bool
+        requires { meter.old ≤ 2 ^ 63 }
+        ensures verdict { IsTrue result ↔ MeetsRecord scram_version password.now (kept self.now) }
+        ensures cost { CheckingCosts password.now self.now.iterations meter.old meter.new }
+    {
+        if saslprep(password).is_err() || self.iterations == 0 {
+            return false;
+        }
+        self.has_keys_of(scram_version, password, meter)
+    }
+
+    /// Whether the keys are those of the password with this salt and this count, of at least 1.
+    fn has_keys_of(&self, scram_version: ScramVersion, password: &str, meter: &mut Meter) -> bool
+        requires some { 1 ≤ self.now.iterations }
+        requires room { meter.old ≤ 2 ^ 63 }
+        ensures same { IsTrue result ↔ (record_of scram_version password.now self.now.salt.now self.now.iterations
+            ≡ kept self.now) }
+        ensures counted { meter.new ≡ meter.old + (self.now.iterations + 2) }
+    {
+        let salted_password = scram_version.salted_password(
+            password.as_bytes(),
+            self.salt,
+            self.iterations,
+            meter,
+        );
+        let (client_key, server_key) = scram_version.client_and_server_key(
+            salted_password.as_slice(),
+            meter,
+        );
+        let stored_key = scram_version.stored_key(client_key.as_slice());
+        let is_stored_key = same_bytes(stored_key.as_slice(), self.stored_key);
+        let is_server_key = same_bytes(server_key.as_slice(), self.server_key);
+        is_stored_key && is_server_key
+    }
+}
