@@ -1,16 +1,18 @@
 -- What runs of an acceptor are that hides unknown users. Each is the contract of a clause of `laws::hidden_users`.
 use Rattle.std.specs.Prelude.{ℕ, List, ◌++◌, ◌≡◌, Option, Some, None, Ok, codes}
 use Rattle.std.specs.List.{AllByRecursion, Contains}
+use Rattle.fe2o3_sasl_wire.specs.declared.amqp_types.SaslCode.TheVariants as outcomes
 use Rattle.fe2o3_sasl_wire.specs.SaslFrames as frames
 use Rattle.fe2o3_scram.specs.ClientFinal.{recovered_key}
 use Rattle.fe2o3_scram.specs.ClientFirst.{ClientFirst, ReadsClientFirst}
 use Rattle.fe2o3_scram.specs.Credentials.{Provider, record_at}
 use Rattle.fe2o3_scram.specs.HidingServer.{HidingServer}
 use Rattle.fe2o3_scram.specs.Hmac.{digest, hmac_of}
+use Rattle.fe2o3_scram.specs.Logins.{HiddenTextLogsIn}
 use Rattle.fe2o3_scram.specs.Nobody.{Nobody, with_nobody}
-use Rattle.fe2o3_scram.specs.ScramServer.{ServerState, Initial}
+use Rattle.fe2o3_scram.specs.ScramServer.{ServerState, Initial, ServerFinalSent}
 use Rattle.fe2o3_sasl.specs.Bodies.{SpellsBody}
-use Rattle.fe2o3_sasl.specs.Events.{Given, ServerSays}
+use Rattle.fe2o3_sasl.specs.Events.{Given, ServerSays, Concluded}
 use Rattle.fe2o3_sasl.specs.HidingAcceptor.{hiding_machine}
 use Rattle.fe2o3_sasl.specs.Runs.{Runs, AcceptorSteps}
 use Rattle.fe2o3_sasl.specs.SaslAcceptor.{ScramAcceptor, acceptor_machine}
@@ -52,3 +54,15 @@ NobodyIsMet = (provider : Provider) (nobody : Nobody) (names : List (List ℕ)) 
     → digest provider.version (recovered_key (server_at (with_nobody provider nobody names) accepted.challenge)
     accepted.final)
     ≡ hmac_of nobody.version nobody.secret (codes "StoredKey:" ++ accepted.challenge.client.user)
+
+-- the body is a response that logs this user in at such a server
+abbrev pub HiddenBodyLogsIn : HidingServer → List ℕ → List ℕ → Type 0
+HiddenBodyLogsIn server body user =
+    (text : List ℕ) × SpellsBody body (Ok (frames.Response text)) × HiddenTextLogsIn server text user
+
+-- a step of its machine answers Ok only to such a body, and names that user behind it
+abbrev pub HiddenOksLogIn : Type 0
+HiddenOksLogIn = (server next : HidingServer) (event : Given) (body : List ℕ)
+    → AcceptorSteps hiding_machine server event (Concluded outcomes.Ok body) next
+    → (user : List ℕ) × HiddenBodyLogsIn server event.body user
+    × (next ≡ record server { state = ServerFinalSent user })

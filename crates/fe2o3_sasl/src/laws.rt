@@ -10,7 +10,7 @@ ghost use Rattle.fe2o3_sasl.specs.Profiles.{StepAllocates, ViewAllocates};
 ghost use Rattle.fe2o3_sasl.specs.Headline.{EveryServer, EveryClient, AnswersOkExactly, ReportsOkExactly, TakenVerifiersAgree};
 ghost use Rattle.fe2o3_sasl.specs.CostLaws.{ServerRunsCost, ClientRunsCost};
 ghost use Rattle.fe2o3_sasl.specs.OneOfLaws.{OneOfRunsAreSplit, ScramFirstAnswersOkExactly, ScramSecondAnswersOkExactly, OfferingRunsPassOn};
-ghost use Rattle.fe2o3_sasl.specs.HidingLaws.{HiddenRunsAreRuns, HiddenRunsAreHistories, NobodyIsMet};
+ghost use Rattle.fe2o3_sasl.specs.HidingLaws.{HiddenRunsAreRuns, HiddenRunsAreHistories, NobodyIsMet, HiddenOksLogIn};
 ghost use Rattle.fe2o3_sasl.specs.StepLaws.{OksLogIn, ReportedOksAreSigned};
 ghost use Rattle.fe2o3_sasl.specs.Laws.{OneServerHistory, OneClientHistory, SomeServerHistory, SomeClientHistory, AcceptorRunsAreHistories, AcceptorRunsNameUsers, AgreedUsersAreNamed, ProfileRunsAreHistories, KeyedRunsAreRuns, KeyedRunsAreHistories, OksWithinChallenges, RepeatedResponsesAreRefused, OneResponseOneNonce, RefusalsLeaveOpen, PositionsAreUsedOnce, EqualMessagesAgree, NoShortExtensions, TakenVerifiersAreJudged, ShownProofsAreJudged, OneVerdictEach, OneAuditEach, RepeatedClientPositions, RepeatedServerPositions, RepeatedClientFindings, RepeatedServerFindings, ClientsLogIn, ServersLogIn, ServersWantMemory, ClientsWantMemory, ProfilesWantMemory};
 
@@ -95,11 +95,15 @@ pub fn offers_only<A: HasMechanism>()
 /// Unknown users. A run of an acceptor that hides them, over any list of bodies, is a run of a SCRAM
 /// acceptor over its provider with the made-up records of the bodies' names behind its own, and so a
 /// server history, of which `headline` says what it answers Ok to; and by such a history somebody whom the
-/// provider does not have is accepted only by a proof whose key has the made-up StoredKey as its digest.
+/// provider does not have is accepted only by a proof whose key has the made-up StoredKey as its digest. A
+/// step of it answers Ok only to a response that logs a user in over that provider, and over the provider
+/// alone where this has the user, whom the acceptor then names. A caller's own proof cites this as
+/// `hidden_oks_log_in` of `proofs/lemmas/steps/StepLawLemmas.antt`.
 pub fn hidden_users()
     ensures runs { HiddenRunsAreRuns }
     ensures histories { HiddenRunsAreHistories }
     ensures met { NobodyIsMet }
+    ensures steps { HiddenOksLogIn }
 {}
 
 /// A client that keeps the keys of a password runs as the client with the password, as long as servers

@@ -3,7 +3,7 @@
 
 ghost use Rattle.std.specs.Prelude.{◌≡◌};
 ghost use Rattle.fe2o3_scram.specs.Agreement.{BelievedTextsAgree};
-ghost use Rattle.fe2o3_scram.specs.Logins.{AcceptedTextsLogIn, BelievedTextsAreSigned};
+ghost use Rattle.fe2o3_scram.specs.Logins.{AcceptedTextsLogIn, HiddenTextsLogIn, BelievedTextsAreSigned};
 ghost use Rattle.fe2o3_scram.specs.Laws.{OneVersion, OneFinalText, OneSignature, DigestsAreSized, MacsAreSized, OneBytesOfBase64, Base64IsReadAgain, NoCommaInBase64, PartsExist, OneListOfParts, OneEscapedName, NoCommaInEscapedNames, OneClientFirst, OneServerFirst, OneClientFinal, OneServerFinal, SomeClientFirst, SomeServerFirst, SomeClientFinal, SomeServerFinal, UnalteredExchangesSucceed, MadeRecordsAreReadable, OneRecord, OneSpelling, RecordsAreReadAgain, SomeRecord, OneUsersAnswer, SomeUsersAnswer, UsersAreReadAgain, OneMixedAnswer, SomeMixedAnswer, MixedAreReadAgain, MixedAreWrittenBack, NoMismatch, KeysStandForPassword, KeysAnswerAsPassword, BothAnswerAsPassword};
 ghost use Rattle.fe2o3_scram.specs.MemoryExamples.{AnsweredClientsTakeNone, CommasTakeNone, ErrorsTakeNone, OtherNoncesTakeNone, UnboundTextsTakeNone, UnknownMechanismsTakeNone, UnknownUsersTakeNone};
 
@@ -58,14 +58,15 @@ pub fn one_answer_each()
 {}
 
 /// What an accepted message means to its caller: a server accepts a client-final message only where a
-/// challenge is open and the proof meets the record of its user, whom it then names; and a client believes
-/// a server-final message only on the signature of the answer that it waits on. A caller's own proof cites
-/// both from `proofs/lemmas/messages/LoginLemmas.antt`. And where a client believed the message by which a
-/// server accepted, both agree on version, user name and client nonce (and, where the client-first message
-/// had two parts, on the nonce of both sides, salt and count), or their own differing AuthMessages share one
-/// HMAC value.
+/// challenge is open and the proof meets the record of its user, whom it then names, also one that hides
+/// unknown users; and a client believes a server-final message only on the signature of the answer that it
+/// waits on. A caller's own proof cites them from `proofs/lemmas/messages/LoginLemmas.antt`. And where a
+/// client believed the message by which a server accepted, both agree on version, user name and client nonce
+/// (and, where the client-first message had two parts, on the nonce of both sides, salt and count), or their
+/// own differing AuthMessages share one HMAC value.
 pub fn accepted_messages()
     ensures server { AcceptedTextsLogIn }
+    ensures hiding { HiddenTextsLogIn }
     ensures client { BelievedTextsAreSigned }
     ensures agreement { BelievedTextsAgree }
 {}
