@@ -27,6 +27,8 @@ mod metered;
 #[cfg(test)]
 mod own_acceptor;
 #[cfg(test)]
+mod plain_records;
+#[cfg(test)]
 mod profiles;
 #[cfg(test)]
 mod program_findings;
