@@ -1,21 +1,14 @@
 -- An acceptor of SCRAM that answers a user whom it does not know as one whom it knows (`HidingServer.antt` of
 -- `fe2o3_scram`): what a SCRAM acceptor answers over the provider with the made-up record of the name that counts.
 use Rattle.std.specs.Prelude.{ℕ, List, [], ◌∷◌, ◌≡◌, ◌⊎◌, Some, Ok}
-use Rattle.std.specs.List.{Contains}
-use Rattle.fe2o3_sasl_wire.specs.declared.amqp_types.SaslCode.TheVariants as outcomes
 use Rattle.fe2o3_sasl_wire.specs.SaslFrames as frames
 use Rattle.fe2o3_sasl_wire.specs.SaslFrames.{SaslFrame}
-use Rattle.fe2o3_scram.specs.ClientFinal.{ClientFinal, ReadsClientFinal, recovered_key, server_of}
 use Rattle.fe2o3_scram.specs.ClientFirst.{ClientFirst, ReadsClientFirst}
-use Rattle.fe2o3_scram.specs.Credentials.{Provider, record_at}
 use Rattle.fe2o3_scram.specs.HidingServer.{HidingServer, NamedBy, NamedIn, hiding_name}
 use Rattle.fe2o3_scram.specs.Hmac.{mechanism_name}
-use Rattle.fe2o3_scram.specs.Nobody.{Nobody, with_nobody}
 use Rattle.fe2o3_scram.specs.ScramServer.{ServerState}
-use Rattle.fe2o3_sasl.specs.Bodies.{SpellsBody}
 use Rattle.fe2o3_sasl.specs.Costs.{acceptor_hmacs}
-use Rattle.fe2o3_sasl.specs.Events.{Given}
-use Rattle.fe2o3_sasl.specs.SaslAcceptor.{Acceptor, ScramAcceptor, acceptor_allocates, acceptor_machine, acceptor_names}
+use Rattle.fe2o3_sasl.specs.SaslAcceptor.{Acceptor, ScramAcceptor, acceptor_allocates, acceptor_machine}
 
 -- the SCRAM acceptor with the made-up record of this name
 abbrev pub with_name : HidingServer → List ℕ → Acceptor

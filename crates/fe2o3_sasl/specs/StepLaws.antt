@@ -2,12 +2,14 @@
 use Rattle.std.specs.Prelude.{◌≡◌, ℕ, Option, Some, List, Ok}
 use Rattle.fe2o3_sasl_wire.specs.declared.amqp_types.SaslCode.TheVariants as outcomes
 use Rattle.fe2o3_sasl_wire.specs.SaslFrames as frames
+use Rattle.fe2o3_sasl_wire.specs.SaslFrames.{SaslFrame}
 use Rattle.fe2o3_scram.specs.Credentials.{Provider}
 use Rattle.fe2o3_scram.specs.Logins.{TextLogsIn, IsSigned}
 use Rattle.fe2o3_scram.specs.ScramClient.{ClientSide}
 use Rattle.fe2o3_scram.specs.ScramServer.{ServerState, ServerFinalSent}
 use Rattle.fe2o3_sasl.specs.Bodies.{SpellsBody}
 use Rattle.fe2o3_sasl.specs.Events.{Given, Concluded, Reported}
+use Rattle.fe2o3_sasl.specs.PlainAuthenticator.{PlainLogsIn, PlainServer, plain_machine}
 use Rattle.fe2o3_sasl.specs.Profiles.{Profile, ScramProfile}
 use Rattle.fe2o3_sasl.specs.Runs.{AcceptorSteps, ProfileSteps}
 use Rattle.fe2o3_sasl.specs.SaslAcceptor.{Acceptor, ScramAcceptor, acceptor_machine}
@@ -23,6 +25,13 @@ OksLogIn = (provider : Provider) (state : ServerState) (event : Given) (body : L
     → AcceptorSteps acceptor_machine (ScramAcceptor provider state) event (Concluded outcomes.Ok body) next
     → (user : List ℕ) × BodyLogsIn provider state event.body user
     × (next ≡ ScramAcceptor provider (ServerFinalSent user))
+
+-- an acceptor of PLAIN over records answers Ok only to a body that logs a user in, and names that user behind it
+abbrev pub PlainOksLogIn : Type 0
+PlainOksLogIn = (server next : PlainServer) (event : Given) (body : List ℕ)
+    → AcceptorSteps plain_machine server event (Concluded outcomes.Ok body) next
+    → (frame : SaslFrame) × (user : List ℕ) × SpellsBody event.body (Ok frame)
+    × PlainLogsIn server.provider frame user × (next ≡ record server { user = Some user })
 
 -- a SCRAM profile reports Ok only on an outcome Ok whose data shows the signature that it waits for (RFC 5802,
 -- section 5), and with this data

@@ -11,7 +11,7 @@ ghost use Rattle.fe2o3_sasl.specs.Headline.{EveryServer, EveryClient, AnswersOkE
 ghost use Rattle.fe2o3_sasl.specs.CostLaws.{ServerRunsCost, ClientRunsCost};
 ghost use Rattle.fe2o3_sasl.specs.OneOfLaws.{OneOfRunsAreSplit, ScramFirstAnswersOkExactly, ScramSecondAnswersOkExactly, OfferingRunsPassOn};
 ghost use Rattle.fe2o3_sasl.specs.HidingLaws.{HiddenRunsAreRuns, HiddenRunsAreHistories, NobodyIsMet, HiddenOksLogIn};
-ghost use Rattle.fe2o3_sasl.specs.StepLaws.{OksLogIn, ReportedOksAreSigned};
+ghost use Rattle.fe2o3_sasl.specs.StepLaws.{OksLogIn, PlainOksLogIn, ReportedOksAreSigned};
 ghost use Rattle.fe2o3_sasl.specs.Laws.{OneServerHistory, OneClientHistory, SomeServerHistory, SomeClientHistory, AcceptorRunsAreHistories, AcceptorRunsNameUsers, AgreedUsersAreNamed, ProfileRunsAreHistories, KeyedRunsAreRuns, KeyedRunsAreHistories, OksWithinChallenges, RepeatedResponsesAreRefused, OneResponseOneNonce, RefusalsLeaveOpen, PositionsAreUsedOnce, EqualMessagesAgree, NoShortExtensions, TakenVerifiersAreJudged, ShownProofsAreJudged, OneVerdictEach, OneAuditEach, RepeatedClientPositions, RepeatedServerPositions, RepeatedClientFindings, RepeatedServerFindings, ClientsLogIn, ServersLogIn, ServersWantMemory, ClientsWantMemory, ProfilesWantMemory};
 
 use crate::one_of::HasMechanism;
@@ -47,11 +47,14 @@ pub fn runs_are_histories()
 {}
 
 /// What one step means to its caller: a SCRAM acceptor answers Ok only where a challenge is open and the
-/// body is a response to it whose proof meets the record of its user, whom the acceptor then names; and a
-/// SCRAM profile reports Ok only on the signature of the answer that it waits on. A caller's own proof
-/// cites both as `oks_log_in` and `reported_oks_are_signed` of `proofs/lemmas/steps/StepLawLemmas.antt`.
+/// body is a response to it whose proof meets the record of its user, whom the acceptor then names; one of
+/// PLAIN over records only where the body is an init with the password of its user's record; and a SCRAM
+/// profile reports Ok only on the signature of the answer that it waits on. A caller's own proof cites them as
+/// `oks_log_in`, `plain_oks_log_in` and `reported_oks_are_signed` of
+/// `proofs/lemmas/steps/StepLawLemmas.antt`.
 pub fn steps()
     ensures server { OksLogIn }
+    ensures plain { PlainOksLogIn }
     ensures client { ReportedOksAreSigned }
 {}
 

@@ -1,4 +1,4 @@
-use Rattle.fe2o3_sasl.proofs.lemmas.steps.StepLawLemmas.{oks_log_in, reported_oks_are_signed}
+use Rattle.fe2o3_sasl.proofs.lemmas.steps.StepLawLemmas.{oks_log_in, plain_oks_log_in, reported_oks_are_signed}
 use Rattle.fe2o3_sasl.proofs.laws.steps.Goals as goal
 
 pub returns-clause-server : goal.returns-clause-server
@@ -6,3 +6,6 @@ returns-clause-server c = oks_log_in
 
 pub returns-clause-client : goal.returns-clause-client
 returns-clause-client c = reported_oks_are_signed
+
+pub returns-clause-plain : goal.returns-clause-plain
+returns-clause-plain c = plain_oks_log_in

@@ -1,5 +1,5 @@
 -- What an Ok of one step means, for a caller's own proof: `oks_log_in` of a server, `hidden_oks_log_in` of one that
--- hides unknown users, `reported_oks_are_signed` of a client.
+-- hides unknown users, `plain_oks_log_in` of PLAIN over records, `reported_oks_are_signed` of a client.
 use Rattle.std.proofs.Common.{◌≡◌, ◌≢◌, ℕ, Option, Some, None, List, refl, ap, ◌∙◌, subst, inl, inr, Result, Ok, Err}
 use Rattle.fe2o3_sasl_wire.specs.declared.amqp_types.SaslCode.{SaslCode}
 use Rattle.fe2o3_sasl_wire.specs.declared.amqp_types.SaslCode.TheVariants as outcomes
@@ -18,10 +18,11 @@ use Rattle.fe2o3_sasl.specs.Bodies.{SpellsBody, carried}
 use Rattle.fe2o3_sasl.specs.Events.{Given, ServerSays, Concluded, Failed, ClientSays, Reported, Refused, ClientFault, Frame}
 use Rattle.fe2o3_sasl.specs.HidingAcceptor.{with_name}
 use Rattle.fe2o3_sasl.specs.HidingLaws.{HiddenBodyLogsIn, HiddenOksLogIn}
+use Rattle.fe2o3_sasl.specs.PlainAuthenticator.{PlainLogsIn, PlainServer, plain_machine}
 use Rattle.fe2o3_sasl.specs.Profiles.{Profile, ScramProfile, client_frame, profile_machine}
 use Rattle.fe2o3_sasl.specs.Runs.{Replies, Sends, server_says}
-use Rattle.fe2o3_sasl.specs.SaslAcceptor.{Acceptor, ScramAcceptor, acceptor_machine, ends_with, server_frame}
-use Rattle.fe2o3_sasl.specs.StepLaws.{BodyLogsIn, OksLogIn, ReportedOksAreSigned}
+use Rattle.fe2o3_sasl.specs.SaslAcceptor.{Acceptor, AnonymousAcceptor, ScramAcceptor, acceptor_machine, ends_with, server_frame}
+use Rattle.fe2o3_sasl.specs.StepLaws.{BodyLogsIn, OksLogIn, PlainOksLogIn, ReportedOksAreSigned}
 
 -- ---- a server
 
@@ -176,6 +177,43 @@ hidden_oks_log_in server next event body (
     hidden_response_logs_in server next to after event text name answer reply body spells (counts, from) replies same
     (subst (λ (end : HidingServer). Sends (Failed faults.TooLarge) (server_says reply) (canonical reply) server end
     (Concluded outcomes.Ok body) next) is said)
+
+-- ---- a server of PLAIN over records
+
+plain_answer_logs_in : (server moved next : PlainServer) (event : Given) (frame reply : SaslFrame) (body : List ℕ)
+    → SpellsBody event.body (Ok frame) → plain_machine server event.nonce frame reply moved
+    → Sends (Failed faults.TooLarge) (server_says reply) (canonical reply) server moved (Concluded outcomes.Ok body) next
+    → (frame : SaslFrame) × (user : List ℕ) × SpellsBody event.body (Ok frame)
+    × PlainLogsIn server.provider frame user × (next ≡ record server { user = Some user })
+plain_answer_logs_in server moved next event frame reply body spells (inl (user, logs, is, to)) said =
+    let sent = subst (λ (f : SaslFrame). Sends (Failed faults.TooLarge) (server_says f) (canonical f) server moved
+    (Concluded outcomes.Ok body) next) is said in (
+      frame,
+      user,
+      spells,
+      logs,
+      sent_moves (canonical (ends_with outcomes.Ok)) outcomes.Ok body server moved next sent ∙ to,
+    )
+plain_answer_logs_in server moved next event frame reply body spells (inr (none, is, to)) said =
+    absurd (auth_is_no_ok reply AnonymousAcceptor AnonymousAcceptor _ body is (said.0, refl))
+
+pub plain_oks_log_in : PlainOksLogIn
+plain_oks_log_in server next event body (Err fault, spells, gives) = let no = gives.0 in absurd (cc)
+plain_oks_log_in server next event body (Ok (frames.Mechanisms names), spells, gives) =
+    let no = gives.0 in absurd (cc)
+plain_oks_log_in server next event body (Ok (frames.Challenge text), spells, gives) =
+    let no = gives.0 in absurd (cc)
+plain_oks_log_in server next event body (Ok (frames.Outcome code more), spells, gives) =
+    let no = gives.0 in absurd (cc)
+plain_oks_log_in server next event body (Ok (frames.Init mechanism response hostname), spells, inl wants) =
+    let no = wants.0 in absurd (cc)
+plain_oks_log_in server next event body
+    (Ok (frames.Init mechanism response hostname), spells, inr (reply, moved, machine, said)) =
+    plain_answer_logs_in server moved next event (frames.Init mechanism response hostname) reply body spells machine said
+plain_oks_log_in server next event body (Ok (frames.Response text), spells, inl wants) =
+    let no = wants.0 in absurd (cc)
+plain_oks_log_in server next event body (Ok (frames.Response text), spells, inr (reply, moved, machine, said)) =
+    plain_answer_logs_in server moved next event (frames.Response text) reply body spells machine said
 
 -- ---- a client
 
