@@ -63,6 +63,7 @@ pub use fe2o3_scram::scram_messages::{
 };
 pub use fe2o3_scram::scram_server::ScramAuthenticator;
 pub use fe2o3_scram::scram_server::hiding::{HidingAuthenticator, SaltTooLong};
+pub use fe2o3_scram::scram_server::open_challenge::OpenChallenge;
 pub use fe2o3_scram::{
     client_keys, client_secret, credentials, hmac, keys, pbkdf2_hi, provider, saslprep_ascii,
     scram_client, scram_messages, scram_server,

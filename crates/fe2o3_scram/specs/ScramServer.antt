@@ -11,6 +11,7 @@ use Rattle.fe2o3_scram.specs.Credentials.{Record, Provider, record_at}
 use Rattle.fe2o3_scram.specs.ClientFinal.{ReachesBase64, server_of}
 use Rattle.fe2o3_scram.specs.ServerFinal.{AnswersClientFinal, FinalCosts}
 use Rattle.fe2o3_scram.specs.declared.scram_server.ScramAuthenticator.{ScramAuthenticator}
+use Rattle.fe2o3_scram.specs.declared.scram_server.open_challenge.OpenChallenge.{OpenChallenge}
 
 -- what a server has sent last (RFC 5802, section 5): an open challenge, or the end of the login of a user
 pub data ServerState : Type 0 where
@@ -22,6 +23,11 @@ pub data ServerState : Type 0 where
 abbrev pub logged_in : ServerState → Option (List ℕ)
 logged_in (ServerFinalSent user) = Some user
 logged_in state = None
+
+-- the challenge that is open
+abbrev pub open_challenge : ServerState → Option Challenge
+open_challenge (ServerFirstSent challenge) = Some challenge
+open_challenge state = None
 
 -- what a server answers to a client-first message in whatever state (RFC 5802, section 5), and its state after it: a
 -- challenge takes the place of an earlier one, an unknown user and a refusal change nothing
@@ -76,6 +82,15 @@ state_of CodeInitial = Initial
 state_of (CodeServerFirstSent user bare nonce first) =
     ServerFirstSent (record { user = string_bytes user; bare = bare; first = first; nonce = nonce })
 state_of (CodeServerFinalSent user) = ServerFinalSent (string_bytes user)
+
+-- the challenge of plain texts
+abbrev pub challenge_kept : OpenChallenge → Challenge
+challenge_kept kept = record {
+  user = kept.username.now;
+  bare = kept.client_first_message_bare.now;
+  first = kept.server_first_message.now;
+  nonce = kept.client_server_nonce.now;
+}
 
 -- the provider that it holds
 abbrev pub provider_in : {C : Type 0} → ScramAuthenticator C → C

@@ -46,4 +46,5 @@ pub use crate::scram_messages::{
 };
 pub use crate::scram_server::ScramAuthenticator;
 pub use crate::scram_server::hiding::{HidingAuthenticator, SaltTooLong};
+pub use crate::scram_server::open_challenge::OpenChallenge;
 pub use std::alloc::AllocError as OutOfMemory;

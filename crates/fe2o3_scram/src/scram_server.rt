@@ -7,6 +7,7 @@ ghost use Rattle.fe2o3_scram.specs.Readings.{Gives};
 
 pub mod hiding;
 mod hiding_store;
+pub mod open_challenge;
 
 use crate::OutOfMemory;
 use crate::hmac::Meter;

@@ -42,6 +42,8 @@ mod readings;
 #[cfg(test)]
 mod records;
 #[cfg(test)]
+mod set_down_servers;
+#[cfg(test)]
 mod short_logins;
 #[cfg(test)]
 mod values;
