@@ -1,4 +1,5 @@
 pub mod Framing
+pub mod SetDown
 pub mod Negotiations
 pub mod ServerNegotiation
 pub mod ClientNegotiation

@@ -1,11 +1,12 @@
 //! The client's side of a connection (AMQP 1.0, part 5, section 5.3.2).
 
-ghost use Rattle.std.specs.Prelude.{◌≡◌, ◌<◌, ◌≤◌, ◌^◌, ◌++◌, ℕ, List, Option, [], IfOk, OnOk, OnErr, option_map, string_bytes, length, drop, min};
+ghost use Rattle.std.specs.Prelude.{◌≡◌, ◌≢◌, ◌<◌, ◌≤◌, ◌^◌, ◌++◌, ℕ, List, Option, [], IfOk, IfErr, OnOk, OnErr, option_map, string_bytes, length, drop, min};
 ghost use Rattle.fe2o3_sasl.specs.Runs.{ProfileSteps, client_answer, client_reply};
 ghost use Rattle.fe2o3_sasl.specs.SaslProfile.{profile_of};
 ghost use Rattle.fe2o3_sasl.specs.Costs.{ProfileStepCosts};
 ghost use Rattle.fe2o3_sasl_negotiation.specs.Framing.{IsPart, IsPart-prop, sasl_header};
 ghost use Rattle.fe2o3_sasl_negotiation.specs.ClientNegotiation.{Opens, Says, Replies, ClientAnswers, ClientReceives, ReplyCosts, UnitCosts, ClientCosts};
+ghost use Rattle.fe2o3_sasl_negotiation.specs.SetDown.{IsKept, side_of};
 ghost use Rattle.fe2o3_sasl_negotiation.specs.private.Units.{Appends};
 ghost use Rattle.fe2o3_sasl.specs.Events.{Reported, Refused};
 ghost use Rattle.fe2o3_sasl.specs.ProfileFaults.{client_fault};
@@ -15,6 +16,7 @@ ghost use Rattle.fe2o3_sasl_negotiation.specs.declared.standing.Due.TheVariants.
 ghost use Rattle.fe2o3_sasl_negotiation.specs.declared.standing.Standing.TheVariants.{Wanting};
 
 use crate::framing::{Arrived, MAX_FRAME, Step, end_unit, is_sasl, screen, send, take_unit};
+use crate::set_down::{SetDown, TakeUpError};
 use crate::standing::{ClosedBecause, Due, Received, Standing, Turn};
 use bytes::BytesMut;
 use fe2o3_sasl::{ClientReply, Meter, OutOfMemory, ProfileError, SaslProfile, profile_body_step};
@@ -221,6 +223,49 @@ impl ClientNegotiation {
         ensures { profile_of result.now ≡ (client_side self.now).state }
     {
         &self.profile
+    }
+
+    /// What the side keeps beside its profile and its hostname. One that is set down here is taken up by
+    /// `take_up`.
+    pub fn set_down(&self) -> SetDown<'_>
+        ensures { side_of result (client_side self.now).state ≡ client_side self.now }
+    {
+        SetDown {
+            standing: self.standing,
+            due: self.due,
+            limit: self.limit,
+            held: &self.held,
+        }
+    }
+
+    /// The client's side that has kept these values, by a profile in the state in which that side's was (the
+    /// profile's `waiting_for`), with its hostname.
+    ///
+    /// Refused are, in this order: `NotKept` where no side keeps such values, and `OutOfMemory`.
+    pub fn take_up(
+        alloc: Global,
+        profile: SaslProfile,
+        hostname: Option<String>,
+        kept: &SetDown<'_>,
+    ) -> Result<Self, TakeUpError>
+        ensures ok { IfOk result (λ side. IsKept kept.now
+            × (client_side side ≡ side_of kept.now (profile_of profile))
+            × (hostname_in side ≡ option_map string_bytes hostname)) }
+        ensures refused { IfErr result (λ error. error ≢ TakeUpError.OutOfMemory → ¬ IsKept kept.now) }
+        ensures memory { IfErr result (λ error. error ≡ TakeUpError.OutOfMemory → IsKept kept.now) }
+    {
+        if !kept.is_kept() {
+            return Err(TakeUpError::NotKept);
+        }
+        let held = kept.held.to_vec(alloc)?;
+        Ok(Self {
+            profile,
+            hostname,
+            standing: kept.standing,
+            due: kept.due,
+            limit: kept.limit,
+            held,
+        })
     }
 
     /// Appends the header of SASL, with which a client begins, and asks at once for room for the longest frame

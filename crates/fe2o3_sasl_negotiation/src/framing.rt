@@ -63,7 +63,7 @@ fn keep(held: &mut Vec<u8>, bytes: &[u8], n: usize) -> Result<(), OutOfMemory>
 }
 
 /// The size that the bytes begin with, if it has come.
-fn size(bytes: &[u8]) -> Option<usize>
+pub(crate) fn size(bytes: &[u8]) -> Option<usize>
     ensures { MatchOption result (length bytes.now < 4)
         (λ size. (4 ≤ length bytes.now) × (size ≡ size_of bytes.now)) }
 {

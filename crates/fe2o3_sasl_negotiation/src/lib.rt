@@ -9,8 +9,10 @@ mod client;
 mod framing;
 pub mod laws;
 mod server;
+mod set_down;
 mod standing;
 
 pub use client::ClientNegotiation;
 pub use server::ServerNegotiation;
-pub use standing::{ClosedBecause, Received, Standing};
+pub use set_down::{SetDown, TakeUpError};
+pub use standing::{ClosedBecause, Due, Received, Standing, Turn};

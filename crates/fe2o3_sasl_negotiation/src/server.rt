@@ -1,18 +1,20 @@
 //! The server's side of a connection (AMQP 1.0, part 5, section 5.3.2).
 
-ghost use Rattle.std.specs.Prelude.{◌≡◌, ◌≢◌, ◌<◌, ◌≤◌, ◌^◌, ◌++◌, ℕ, List, Option, Some, None, [], IfOk, OnOk, OnErr, option_map, length, drop, min};
+ghost use Rattle.std.specs.Prelude.{◌≡◌, ◌≢◌, ◌<◌, ◌≤◌, ◌^◌, ◌++◌, ℕ, List, Option, Some, None, [], IfOk, IfErr, OnOk, OnErr, option_map, length, drop, min};
 ghost use Rattle.fe2o3_sasl.specs.Runs.{AcceptorSteps, server_reply, server_answer};
 ghost use Rattle.fe2o3_sasl.specs.Events.{Failed};
 ghost use Rattle.fe2o3_sasl.specs.Costs.{AcceptorStepCosts};
 ghost use Rattle.fe2o3_sasl_negotiation.specs.Framing.{IsPart, IsPart-prop};
 ghost use Rattle.fe2o3_sasl_negotiation.specs.Negotiations.{Completes, Answer, Receives};
 ghost use Rattle.fe2o3_sasl_negotiation.specs.ServerNegotiation.{offer_body as offer_of, Opens, Says, Replies, ReplyCosts, UnitCosts, ServerAnswers, ServerReceives, ServerCosts};
+ghost use Rattle.fe2o3_sasl_negotiation.specs.SetDown.{IsKept, side_of};
 ghost use Rattle.fe2o3_sasl_negotiation.specs.private.Units.{Appends};
 ghost use Rattle.fe2o3_sasl_wire.specs.declared.sasl_frames.error.Error.TheVariants.{OutOfMemory as WireOutOfMemory};
 ghost use Rattle.fe2o3_sasl_negotiation.specs.declared.standing.Due.TheVariants.{Header, Frame as FrameDue};
 ghost use Rattle.fe2o3_sasl_negotiation.specs.declared.standing.Standing.TheVariants.{Wanting, LoggedIn};
 
 use crate::framing::{Arrived, MAX_FRAME, Step, end_unit, is_sasl, screen, send, take_unit};
+use crate::set_down::{SetDown, TakeUpError};
 use crate::standing::{ClosedBecause, Due, Received, Standing, Turn};
 use bytes::BytesMut;
 use fe2o3_sasl::{
@@ -225,6 +227,42 @@ impl<A: NamesUser> ServerNegotiation<A> {
             Standing::LoggedIn => self.acceptor.user(),
             Standing::Wanting | Standing::Closed(_) => None,
         }
+    }
+
+    /// What the side keeps beside its acceptor. One that is set down here is taken up by `take_up`.
+    pub fn set_down(&self) -> SetDown<'_>
+        ensures { side_of result (A.state (acceptor_in self.now)) ≡ server_side A.state self.now }
+    {
+        SetDown {
+            standing: self.standing,
+            due: self.due,
+            limit: self.limit,
+            held: &self.held,
+        }
+    }
+
+    /// The server's side that has kept these values, by an acceptor in the state in which that side's was.
+    ///
+    /// Refused are, in this order: `NotKept` where no side keeps such values, and `OutOfMemory`.
+    pub fn take_up(alloc: Global, acceptor: A, kept: &SetDown<'_>) -> Result<Self, TakeUpError>
+    where
+        A: Drop,
+        ensures ok { IfOk result (λ side. IsKept kept.now
+            × (server_side A.state side ≡ side_of kept.now (A.state acceptor))) }
+        ensures refused { IfErr result (λ error. error ≢ TakeUpError.OutOfMemory → ¬ IsKept kept.now) }
+        ensures memory { IfErr result (λ error. error ≡ TakeUpError.OutOfMemory → IsKept kept.now) }
+    {
+        if !kept.is_kept() {
+            return Err(TakeUpError::NotKept);
+        }
+        let held = kept.held.to_vec(alloc)?;
+        Ok(Self {
+            acceptor,
+            standing: kept.standing,
+            due: kept.due,
+            limit: kept.limit,
+            held,
+        })
     }
 
     /// Takes bytes as they came, to the end of the header or of the frame that is due, at least one of those

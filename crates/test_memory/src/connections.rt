@@ -14,7 +14,7 @@ use std::alloc::Global;
 use std::test::Fail;
 
 /// The header of SASL.
-const HEADER: &str = "414d515003010000";
+pub const HEADER: &str = "414d515003010000";
 
 /// A side that was given these bytes, headers and frames, is given more of them, sends this and stands so.
 #[derive(Debug)]
@@ -55,7 +55,7 @@ fn unit_of(alloc: Global, digits: &str) -> Result<Vec<u8>, Fail> {
 }
 
 /// The bytes of several.
-fn units_of(alloc: Global, units: &[&str]) -> Result<Vec<u8>, Fail> {
+pub fn units_of(alloc: Global, units: &[&str]) -> Result<Vec<u8>, Fail> {
     let mut bytes = Vec::new(alloc);
     for digits in units {
         bytes.extend_from_slice(&unit_of(alloc, digits)?)?;

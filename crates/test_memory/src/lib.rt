@@ -38,6 +38,8 @@ mod scram_records;
 #[cfg(test)]
 mod scram_values;
 #[cfg(test)]
+mod set_down;
+#[cfg(test)]
 mod users;
 #[cfg(test)]
 mod wire_bodies;

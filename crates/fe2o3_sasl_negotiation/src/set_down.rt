@@ -1,0 +1,70 @@
+//! A side of a connection that is set down as plain values between two calls.
+
+ghost use Rattle.std.specs.Prelude.{◌≡◌, ◌↔◌, IsTrue};
+ghost use Rattle.fe2o3_sasl_negotiation.specs.Framing.{IsPart};
+ghost use Rattle.fe2o3_sasl_negotiation.specs.SetDown.{IsKept};
+ghost use Rattle.fe2o3_sasl_negotiation.specs.declared.set_down.TakeUpError.TheVariants.{OutOfMemory as TakeUpOutOfMemory};
+
+use crate::framing::{MAX_FRAME, size};
+use crate::standing::{Due, Standing};
+use std::alloc::AllocError;
+use thiserror::Error;
+
+/// What a side keeps between two calls, beside its acceptor or its profile.
+#[derive(Drop)]
+pub struct SetDown<'a> {
+    /// How it stands.
+    pub standing: Standing,
+
+    /// What is due next.
+    pub due: Due,
+
+    /// The most bytes of a frame, 512 at most.
+    pub limit: usize,
+
+    /// What has come of the header or of the frame that is due.
+    pub held: &'a [u8],
+}
+
+/// Why a side is not taken up.
+#[derive(Clone, Copy, Debug, PartialEq, Eq, Error)]
+pub enum TakeUpError {
+    /// No side keeps these values: the limit is above 512, or what has come is all of what is due, or begins
+    /// with a size that no frame may have.
+    #[error("No side keeps these values")]
+    NotKept,
+
+    /// A request for memory was refused.
+    #[error("Out of memory")]
+    OutOfMemory,
+}
+
+impl From<AllocError> for TakeUpError {
+    ghost from_gives = { λ _ error. error ≡ TakeUpOutOfMemory };
+
+    fn from(_error: AllocError) -> Self {
+        TakeUpError::OutOfMemory
+    }
+}
+
+impl SetDown<'_> {
+    /// Whether a side can have kept these values.
+    pub(crate) fn is_kept(&self) -> bool
+        ensures { IsTrue result ↔ IsKept self.now }
+    {
+        self.limit <= MAX_FRAME && is_part(self.due, self.limit, self.held)
+    }
+}
+
+/// Whether so much can have come of what is due.
+fn is_part(due: Due, limit: usize, held: &[u8]) -> bool
+    ensures { IsTrue result ↔ IsPart due limit held.now }
+{
+    match due {
+        Due::Header => held.len() < 8,
+        Due::Frame(_) => match size(held) {
+            Some(size) => size >= 8 && size <= limit && held.len() < size,
+            None => true,
+        },
+    }
+}

@@ -1,0 +1,80 @@
+//! A server's side of a connection that is set down behind each byte and taken up by another.
+
+use crate::acceptors::Server;
+use crate::connections::{HEADER, units_of};
+use crate::users::stored;
+use bytes::BytesMut;
+use fe2o3_sasl::hmac::Meter;
+use fe2o3_sasl::scram_server::ScramAuthenticator;
+use fe2o3_sasl_negotiation::{Due, ServerNegotiation, SetDown, Standing, TakeUpError, Turn};
+use help_bodies::bodies::{CHALLENGE, INIT, MECHANISMS, OUTCOME, RESPONSE};
+use std::alloc::Global;
+use std::test::Fail;
+
+/// Another side with what this one keeps.
+fn another(
+    alloc: Global,
+    side: &ServerNegotiation<Server>,
+) -> Result<Box<ServerNegotiation<Server>>, Fail> {
+    let acceptor = side.acceptor().clone()?;
+    Ok(Box::new(
+        alloc,
+        ServerNegotiation::take_up(alloc, acceptor, &side.set_down())?,
+    )?)
+}
+
+/// How a login by these bytes ends, each of which is given to a side of its own, and what was sent.
+fn log_in(alloc: Global, bytes: &[u8], output: &mut BytesMut) -> Result<Standing, Fail> {
+    let acceptor = ScramAuthenticator::new(stored(alloc)?);
+    let mut side = Box::new(alloc, ServerNegotiation::new(alloc, acceptor))?;
+    for byte in bytes.chunks(1) {
+        side.receive(alloc, byte, &[2; 32], &mut Meter::new(), output)?;
+        side = another(alloc, &side)?;
+    }
+    Ok(side.standing())
+}
+
+#[test]
+fn each_byte_has_a_side_of_its_own(rt: HostRuntime) -> Result<(), Fail> {
+    let alloc = rt.alloc();
+    let bytes = units_of(alloc, &[HEADER, INIT, RESPONSE])?;
+    let sends = units_of(alloc, &[HEADER, MECHANISMS, CHALLENGE, OUTCOME])?;
+    let mut output = BytesMut::new(alloc);
+    assert!(rt; log_in(alloc, &bytes, &mut output)? == Standing::LoggedIn);
+    assert!(rt; output.as_slice() == sends.as_slice());
+    Ok(())
+}
+
+/// Whether values that no side keeps are refused.
+fn is_refused(alloc: Global, due: Due, limit: usize, held: &[u8]) -> Result<bool, Fail> {
+    let kept = SetDown {
+        standing: Standing::Wanting,
+        due,
+        limit,
+        held,
+    };
+    let acceptor = ScramAuthenticator::new(stored(alloc)?);
+    let side = ServerNegotiation::take_up(alloc, acceptor, &kept);
+    Ok(matches!(side, Err(TakeUpError::NotKept)))
+}
+
+#[test]
+fn no_side_keeps_a_whole_unit(rt: HostRuntime) -> Result<(), Fail> {
+    let init = Due::Frame(Turn::Init);
+    let rows: [(Due, usize, &[u8], bool); 7] = [
+        (Due::Header, 512, &[0; 7], false),
+        (Due::Header, 512, &[0; 8], true),
+        (Due::Header, 513, &[], true),
+        (init, 512, &[0, 0, 0, 9, 2, 0, 0, 0], false),
+        (init, 512, &[0, 0, 0, 8, 2, 0, 0, 0], true),
+        (init, 512, &[0, 0, 0, 7], true),
+        (init, 16, &[0, 0, 0, 17], true),
+    ];
+    for (at, (due, limit, held, wanted)) in rows.iter().enumerate() {
+        assert!(rt;
+            is_refused(rt.alloc(), *due, *limit, held)? == *wanted,
+            "{at}"
+        );
+    }
+    Ok(())
+}
