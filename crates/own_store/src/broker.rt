@@ -1,12 +1,15 @@
 //! The broker's side of a login, and a client's.
 
 ghost use Rattle.std.specs.Prelude.{◌≡◌, ℕ, List, Some, IfOk};
-ghost use Rattle.fe2o3_scram.specs.Logins.{TextLogsIn};
-ghost use Rattle.fe2o3_scram.specs.ScramServer.{provider_in, state_in, logged_in};
+ghost use Rattle.fe2o3_scram.specs.HidingServer.{hiding_server};
+ghost use Rattle.fe2o3_scram.specs.Logins.{HiddenTextLogsIn};
+ghost use Rattle.fe2o3_scram.specs.ScramServer.{logged_in};
 
 use crate::accounts::{Account, Accounts};
 use anyhow::{Context, Result};
-use fe2o3_scram::{ScramAuthenticator, ScramClient, ScramRecord, ScramVersion};
+use fe2o3_scram::{
+    DEFAULT_SCRAM_ITERATIONS, HidingAuthenticator, ScramClient, ScramRecord, ScramVersion,
+};
 use std::alloc::Global;
 use std::random::RandomSource;
 use std::rc::Rc;
@@ -32,35 +35,56 @@ fn kept() -> &'static [(&'static str, &'static str, u32)] {
     &KEPT
 }
 
-/// The accounts, which all connections share.
-pub fn accounts(alloc: Global) -> Result<Rc<Accounts>> {
-    let mut accounts = Accounts::new(alloc, ScramVersion::Sha256);
-    for (name, text, sessions) in kept() {
-        accounts.add(Account {
-            name: name.to_string(alloc)?,
-            kept: ScramRecord::parse(alloc, text)?,
-            sessions: *sessions,
-        })?;
-    }
-    Ok(Rc::new(alloc, accounts)?)
-}
+/// The length of the records' salts, in bytes.
+const SALT_LEN: usize = 16;
 
 /// The server of one connection.
-type Server = ScramAuthenticator<Rc<Accounts>>;
+type Server = HidingAuthenticator<Rc<Accounts>>;
+
+/// What all connections share.
+#[derive(Drop)]
+pub struct Broker {
+    accounts: Rc<Accounts>,
+    secret: [u8; 32],
+}
+
+impl Broker {
+    /// A broker of the accounts. Its secret, by which unknown users are answered as known ones, is random
+    /// bytes, which are told to nobody and kept for as long as the accounts are.
+    pub fn new(alloc: Global, secret: [u8; 32]) -> Result<Broker> {
+        let mut accounts = Accounts::new(alloc, ScramVersion::Sha256);
+        for (name, text, sessions) in kept() {
+            accounts.add(Account {
+                name: name.to_string(alloc)?,
+                kept: ScramRecord::parse(alloc, text)?,
+                sessions: *sessions,
+            })?;
+        }
+        let accounts = Rc::new(alloc, accounts)?;
+        Ok(Broker { accounts, secret })
+    }
+
+    /// A server for a connection.
+    fn server(&self, alloc: Global) -> Result<Server> {
+        let secret = self.secret.to_vec(alloc)?;
+        let accounts = self.accounts.clone()?;
+        Ok(HidingAuthenticator::new(accounts, secret, SALT_LEN, DEFAULT_SCRAM_ITERATIONS)?)
+    }
+}
 
 /// A client's login on a connection of its own, and how many sessions it may then open.
 pub fn log_in<R: RandomSource>(
     alloc: Global,
     rt: &R,
-    accounts: &Rc<Accounts>,
+    broker: &Broker,
     name: &str,
     password: &str,
 ) -> Result<u32> {
-    let mut server = ScramAuthenticator::new(accounts.clone()?);
+    let mut server = broker.server(alloc)?;
     let mut client = client(alloc, name, password)?;
     exchange(alloc, rt, &mut client, &mut server)?;
     let user = server.user().context("nobody")?;
-    let account = accounts.account(user).context("no account")?;
+    let account = broker.accounts.account(user).context("no account")?;
     Ok(account.sessions)
 }
 
@@ -73,8 +97,8 @@ fn client(alloc: Global, name: &str, password: &str) -> Result<ScramClient> {
     Ok(client.with_iteration_limit(100_000))
 }
 
-/// Fresh random bytes, for a nonce.
-fn fresh<R: RandomSource>(rt: &R) -> Result<[u8; 32]> {
+/// Fresh random bytes, for a nonce or a secret.
+pub fn fresh<R: RandomSource>(rt: &R) -> Result<[u8; 32]> {
     let mut bytes = [0; 32];
     rt.fill_bytes(&mut bytes)?;
     Ok(bytes)
@@ -97,7 +121,7 @@ fn exchange<R: RandomSource>(
     Ok(())
 }
 
-/// The server's first message, to a user whom the broker knows.
+/// The server's first message, to an unknown user as to a known one.
 fn challenge(
     alloc: Global,
     server: &mut Server,
@@ -105,15 +129,15 @@ fn challenge(
     nonce: &[u8; 32],
 ) -> Result<Vec<u8>> {
     let challenge = server.compute_server_first_message(alloc, client_first, nonce)?;
-    challenge.context("unknown user")
+    challenge.context("no answer")
 }
 
 /// The server's last message, to a client whose proof meets the stored key of the user whom the server
 /// then names.
 fn conclude(alloc: Global, server: &mut Server, client_final: &[u8]) -> Result<Vec<u8>>
     ensures { IfOk result (λ _. (user : List ℕ)
-        × TextLogsIn (provider_in server.old).value (state_in server.old) client_final.now user
-        × (logged_in (state_in server.new) ≡ Some user)) }
+        × HiddenTextLogsIn (hiding_server (λ store. store.value) server.old) client_final.now user
+        × (logged_in server.new.state ≡ Some user)) }
 {
     let signature = server.compute_server_final_message(alloc, client_final)?;
     signature.context("no answer")

@@ -5,14 +5,12 @@
 mod accounts;
 mod broker;
 
-use crate::accounts::Accounts;
-use crate::broker::log_in;
+use crate::broker::{Broker, fresh, log_in};
 use anyhow::Result;
 use std::alloc::Global;
 use std::io;
 use std::io::Write;
 use std::random::RandomSource;
-use std::rc::Rc;
 
 /// Names and passwords that are tried.
 static TRIES: [(&str, &str); 4] = [
@@ -31,12 +29,12 @@ fn tries() -> &'static [(&'static str, &'static str)] {
 fn report<R: RandomSource, W: Write>(
     alloc: Global,
     rt: &R,
-    accounts: &Rc<Accounts>,
+    broker: &Broker,
     name: &str,
     password: &str,
     output: &mut W,
 ) -> Result<()> {
-    match log_in(alloc, rt, accounts, name, password) {
+    match log_in(alloc, rt, broker, name, password) {
         Ok(sessions) => writeln!(output, "{name}: logged in, with {sessions} sessions")?,
         Err(error) => writeln!(output, "{name}: refused, {error}")?,
     }
@@ -45,9 +43,9 @@ fn report<R: RandomSource, W: Write>(
 
 fn main(rt: HostRuntime) -> Result<()> {
     let mut output = io::writer(&rt);
-    let accounts = broker::accounts(rt.alloc())?;
+    let broker = Broker::new(rt.alloc(), fresh(&rt)?)?;
     for (name, password) in tries() {
-        report(rt.alloc(), &rt, &accounts, name, password, &mut output)?;
+        report(rt.alloc(), &rt, &broker, name, password, &mut output)?;
     }
     Ok(())
 }

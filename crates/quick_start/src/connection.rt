@@ -9,9 +9,13 @@ use fe2o3_sasl_negotiation::{ClientNegotiation, ServerNegotiation, Standing};
 use std::alloc::Global;
 use std::random::RandomSource;
 
-/// The server's side of a connection. Its salt is random bytes, fresh for each record.
-pub fn new_server(alloc: Global, salt: [u8; 32]) -> Result<ServerNegotiation<Server>> {
-    Ok(ServerNegotiation::new(alloc, server::new_server(alloc, salt)?))
+/// The server's side of a connection, with the salt and the secret of `server::new_server`.
+pub fn new_server(
+    alloc: Global,
+    salt: [u8; 32],
+    secret: [u8; 32],
+) -> Result<ServerNegotiation<Server>> {
+    Ok(ServerNegotiation::new(alloc, server::new_server(alloc, salt, secret)?))
 }
 
 /// Hands a server what has come from its client, and appends what is to be sent. Answers how many bytes

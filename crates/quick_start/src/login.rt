@@ -24,7 +24,7 @@ pub struct Transcript {
     pub salt: [u8; 32],
 }
 
-/// Fresh random bytes, for a nonce or a salt.
+/// Fresh random bytes, for a nonce, a salt or a secret.
 pub fn fresh<R: RandomSource>(rt: &R) -> Result<[u8; 32]> {
     let mut bytes = [0; 32];
     rt.fill_bytes(&mut bytes)?;
@@ -43,7 +43,7 @@ pub fn offer(alloc: Global, server: &server::Server) -> Result<Vec<u8>> {
 pub fn log_in<R: RandomSource>(rt: &R, alloc: Global) -> Result<Transcript> {
     let salt = fresh(rt)?;
     let mut client = client::new_client(alloc)?;
-    let mut server = server::new_server(alloc, salt)?;
+    let mut server = server::new_server(alloc, salt, fresh(rt)?)?;
     let mut given = Transcript {
         client: Vec::new(alloc),
         server: Vec::new(alloc),

@@ -63,7 +63,7 @@ fn over_texts<R: RandomSource, W: Write>(rt: &R, alloc: Global, output: &mut W) 
     let mut connection = Printed {
         alloc,
         nonce: fresh(rt)?,
-        server: scram_server::Server::new(alloc, fresh(rt)?)?,
+        server: scram_server::Server::new(alloc, fresh(rt)?, fresh(rt)?)?,
         output,
     };
     scram_client::log_in(alloc, &mut connection, &nonce)?;
@@ -84,7 +84,7 @@ fn over_frames<R: RandomSource, W: Write>(
 
 /// What a server sends first: its header, and the names of its mechanisms in a frame.
 fn first_bytes<R: RandomSource>(rt: &R, alloc: Global) -> Result<BytesMut> {
-    let server = server::new_server(alloc, fresh(rt)?)?;
+    let server = server::new_server(alloc, fresh(rt)?, fresh(rt)?)?;
     let offer = login::offer(alloc, &server)?;
     let mut bytes = BytesMut::new(alloc);
     wire::open(&mut bytes)?;
@@ -110,9 +110,10 @@ fn print_names<W: Write>(body: &[u8], output: &mut W) -> Result<()> {
     Ok(())
 }
 
-/// A login over the bytes of a connection, whose salt and nonces are random.
+/// A login over the bytes of a connection, whose salt, secret and nonces are random.
 fn over_connection<R: RandomSource, W: Write>(rt: &R, alloc: Global, output: &mut W) -> Result<()> {
-    let mut server = Box::new(alloc, connection::new_server(alloc, fresh(rt)?)?)?;
+    let server = connection::new_server(alloc, fresh(rt)?, fresh(rt)?)?;
+    let mut server = Box::new(alloc, server)?;
     connection::meet(rt, alloc, &mut server)?;
     let user = server.user().context("nobody has logged in")?;
     writeln!(output, "{user} logged in over a connection")?;
@@ -121,8 +122,8 @@ fn over_connection<R: RandomSource, W: Write>(rt: &R, alloc: Global, output: &mu
 
 /// What the lists of bodies of a login say of each side.
 fn over_lists<W: Write>(alloc: Global, given: &Transcript, output: &mut W) -> Result<()> {
-    let server = server::new_server(alloc, given.salt)?;
-    let let_in = runs::lets_in(alloc, server.credentials(), &given.server)?;
+    let user = server::new_user(alloc, given.salt)?;
+    let let_in = runs::lets_in(alloc, &user, &given.server)?;
     writeln!(output, "the server lets the client in at {let_in:?}")?;
     let logged_in = runs::logs_in(alloc, &given.client)?;
     writeln!(output, "the client is logged in at {logged_in:?}")?;
@@ -131,8 +132,8 @@ fn over_lists<W: Write>(alloc: Global, given: &Transcript, output: &mut W) -> Re
 
 /// What they have in common.
 fn over_both<W: Write>(alloc: Global, given: &Transcript, output: &mut W) -> Result<()> {
-    let server = server::new_server(alloc, given.salt)?;
-    for finding in &audit::findings(alloc, given, server.credentials())? {
+    let user = server::new_user(alloc, given.salt)?;
+    for finding in &audit::findings(alloc, given, &user)? {
         audit::print(finding, output)?;
     }
     Ok(())

@@ -1,28 +1,38 @@
-//! A server of one user.
+//! A server of one user, which does not tell which users it knows.
 
 use anyhow::{Context, Result};
-use fe2o3_sasl::{ScramAuthenticator, ScramVersion, SingleScramCredential};
+use fe2o3_sasl::{
+    DEFAULT_SCRAM_ITERATIONS, HidingAuthenticator, ScramVersion, SingleScramCredential,
+};
 use std::alloc::Global;
 
-/// A server for one connection. What it waits for, the authenticator knows: an unknown user and a
-/// refused message leave it as it was.
+/// A server for one connection. What it waits for, the authenticator knows: a refused message leaves it
+/// as it was.
 #[derive(Drop)]
 pub struct Server {
-    authenticator: ScramAuthenticator<SingleScramCredential>,
+    authenticator: HidingAuthenticator<SingleScramCredential>,
 }
 
 impl Server {
-    /// A server that knows `user`. The salt is random bytes, fresh for each record.
-    pub fn new(alloc: Global, salt: [u8; 32]) -> Result<Server> {
+    /// A server that knows `user`. The salt is random bytes, fresh for each record. The secret is random
+    /// bytes, one for all connections, which are told to nobody and kept for as long as the records are.
+    pub fn new(alloc: Global, salt: [u8; 32], secret: [u8; 32]) -> Result<Server> {
         let username = "user".to_string(alloc)?;
+        let secret = secret.to_vec(alloc)?;
         let version = ScramVersion::Sha256;
-        let credential = SingleScramCredential::new(alloc, username, "pencil", version, salt)?;
+        let user = SingleScramCredential::new(alloc, username, "pencil", version, salt)?;
         Ok(Server {
-            authenticator: ScramAuthenticator::new(credential),
+            authenticator: HidingAuthenticator::new(
+                user,
+                secret,
+                salt.len(),
+                DEFAULT_SCRAM_ITERATIONS,
+            )?,
         })
     }
 
-    /// Answers the client's first message with a challenge. The nonce is random bytes, fresh for each.
+    /// Answers the client's first message with a challenge, to an unknown user too. The nonce is random
+    /// bytes, fresh for each.
     pub fn challenge(
         &mut self,
         alloc: Global,
@@ -32,7 +42,7 @@ impl Server {
         let challenge = self
             .authenticator
             .compute_server_first_message(alloc, client_first, nonce)?;
-        challenge.context("unknown user")
+        challenge.context("no answer")
     }
 
     /// Answers the client's response with the signature, where its proof is right.

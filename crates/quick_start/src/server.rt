@@ -1,26 +1,35 @@
-//! A server over frame bodies.
+//! A server over frame bodies, which does not tell which users it knows.
 
 ghost use Rattle.std.specs.Prelude.{◌≡◌, ℕ, List, Some, IfOk};
 ghost use Rattle.fe2o3_sasl_wire.specs.declared.amqp_types.SaslCode.TheVariants.{Ok as OkCode};
-ghost use Rattle.fe2o3_scram.specs.ScramServer.{provider_in, state_in, logged_in};
-ghost use Rattle.fe2o3_sasl.specs.StepLaws.{BodyLogsIn};
+ghost use Rattle.fe2o3_scram.specs.HidingServer.{hiding_server};
+ghost use Rattle.fe2o3_scram.specs.ScramServer.{logged_in};
+ghost use Rattle.fe2o3_sasl.specs.HidingLaws.{HiddenBodyLogsIn};
 
 use anyhow::Result;
 use fe2o3_sasl::{
-    Event, ScramAuthenticator, ScramVersion, ServerReply, SingleScramCredential, acceptor_step,
+    DEFAULT_SCRAM_ITERATIONS, Event, HidingAuthenticator, ScramVersion, ServerReply,
+    SingleScramCredential, acceptor_step,
 };
 use fe2o3_sasl_wire::SaslCode;
 use std::alloc::Global;
 
 /// The server of one connection.
-pub type Server = ScramAuthenticator<SingleScramCredential>;
+pub type Server = HidingAuthenticator<SingleScramCredential>;
 
-/// A server that knows `user`. A salt is random bytes, fresh for each record.
-pub fn new_server(alloc: Global, salt: [u8; 32]) -> Result<Server> {
+/// What the server keeps of `user`. A salt is random bytes, fresh for each record.
+pub fn new_user(alloc: Global, salt: [u8; 32]) -> Result<SingleScramCredential> {
     let username = "user".to_string(alloc)?;
     let version = ScramVersion::Sha256;
-    let credential = SingleScramCredential::new(alloc, username, "pencil", version, salt)?;
-    Ok(ScramAuthenticator::new(credential))
+    Ok(SingleScramCredential::new(alloc, username, "pencil", version, salt)?)
+}
+
+/// A server that knows `user`. Its secret is random bytes, one for all connections, which are told to
+/// nobody and kept for as long as the records are.
+pub fn new_server(alloc: Global, salt: [u8; 32], secret: [u8; 32]) -> Result<Server> {
+    let secret = secret.to_vec(alloc)?;
+    let user = new_user(alloc, salt)?;
+    Ok(HidingAuthenticator::new(user, secret, salt.len(), DEFAULT_SCRAM_ITERATIONS)?)
 }
 
 /// The body to send back, and how the login ended, if it did. After an outcome that is not Ok,
@@ -31,8 +40,8 @@ pub fn answer(
     event: &Event,
 ) -> Result<(Vec<u8>, Option<SaslCode>)>
     ensures { IfOk result (λ answer. answer.1 ≡ Some OkCode → (user : List ℕ)
-        × BodyLogsIn (provider_in server.old) (state_in server.old) event.now.body.items user
-        × (logged_in (state_in server.new) ≡ Some user)) }
+        × HiddenBodyLogsIn (hiding_server (λ store. store) server.old) event.now.body.items user
+        × (logged_in server.new.state ≡ Some user)) }
 {
     match acceptor_step(alloc, server, event)? {
         ServerReply::Challenge { body } => Ok((body, None)),

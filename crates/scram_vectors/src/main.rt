@@ -38,10 +38,11 @@ enum Table {
     RecordFaults,
     RecordLines,
     OddRecords,
+    MadeUpRecords,
 }
 
 /// The tables, and the file of each.
-static TABLES: [(Table, &str); 16] = [
+static TABLES: [(Table, &str); 17] = [
     (Table::Digests, "digests.txt"),
     (Table::Hmac, "hmac.txt"),
     (Table::SaltedPasswords, "salted-passwords.txt"),
@@ -58,6 +59,7 @@ static TABLES: [(Table, &str); 16] = [
     (Table::RecordFaults, "record-faults.txt"),
     (Table::RecordLines, "record-lines.txt"),
     (Table::OddRecords, "odd-records.txt"),
+    (Table::MadeUpRecords, "made-up-records.txt"),
 ];
 
 impl Answers for Table {
@@ -79,6 +81,7 @@ impl Answers for Table {
             Table::RecordFaults => records::record_fault(alloc, words),
             Table::RecordLines => records::record_lines(alloc, words),
             Table::OddRecords => odd_records::odd_record(alloc, words),
+            Table::MadeUpRecords => records::made_up(alloc, words),
         }
     }
 }

@@ -1,8 +1,8 @@
-//! Texts of records, and lines of users.
+//! Texts of records, lines of users, and records that are made up.
 
-use crate::rows::{Unconfirmed, text_of};
+use crate::rows::{Unconfirmed, bytes_of, number_of, text_of, version_of};
 use fe2o3_scram::credentials::{ReadLinesError, ScramCredentials, ScramRecord};
-use fe2o3_scram::hmac::ScramVersion;
+use fe2o3_scram::hmac::{Meter, ScramVersion};
 use std::alloc::Global;
 
 /// Whether a record is written as it was read, and made again of its password: `RECORD PASSWORD`.
@@ -75,4 +75,23 @@ fn refusal(
         Ok(_) => Err(Unconfirmed::Malformed),
         Err(error) => Ok(error),
     }
+}
+
+/// The record that is made up for a name, and the HMAC values that it costs:
+/// `VERSION SECRET NAME LENGTH COUNT`, of which the length is the salt's.
+pub fn made_up(alloc: Global, words: &[&str]) -> Result<String, Unconfirmed> {
+    let [version, secret, name, salt_len, count] = words else {
+        return Err(Unconfirmed::Malformed);
+    };
+    let version = version_of(version)?;
+    let secret = bytes_of(alloc, secret)?;
+    let name = text_of(alloc, name)?;
+    let salt_len = number_of(salt_len)? as usize;
+    let iterations = number_of(count)?;
+    let mut meter = Meter::new();
+    let made = ScramRecord::of_nobody_metered(
+        alloc, version, &secret, &name, salt_len, iterations, &mut meter,
+    )?;
+    let cost = meter.count();
+    Ok(format!(in alloc; "{} {cost}", made.to_text(alloc)?)?)
 }
