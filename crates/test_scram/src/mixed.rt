@@ -28,7 +28,7 @@ const LINES: &str =
 
 #[test]
 fn writes_what_it_reads(rt: HostRuntime) -> Result<(), Fail> {
-    for text in [LINES, ""] {
+    for &text in &[LINES, ""] {
         let store = MixedCredentials::parse_lines(rt.alloc(), text)?;
         let lines = store.to_lines(rt.alloc())?;
         assert!(rt; lines.as_slice() == text.as_bytes(), "{text}");
@@ -45,7 +45,7 @@ fn count(store: &MixedCredentials, version: ScramVersion, name: &str) -> Option<
 #[test]
 fn finds_the_first_of_a_version(rt: HostRuntime) -> Result<(), Fail> {
     let store = MixedCredentials::parse_lines(rt.alloc(), LINES)?;
-    for (version, name, wanted) in [
+    for &(version, name, wanted) in &[
         (ScramVersion::Sha1, "user", Some(4096)),
         (ScramVersion::Sha256, "user", Some(4096)),
         (ScramVersion::Sha512, "user", Some(2)),
@@ -77,7 +77,7 @@ fn shown(alloc: Global, store: &MixedCredentials, name: &str) -> Result<String, 
 #[test]
 fn finds_each_record_of_a_name(rt: HostRuntime) -> Result<(), Fail> {
     let store = MixedCredentials::parse_lines(rt.alloc(), LINES)?;
-    for (name, wanted) in [
+    for &(name, wanted) in &[
         (
             "user",
             "SCRAM-SHA-1 4096;SCRAM-SHA-256 4096;SCRAM-SHA-512 2;SCRAM-SHA-1 2;SCRAM-SHA-256 1;",
@@ -95,7 +95,7 @@ fn finds_each_record_of_a_name(rt: HostRuntime) -> Result<(), Fail> {
 fn serves_a_version(rt: HostRuntime) -> Result<(), Fail> {
     let store = MixedCredentials::parse_lines(rt.alloc(), LINES)?;
     let refused = Login::ProofRefused(ServerScramErrorKind::AuthenticationFailed);
-    for (name, password, wanted) in [
+    for &(name, password, wanted) in &[
         ("user", "pencil", Login::Accepted),
         ("user", "a,b=c d", refused),
         ("new", "x", Login::Accepted),
@@ -111,7 +111,7 @@ fn serves_a_version(rt: HostRuntime) -> Result<(), Fail> {
 #[test]
 fn says_which_line_and_why(rt: HostRuntime) -> Result<(), Fail> {
     let invalid = ReadLinesErrorKind::InvalidRecord(RecordTextError::KeyLengthMismatch);
-    for (text, wanted) in [
+    for &(text, wanted) in &[
         ("x", ReadLinesErrorKind::LineFeedMissing),
         ("x\nx", ReadLinesErrorKind::SpaceMissing),
         ("a,b SCRAM\n", ReadLinesErrorKind::InvalidName),
@@ -131,7 +131,7 @@ fn says_which_line_and_why(rt: HostRuntime) -> Result<(), Fail> {
 #[test]
 fn adds_records_of_any_version(rt: HostRuntime) -> Result<(), Fail> {
     let mut store = MixedCredentials::new(rt.alloc());
-    for version in [ScramVersion::Sha512, ScramVersion::Sha1] {
+    for &version in &[ScramVersion::Sha512, ScramVersion::Sha1] {
         let record = ScramRecord::from_password(rt.alloc(), version, "pencil", b"salt", 1)?;
         store.add("user".to_string(rt.alloc())?, record)?;
     }
