@@ -117,11 +117,10 @@ fn hides_the_keys_of_a_record(rt: HostRuntime) -> Result<(), Fail> {
 
 #[test]
 fn hides_what_a_store_holds(rt: HostRuntime) -> Result<(), Fail> {
+    let username = "user".to_string(rt.alloc())?;
+    let record = record(rt.alloc(), ScramVersion::Sha256)?;
     let mut store = ScramCredentials::new(rt.alloc(), ScramVersion::Sha256);
-    store.add(
-        "user".to_string(rt.alloc())?,
-        record(rt.alloc(), ScramVersion::Sha256)?,
-    )?;
+    store.add(username, record)?;
     let wanted = "ScramCredentials { scram_version: Sha256, .. }";
     assert!(rt; shows(rt.alloc(), &store, wanted));
     Ok(())
@@ -129,11 +128,10 @@ fn hides_what_a_store_holds(rt: HostRuntime) -> Result<(), Fail> {
 
 #[test]
 fn hides_what_a_store_of_several_versions_holds(rt: HostRuntime) -> Result<(), Fail> {
+    let username = "user".to_string(rt.alloc())?;
+    let record = record(rt.alloc(), ScramVersion::Sha256)?;
     let mut store = MixedCredentials::new(rt.alloc());
-    store.add(
-        "user".to_string(rt.alloc())?,
-        record(rt.alloc(), ScramVersion::Sha256)?,
-    )?;
+    store.add(username, record)?;
     assert!(rt; shows(rt.alloc(), &store, "MixedCredentials { .. }"));
     Ok(())
 }
@@ -148,10 +146,11 @@ fn hides_what_a_server_holds(rt: HostRuntime) -> Result<(), Fail> {
 
 #[test]
 fn the_keys_are_not_shown(rt: HostRuntime) -> Result<(), Fail> {
+    let username = "user".to_string(rt.alloc())?;
     let keys = KEPT[1].keys(rt.alloc())?;
     let wanted = "ScramClientKeys { scram_version: Sha256, iterations: 4096, .. }";
     assert!(rt; shows(rt.alloc(), &keys, wanted));
-    let client = ScramClient::with_keys("user".to_string(rt.alloc())?, keys);
+    let client = ScramClient::with_keys(username, keys);
     let wanted =
         "ScramClient { username: \"user\", scram: Sha256, iteration_limit: 4294967295, .. }";
     assert!(rt; shows(rt.alloc(), &client, wanted));
@@ -160,9 +159,9 @@ fn the_keys_are_not_shown(rt: HostRuntime) -> Result<(), Fail> {
 
 #[test]
 fn neither_the_password_nor_the_keys_are_shown(rt: HostRuntime) -> Result<(), Fail> {
-    let keys = KEPT[1].keys(rt.alloc())?;
     let username = "user".to_string(rt.alloc())?;
     let password = "pencil".to_string(rt.alloc())?;
+    let keys = KEPT[1].keys(rt.alloc())?;
     let client = ScramClient::with_password_and_keys(username, password, keys);
     let wanted =
         "ScramClient { username: \"user\", scram: Sha256, iteration_limit: 4294967295, .. }";

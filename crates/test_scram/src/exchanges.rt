@@ -78,10 +78,11 @@ fn store(alloc: Global, exchange: &Exchange, salt: &str) -> Result<ScramCredenti
 }
 
 /// Whether the parts of the challenge are those of the exchange.
-fn is_published(exchange: &Exchange, nonce: &str, first: &ServerFirstMessage<'_>) -> bool {
+fn is_published(exchange: &Exchange, server_nonce: &str, first: &ServerFirstMessage<'_>) -> bool {
+    let nonce = first.client_server_nonce.as_slice();
     first.username.as_str() == "user"
         && first.client_first_message_bare == exchange.client_first_bare
-        && first.client_server_nonce.as_slice() == nonce.as_bytes()
+        && nonce.strip_prefix(exchange.client_nonce.as_bytes()) == Some(server_nonce.as_bytes())
         && first.message.as_slice() == exchange.server_first.as_bytes()
 }
 
@@ -128,19 +129,34 @@ fn signs(
     is_answer(metered, wanted) && is_answer(plain, wanted) && meter.count() == 2
 }
 
+/// Whether a server with this store and this nonce answers as in the exchange.
+fn serves_by(
+    alloc: Global,
+    exchange: &Exchange,
+    client_first: &str,
+    server_nonce: &str,
+    store: &ScramCredentials,
+) -> bool {
+    match exchange
+        .version
+        .compute_server_first_message(alloc, client_first.as_bytes(), server_nonce, store)
+    {
+        Ok(Some(first)) => {
+            is_published(exchange, server_nonce, &first) && signs(alloc, exchange, store, &first)
+        }
+        _ => false,
+    }
+}
+
 /// Whether the server's messages are those of the exchange. Its own nonce is what follows the client's.
 fn serves(alloc: Global, exchange: &Exchange) -> Result<bool, Fail> {
     let (nonce, salt) = nonce_and_salt(exchange)?;
     let server_nonce = nonce
         .strip_prefix(exchange.client_nonce)
         .ok_or("another nonce")?;
-    let store = store(alloc, exchange, salt)?;
     let client_first = format!(in alloc; "n,,{}", exchange.client_first_bare)?;
-    let first = exchange
-        .version
-        .compute_server_first_message(alloc, client_first.as_bytes(), server_nonce, &store)?
-        .ok_or("unknown user")?;
-    Ok(is_published(exchange, nonce, &first) && signs(alloc, exchange, &store, &first))
+    let store = store(alloc, exchange, salt)?;
+    Ok(serves_by(alloc, exchange, &client_first, server_nonce, &store))
 }
 
 #[test]
