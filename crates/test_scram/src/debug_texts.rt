@@ -130,9 +130,9 @@ fn hides_what_a_store_holds(rt: HostRuntime) -> Result<(), Fail> {
 fn hides_what_a_store_of_several_versions_holds(rt: HostRuntime) -> Result<(), Fail> {
     let username = "user".to_string(rt.alloc())?;
     let record = record(rt.alloc(), ScramVersion::Sha256)?;
-    let mut store = MixedCredentials::new(rt.alloc());
+    let mut store = Box::new(rt.alloc(), MixedCredentials::new(rt.alloc()))?;
     store.add(username, record)?;
-    assert!(rt; shows(rt.alloc(), &store, "MixedCredentials { .. }"));
+    assert!(rt; shows(rt.alloc(), &*store, "MixedCredentials { .. }"));
     Ok(())
 }
 

@@ -27,6 +27,11 @@ const LINES: &str =
         RGYFY+e+u7uHIF3UEjaaiwKnWlCXpZUvQkZVf0FIu+A=\n\
     user SCRAM-SHA-256$1:AA==$q543IgzVrdKaJWKZAObT/tVAKRM2dOrKH5FD3kGlq2o=:Az4mYWZGczNgQNLViL4wmA2f5/gXgNBJcTXkkO8GmdQ=\n";
 
+/// The store of these lines, in a box, where it costs the proof of its holder little.
+fn store(alloc: Global, lines: &str) -> Result<Box<MixedCredentials>, Fail> {
+    Ok(Box::new(alloc, MixedCredentials::parse_lines(alloc, lines)?)?)
+}
+
 /// Whether the lines of the store are these.
 fn is_written(alloc: Global, store: &MixedCredentials, wanted: &str) -> bool {
     match store.to_lines(alloc) {
@@ -38,7 +43,7 @@ fn is_written(alloc: Global, store: &MixedCredentials, wanted: &str) -> bool {
 #[test]
 fn writes_what_it_reads(rt: HostRuntime) -> Result<(), Fail> {
     for &text in &[LINES, ""] {
-        let store = MixedCredentials::parse_lines(rt.alloc(), text)?;
+        let store = store(rt.alloc(), text)?;
         assert!(rt; is_written(rt.alloc(), &store, text), "{text}");
     }
     Ok(())
@@ -52,7 +57,7 @@ fn count(store: &MixedCredentials, version: ScramVersion, name: &str) -> Option<
 
 #[test]
 fn finds_the_first_of_a_version(rt: HostRuntime) -> Result<(), Fail> {
-    let store = MixedCredentials::parse_lines(rt.alloc(), LINES)?;
+    let store = store(rt.alloc(), LINES)?;
     for &(version, name, wanted) in &[
         (ScramVersion::Sha1, "user", Some(4096)),
         (ScramVersion::Sha256, "user", Some(4096)),
@@ -92,7 +97,7 @@ fn is_shown(alloc: Global, store: &MixedCredentials, name: &str, wanted: &str) -
 
 #[test]
 fn finds_each_record_of_a_name(rt: HostRuntime) -> Result<(), Fail> {
-    let store = MixedCredentials::parse_lines(rt.alloc(), LINES)?;
+    let store = store(rt.alloc(), LINES)?;
     for &(name, wanted) in &[
         (
             "user",
@@ -145,7 +150,7 @@ fn says_which_line_and_why(rt: HostRuntime) -> Result<(), Fail> {
 
 #[test]
 fn adds_records_of_any_version(rt: HostRuntime) -> Result<(), Fail> {
-    let mut store = MixedCredentials::new(rt.alloc());
+    let mut store = Box::new(rt.alloc(), MixedCredentials::new(rt.alloc()))?;
     for &version in &[ScramVersion::Sha512, ScramVersion::Sha1] {
         let record = ScramRecord::from_password(rt.alloc(), version, "pencil", b"salt", 1)?;
         store.add("user".to_string(rt.alloc())?, record)?;
@@ -157,7 +162,7 @@ fn adds_records_of_any_version(rt: HostRuntime) -> Result<(), Fail> {
 
 #[test]
 fn writes_no_line_that_is_not_read_again(rt: HostRuntime) -> Result<(), Fail> {
-    let mut store = MixedCredentials::parse_lines(rt.alloc(), LINES)?;
+    let mut store = store(rt.alloc(), LINES)?;
     let key = vec![in rt.alloc(); 1; 20]?;
     let salt = Vec::new(rt.alloc());
     let record = ScramRecord::from_parts(ScramVersion::Sha256, salt, 1, key.clone()?, key);
