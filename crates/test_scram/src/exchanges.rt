@@ -4,7 +4,7 @@ use crate::published::{EXCHANGES, Exchange};
 use base64::engine::general_purpose::STANDARD;
 use fe2o3_scram::credentials::{ScramCredentialProvider, ScramCredentials, ScramRecord};
 use fe2o3_scram::hmac::Meter;
-use fe2o3_scram::scram_messages::ServerFirstMessage;
+use fe2o3_scram::scram_messages::{ServerFirstMessage, ServerScramErrorKind};
 use std::alloc::Global;
 use std::test::Fail;
 
@@ -69,19 +69,29 @@ fn nonce_and_salt(exchange: &Exchange) -> Result<(&'static str, &'static str), F
 /// A store with the user of the exchange.
 fn store(alloc: Global, exchange: &Exchange, salt: &str) -> Result<ScramCredentials, Fail> {
     let version = exchange.version;
+    let name = "user".to_string(alloc)?;
     let salt = STANDARD.decode(alloc, salt.as_bytes())?;
     let record = ScramRecord::from_password(alloc, version, "pencil", &salt, 4096)?;
     let mut store = ScramCredentials::new(alloc, version);
-    store.add("user".to_string(alloc)?, record)?;
+    store.add(name, record)?;
     Ok(store)
 }
 
 /// Whether the parts of the challenge are those of the exchange.
-fn is_published(exchange: &Exchange, nonce: &str, first: &ServerFirstMessage<'_>) -> bool {
+fn is_published(exchange: &Exchange, server_nonce: &str, first: &ServerFirstMessage<'_>) -> bool {
+    let nonce = first.client_server_nonce.as_slice();
     first.username.as_str() == "user"
         && first.client_first_message_bare == exchange.client_first_bare
-        && first.client_server_nonce.as_slice() == nonce.as_bytes()
+        && nonce.strip_prefix(exchange.client_nonce.as_bytes()) == Some(server_nonce.as_bytes())
         && first.message.as_slice() == exchange.server_first.as_bytes()
+}
+
+/// Whether the answer is this message.
+fn is_answer(answer: Result<Vec<u8>, ServerScramErrorKind>, wanted: &[u8]) -> bool {
+    match answer {
+        Ok(message) => message.as_slice() == wanted,
+        Err(_) => false,
+    }
 }
 
 /// Whether the server-final message is that of the exchange by both calls, at the cost of two HMAC
@@ -91,8 +101,10 @@ fn signs(
     exchange: &Exchange,
     store: &ScramCredentials,
     first: &ServerFirstMessage<'_>,
-) -> Result<bool, Fail> {
-    let stored_password = store.get_stored_password("user").ok_or("unknown user")?;
+) -> bool {
+    let Some(stored_password) = store.get_stored_password("user") else {
+        return false;
+    };
     let client_final = exchange.client_final.as_bytes();
     let bare = first.client_first_message_bare.as_bytes();
     let mut meter = Meter::new();
@@ -104,7 +116,7 @@ fn signs(
         &first.message,
         &stored_password,
         &mut meter,
-    )?;
+    );
     let plain = exchange.version.compute_server_final_message(
         alloc,
         client_final,
@@ -112,9 +124,28 @@ fn signs(
         bare,
         &first.message,
         &stored_password,
-    )?;
+    );
     let wanted = exchange.server_final.as_bytes();
-    Ok(metered.as_slice() == wanted && plain.as_slice() == wanted && meter.count() == 2)
+    is_answer(metered, wanted) && is_answer(plain, wanted) && meter.count() == 2
+}
+
+/// Whether a server with this store and this nonce answers as in the exchange.
+fn serves_by(
+    alloc: Global,
+    exchange: &Exchange,
+    client_first: &str,
+    server_nonce: &str,
+    store: &ScramCredentials,
+) -> bool {
+    match exchange
+        .version
+        .compute_server_first_message(alloc, client_first.as_bytes(), server_nonce, store)
+    {
+        Ok(Some(first)) => {
+            is_published(exchange, server_nonce, &first) && signs(alloc, exchange, store, &first)
+        }
+        _ => false,
+    }
 }
 
 /// Whether the server's messages are those of the exchange. Its own nonce is what follows the client's.
@@ -123,17 +154,9 @@ fn serves(alloc: Global, exchange: &Exchange) -> Result<bool, Fail> {
     let server_nonce = nonce
         .strip_prefix(exchange.client_nonce)
         .ok_or("another nonce")?;
-    let store = store(alloc, exchange, salt)?;
     let client_first = format!(in alloc; "n,,{}", exchange.client_first_bare)?;
-    let first = exchange
-        .version
-        .compute_server_first_message(alloc, client_first.as_bytes(), server_nonce, &store)?
-        .ok_or("unknown user")?;
-    if is_published(exchange, nonce, &first) {
-        signs(alloc, exchange, &store, &first)
-    } else {
-        Ok(false)
-    }
+    let store = store(alloc, exchange, salt)?;
+    Ok(serves_by(alloc, exchange, &client_first, server_nonce, &store))
 }
 
 #[test]

@@ -1,6 +1,7 @@
 //! The texts of the faults, most of them those of `fe2o3-amqp` 0.18.4.
 
 use fe2o3_scram::OutOfMemory;
+use fe2o3_scram::hmac::UnknownMechanism;
 use fe2o3_scram::pbkdf2_hi::KeyError;
 use fe2o3_scram::saslprep_ascii::NormalizeError;
 use fe2o3_scram::scram_messages::{
@@ -8,7 +9,6 @@ use fe2o3_scram::scram_messages::{
 };
 use std::alloc::Global;
 use std::fmt::Display;
-use std::test::Fail;
 
 static SCRAM_ERROR_KINDS: [(ScramErrorKind, &str); 18] = [
     (ScramErrorKind::Utf8Error, "Invalid UTF-8"),
@@ -68,11 +68,10 @@ static SCRAM_ERROR_KINDS: [(ScramErrorKind, &str); 18] = [
 ];
 
 #[test]
-fn texts_of_refused_messages(rt: HostRuntime) -> Result<(), Fail> {
+fn texts_of_refused_messages(rt: HostRuntime) {
     for (kind, wanted) in &SCRAM_ERROR_KINDS {
-        assert!(rt; says(rt.alloc(), kind, wanted)?, "{kind:?}");
+        assert!(rt; says(rt.alloc(), kind, wanted), "{kind:?}");
     }
-    Ok(())
 }
 
 static SERVER_SCRAM_ERROR_KINDS: [(ServerScramErrorKind, &str); 15] = [
@@ -130,28 +129,30 @@ static SERVER_SCRAM_ERROR_KINDS: [(ServerScramErrorKind, &str); 15] = [
 ];
 
 #[test]
-fn texts_of_what_a_server_refuses(rt: HostRuntime) -> Result<(), Fail> {
+fn texts_of_what_a_server_refuses(rt: HostRuntime) {
     for (kind, wanted) in &SERVER_SCRAM_ERROR_KINDS {
-        assert!(rt; says(rt.alloc(), kind, wanted)?, "{kind:?}");
+        assert!(rt; says(rt.alloc(), kind, wanted), "{kind:?}");
     }
-    Ok(())
 }
 
 /// Whether the fault has this text.
-fn says<D: Display>(alloc: Global, fault: &D, wanted: &str) -> Result<bool, Fail> {
-    Ok(fault.to_string(alloc)?.as_str() == wanted)
+fn says<D: Display>(alloc: Global, fault: &D, wanted: &str) -> bool {
+    match fault.to_string(alloc) {
+        Ok(text) => text.as_str() == wanted,
+        Err(_) => false,
+    }
 }
 
 #[test]
-fn texts_of_the_other_faults(rt: HostRuntime) -> Result<(), Fail> {
+fn texts_of_the_other_faults(rt: HostRuntime) {
     let alloc = rt.alloc();
-    assert!(rt; says(alloc, &KeyError::NormalizeError, "NormalizeError")?);
-    assert!(rt; says(alloc, &KeyError::OutOfMemory, "OutOfMemory")?);
-    assert!(rt; says(alloc, &NormalizeError, "NormalizeError")?);
-    assert!(rt; says(alloc, &UnescapeError::Invalid, "Invalid")?);
-    assert!(rt; says(alloc, &UnescapeError::OutOfMemory, "OutOfMemory")?);
-    assert!(rt; says(alloc, &XorLengthMismatch, "XorLengthMismatch")?);
-    Ok(())
+    assert!(rt; says(alloc, &KeyError::NormalizeError, "NormalizeError"));
+    assert!(rt; says(alloc, &KeyError::OutOfMemory, "OutOfMemory"));
+    assert!(rt; says(alloc, &NormalizeError, "NormalizeError"));
+    assert!(rt; says(alloc, &UnescapeError::Invalid, "Invalid"));
+    assert!(rt; says(alloc, &UnescapeError::OutOfMemory, "OutOfMemory"));
+    assert!(rt; says(alloc, &XorLengthMismatch, "XorLengthMismatch"));
+    assert!(rt; says(alloc, &UnknownMechanism, "Unknown SCRAM mechanism"));
 }
 
 /// Whether the faults of what is called become those of a client.

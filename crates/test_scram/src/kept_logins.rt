@@ -72,12 +72,12 @@ fn keys_of_first_login(alloc: Global, server: &mut Server) -> Result<ScramClient
 fn the_keys_of_a_login_serve_for_the_next(rt: HostRuntime) -> Result<(), Fail> {
     let mut server = server(rt.alloc(), [3; 32])?;
     let keys = keys_of_first_login(rt.alloc(), &mut server)?;
-    assert!(rt; are_keys(rt.alloc(), &keys, [3; 32], KEYS)?);
+    assert!(rt; are_keys(rt.alloc(), &keys, &[3; 32], KEYS));
     let mut client = client_by(rt.alloc(), keys)?;
     let cost = log_in(rt.alloc(), &mut client, &mut server)?;
     assert!(rt; cost == 2);
     let again = kept(&client)?;
-    assert!(rt; are_keys(rt.alloc(), &again, [3; 32], KEYS)?);
+    assert!(rt; are_keys(rt.alloc(), &again, &[3; 32], KEYS));
     Ok(())
 }
 
@@ -116,7 +116,7 @@ fn after_a_change_of_the_salt_the_password_gives_the_keys_anew(
     let cost = log_in(rt.alloc(), &mut client, &mut changed)?;
     assert!(rt; cost == 4100);
     let anew = kept(&client)?;
-    assert!(rt; are_keys(rt.alloc(), &anew, [4; 32], OTHER_KEYS)?);
+    assert!(rt; are_keys(rt.alloc(), &anew, &[4; 32], OTHER_KEYS));
     Ok(())
 }
 
@@ -244,12 +244,12 @@ const BELIEVES: [Result<(), ScramErrorKind>; 2] = [
 #[test]
 fn a_client_is_taken_up_behind_its_answer(rt: HostRuntime) -> Result<(), Fail> {
     let SetDown { signature, keys } = answered(rt.alloc())?;
-    assert!(rt; are_keys(rt.alloc(), &keys, [3; 32], KEYS)?);
+    assert!(rt; are_keys(rt.alloc(), &keys, &[3; 32], KEYS));
     let mut client = taken_up(rt.alloc(), signature, Some(keys))?;
     assert!(rt; shown(&client) == [false, true, true, false]);
     assert!(rt; verdicts(rt.alloc(), &mut client) == BELIEVES);
     let kept = kept(&client)?;
-    assert!(rt; are_keys(rt.alloc(), &kept, [3; 32], KEYS)?);
+    assert!(rt; are_keys(rt.alloc(), &kept, &[3; 32], KEYS));
     Ok(())
 }
 

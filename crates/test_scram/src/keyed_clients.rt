@@ -15,10 +15,22 @@ const OTHER_SERVER_FIRST: &str = "r=AQEBAQEBAQEBAQEBAQEBAQEBAQEBAQEBAQEBAQEBAQE=
     AgICAgICAgICAgICAgICAgICAgICAgICAgICAgICAgI=,\
     s=AwMDAwMDAwMDAwMDAwMDAwMDAwMDAwMDAwMDAwMDAwM=,i=4097";
 
-/// A client with the keys of the login.
-fn keyed(alloc: Global) -> Result<Box<ScramClient>, Fail> {
-    let keys = keys(alloc)?;
-    Ok(client_by(alloc, keys)?)
+/// A client with the keys of the login or with others, by themselves or beside the password.
+fn client_of(
+    alloc: Global,
+    are_others: bool,
+    has_password: bool,
+) -> Result<Box<ScramClient>, Fail> {
+    let keys = if are_others {
+        KEPT[1].keys(alloc)?
+    } else {
+        keys(alloc)?
+    };
+    if has_password {
+        Ok(client_by_both(alloc, keys)?)
+    } else {
+        Ok(client_by(alloc, keys)?)
+    }
 }
 
 /// Why the client does not answer, and the HMAC values that it costs.
@@ -33,7 +45,7 @@ fn refusal(
 }
 
 /// Whether the client answers as it does by the password, at this cost.
-fn answers(alloc: Global, client: &mut ScramClient, cost: u64) -> Result<bool, Fail> {
+fn answers(alloc: Global, client: &mut ScramClient, cost: u64) -> Result<bool, ScramErrorKind> {
     let mut meter = Meter::new();
     let answer = client.compute_client_final_message_metered(alloc, SERVER_FIRST, &mut meter)?;
     Ok(answer.as_slice() == CLIENT_FINAL.as_bytes() && meter.count() == cost)
@@ -49,34 +61,70 @@ fn logs_in(alloc: Global, client: &mut ScramClient, cost: u64) -> Result<bool, F
 }
 
 #[test]
-fn a_client_logs_in_by_the_keys_of_its_login(rt: HostRuntime) -> Result<(), Fail> {
-    let mut client = keyed(rt.alloc())?;
-    let right = logs_in(rt.alloc(), &mut client, 2)?;
-    assert!(rt; right);
+fn a_client_logs_in_by_keys_that_fit_and_else_by_its_password(rt: HostRuntime) -> Result<(), Fail> {
+    for &(are_others, has_password, cost) in &[
+        (false, false, 2),
+        (false, true, 2),
+        (true, true, 4100),
+    ] {
+        let mut client = client_of(rt.alloc(), are_others, has_password)?;
+        let right = logs_in(rt.alloc(), &mut client, cost)?;
+        assert!(rt; right, "{are_others} {has_password}");
+    }
     Ok(())
 }
 
-/// Whether the client refuses another count, and answers its own then.
-fn stays(alloc: Global, client: &mut ScramClient) -> Result<bool, Fail> {
-    client.compute_client_first_message(alloc, &[1; 32])?;
-    let refused = refusal(alloc, client, OTHER_SERVER_FIRST);
-    let answered = answers(alloc, client, 2)?;
-    Ok(answered && refused == (Some(ScramErrorKind::OtherKeys), 0))
+/// A client with keys alone that refuses a challenge, and what comes of that of the login behind it.
+struct Refused {
+    are_others: bool,
+    has_started: bool,
+    server_first: &'static str,
+    kind: ScramErrorKind,
+    then: Result<bool, ScramErrorKind>,
+}
+
+/// Refused are a challenge of another count, one of other keys, and one to a client that has not started.
+static REFUSALS: [Refused; 3] = [
+    Refused {
+        are_others: false,
+        has_started: true,
+        server_first: OTHER_SERVER_FIRST,
+        kind: ScramErrorKind::OtherKeys,
+        then: Ok(true),
+    },
+    Refused {
+        are_others: true,
+        has_started: true,
+        server_first: SERVER_FIRST,
+        kind: ScramErrorKind::OtherKeys,
+        then: Err(ScramErrorKind::OtherKeys),
+    },
+    Refused {
+        are_others: false,
+        has_started: false,
+        server_first: SERVER_FIRST,
+        kind: ScramErrorKind::IllegalClientState,
+        then: Err(ScramErrorKind::IllegalClientState),
+    },
+];
+
+/// Whether the client refuses the challenge at no cost, and stays where it was.
+fn refuses(alloc: Global, client: &mut ScramClient, row: &Refused) -> Result<bool, Fail> {
+    if row.has_started {
+        client.compute_client_first_message(alloc, &[1; 32])?;
+    }
+    let refused = refusal(alloc, client, row.server_first);
+    let then = answers(alloc, client, 2);
+    Ok(refused == (Some(row.kind), 0) && then == row.then)
 }
 
 #[test]
-fn a_client_with_other_keys_stays_where_it_was(rt: HostRuntime) -> Result<(), Fail> {
-    let mut client = keyed(rt.alloc())?;
-    let right = stays(rt.alloc(), &mut client)?;
-    assert!(rt; right);
-    Ok(())
-}
-
-#[test]
-fn a_client_with_keys_that_has_not_started_refuses(rt: HostRuntime) -> Result<(), Fail> {
-    let mut client = keyed(rt.alloc())?;
-    let refused = refusal(rt.alloc(), &mut client, SERVER_FIRST);
-    assert!(rt; refused == (Some(ScramErrorKind::IllegalClientState), 0));
+fn a_client_with_keys_alone_refuses_and_stays_where_it_was(rt: HostRuntime) -> Result<(), Fail> {
+    for row in &REFUSALS {
+        let mut client = client_of(rt.alloc(), row.are_others, false)?;
+        let right = refuses(rt.alloc(), &mut client, row)?;
+        assert!(rt; right, "{:?} {}", row.kind, row.are_others);
+    }
     Ok(())
 }
 
@@ -95,50 +143,12 @@ fn count_of_keys(client: &ScramClient) -> Option<u32> {
 
 #[test]
 fn a_copy_of_a_client_with_keys_goes_on(rt: HostRuntime) -> Result<(), Fail> {
-    let mut client = keyed(rt.alloc())?;
+    let mut client = client_of(rt.alloc(), false, false)?;
     let mut copy = copy_of(rt.alloc(), &mut client)?;
     let believed = copy.validate_server_final(rt.alloc(), SERVER_FINAL.as_bytes());
     assert!(rt; believed == Ok(()));
     assert!(rt; copy.version() == ScramVersion::Sha256);
     assert!(rt; count_of_keys(&copy) == Some(4096));
     assert!(rt; count_of_keys(&client) == None);
-    Ok(())
-}
-
-#[test]
-fn a_client_with_both_answers_by_keys_that_fit(rt: HostRuntime) -> Result<(), Fail> {
-    let keys = keys(rt.alloc())?;
-    let mut client = client_by_both(rt.alloc(), keys)?;
-    let right = logs_in(rt.alloc(), &mut client, 2)?;
-    assert!(rt; right);
-    Ok(())
-}
-
-#[test]
-fn a_client_with_both_answers_by_the_password_beside_other_keys(
-    rt: HostRuntime,
-) -> Result<(), Fail> {
-    let others = KEPT[1].keys(rt.alloc())?;
-    let mut client = client_by_both(rt.alloc(), others)?;
-    let right = logs_in(rt.alloc(), &mut client, 4100)?;
-    assert!(rt; right);
-    Ok(())
-}
-
-/// Why a client that has started does not answer, and the HMAC values that it costs.
-fn refusal_of_started(
-    alloc: Global,
-    client: &mut ScramClient,
-) -> Result<(Option<ScramErrorKind>, u64), Fail> {
-    client.compute_client_first_message(alloc, &[1; 32])?;
-    Ok(refusal(alloc, client, SERVER_FIRST))
-}
-
-#[test]
-fn a_client_with_other_keys_alone_refuses(rt: HostRuntime) -> Result<(), Fail> {
-    let others = KEPT[1].keys(rt.alloc())?;
-    let mut client = client_by(rt.alloc(), others)?;
-    let refused = refusal_of_started(rt.alloc(), &mut client)?;
-    assert!(rt; refused == (Some(ScramErrorKind::OtherKeys), 0));
     Ok(())
 }

@@ -50,121 +50,111 @@ fn started(alloc: Global) -> Result<Box<ScramClient>, Fail> {
     Ok(client)
 }
 
-/// A clone of the client that accepts this count and no higher one.
-fn limited(alloc: Global, client: &ScramClient, limit: u32) -> Result<Box<ScramClient>, Fail> {
-    let client = client.clone()?;
-    Ok(Box::new(alloc, client.with_iteration_limit(limit))?)
+/// A limit that a client is given.
+#[derive(Clone, Copy)]
+enum Limit {
+    /// No lower count than this.
+    Least(u32),
+
+    /// No higher count than this.
+    Most(u32),
 }
 
-/// Why the client does not answer, and the HMAC values that it costs.
-fn refusal(alloc: Global, client: &mut ScramClient) -> (Option<ScramErrorKind>, u64) {
+/// A clone of the client that has this limit besides.
+fn limited(alloc: Global, client: &ScramClient, limit: Limit) -> Result<Box<ScramClient>, Fail> {
+    let client = client.clone()?;
+    let client = match limit {
+        Limit::Least(least) => client.with_least_iterations(least),
+        Limit::Most(most) => client.with_iteration_limit(most),
+    };
+    Ok(Box::new(alloc, client)?)
+}
+
+/// What comes of the challenge: whether the answer is that of the login, or why there is none, and the
+/// HMAC values that it costs.
+type Outcome = (Result<bool, ScramErrorKind>, u64);
+
+/// What comes of the challenge to this client.
+fn outcome(alloc: Global, client: &mut ScramClient) -> Outcome {
     let mut meter = Meter::new();
     let answer = client.compute_client_final_message_metered(alloc, SERVER_FIRST, &mut meter);
-    (answer.err(), meter.count())
+    match answer {
+        Ok(answer) => (
+            Ok(answer.as_slice() == CLIENT_FINAL.as_bytes()),
+            meter.count(),
+        ),
+        Err(kind) => (Err(kind), meter.count()),
+    }
 }
 
-/// A refusal of the count.
-const TOO_LARGE: (Option<ScramErrorKind>, u64) = (Some(ScramErrorKind::IterationCountTooLarge), 0);
-
-/// Whether the client refuses the count so, and does so twice.
-fn refuses(alloc: Global, client: &mut ScramClient, wanted: (Option<ScramErrorKind>, u64)) -> bool {
-    refusal(alloc, client) == wanted && refusal(alloc, client) == wanted
+/// Whether this comes of the challenge, and once more where it is refused.
+fn comes(alloc: Global, client: &mut ScramClient, wanted: &Outcome) -> bool {
+    outcome(alloc, client) == *wanted && (wanted.0.is_ok() || outcome(alloc, client) == *wanted)
 }
 
-/// Whether the client refuses the count so, and so does its clone.
-fn both_refuse(
-    alloc: Global,
-    client: &mut ScramClient,
-    wanted: (Option<ScramErrorKind>, u64),
-) -> Result<bool, Fail> {
+/// Whether this comes of the challenge to the client, and to its clone.
+fn comes_of_both(alloc: Global, client: &mut ScramClient, wanted: &Outcome) -> Result<bool, Fail> {
     let mut same = Box::new(alloc, ScramClient::clone(client)?)?;
-    Ok(refuses(alloc, client, wanted) && refuses(alloc, &mut same, wanted))
+    Ok(comes(alloc, client, wanted) && comes(alloc, &mut same, wanted))
 }
 
-/// Whether the client answers the challenge.
-fn answers(alloc: Global, client: &mut ScramClient) -> Result<bool, ScramErrorKind> {
-    let answer = client.compute_client_final_message(alloc, SERVER_FIRST)?;
-    Ok(answer.as_slice() == CLIENT_FINAL.as_bytes())
-}
+const TOO_LARGE: Outcome = (Err(ScramErrorKind::IterationCountTooLarge), 0);
 
-/// A client that has sent its first message and accepts no higher count than this.
-fn started_with_limit(alloc: Global, limit: u32) -> Result<Box<ScramClient>, Fail> {
-    let client = started(alloc)?;
-    limited(alloc, &client, limit)
-}
+const TOO_SMALL: Outcome = (Err(ScramErrorKind::IterationCountTooSmall), 0);
 
-#[test]
-fn a_client_keeps_its_limit(rt: HostRuntime) -> Result<(), Fail> {
-    let mut low = started_with_limit(rt.alloc(), 4095)?;
-    assert!(rt; both_refuse(rt.alloc(), &mut low, TOO_LARGE)?);
-    let mut raised = limited(rt.alloc(), &low, 4096)?;
-    assert!(rt; answers(rt.alloc(), &mut raised) == Ok(true));
-    Ok(())
-}
+const ANSWERED: Outcome = (Ok(true), 4100);
 
-/// A clone of the client that accepts this count and no lower one.
-fn floored(alloc: Global, client: &ScramClient, least: u32) -> Result<Box<ScramClient>, Fail> {
-    let client = client.clone()?;
-    Ok(Box::new(alloc, client.with_least_iterations(least))?)
-}
+/// Limits that a client is given one after the other, each with what comes of the challenge then.
+static LIMITS: [(&str, &[(Limit, Outcome)]); 5] = [
+    (
+        "the most",
+        &[
+            (Limit::Most(4095), TOO_LARGE),
+            (Limit::Most(4096), ANSWERED),
+        ],
+    ),
+    (
+        "the least",
+        &[
+            (Limit::Least(4097), TOO_SMALL),
+            (Limit::Least(4096), ANSWERED),
+        ],
+    ),
+    (
+        "both",
+        &[
+            (Limit::Least(4097), TOO_SMALL),
+            (Limit::Most(4095), TOO_SMALL),
+        ],
+    ),
+    (
+        "both in the other order",
+        &[
+            (Limit::Most(4095), TOO_LARGE),
+            (Limit::Least(4097), TOO_SMALL),
+            (Limit::Least(1), TOO_LARGE),
+        ],
+    ),
+    ("the count itself", &[(Limit::Most(4096), ANSWERED)]),
+];
 
-/// A client that has sent its first message and accepts no lower count than this.
-fn started_with_least(alloc: Global, least: u32) -> Result<Box<ScramClient>, Fail> {
-    let client = started(alloc)?;
-    floored(alloc, &client, least)
-}
-
-/// A refusal of a count below the least.
-const TOO_SMALL: (Option<ScramErrorKind>, u64) = (Some(ScramErrorKind::IterationCountTooSmall), 0);
-
-#[test]
-fn a_client_keeps_its_least_count(rt: HostRuntime) -> Result<(), Fail> {
-    let mut high = started_with_least(rt.alloc(), 4097)?;
-    assert!(rt; both_refuse(rt.alloc(), &mut high, TOO_SMALL)?);
-    let mut lowered = floored(rt.alloc(), &high, 4096)?;
-    assert!(rt; answers(rt.alloc(), &mut lowered) == Ok(true));
-    Ok(())
-}
-
-/// A client that was given a limit below the count and then a least count above it.
-fn low_then_high(alloc: Global) -> Result<Box<ScramClient>, Fail> {
-    let low = started_with_limit(alloc, 4095)?;
-    floored(alloc, &low, 4097)
-}
-
-/// The same in the other order.
-fn high_then_low(alloc: Global) -> Result<Box<ScramClient>, Fail> {
-    let high = started_with_least(alloc, 4097)?;
-    limited(alloc, &high, 4095)
+/// Whether a client that has sent its first message keeps these limits.
+fn keeps(alloc: Global, limits: &[(Limit, Outcome)]) -> Result<bool, Fail> {
+    let mut client = started(alloc)?;
+    for (limit, wanted) in limits {
+        client = limited(alloc, &client, *limit)?;
+        if !comes_of_both(alloc, &mut client, wanted)? {
+            return Ok(false);
+        }
+    }
+    Ok(true)
 }
 
 #[test]
-fn a_client_keeps_both_limits(rt: HostRuntime) -> Result<(), Fail> {
-    let mut client = high_then_low(rt.alloc())?;
-    assert!(rt; refusal(rt.alloc(), &mut client) == TOO_SMALL);
-    Ok(())
-}
-
-#[test]
-fn a_client_keeps_both_limits_in_either_order(rt: HostRuntime) -> Result<(), Fail> {
-    let mut client = low_then_high(rt.alloc())?;
-    assert!(rt; refusal(rt.alloc(), &mut client) == TOO_SMALL);
-    let mut low_from_1 = floored(rt.alloc(), &client, 1)?;
-    assert!(rt; refusal(rt.alloc(), &mut low_from_1) == TOO_LARGE);
-    Ok(())
-}
-
-#[test]
-fn a_client_counts_its_refusal(rt: HostRuntime) -> Result<(), Fail> {
-    let mut low = started_with_limit(rt.alloc(), 4095)?;
-    assert!(rt; refusal(rt.alloc(), &mut low) == TOO_LARGE);
-    Ok(())
-}
-
-#[test]
-fn a_client_counts_its_answer(rt: HostRuntime) -> Result<(), Fail> {
-    let mut enough = started_with_limit(rt.alloc(), 4096)?;
-    assert!(rt; refusal(rt.alloc(), &mut enough) == (None, 4100));
+fn a_client_keeps_its_limits(rt: HostRuntime) -> Result<(), Fail> {
+    for (name, limits) in &LIMITS {
+        assert!(rt; keeps(rt.alloc(), limits)?, "{name}");
+    }
     Ok(())
 }
 

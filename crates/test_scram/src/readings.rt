@@ -1,6 +1,6 @@
 //! What the four messages of the exchange of RFC 7677, section 3, name.
 
-use base64::engine::general_purpose::STANDARD;
+use crate::values::spells;
 use fe2o3_scram::scram_messages::{ClientFinal, ClientFirst, ServerFinal, ServerFirst};
 use std::test::Fail;
 
@@ -24,8 +24,7 @@ fn a_server_first_message_names_the_salt(rt: HostRuntime) -> Result<(), Fail> {
         4096,
         "r=rOprNGfwEbeRWgbNEkqO%hvYDpWUa2RaTCAfuxFIlj)hNlF$k0,s=W22ZaJ0SNY7soEsUEjb6gQ==,i=4096",
     )?;
-    let salt = STANDARD.encode(rt.alloc(), &first.salt)?;
-    assert!(rt; salt.as_str() == "W22ZaJ0SNY7soEsUEjb6gQ==");
+    assert!(rt; spells(rt.alloc(), "W22ZaJ0SNY7soEsUEjb6gQ==", &first.salt));
     assert!(rt; first.nonce == NONCE && first.iterations == 4096);
     Ok(())
 }
@@ -38,10 +37,9 @@ fn a_client_final_message_names_the_proof(rt: HostRuntime) -> Result<(), Fail> {
         b"c=biws,r=rOprNGfwEbeRWgbNEkqO%hvYDpWUa2RaTCAfuxFIlj)hNlF$k0,\
             p=dHzbZapWIk4jUhN+Ute9ytag9zjfMHgsqmmiz7AndVQ=",
     )?;
-    let proof = STANDARD.encode(rt.alloc(), &last.proof)?;
     let without_proof = "c=biws,r=rOprNGfwEbeRWgbNEkqO%hvYDpWUa2RaTCAfuxFIlj)hNlF$k0";
-    assert!(rt; last.without_proof == without_proof);
-    assert!(rt; proof.as_str() == "dHzbZapWIk4jUhN+Ute9ytag9zjfMHgsqmmiz7AndVQ=");
+    let proof = "dHzbZapWIk4jUhN+Ute9ytag9zjfMHgsqmmiz7AndVQ=";
+    assert!(rt; last.without_proof == without_proof && spells(rt.alloc(), proof, &last.proof));
     Ok(())
 }
 
@@ -51,7 +49,7 @@ fn a_server_final_message_names_the_signature(rt: HostRuntime) -> Result<(), Fai
         rt.alloc(),
         b"v=6rriTRBi23WpRR/wtup+mMhUZUn/dB5nLTJRsjl95G4=",
     )?;
-    let signature = STANDARD.encode(rt.alloc(), &last.signature)?;
-    assert!(rt; signature.as_str() == "6rriTRBi23WpRR/wtup+mMhUZUn/dB5nLTJRsjl95G4=");
+    let signature = "6rriTRBi23WpRR/wtup+mMhUZUn/dB5nLTJRsjl95G4=";
+    assert!(rt; spells(rt.alloc(), signature, &last.signature));
     Ok(())
 }

@@ -1,6 +1,7 @@
 //! The login of `user` with the password `pencil` by SCRAM-SHA-256, with 32 bytes 01 as the client's
 //! nonce, 32 bytes 02 as the server's and 32 bytes 03 as the salt.
 
+use crate::values::spells;
 use base64::engine::general_purpose::STANDARD;
 use fe2o3_scram::client_keys::ScramClientKeys;
 use fe2o3_scram::hmac::ScramVersion;
@@ -67,16 +68,12 @@ pub fn keys(alloc: Global) -> Result<ScramClientKeys, Fail> {
 pub fn are_keys(
     alloc: Global,
     keys: &ScramClientKeys,
-    salt: [u8; 32],
+    salt: &[u8; 32],
     wanted: (&str, &str),
-) -> Result<bool, AllocError> {
-    let client_key = STANDARD.encode(alloc, keys.client_key())?;
-    let server_key = STANDARD.encode(alloc, keys.server_key())?;
-    Ok(
-        keys.scram_version() == ScramVersion::Sha256
-            && keys.salt() == salt.as_slice()
-            && keys.iterations() == 4096
-            && client_key.as_str() == wanted.0
-            && server_key.as_str() == wanted.1,
-    )
+) -> bool {
+    keys.scram_version() == ScramVersion::Sha256
+        && keys.salt() == salt.as_slice()
+        && keys.iterations() == 4096
+        && spells(alloc, wanted.0, keys.client_key())
+        && spells(alloc, wanted.1, keys.server_key())
 }

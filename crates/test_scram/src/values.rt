@@ -1,13 +1,11 @@
-//! Each call that makes a value, once. The rows of values stand in the data of `scram_vectors`.
+//! Calls that make a value, once each. The rows of values, and of digests, HMAC values, passwords and
+//! names, stand in the data of `scram_vectors`.
 
 use base64::engine::general_purpose::STANDARD;
 use fe2o3_scram::auth_message;
-use fe2o3_scram::hmac::{Meter, ScramVersion, UnknownMechanism};
+use fe2o3_scram::hmac::{Meter, ScramVersion};
 use fe2o3_scram::pbkdf2_hi::KeyError;
-use fe2o3_scram::saslprep_ascii::{NormalizeError, saslprep};
-use fe2o3_scram::scram_messages::{
-    ServerFirst, XorLengthMismatch, escape_username, unescape_username,
-};
+use fe2o3_scram::scram_messages::{ServerFirst, XorLengthMismatch, escape_username};
 use std::alloc::Global;
 use std::test::Fail;
 
@@ -37,8 +35,11 @@ fn bytes(alloc: Global, text: &str) -> Result<Vec<u8>, Fail> {
 }
 
 /// Whether the text is these bytes in base64.
-fn spells(alloc: Global, text: &str, bytes: &[u8]) -> Result<bool, Fail> {
-    Ok(STANDARD.encode(alloc, bytes)?.as_str() == text)
+pub fn spells(alloc: Global, text: &str, bytes: &[u8]) -> bool {
+    match STANDARD.encode(alloc, bytes) {
+        Ok(spelled) => spelled.as_str() == text,
+        Err(_) => false,
+    }
 }
 
 #[test]
@@ -65,23 +66,21 @@ fn a_read_message_makes_the_auth_message(rt: HostRuntime) -> Result<(), Fail> {
 }
 
 /// Whether the salted password gives the three keys, at the cost of two HMAC values.
-fn gives_keys(alloc: Global, salted_password: &[u8]) -> Result<bool, Fail> {
+fn gives_keys(alloc: Global, salted_password: &[u8]) -> bool {
     let mut meter = Meter::new();
     let client_key = ScramVersion::Sha256.client_key(salted_password, &mut meter);
     let server_key = ScramVersion::Sha256.server_key(salted_password, &mut meter);
     let stored_key = ScramVersion::Sha256.stored_key(client_key.as_slice());
-    Ok(
-        meter.count() == 2
-            && spells(alloc, CLIENT_KEY, client_key.as_slice())?
-            && spells(alloc, SERVER_KEY, server_key.as_slice())?
-            && spells(alloc, STORED_KEY, stored_key.as_slice())?,
-    )
+    meter.count() == 2
+        && spells(alloc, CLIENT_KEY, client_key.as_slice())
+        && spells(alloc, SERVER_KEY, server_key.as_slice())
+        && spells(alloc, STORED_KEY, stored_key.as_slice())
 }
 
 #[test]
 fn a_salted_password_gives_the_keys(rt: HostRuntime) -> Result<(), Fail> {
     let salted_password = bytes(rt.alloc(), SALTED_PASSWORD)?;
-    assert!(rt; gives_keys(rt.alloc(), &salted_password)?);
+    assert!(rt; gives_keys(rt.alloc(), &salted_password));
     Ok(())
 }
 
@@ -90,7 +89,7 @@ fn a_client_key_gives_the_proof(rt: HostRuntime) -> Result<(), Fail> {
     let client_key = bytes(rt.alloc(), CLIENT_KEY)?;
     let mut meter = Meter::new();
     let proof = ScramVersion::Sha256.compute_client_proof(&client_key, AUTH_MESSAGE, &mut meter)?;
-    assert!(rt; spells(rt.alloc(), PROOF, proof.as_slice())? && meter.count() == 1);
+    assert!(rt; spells(rt.alloc(), PROOF, proof.as_slice()) && meter.count() == 1);
     Ok(())
 }
 
@@ -105,7 +104,7 @@ fn a_proof_gives_the_client_key(rt: HostRuntime) -> Result<(), Fail> {
         AUTH_MESSAGE,
         &mut meter,
     )?;
-    assert!(rt; spells(rt.alloc(), CLIENT_KEY, client_key.as_slice())? && meter.count() == 1);
+    assert!(rt; spells(rt.alloc(), CLIENT_KEY, client_key.as_slice()) && meter.count() == 1);
     Ok(())
 }
 
@@ -134,67 +133,7 @@ fn a_server_key_gives_the_signature(rt: HostRuntime) -> Result<(), Fail> {
         AUTH_MESSAGE,
         &mut meter,
     );
-    assert!(rt; spells(rt.alloc(), SIGNATURE, signature.as_slice())? && meter.count() == 1);
-    Ok(())
-}
-
-/// The digests of `abc`, of the examples to FIPS 180-4.
-static DIGESTS: [(ScramVersion, &str, &str); 3] = [
-    (
-        ScramVersion::Sha1,
-        "SCRAM-SHA-1",
-        "a9993e364706816aba3e25717850c26c9cd0d89d",
-    ),
-    (
-        ScramVersion::Sha256,
-        "SCRAM-SHA-256",
-        "ba7816bf8f01cfea414140de5dae2223b00361a396177a9cb410ff61f20015ad",
-    ),
-    (
-        ScramVersion::Sha512,
-        "SCRAM-SHA-512",
-        "ddaf35a193617abacc417349ae20413112e6fa4e89a97ea20a9eeee64b55d39a\
-            2192992a274fc1a836ba3c23a3feebbd454d4423643ce80e2a9ac94fa54ca49f",
-    ),
-];
-
-/// Whether the version has this name and this digest of `abc`.
-fn is_named(alloc: Global, version: ScramVersion, name: &str, wanted: &str) -> Result<bool, Fail> {
-    let digest = version.h(alloc, b"abc")?;
-    Ok(
-        version.mechanism() == name
-            && ScramVersion::from_mechanism(name) == Some(version)
-            && name.parse::<ScramVersion>() == Ok(version)
-            && hex::encode(alloc, &digest)?.as_str() == wanted,
-    )
-}
-
-#[test]
-fn each_version_has_its_name_and_hash(rt: HostRuntime) -> Result<(), Fail> {
-    for (version, name, wanted) in &DIGESTS {
-        assert!(rt;
-            is_named(rt.alloc(), version.clone()?, name, wanted)?,
-            "{name}"
-        );
-    }
-    Ok(())
-}
-
-#[test]
-fn another_name_is_unknown(rt: HostRuntime) -> Result<(), Fail> {
-    assert!(rt; "SCRAM-SHA-224".parse::<ScramVersion>() == Err(UnknownMechanism));
-    let text = UnknownMechanism.to_string(rt.alloc())?;
-    assert!(rt; text.as_str() == "Unknown SCRAM mechanism");
-    Ok(())
-}
-
-/// The second test case of RFC 2202, section 3.
-#[test]
-fn a_key_gives_an_hmac_value(rt: HostRuntime) -> Result<(), Fail> {
-    let input = b"what do ya want for nothing?";
-    let mac = ScramVersion::Sha1.hmac(rt.alloc(), b"Jefe", input)?;
-    let mac = hex::encode(rt.alloc(), &mac)?;
-    assert!(rt; mac.as_str() == "effcdf6ae5eb2fa2d27416d5f184df9c259a7c79");
+    assert!(rt; spells(rt.alloc(), SIGNATURE, signature.as_slice()) && meter.count() == 1);
     Ok(())
 }
 
@@ -215,12 +154,6 @@ fn salts_printable_passwords_alone(rt: HostRuntime) -> Result<(), Fail> {
 }
 
 #[test]
-fn printable_ascii_stays_as_it_is(rt: HostRuntime) {
-    assert!(rt; saslprep("pencil") == Ok("pencil"));
-    assert!(rt; saslprep("pencil\t") == Err(NormalizeError));
-}
-
-#[test]
 fn a_meter_counts_on(rt: HostRuntime) -> Result<(), Fail> {
     let alloc = rt.alloc();
     let mut meter = Meter::new();
@@ -233,12 +166,7 @@ fn a_meter_counts_on(rt: HostRuntime) -> Result<(), Fail> {
 }
 
 #[test]
-fn commas_and_equals_signs_are_escaped(rt: HostRuntime) -> Result<(), Fail> {
-    let escaped = escape_username(rt.alloc(), b"a,r=x")?;
-    assert!(rt; escaped.as_slice() == b"a=2Cr=3Dx".as_slice());
-    let read = unescape_username(rt.alloc(), "a=2Cr=3Dx")?;
-    assert!(rt; read.as_str() == "a,r=x");
-    // A name that is not UTF-8.
+fn a_name_that_is_not_utf_8_is_escaped(rt: HostRuntime) -> Result<(), Fail> {
     let escaped = escape_username(rt.alloc(), b"\xff,")?;
     assert!(rt; escaped.as_slice() == b"\xff=2C".as_slice());
     Ok(())
