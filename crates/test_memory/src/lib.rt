@@ -34,6 +34,8 @@ mod scram_machines;
 #[cfg(test)]
 mod scram_messages;
 #[cfg(test)]
+mod scram_mixed;
+#[cfg(test)]
 mod scram_records;
 #[cfg(test)]
 mod scram_values;

@@ -1,7 +1,7 @@
 //! Records, credentials and stores where memory is wanting.
 
 use crate::scram_values::*;
-use crate::users::{record, stored, two_names};
+use crate::users::{new_users, record, stored, two_names};
 use fe2o3_scram::OutOfMemory;
 use fe2o3_scram::credentials::{
     AddRecordError, ReadLinesErrorKind, RecordError, RecordTextError, ScramCredentialProvider,
@@ -179,21 +179,6 @@ fn two_users(alloc: Global) -> Result<ScramCredentials, Fail> {
     let mut users = store(alloc, 1)?;
     add_user(alloc, &mut users, USER)?;
     Ok(users)
-}
-
-/// Two users of one name.
-fn new_users(alloc: Global) -> Result<Vec<(String, ScramRecord)>, Fail> {
-    let mut new = Vec::new(alloc);
-    for _ in 0..2 {
-        new.push(new_user(alloc)?)?;
-    }
-    Ok(new)
-}
-
-/// A user.
-fn new_user(alloc: Global) -> Result<(String, ScramRecord), Fail> {
-    let name = USER.to_string(alloc)?;
-    Ok((name, record(alloc)?))
 }
 
 fn user_is_added(store: &mut Users) -> Result<bool, AddRecordError> {

@@ -16,6 +16,21 @@ pub fn stored(alloc: Global) -> Result<StoredScramCredential, Fail> {
     Ok(StoredScramCredential::new(username, record(alloc)?))
 }
 
+/// The user, twice: once for each call that is handed a user.
+pub fn new_users(alloc: Global) -> Result<Vec<(String, ScramRecord)>, Fail> {
+    let mut new = Vec::new(alloc);
+    for _ in 0..2 {
+        new.push(new_user(alloc)?)?;
+    }
+    Ok(new)
+}
+
+/// A user.
+fn new_user(alloc: Global) -> Result<(String, ScramRecord), Fail> {
+    let name = USER.to_string(alloc)?;
+    Ok((name, record(alloc)?))
+}
+
 /// The user's name, twice: one for each call that is handed it.
 pub fn two_names(alloc: Global) -> Result<Vec<String>, Fail> {
     let mut names = Vec::with_capacity(alloc, 2)?;
