@@ -7,12 +7,11 @@ mod tests;
 use anyhow::{Context, Result, bail, ensure};
 use bytes::BytesMut;
 use fe2o3_sasl::{
-    HasMechanism, HidingAuthenticator, Meter, MixedCredentials, NamesUser, OffersOnly, OneOf,
+    HasMechanism, HidingAuthenticator, Meter, MixedCredentials, OffersOnly, OneOf,
     PlainAuthenticator, ScramCredentials, ScramVersion,
 };
 use fe2o3_sasl_negotiation::{ClosedBecause, ServerNegotiation, Standing};
 use fe2o3_sasl_wire::SaslCode;
-use std::alloc::Global;
 use std::io::{BufRead, BufReader, Write};
 use std::random::RandomSource;
 use std::{env, fs, io};
@@ -20,12 +19,8 @@ use std::{env, fs, io};
 /// SCRAM with one hash, which does not tell which users it knows.
 type Scram = HidingAuthenticator<ScramCredentials>;
 
-/// The mechanisms of a connection, of which some are offered.
-type Mechanisms = OffersOnly<OneOf<Scram, OneOf<Scram, PlainAuthenticator<ScramCredentials>>>>;
-
-/// What connections share: the users' records, of 4096 iterations and salts of 16 bytes; the random bytes from
-/// which those of unknown users are made, which a real broker keeps as long as the records; and whether they are
-/// under TLS, without which PLAIN would show passwords.
+/// What connections share: records of 4096 iterations and salts of 16 bytes; random bytes, kept as long as these, of
+/// which unknown users' records are made; and whether they are under TLS, without which PLAIN would show passwords.
 #[derive(Drop)]
 struct Broker {
     records: MixedCredentials,
@@ -34,22 +29,26 @@ struct Broker {
 }
 
 impl Broker {
-    /// SCRAM over the records of its version, and the other mechanisms behind it.
-    fn before<A: HasMechanism>(&self, version: ScramVersion, other: A) -> Result<OneOf<Scram, A>> {
+    /// SCRAM over the records of a version.
+    fn scram(&self, version: ScramVersion) -> Result<Scram> {
         let records = self.records.for_version(version).clone()?;
-        let scram = HidingAuthenticator::new(records, self.secret.clone()?, 16, 4096)?;
-        Ok(OneOf::new(scram, other))
+        Ok(HidingAuthenticator::new(records, self.secret.clone()?, 16, 4096)?)
     }
 
-    /// The acceptor of a new connection.
-    fn acceptor(&self, alloc: Global) -> Result<Mechanisms> {
+    /// Serves one connection: who has logged in, or nobody if that was refused.
+    fn serve<R: RandomSource + AllocGlobal, I: BufRead, O: Write>(
+        &self,
+        rt: &R,
+        input: &mut I,
+        output: &mut O,
+    ) -> Result<Option<String>> {
         let records = self.records.for_version(ScramVersion::Sha256).clone()?;
-        let plain = PlainAuthenticator::new(records, 4096);
-        let all = self.before(ScramVersion::Sha256, plain)?;
-        let all = self.before(ScramVersion::Sha512, all)?;
+        let (strong, weak) = (ScramVersion::Sha512, ScramVersion::Sha256);
+        let scram = OneOf::new(self.scram(strong)?, self.scram(weak)?);
+        let all = OneOf::new(scram, PlainAuthenticator::new(records, 4096));
         let names = ["SCRAM-SHA-512", "SCRAM-SHA-256", "PLAIN"];
-        let offered = if self.tls { 3 } else { 2 };
-        Ok(OffersOnly::new(alloc, all, &names[..offered])?)
+        let offered = &names[..if self.tls { 3 } else { 2 }];
+        connection(rt, all, offered, input, output)
     }
 
     /// Serves connections until somebody has logged in: who, and how many logins were wrong before. The third
@@ -61,7 +60,7 @@ impl Broker {
         output: &mut O,
     ) -> Result<(String, u8)> {
         for wrong in 0..3 {
-            if let Some(user) = connection(rt, self.acceptor(rt.alloc())?, input, output)? {
+            if let Some(user) = self.serve(rt, input, output)? {
                 return Ok((user, wrong));
             }
         }
@@ -69,16 +68,17 @@ impl Broker {
     }
 }
 
-/// Serves a connection to its end, each call of the server with a fresh nonce: who has logged in, or nobody where
-/// the login was refused.
-fn connection<R: RandomSource + AllocGlobal, A: NamesUser + Drop, I: BufRead, O: Write>(
+/// Serves a connection to its end, each call of the server with a fresh nonce.
+fn connection<R: RandomSource + AllocGlobal, A: HasMechanism + Drop, I: BufRead, O: Write>(
     rt: &R,
-    acceptor: A,
+    all: A,
+    offered: &[&str],
     input: &mut I,
     output: &mut O,
 ) -> Result<Option<String>> {
     let (mut nonce, mut sent) = ([0; 32], BytesMut::new(rt.alloc()));
-    let mut server = ServerNegotiation::new(rt.alloc(), acceptor);
+    let offers = OffersOnly::new(rt.alloc(), all, offered)?;
+    let mut server = ServerNegotiation::new(rt.alloc(), offers);
     for _ in 0..u64::MAX {
         rt.fill_bytes(&mut nonce)?;
         let bytes = input.fill_buf()?;
@@ -92,10 +92,10 @@ fn connection<R: RandomSource + AllocGlobal, A: NamesUser + Drop, I: BufRead, O:
         }
     }
     let refused = Standing::Closed(ClosedBecause::Refused(SaslCode::Auth));
-    let user = server
-        .user()
-        .map(|user| user.to_string(rt.alloc()))
-        .transpose()?;
+    let user = match server.user() {
+        Some(user) => Some(user.to_string(rt.alloc())?),
+        None => None,
+    };
     ensure!(user.is_some() || server.standing() == refused, "no login");
     Ok(user)
 }

@@ -41,15 +41,15 @@ pub fn offer(alloc: Global, server: &server::Server) -> Result<Vec<u8>> {
 
 /// A login, from the first body to the client's end.
 pub fn log_in<R: RandomSource>(rt: &R, alloc: Global) -> Result<Transcript> {
-    let salt = fresh(rt)?;
-    let mut client = client::new_client(alloc)?;
-    let mut server = server::new_server(alloc, salt, fresh(rt)?)?;
     let mut given = Transcript {
         client: Vec::new(alloc),
         server: Vec::new(alloc),
         user: String::new(alloc),
-        salt,
+        salt: fresh(rt)?,
     };
+    let server = server::new_server(alloc, given.salt, fresh(rt)?)?;
+    let mut server = Box::new(alloc, server)?;
+    let mut client = Box::new(alloc, client::new_client(alloc)?)?;
     carry(rt, alloc, &mut client, &mut server, &mut given)?;
     Ok(given)
 }

@@ -27,7 +27,7 @@ use std::random::RandomSource;
 struct Printed<'a, W: Write> {
     alloc: Global,
     nonce: [u8; 32],
-    server: scram_server::Server,
+    server: Box<scram_server::Server>,
     output: &'a mut W,
 }
 
@@ -59,14 +59,15 @@ impl<W: Write> Connection for Printed<'_, W> {
 
 /// A login over texts, whose messages are told by their lengths.
 fn over_texts<R: RandomSource, W: Write>(rt: &R, alloc: Global, output: &mut W) -> Result<()> {
-    let nonce = fresh(rt)?;
+    let nonces = [fresh(rt)?, fresh(rt)?];
+    let server = scram_server::Server::new(alloc, fresh(rt)?, fresh(rt)?)?;
     let mut connection = Printed {
         alloc,
-        nonce: fresh(rt)?,
-        server: scram_server::Server::new(alloc, fresh(rt)?, fresh(rt)?)?,
+        nonce: nonces[1],
+        server: Box::new(alloc, server)?,
         output,
     };
-    scram_client::log_in(alloc, &mut connection, &nonce)?;
+    scram_client::log_in(alloc, &mut connection, &nonces[0])?;
     writeln!(connection.output, "logged in")?;
     Ok(())
 }
@@ -82,10 +83,15 @@ fn over_frames<R: RandomSource, W: Write>(
     Ok(given)
 }
 
+/// The names of a server's mechanisms, in a body.
+fn first_offer<R: RandomSource>(rt: &R, alloc: Global) -> Result<Vec<u8>> {
+    let server = server::new_server(alloc, fresh(rt)?, fresh(rt)?)?;
+    login::offer(alloc, &server)
+}
+
 /// What a server sends first: its header, and the names of its mechanisms in a frame.
 fn first_bytes<R: RandomSource>(rt: &R, alloc: Global) -> Result<BytesMut> {
-    let server = server::new_server(alloc, fresh(rt)?, fresh(rt)?)?;
-    let offer = login::offer(alloc, &server)?;
+    let offer = first_offer(rt, alloc)?;
     let mut bytes = BytesMut::new(alloc);
     wire::open(&mut bytes)?;
     wire::send(&mut bytes, &offer)?;

@@ -21,9 +21,10 @@ pub fn log_in<C: Connection>(alloc: Global, connection: &mut C, nonce: &[u8; 32]
     let username = "user".to_string(alloc)?;
     let password = "pencil".to_string(alloc)?;
     let client = ScramClient::new(username, password, ScramVersion::Sha256);
-    let mut client = client
+    let client = client
         .with_least_iterations(4096)
         .with_iteration_limit(100_000);
+    let mut client = Box::new(alloc, client)?;
     let client_first = client.compute_client_first_message(alloc, nonce)?;
     let server_first = connection.start(&client_first)?;
     let client_final = client.compute_client_final_message(alloc, str::from_utf8(&server_first)?)?;
