@@ -41,3 +41,6 @@ quiet:
 	@log=$$(mktemp "$${TMPDIR:-/tmp}/gate.XXXXXX"); echo "log: $$log"; \
 	$(MAKE) --no-print-directory test > $$log 2>&1; status=$$?; \
 	grep -v '^make' $$log | tail -n 1; exit $$status
+
+# The library for callers in C and in Rust: lib, header, callers, install, dist.
+include bindings/callers.mk

@@ -1,0 +1,108 @@
+# The library for callers in C and in Rust; the repository's Makefile includes this. `lib` needs `rt`, and what is built
+# of it ar, ld, objcopy, a C compiler and Python 3.
+#
+#   make lib       proves crates/sasl_c, and builds build/libfe2o3_sasl.a, .so and the file for pkg-config
+#   make header    writes the C header and the Rust declarations from the sources
+#   make callers   compares these, and builds and runs the programs of bindings/c: plain, shared and sanitized
+#   make install   PREFIX, LIBDIR, INCLUDEDIR, DOCDIR and DESTDIR as usual
+#   make dist      the same into build/fe2o3_sasl-VERSION-CPU.tar.gz, whose bytes depend on the files alone
+PREFIX ?= /usr/local
+LIBDIR ?= $(PREFIX)/lib
+INCLUDEDIR ?= $(PREFIX)/include
+DOCDIR ?= $(PREFIX)/share/doc/fe2o3_sasl
+CPU ?= x86-64-v2
+KIT ?= $(abspath $(dir $(shell readlink -f "$$(command -v rt)"))/..)
+
+# The number of the shared object rises when a struct or the signature of an export changes.
+SONAME = libfe2o3_sasl.so.0
+VERSION = $(shell sed -n 's/^\#\# \([0-9][0-9.]*\).*/\1/p' CHANGELOG.md | head -n 1)
+PROVED_ARCHIVE ?= crates/sasl_c/out/libsasl_c.a
+LIBRARY = build/libfe2o3_sasl.a build/libfe2o3_sasl.so build/fe2o3_sasl.pc
+HEADER = bindings/c/fe2o3_sasl.h
+PC_PREFIX = $(PREFIX)
+DIST = fe2o3_sasl-$(VERSION)-$(CPU)
+
+WARNINGS = -Wall -Wextra -Wpedantic
+SANITIZERS = -g -O1 -fsanitize=address,undefined -fno-sanitize-recover=all
+PROGRAMS = scram threads
+
+.PHONY: lib header header-check callers install dist build/fe2o3_sasl.pc
+
+lib:
+	cd crates/sasl_c && rt lib --cpu $(CPU)
+	@$(MAKE) --no-print-directory $(LIBRARY)
+
+# (where there is none yet; `lib` makes it anew)
+$(PROVED_ARCHIVE):
+	cd crates/sasl_c && rt lib --cpu $(CPU)
+
+# One object in which all but the exports is local, so that another library of the kit can be linked beside it.
+build/libfe2o3_sasl.a: $(PROVED_ARCHIVE)
+	mkdir -p build
+	ld -r -o build/fe2o3_sasl.o --whole-archive $< $(KIT)/c/liblibc_c.a
+	objcopy --wildcard --keep-global-symbol='fe2o3_*' --strip-debug build/fe2o3_sasl.o
+	rm -f $@
+	ar rcsD $@ build/fe2o3_sasl.o
+
+build/libfe2o3_sasl.so: build/libfe2o3_sasl.a
+	$(CC) -shared -Wl,-soname,$(SONAME) -Wl,-z,defs -Wl,-z,now -o $@ build/fe2o3_sasl.o $(LDLIBS)
+	ln -sf $(@F) build/$(SONAME)
+
+# Written each time, since PREFIX may be another one.
+in_prefix = $(patsubst $(PREFIX)/%,$${prefix}/%,$(1))
+build/fe2o3_sasl.pc:
+	@mkdir -p build
+	@printf '%s\n' 'prefix=$(PC_PREFIX)' 'libdir=$(call in_prefix,$(LIBDIR))' \
+	    'includedir=$(call in_prefix,$(INCLUDEDIR))' '' 'Name: fe2o3_sasl' \
+	    'Description: SCRAM, and SASL as AMQP 1.0 has it' 'Version: $(VERSION)' \
+	    'Cflags: -I$${includedir}' 'Libs: -L$${libdir} -lfe2o3_sasl' > $@
+
+header:
+	python3 tools/header.py
+	python3 tools/header.py --rust
+
+header-check:
+	python3 tools/header.py --check
+	python3 tools/header.py --rust --check
+
+build/callers/%_plain: bindings/c/%.c $(HEADER) build/libfe2o3_sasl.a
+	@mkdir -p $(@D)
+	$(CC) -std=c99 $(WARNINGS) -O2 -pthread -o $@ $< build/libfe2o3_sasl.a $(LDLIBS)
+
+build/callers/%_shared: bindings/c/%.c $(HEADER) build/libfe2o3_sasl.so
+	@mkdir -p $(@D)
+	$(CC) -std=c99 $(WARNINGS) -O2 -pthread -o $@ $< -Lbuild -lfe2o3_sasl
+
+build/callers/%_sanitized: bindings/c/%.c $(HEADER) build/libfe2o3_sasl.a
+	@mkdir -p $(@D)
+	$(CC) -std=c99 $(WARNINGS) $(SANITIZERS) -pthread -o $@ $< build/libfe2o3_sasl.a $(LDLIBS)
+
+# The header by itself, that the library exports what it declares and nothing else, and the programs.
+callers: header-check $(foreach kind,plain shared sanitized,$(PROGRAMS:%=build/callers/%_$(kind)))
+	$(CC) -std=c99 $(WARNINGS) -fsyntax-only -x c $(HEADER)
+	$(CXX) $(WARNINGS) -fsyntax-only -x c++ $(HEADER)
+	sed -n 's/^[a-z0-9_]* \(fe2o3_[a-z0-9_]*\)(.*/\1/p' $(HEADER) | LC_ALL=C sort > build/callers/declared
+	nm -D --defined-only build/libfe2o3_sasl.so | sed 's/.* //' | LC_ALL=C sort | diff build/callers/declared -
+	@for program in $(PROGRAMS); do for kind in plain shared sanitized; do \
+	    echo "$$program $$kind"; \
+	    LD_LIBRARY_PATH=build build/callers/$${program}_$$kind || exit 1; \
+	done; done
+
+install: $(LIBRARY)
+	install -d $(DESTDIR)$(LIBDIR)/pkgconfig $(DESTDIR)$(INCLUDEDIR) $(DESTDIR)$(DOCDIR)
+	install -m 644 $(HEADER) $(DESTDIR)$(INCLUDEDIR)/
+	install -m 644 build/libfe2o3_sasl.a $(DESTDIR)$(LIBDIR)/
+	install -m 755 build/libfe2o3_sasl.so $(DESTDIR)$(LIBDIR)/$(SONAME)
+	ln -sf $(SONAME) $(DESTDIR)$(LIBDIR)/libfe2o3_sasl.so
+	install -m 644 build/fe2o3_sasl.pc $(DESTDIR)$(LIBDIR)/pkgconfig/
+	install -m 644 LICENSE-APACHE LICENSE-MIT $(DESTDIR)$(DOCDIR)/
+
+# pkg-config finds the folder from where its file stands, so the tar can be unpacked anywhere.
+dist: $(LIBRARY)
+	rm -rf build/dist
+	$(MAKE) --no-print-directory install DESTDIR=build/dist/$(DIST) PREFIX= LIBDIR=/lib INCLUDEDIR=/include DOCDIR=/ \
+	    PC_PREFIX='$$$${pcfiledir}/../..'
+	install -m 644 $(KIT)/KIT-ID build/dist/$(DIST)/
+	tar --sort=name --mtime='1980-01-01 00:00Z' --owner=0 --group=0 --numeric-owner --format=ustar \
+	    -C build/dist -cf build/$(DIST).tar $(DIST)
+	gzip -9nf build/$(DIST).tar
