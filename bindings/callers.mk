@@ -24,7 +24,7 @@ DIST = fe2o3_sasl-$(VERSION)-$(CPU)
 
 WARNINGS = -Wall -Wextra -Wpedantic
 SANITIZERS = -g -O1 -fsanitize=address,undefined -fno-sanitize-recover=all
-PROGRAMS = scram threads
+PROGRAMS = fits scram threads
 
 .PHONY: lib header header-check callers install dist build/fe2o3_sasl.pc
 

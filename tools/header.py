@@ -82,7 +82,7 @@ class Source:
                 for found in self.rows(*opens.span(1), VARIANT, "variant")]
 
     def arms(self, at, head):
-        """The arms of the `match` of the function with this head: what stands behind each variant."""
+        """The arms of the `match` of the function with this head."""
         pattern = rf"\bfn {head} -> u32\n.*?^( +)match \w+ \{{\n(.*?)^\1\}}$"
         opens = re.search(pattern, self.text, re.M | re.S) or self.refuse(at, f"there is no `fn {head}` with a match")
         return {(found[1], found[2]): found for found in self.rows(*opens.span(2), ARM, "arm")}
@@ -95,8 +95,7 @@ class Reader:
         self.sources = [Source(path) for path in sorted(folder.glob("*.rt"))]
         found = [(source, one) for source in self.sources for one in source.each(r"^#\[repr", STRUCT, "struct")]
         self.names = {one[1] for _, one in found}
-        self.structs = []
-        waiting = [self.struct(source, one) for source, one in found]
+        self.structs, waiting = [], [self.struct(source, one) for source, one in found]
         while waiting:  # each behind those that it holds
             due = {one.name for one in waiting}
             free = [one for one in waiting if not any(part.kind in due for _, part in one.fields)]
@@ -105,8 +104,9 @@ class Reader:
         self.exports = [self.export(source, one) for source in self.sources
                         for one in source.each(r"^#\[unsafe\(no_mangle", EXPORT, "export")]
         marks = sum(len(re.findall(r"no_mangle|export_name", source.text)) for source in self.sources)
-        if not 0 < marks == len(self.exports):
-            sys.exit(f"{folder}: {marks} times `no_mangle`, and {len(self.exports)} exports that are read")
+        names = {one.name for one in self.exports}
+        if not 0 < marks == len(names):
+            sys.exit(f"{folder}: {marks} times `no_mangle`, and {len(names)} names of exports that are read")
         self.statuses = [Status(["The call is done."], "DONE", 0)]
         for source in self.sources:
             if "\npub enum Status {\n" in source.text:
@@ -208,7 +208,7 @@ def c_header(reader):
         out += [f"{comment(doc, '    ')}    {c_part(part)};\n" for doc, part in one.fields] + ["};\n"]
         if one.name in written and "const" in [part.form for _, part in one.fields]:
             empty = ", ".join('(const uint8_t *)""' if part.form == "const" else "0" for _, part in one.fields)
-            out.append(f"#define FE2O3_{snake(one.name).upper()}_INIT {{ {empty} }}\n")
+            out.append(f"/* One before its first use. */\n#define FE2O3_{snake(one.name).upper()}_INIT {{ {empty} }}\n")
     for doc, name, parts, answer in reader.exports:
         given = [c_part(part) for part in parts] or ["void"]
         out.append(f"\n{comment(doc)}" + called(f"{C_NUMBERS.get(answer, 'void')} {name}", given, ";"))

@@ -11,8 +11,8 @@
  * - What a call writes to (the room, its length, each struct that is not const) overlaps nothing else that it is given.
  *   What it only reads may overlap, and others may read it meanwhile.
  * - A struct that is written to is in one call at a time. Apart from that any thread may call, but no signal handler.
- * - A struct is set to zeros before its first use. One that is all zeros is a client that has sent nothing, a server
- *   without a challenge, or no keys.
+ * - A struct is set to zeros before its first use, but one with pointers to its FE2O3_.._INIT. One that is all
+ *   zeros is a client that has sent nothing, a server without a challenge, or no keys.
  * - malloc, realloc and free are those of C, and there is stack enough.
  *
  * What is no duty: numbers, bytes, and lengths inside structs may be any. So any bit pattern of a struct without

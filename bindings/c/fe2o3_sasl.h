@@ -1,0 +1,386 @@
+/* SCRAM (RFC 5802, RFC 7677) and SASL's layer of AMQP 1.0. Written by tools/header.py.
+ *
+ * A call answers a number: FE2O3_DONE, or why it is not done. There is nothing to begin with and nothing to free: what
+ * an exchange keeps between its calls stands in structs of the caller's, and the library keeps nothing.
+ *
+ * What a caller owes, since no call can test it:
+ *
+ * - Each pointer is that of memory which is there for as many bytes as its type, or the length behind it, says, and for
+ *   no more than PTRDIFF_MAX. None is null, neither where the length is 0 (FE2O3_NONE is an address and the length 0)
+ *   nor in a struct: the keys of a login by password point to a struct that is all zeros.
+ * - What a call writes to (the room, its length, each struct that is not const) overlaps nothing else that it is given.
+ *   What it only reads may overlap, and others may read it meanwhile.
+ * - A struct that is written to is in one call at a time. Apart from that any thread may call, but no signal handler.
+ * - A struct is set to zeros before its first use, but one with pointers to its FE2O3_.._INIT. One that is all
+ *   zeros is a client that has sent nothing, a server without a challenge, or no keys.
+ * - malloc, realloc and free are those of C, and there is stack enough.
+ *
+ * What is no duty: numbers, bytes, and lengths inside structs may be any. So any bit pattern of a struct without
+ * pointers is legal, also one that the library never wrote, or wrote for another login: each has its answer, and none
+ * does harm to memory. But whoever can write to a client's struct can write there that the server was believed.
+ *
+ * What the calls promise:
+ *
+ * - A call that is refused changes nothing; but where it answers FE2O3_ROOM_TOO_SMALL, the length says what suffices.
+ * - A call that is done writes its text at the head of the room and how long it is. It leaves the room behind it as it
+ *   was, and puts no zero at its end.
+ * - Each call returns, never aborts, and keeps no pointer. It takes memory from malloc and gives all of it back; where
+ *   there is none it answers FE2O3_OUT_OF_MEMORY.
+ *
+ * What they do not promise: secrets are not wiped from memory, neither from what goes back to free nor from the stack.
+ * Records, keys, and clients that have answered hold secrets, which are the caller's to wipe. Comparisons do not take
+ * the same time whatever is compared. Random bytes are the caller's: 32 fresh ones for each nonce. */
+#ifndef FE2O3_SASL_H
+#define FE2O3_SASL_H
+
+#include <stddef.h>
+#include <stdint.h>
+
+#ifdef __cplusplus
+extern "C" {
+#endif
+
+/* The versions, by the hash of the mechanism. */
+#define FE2O3_SHA_1 1u
+#define FE2O3_SHA_256 256u
+#define FE2O3_SHA_512 512u
+
+/* An empty text: a pointer and its length, as an argument or behind `=` in a struct. */
+#define FE2O3_NONE (const uint8_t *)"", 0
+
+/* What a call answers. */
+enum fe2o3_status {
+    /* The call is done. */
+    FE2O3_DONE = 0,
+    /* There was no memory. Nothing has changed, and the call can be made again. */
+    FE2O3_OUT_OF_MEMORY = 1,
+    /* The room is too small. Nothing has changed, and the length says what suffices. */
+    FE2O3_ROOM_TOO_SMALL = 2,
+    /* Bytes that are to be text are no UTF-8. */
+    FE2O3_NOT_UTF8 = 3,
+    /* There is no such version: 1, 256 and 512 are known. */
+    FE2O3_NO_SUCH_VERSION = 4,
+    /* A text is longer than the array that is to hold it. */
+    FE2O3_TOO_LONG = 5,
+    /* The password is not printable ASCII. */
+    FE2O3_NOT_PRINTABLE = 6,
+    /* The iteration count is 0. */
+    FE2O3_ZERO_ITERATIONS = 7,
+    /* There is no such secret: 0 is the password, 1 the keys, and 2 both. */
+    FE2O3_NO_SUCH_SECRET = 8,
+    /* The struct of keys shows none. */
+    FE2O3_NO_KEYS = 9,
+    /* The keys are of another version than the login. */
+    FE2O3_OTHER_VERSION = 10,
+    /* The password is not that of the record. */
+    FE2O3_OTHER_PASSWORD = 11,
+    /* The message is not UTF-8. */
+    FE2O3_CLIENT_UTF8_ERROR = 20,
+    /* The server-first message has fewer than three parts. */
+    FE2O3_CLIENT_INSUFFICIENT_PARTS = 21,
+    /* The server-first message begins with `m=`, a mandatory extension. */
+    FE2O3_CLIENT_EXTENSION_NOT_SUPPORTED = 22,
+    /* The first part of the server-first message does not begin with `r=`. */
+    FE2O3_CLIENT_NONCE_NOT_FOUND = 23,
+    /* The nonce of the server-first message does not begin with the client's nonce. */
+    FE2O3_CLIENT_CLIENT_NONCE_MISMATCH = 24,
+    /* The second part of the server-first message does not begin with `s=`. */
+    FE2O3_CLIENT_SALT_NOT_FOUND = 25,
+    /* A salt or a signature is not base64. */
+    FE2O3_CLIENT_BASE64_DECODE_ERROR = 26,
+    /* The third part of the server-first message does not begin with `i=`. */
+    FE2O3_CLIENT_ITERATION_COUNT_NOT_FOUND = 27,
+    /* The iteration count is no number from 1 to 4294967295. */
+    FE2O3_CLIENT_ITERATION_COUNT_PARSE_ERROR = 28,
+    /* The iteration count is below the least that the client accepts. */
+    FE2O3_CLIENT_ITERATION_COUNT_TOO_SMALL = 29,
+    /* The iteration count is above the client's limit. */
+    FE2O3_CLIENT_ITERATION_COUNT_TOO_LARGE = 30,
+    /* The password is not printable ASCII. */
+    FE2O3_CLIENT_NORMALIZE_ERROR = 31,
+    /* The message names another salt or another iteration count than the client's keys are of, and the
+     * client has no password. Whoever is on the way can bring this about: it is no reason to forget the
+     * keys. */
+    FE2O3_CLIENT_OTHER_KEYS = 32,
+    /* Never answered, since HMAC takes keys of every length. */
+    FE2O3_CLIENT_HMAC_ERROR_INVALID_LENGTH = 33,
+    /* Never answered by the client, whose texts of an exclusive or are digests of one hash. */
+    FE2O3_CLIENT_XOR_LENGTH_MISMATCH = 34,
+    /* The message does not come in this state of the client. */
+    FE2O3_CLIENT_ILLEGAL_CLIENT_STATE = 35,
+    /* The server-final message does not begin with `v=`, or has another signature. */
+    FE2O3_CLIENT_SERVER_SIGNATURE_MISMATCH = 36,
+    /* The message is not UTF-8. */
+    FE2O3_SERVER_UTF8_ERROR = 40,
+    /* The client-first message does not begin with `n,,`. */
+    FE2O3_SERVER_CANNOT_PARSE_GS2_HEADER = 41,
+    /* The client-first message does not name a user: the first part behind the header does not
+     * begin with `n=`, or goes on with a text that no user name is escaped to. */
+    FE2O3_SERVER_CANNOT_PARSE_USERNAME = 42,
+    /* The second part of the client-first message is absent or does not begin with `r=`. */
+    FE2O3_SERVER_CANNOT_PARSE_CLIENT_NONCE = 43,
+    /* Never answered, since HMAC takes keys of every length. */
+    FE2O3_SERVER_HMAC_ERROR_INVALID_LENGTH = 44,
+    /* The proof is not as long as a digest. */
+    FE2O3_SERVER_XOR_LENGTH_MISMATCH = 45,
+    /* The password is not printable ASCII. */
+    FE2O3_SERVER_NORMALIZE_ERROR = 46,
+    /* The client-final message does not begin with `c=`, or its second part is absent or does not
+     * begin with `r=`. */
+    FE2O3_SERVER_CANNOT_PARSE_CLIENT_FINAL_MESSAGE = 47,
+    /* The channel binding is not `n,,`. */
+    FE2O3_SERVER_INVALID_CHANNEL_BINDING = 48,
+    /* A channel binding or a proof is not base64. */
+    FE2O3_SERVER_BASE64_DECODE_ERROR = 49,
+    /* The nonce is not that of the challenge. */
+    FE2O3_SERVER_INCORRECT_CLIENT_FINAL_NONCE = 50,
+    /* The last part of the client-final message does not begin with `p=`. */
+    FE2O3_SERVER_PROOF_NOT_FOUND_IN_CLIENT_FINAL = 51,
+    /* The proof does not meet the stored key. */
+    FE2O3_SERVER_AUTHENTICATION_FAILED = 52,
+    /* No challenge is open. */
+    FE2O3_SERVER_ILLEGAL_AUTHENTICATOR_STATE = 53,
+    /* The text does not have five fields: parts are missing or left over. */
+    FE2O3_RECORD_PARTS_MISMATCH = 60,
+    /* The first field is the name of no mechanism that is known here. */
+    FE2O3_RECORD_UNKNOWN_MECHANISM = 61,
+    /* The second field is no number from 1 to 4294967295 in decimal without a sign or leading zeros. */
+    FE2O3_RECORD_ITERATION_COUNT_PARSE_ERROR = 62,
+    /* The salt or a key is not base64. */
+    FE2O3_RECORD_BASE64_DECODE_ERROR = 63,
+    /* A key is not as long as a digest of the mechanism. */
+    FE2O3_RECORD_KEY_LENGTH_MISMATCH = 64
+};
+
+/* What a client keeps in place of its password: a secret, with which one can log in. */
+struct fe2o3_client_keys {
+    /* 1, 256 or 512, for the mechanism's hash; 0 where there are no keys. */
+    uint32_t version;
+    /* The iteration count that they are of. */
+    uint32_t iterations;
+    /* How many bytes of `salt` there are. */
+    uint32_t salt_len;
+    /* The salt that they are of. */
+    uint8_t salt[128];
+    /* The ClientKey, as long as a digest of the hash. */
+    uint8_t client_key[64];
+    /* The ServerKey, as long as a digest of the hash. */
+    uint8_t server_key[64];
+};
+
+/* What a server keeps of a password. */
+struct fe2o3_scram_record {
+    /* 1, 256 or 512, for the mechanism's hash. */
+    uint32_t version;
+    /* The iteration count. */
+    uint32_t iterations;
+    /* How many bytes of `salt` there are. */
+    uint32_t salt_len;
+    /* The salt. */
+    uint8_t salt[128];
+    /* The StoredKey, as long as a digest of the hash. */
+    uint8_t stored_key[64];
+    /* The ServerKey, as long as a digest of the hash. */
+    uint8_t server_key[64];
+};
+
+/* What a server keeps of an exchange. All zeros is a server without an open challenge. */
+struct fe2o3_scram_server {
+    /* 1 while a challenge is open, and 2 once its user has logged in. */
+    uint32_t stands;
+    /* How many bytes of `user` there are. */
+    uint32_t user_len;
+    /* How many bytes of `bare` there are. */
+    uint32_t bare_len;
+    /* How many bytes of `nonce` there are. */
+    uint32_t nonce_len;
+    /* How many bytes of `first` there are. */
+    uint32_t first_len;
+    /* The plain name of the user. */
+    uint8_t user[256];
+    /* The client-first message without its GS2 header. */
+    uint8_t bare[1024];
+    /* The nonce of both sides. */
+    uint8_t nonce[512];
+    /* The server-first message. */
+    uint8_t first[1024];
+};
+
+/* Bytes that are lent for ever. */
+struct fe2o3_text {
+    /* The bytes, of which the last is zero. */
+    const uint8_t *bytes;
+    size_t bytes_len;
+};
+/* One before its first use. */
+#define FE2O3_TEXT_INIT { (const uint8_t *)"", 0 }
+
+/* Who logs in: lent for each call of an exchange, and the same for all of them. */
+struct fe2o3_login {
+    /* 1, 256 or 512, for the mechanism's hash. */
+    uint32_t version;
+    /* 0 for the password, 1 for the keys, and 2 for the keys where the server names the salt and the count that
+     * they are of, and else the password. */
+    uint32_t secret;
+    /* The lowest iteration count that is answered. RFC 7677 asks for 4096 at least. */
+    uint32_t least_iterations;
+    /* The highest iteration count that is answered. */
+    uint32_t most_iterations;
+    /* The plain name of the user. */
+    const uint8_t *username;
+    size_t username_len;
+    /* The password, as it is typed. */
+    const uint8_t *password;
+    size_t password_len;
+    /* The keys that an earlier login handed out. */
+    const struct fe2o3_client_keys *keys;
+};
+
+/* What a client keeps of an exchange. All zeros is a client that has sent nothing. */
+struct fe2o3_scram_client {
+    /* What was sent last: 1 the client-first message, 2 the client-final message; 3 is a login whose server was
+     * believed. */
+    uint32_t sent;
+    /* How many bytes of `signature` there are. */
+    uint32_t signature_len;
+    /* The nonce of the client-first message. */
+    uint8_t nonce[32];
+    /* The signature that is waited for. */
+    uint8_t signature[64];
+    /* The keys of the answer. */
+    struct fe2o3_client_keys keys;
+};
+
+/* Writes the client-first message, which starts an exchange afresh at any time. The nonce is 32 random bytes, fresh
+ * for each. */
+uint32_t fe2o3_scram_client_first(
+    const struct fe2o3_login *login,
+    struct fe2o3_scram_client *client,
+    const uint8_t nonce[32],
+    uint8_t *out,
+    size_t out_room,
+    size_t *len);
+
+/* Answers the server-first message with the client-final message. A room of 128 bytes more than the server-first
+ * message suffices, and is asked for before any hash is made. */
+uint32_t fe2o3_scram_client_final(
+    const struct fe2o3_login *login,
+    struct fe2o3_scram_client *client,
+    const uint8_t *server_first,
+    size_t server_first_len,
+    uint8_t *out,
+    size_t out_room,
+    size_t *len);
+
+/* Believes the server-final message, or refuses it. The login is done only where the number is 0. */
+uint32_t fe2o3_scram_client_verify(
+    const struct fe2o3_login *login,
+    struct fe2o3_scram_client *client,
+    const uint8_t *server_final,
+    size_t server_final_len);
+
+/* Hands out the keys of a login whose server was believed: with them the next login to a server that keeps its salt
+ * and its count takes no password, and two hashes of HMAC. Whoever has them can log in. */
+uint32_t fe2o3_scram_client_keys(const struct fe2o3_scram_client *client, struct fe2o3_client_keys *keys);
+
+/* Makes the keys that stand in place of a password, for a server that keeps this salt and this count. */
+uint32_t fe2o3_scram_keys_make(
+    uint32_t version,
+    const uint8_t *password,
+    size_t password_len,
+    const uint8_t *salt,
+    size_t salt_len,
+    uint32_t iterations,
+    struct fe2o3_client_keys *keys);
+
+/* Makes the record of a password. Where the number is not 0, the struct stays as it was. */
+uint32_t fe2o3_scram_record_make(
+    uint32_t version,
+    const uint8_t *password,
+    size_t password_len,
+    const uint8_t *salt,
+    size_t salt_len,
+    uint32_t iterations,
+    struct fe2o3_scram_record *kept);
+
+/* Reads the text of a record, as PostgreSQL writes it (RFC 5803, section 2). */
+uint32_t fe2o3_scram_record_parse(const uint8_t *text, size_t text_len, struct fe2o3_scram_record *kept);
+
+/* Writes the text of a record, as PostgreSQL reads it (RFC 5803, section 2): at most 384 bytes. */
+uint32_t fe2o3_scram_record_text(const struct fe2o3_scram_record *kept, uint8_t *out, size_t out_room, size_t *len);
+
+/* Makes up a record for a name that a server does not know, so that it can answer as to one that it knows: the login
+ * is refused at its proof. The secret is 32 random bytes, the same for all names and kept as long as the records;
+ * `made_salt_len`, of at most 64, and the count are those of the server's other records. */
+uint32_t fe2o3_scram_record_of_nobody(
+    uint32_t version,
+    const uint8_t *secret,
+    size_t secret_len,
+    const uint8_t *username,
+    size_t username_len,
+    size_t made_salt_len,
+    uint32_t iterations,
+    struct fe2o3_scram_record *kept);
+
+/* Whether a password that was told, as by PLAIN, is that of the record: 0 where it is. */
+uint32_t fe2o3_scram_record_verify(
+    const struct fe2o3_scram_record *kept,
+    const uint8_t *password,
+    size_t password_len);
+
+/* Answers a client-first message with the server-first message, which starts an exchange afresh at any time. The
+ * record is that of the user whom the message names (`fe2o3_scram_server_user`), or one that is made up
+ * (`fe2o3_scram_record_of_nobody`). The nonce is 32 random bytes, fresh for each. */
+uint32_t fe2o3_scram_server_first(
+    const struct fe2o3_scram_record *kept,
+    struct fe2o3_scram_server *server,
+    const uint8_t nonce[32],
+    const uint8_t *client_first,
+    size_t client_first_len,
+    uint8_t *out,
+    size_t out_room,
+    size_t *len);
+
+/* Writes the plain name of the user whom a client-first message names, and whose record is to be fetched. */
+uint32_t fe2o3_scram_server_user(
+    const uint8_t *client_first,
+    size_t client_first_len,
+    uint8_t *out,
+    size_t out_room,
+    size_t *len);
+
+/* Answers a client-final message with the server-final message, where its proof meets the record: the user is
+ * logged in only where the number is 0. The record is the one of `fe2o3_scram_server_first`. A room of 90 bytes
+ * suffices, and is asked for before any hash is made. */
+uint32_t fe2o3_scram_server_final(
+    const struct fe2o3_scram_record *kept,
+    struct fe2o3_scram_server *server,
+    const uint8_t *client_final,
+    size_t client_final_len,
+    uint8_t *out,
+    size_t out_room,
+    size_t *len);
+
+/* Writes the plain name of the user who has logged in: the one whose challenge was answered. */
+uint32_t fe2o3_scram_server_logged_in(
+    const struct fe2o3_scram_server *server,
+    uint8_t *out,
+    size_t out_room,
+    size_t *len);
+
+/* Lends the text of a status for ever, with a zero behind it. */
+void fe2o3_status_text(uint32_t status, struct fe2o3_text *text);
+
+/* The version of the library: its three numbers, each of two digits. */
+uint32_t fe2o3_version(void);
+
+/* How many bytes a struct has here: 0 `fe2o3_login`, 1 `fe2o3_scram_client`, 2 `fe2o3_client_keys`, 3
+ * `fe2o3_scram_server`, 4 `fe2o3_scram_record`; of other numbers 0. A caller whose own declarations have other sizes
+ * has another header. */
+size_t fe2o3_size(uint32_t which);
+
+#ifdef __cplusplus
+}
+#endif
+
+#endif

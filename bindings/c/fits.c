@@ -1,0 +1,41 @@
+/* Whether this header is that of the library: each struct is as long in both, and each status of the header has a text.
+ * Prints what does not fit, and the version of the library, and ends with 1 where something does not. */
+#include "fe2o3_sasl.h"
+
+#include <stdio.h>
+#include <string.h>
+
+int main(void)
+{
+    const size_t sizes[] = {sizeof(struct fe2o3_login), sizeof(struct fe2o3_scram_client),
+        sizeof(struct fe2o3_client_keys), sizeof(struct fe2o3_scram_server), sizeof(struct fe2o3_scram_record)};
+    const uint32_t structs = sizeof sizes / sizeof sizes[0];
+    const uint32_t statuses[] = {FE2O3_DONE, FE2O3_OUT_OF_MEMORY, FE2O3_ROOM_TOO_SMALL, FE2O3_NO_KEYS,
+        FE2O3_CLIENT_UTF8_ERROR, FE2O3_CLIENT_SERVER_SIGNATURE_MISMATCH, FE2O3_SERVER_UTF8_ERROR,
+        FE2O3_SERVER_AUTHENTICATION_FAILED, FE2O3_RECORD_PARTS_MISMATCH, FE2O3_RECORD_KEY_LENGTH_MISMATCH};
+    struct fe2o3_text unknown = FE2O3_TEXT_INIT, text = FE2O3_TEXT_INIT;
+    uint32_t version = fe2o3_version();
+    int differences = 0;
+
+    for (uint32_t which = 0; which <= structs; which++) {
+        size_t due = which < structs ? sizes[which] : 0;
+        if (fe2o3_size(which) != due) {
+            printf("struct %u: %lu bytes there, %lu here\n", (unsigned)which, (unsigned long)fe2o3_size(which),
+                (unsigned long)due);
+            differences++;
+        }
+    }
+    fe2o3_status_text(UINT32_MAX, &unknown);
+    for (size_t place = 0; place < sizeof statuses / sizeof statuses[0]; place++) {
+        fe2o3_status_text(statuses[place], &text);
+        /* (its length counts the zero at its end) */
+        if (text.bytes_len == 0 || memchr(text.bytes, 0, text.bytes_len) != text.bytes + text.bytes_len - 1
+            || strcmp((const char *)text.bytes, (const char *)unknown.bytes) == 0) {
+            printf("status %u has no text\n", (unsigned)statuses[place]);
+            differences++;
+        }
+    }
+    printf("version %u.%u.%u\n", (unsigned)(version / 10000), (unsigned)(version / 100 % 100),
+        (unsigned)(version % 100));
+    return differences != 0;
+}
