@@ -16,6 +16,7 @@ array or a struct behind a reference a pointer, and `Global` nothing.
 import argparse
 import re
 import sys
+import textwrap
 from collections import namedtuple
 from itertools import zip_longest
 from pathlib import Path
@@ -104,9 +105,8 @@ class Reader:
         self.exports = [self.export(source, one) for source in self.sources
                         for one in source.each(r"^#\[unsafe\(no_mangle", EXPORT, "export")]
         marks = sum(len(re.findall(r"no_mangle|export_name", source.text)) for source in self.sources)
-        names = {one.name for one in self.exports}
-        if not 0 < marks == len(names):
-            sys.exit(f"{folder}: {marks} times `no_mangle`, and {len(names)} names of exports that are read")
+        if not 0 < marks == len({one.name for one in self.exports}):
+            sys.exit(f"{folder}: {marks} times `no_mangle`, and not as many names of exports that are read")
         self.statuses = [Status(["The call is done."], "DONE", 0)]
         for source in self.sources:
             if "\npub enum Status {\n" in source.text:
@@ -141,9 +141,8 @@ class Reader:
     def export(self, source, found):
         if re.search(r"\brequires\b", found[4] or ""):
             source.refuse(found.start(4), "a condition, of which C would learn nothing")
-        parts = []
-        for one in re.finditer(r"(\w+): ([^,]+)", found[2]):
-            parts += self.parts(source, found.start(2) + one.start(), one[1], one[2].strip(), False)
+        parts = [part for one in re.finditer(r"(\w+): ([^,]+)", found[2])
+                 for part in self.parts(source, found.start(2) + one.start(), one[1], one[2].strip(), False)]
         return Export(source.doc(found.start(), needed=True), found[1], parts, found[3])
 
     def read_statuses(self, source):
@@ -177,7 +176,9 @@ def comment(doc, indent=""):
 
 
 def rust_doc(doc, indent=""):
-    return "".join(f"{indent}/// {line}".rstrip() + "\n" for line in doc)
+    room = textwrap.TextWrapper(WIDTH - len(indent) - 4, break_on_hyphens=False)
+    text = "\n\n".join(map(room.fill, "\n".join(doc).split("\n\n")))
+    return "".join(f"{indent}/// {line}".rstrip() + "\n" for line in text.splitlines())
 
 
 def c_part(part):
@@ -238,7 +239,6 @@ def main():
     page = ROOT / ("bindings/rust/src/sys.rs" if words.rust else "bindings/c/fe2o3_sasl.h")
     due = rust_block(reader) if words.rust else c_header(reader)
     if not words.check:
-        page.parent.mkdir(parents=True, exist_ok=True)
         page.write_text(due, encoding="utf-8")
         return
     stands = page.read_text(encoding="utf-8") if page.exists() else ""

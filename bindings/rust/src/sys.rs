@@ -72,9 +72,8 @@ pub const CLIENT_ITERATION_COUNT_TOO_LARGE: u32 = 30;
 /// The password is not printable ASCII.
 pub const CLIENT_NORMALIZE_ERROR: u32 = 31;
 
-/// The message names another salt or another iteration count than the client's keys are of, and the
-/// client has no password. Whoever is on the way can bring this about: it is no reason to forget the
-/// keys.
+/// The message names another salt or another iteration count than the client's keys are of, and the client has no
+/// password. Whoever is on the way can bring this about: it is no reason to forget the keys.
 pub const CLIENT_OTHER_KEYS: u32 = 32;
 
 /// Never answered, since HMAC takes keys of every length.
@@ -95,8 +94,8 @@ pub const SERVER_UTF8_ERROR: u32 = 40;
 /// The client-first message does not begin with `n,,`.
 pub const SERVER_CANNOT_PARSE_GS2_HEADER: u32 = 41;
 
-/// The client-first message does not name a user: the first part behind the header does not
-/// begin with `n=`, or goes on with a text that no user name is escaped to.
+/// The client-first message does not name a user: the first part behind the header does not begin with `n=`, or goes on
+/// with a text that no user name is escaped to.
 pub const SERVER_CANNOT_PARSE_USERNAME: u32 = 42;
 
 /// The second part of the client-first message is absent or does not begin with `r=`.
@@ -111,8 +110,7 @@ pub const SERVER_XOR_LENGTH_MISMATCH: u32 = 45;
 /// The password is not printable ASCII.
 pub const SERVER_NORMALIZE_ERROR: u32 = 46;
 
-/// The client-final message does not begin with `c=`, or its second part is absent or does not
-/// begin with `r=`.
+/// The client-final message does not begin with `c=`, or its second part is absent or does not begin with `r=`.
 pub const SERVER_CANNOT_PARSE_CLIENT_FINAL_MESSAGE: u32 = 47;
 
 /// The channel binding is not `n,,`.
@@ -223,8 +221,8 @@ pub struct Text {
 pub struct Login {
     /// 1, 256 or 512, for the mechanism's hash.
     pub version: u32,
-    /// 0 for the password, 1 for the keys, and 2 for the keys where the server names the salt and the count that
-    /// they are of, and else the password.
+    /// 0 for the password, 1 for the keys, and 2 for the keys where the server names the salt and the count that they
+    /// are of, and else the password.
     pub secret: u32,
     /// The lowest iteration count that is answered. RFC 7677 asks for 4096 at least.
     pub least_iterations: u32,
@@ -258,8 +256,8 @@ pub struct ScramClient {
 }
 
 extern "C" {
-    /// Writes the client-first message, which starts an exchange afresh at any time. The nonce is 32 random bytes, fresh
-    /// for each.
+    /// Writes the client-first message, which starts an exchange afresh at any time. The nonce is 32 random bytes,
+    /// fresh for each.
     pub fn fe2o3_scram_client_first(
         login: *const Login,
         client: *mut ScramClient,
@@ -286,8 +284,8 @@ extern "C" {
         server_final: *const u8,
         server_final_len: usize) -> u32;
 
-    /// Hands out the keys of a login whose server was believed: with them the next login to a server that keeps its salt
-    /// and its count takes no password, and two hashes of HMAC. Whoever has them can log in.
+    /// Hands out the keys of a login whose server was believed: with them the next login to a server that keeps its
+    /// salt and its count takes no password, and two hashes of HMAC. Whoever has them can log in.
     pub fn fe2o3_scram_client_keys(client: *const ScramClient, keys: *mut ClientKeys) -> u32;
 
     /// Makes the keys that stand in place of a password, for a server that keeps this salt and this count.
@@ -316,9 +314,9 @@ extern "C" {
     /// Writes the text of a record, as PostgreSQL reads it (RFC 5803, section 2): at most 384 bytes.
     pub fn fe2o3_scram_record_text(kept: *const ScramRecord, out: *mut u8, out_room: usize, len: *mut usize) -> u32;
 
-    /// Makes up a record for a name that a server does not know, so that it can answer as to one that it knows: the login
-    /// is refused at its proof. The secret is 32 random bytes, the same for all names and kept as long as the records;
-    /// `made_salt_len`, of at most 64, and the count are those of the server's other records.
+    /// Makes up a record for a name that a server does not know, so that it can answer as to one that it knows: the
+    /// login is refused at its proof. The secret is 32 random bytes, the same for all names and kept as long as the
+    /// records; `made_salt_len`, of at most 64, and the count are those of the server's other records.
     pub fn fe2o3_scram_record_of_nobody(
         version: u32,
         secret: *const u8,
@@ -379,7 +377,7 @@ extern "C" {
     pub fn fe2o3_version() -> u32;
 
     /// How many bytes a struct has here: 0 `fe2o3_login`, 1 `fe2o3_scram_client`, 2 `fe2o3_client_keys`, 3
-    /// `fe2o3_scram_server`, 4 `fe2o3_scram_record`; of other numbers 0. A caller whose own declarations have other sizes
-    /// has another header.
+    /// `fe2o3_scram_server`, 4 `fe2o3_scram_record`; of other numbers 0. A caller whose own declarations have other
+    /// sizes has another header.
     pub fn fe2o3_size(which: u32) -> usize;
 }
