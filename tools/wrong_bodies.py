@@ -401,6 +401,10 @@ class Copy:
             words += ["-L", f"dependency={self.folder(it)}/out/rlib"]
         words += ["--antt-project", f"{KIT}/rattle/logic/antt-project.json", "--logic-built", f"{KIT}/logic_built"]
         words += ["--incremental", "out/incremental", "--jobs", "1"]
+        if is_static(self.lines[crate]):
+            words += ["--crate-type", "staticlib", "--links", f"{crate}="]
+            for it in used_by(self.lines, crate):
+                words += ["--links", f"{it}="]
         for it in asked:
             words += ["--only", it]
         return checked(self.folder(crate), f"{KIT}/bin/rattle", "check", *words)
@@ -528,6 +532,11 @@ def checked(folder, *command):
     return ran.returncode, log
 
 
+def is_static(line):
+    """Whether a line of crates.txt is that of a static library, whose name has a word behind it."""
+    return "staticlib" in line.partition(":")[0].split()
+
+
 def used_by(lines, crate):
     return lines[crate].partition(":")[2].split()
 
@@ -543,9 +552,9 @@ def libraries(names):
     lines = {}
     with open(f"{ROOT}/crates.txt", encoding="utf-8") as it:
         for line in it:
-            name = line.partition(":")[0].strip()
-            if name and not name.startswith("#"):
-                lines[name] = line
+            words = line.partition(":")[0].split()
+            if words and not words[0].startswith("#"):
+                lines[words[0]] = line
     wanted = {it for it in lines if os.path.isdir(f"{ROOT}/crates/{it}/{FOLDER}") and (not names or it in names)}
     while more := {below for it in wanted for below in lines[it].partition(":")[2].split() if below in lines} - wanted:
         wanted |= more

@@ -1,0 +1,236 @@
+-- That what a client answers has room: its message behind a bound that the challenge tells, its signature in a struct.
+use Rattle.std.proofs.Common.{rules, arith, refl, sym, inl, inr, ap, ◌≢◌, ◌∙◌, ◌≡◌, ◌≤◌, ◌<◌, ◌+◌, ◌++◌, ◌∷◌, [], ℕ, List, length}
+use Rattle.std.specs.Prelude.{Option, Some, Ok, Err, codes, slice_get, bit_xor}
+use Rattle.std.specs.List.{zip}
+use Rattle.std.proofs.lemmas.List.{length-append, length-map}
+use Rattle.std.proofs.lemmas.Slice.Zip.{length-zip}
+use Rattle.fe2o3_scram.specs.declared.hmac.ScramVersion.{ScramVersion}
+use Rattle.fe2o3_scram.specs.ClientFinal.{Answer, client_final_of, keys_for, without_proof}
+use Rattle.fe2o3_scram.specs.ClientKeys.{ClientKeys}
+use Rattle.fe2o3_scram.specs.Hmac.{exclusive_or}
+use Rattle.fe2o3_scram.specs.Keys.{client_proof, client_signature, server_signature, stored_key, auth_message}
+use Rattle.fe2o3_scram.specs.ScramClient.{AnswersIn, BelievesIn, ClientSide, ClientState, Initial, ClientFirstSent, ClientFinalSent, Complete, with_state}
+use Rattle.fe2o3_scram.specs.ServerFirst.{Client, NamesServerFirst, ReadsServerFirst, ServerFirst}
+use Rattle.fe2o3_scram.specs.Texts.{Part, base64_text, joined}
+use Rattle.fe2o3_scram.specs.declared.scram_messages.error.ScramErrorKind.{ScramErrorKind}
+use Rattle.fe2o3_scram.specs.declared.scram_messages.error.ScramErrorKind.TheVariants.{Utf8Error, OutOfMemory as NoMemory}
+use Rattle.std.specs.Str.{IsUtf8}
+use Rattle.sasl_c.specs.declared.status.Status.{Status}
+use Rattle.sasl_c.specs.declared.status.Status.TheVariants as statuses
+use Rattle.sasl_c.specs.declared.client.Login.{Login}
+use Rattle.sasl_c.specs.declared.client.ScramClient.{ScramClient as Struct}
+use Rattle.sasl_c.specs.Client.{Answered, Believes, Holds, IsLogin, IsNoLogin, IsSide, IsState, Responds}
+use Rattle.sasl_c.proofs.StatusLemmas.{carried, client_not_room}
+use Rattle.sasl_c.proofs.TextLemmas.{short, short_text, text_length}
+use Rattle.sasl_c.specs.Status.{client_status}
+use Rattle.fe2o3_scram.proofs.lemmas.hashes.DigestLemmas.{length-hmac_of}
+
+-- a proof has at most 64 bytes
+short_proof : (version : ScramVersion) (key auth : List ℕ) → length (client_proof version key auth) ≤ 64
+unfolding exclusive_or
+short_proof version key auth =
+    let signature = client_signature version (stored_key version key) auth in
+    omega (
+      arith,
+      length-map (zip key signature) (λ (pair : ℕ × ℕ). bit_xor pair.0 pair.1),
+      length-zip key signature,
+      short version (length signature) (length-hmac_of version _ auth),
+    )
+
+-- a part is no longer than its text
+first_short : (part : List ℕ) (others : List (List ℕ)) → length part ≤ length (joined (part ∷ others))
+first_short part [] = omega arith
+first_short part (other ∷ others) = omega (arith, length-append part (44 ∷ joined (other ∷ others)))
+
+part_short : (text part : List ℕ) → Part text 0 part → length part ≤ length text
+part_short text part held = go held.0 held.1.whole held.2 where
+  go : (parts : List (List ℕ)) → joined parts ≡ text → slice_get parts 0 ≡ Some part → length part ≤ length text
+  go [] whole at = absurd (cc)
+  go (first ∷ others) whole at = omega (arith, ap length whole, first_short first others, same) where
+    same : length part ≡ length first
+    same = search rules
+
+binding : length (codes "c=" ++ base64_text (codes "n,,")) ≡ 6
+binding =
+    let three : length (codes "n,,") ≡ 3 = refl in
+    let two : length (codes "c=") ≡ 2 = refl in
+    omega (arith, three, two, text_length (codes "n,,"), length-append (codes "c=") (base64_text (codes "n,,")))
+
+-- the client-final message has at most 98 bytes more than the server-first message
+short_answer : (version : ScramVersion) (key auth nonce text : List ℕ) → length nonce + 2 ≤ length text
+    → length (client_final_of (without_proof nonce) (client_proof version key auth)) ≤ length text + 98
+short_answer version key auth nonce text fits =
+    let proof = client_proof version key auth in
+    omega (
+      arith,
+      fits,
+      binding,
+      length-append (codes "c=" ++ base64_text (codes "n,,")) (44 ∷ (codes "r=" ++ nonce)),
+      length-append (without_proof nonce) (44 ∷ (codes "p=" ++ base64_text proof)),
+      short_text proof (short_proof version key auth),
+    )
+
+named : (client : Client) (text : List ℕ) (first : ServerFirst) → ReadsServerFirst client text (Ok first)
+    → NamesServerFirst text first
+unfolding ReadsServerFirst
+named client text first held = held.1
+
+-- what a client answers: a message that has room, and a signature that a struct can hold
+pub answer_fits : (state : ClientState) (side next : ClientSide) (text message : List ℕ)
+    → AnswersIn state side text (Ok message) next
+    → (length message ≤ length text + 98) × ((signature : List ℕ) × (keys : Option ClientKeys)
+    × (next.state ≡ ClientFinalSent signature keys) × (length signature ≤ 64))
+answer_fits (ClientFirstSent nonce bare) side next text message held =
+    let first = held.1.0 in
+    let names = named _ text first held.1.1 in
+    let keys = keys_for side.version side.secret first in
+    let auth = auth_message bare text (without_proof first.nonce) in
+    let fits = part_short text (codes "r=" ++ first.nonce) names.nonce in
+    let said : message ≡ client_final_of (without_proof first.nonce) (client_proof keys.version keys.client_key auth) =
+    held.2 ∙ ap (λ (answer : Answer). answer.message) held.1.2 in
+    let kept : next.state ≡ ClientFinalSent (server_signature keys.version keys.server_key auth) (Some keys) =
+    ap (λ (moved : ClientSide). moved.state) held.3
+    ∙ ap (λ (answer : Answer). ClientFinalSent answer.signature (Some answer.keys)) held.1.2 in (
+      rw said (short_answer keys.version keys.client_key auth first.nonce text (omega (arith, fits))),
+      (
+        server_signature keys.version keys.server_key auth,
+        Some keys,
+        kept,
+        short keys.version _ (length-hmac_of keys.version keys.server_key auth),
+      ),
+    )
+answer_fits Initial side next text message held = absurd held
+answer_fits (ClientFinalSent signature keys) side next text message held = absurd held
+answer_fits (Complete keys) side next text message held = absurd held
+
+-- the client is of the same login in another state
+moved_login : (login : Login) (side : ClientSide) (state : ClientState) → IsLogin login side
+    → IsLogin login (with_state side state)
+moved_login login side state is = record {
+  version = is.version;
+  user = is.user;
+  secret = is.secret;
+  least = is.least;
+  most = is.most;
+}
+
+-- and behind an answer
+answering_login : (login : Login) (state : ClientState) (side next : ClientSide) (text message : List ℕ)
+    → AnswersIn state side text (Ok message) next → IsLogin login side → IsLogin login next
+answering_login login (ClientFirstSent nonce bare) side next text message held is =
+    rw held.3 (moved_login login side _ is)
+answering_login login Initial side next text message held is = absurd held
+answering_login login (ClientFinalSent signature keys) side next text message held is = absurd held
+answering_login login (Complete keys) side next text message held is = absurd held
+
+pub answered : (login : Login) (before : Struct) (side next : ClientSide) (text message : List ℕ)
+    → IsSide login before side → AnswersIn side.state side text (Ok message) next
+    → Answered login before text message next
+unfolding Answered
+answered login before side next text message is held = (side, is, held)
+
+-- the message has room behind the bound
+pub answer_has_room : (login : Login) (before : Struct) (next : ClientSide) (text message : List ℕ)
+    → Answered login before text message next → length message ≤ length text + 128
+unfolding Answered
+answer_has_room login before next text message held =
+    omega (arith, (answer_fits held.0.state held.0 next text message held.2).0)
+
+-- the struct of a client that waits is that of the client behind the answer
+pub responds : (login : Login) (before after : Struct) (next : ClientSide) (text message : List ℕ)
+    → Answered login before text message next → ((user : List ℕ) → IsState user after next.state)
+    → Responds login text before after (Ok message)
+unfolding Responds Answered
+responds login before after next text message held waits =
+    (next, held, (answering_login login held.0.state held.0 next text message held.2 held.1.0, waits next.user))
+
+-- a refusal of the library
+pub refused : (login : Login) (before : Struct) (side next : ClientSide) (text : List ℕ) (why : ScramErrorKind)
+    (status : Status) → IsSide login before side → next ≡ side
+    → (why ≢ NoMemory → AnswersIn side.state side text (Err why) next) → status ≡ client_status why
+    → status ≢ statuses.OutOfMemory → Responds login text before before (Err status)
+unfolding Responds
+refused login before side next text why status is stays held gives other =
+    let told : why ≢ NoMemory = λ same. other (gives ∙ ap client_status same) in
+    let refuses = carried (AnswersIn side.state side text (Err why)) next side stays (held told) in
+    inr (inr (why, gives, (side, is, refuses)))
+
+-- other refusals
+pub no_text : (login : Login) (before : Struct) (text : List ℕ) → ¬ IsUtf8 text
+    → Responds login text before before (Err (statuses.Client Utf8Error))
+unfolding Responds
+no_text login before text wrong = inr (inl (refl, wrong))
+
+pub no_login : (login : Login) (before : Struct) (text : List ℕ) (status : Status) → IsNoLogin login status
+    → Responds login text before before (Err status)
+unfolding Responds
+no_login login before text status wrong = inl wrong
+
+-- a client that has answered always waits for a signature that has room
+pub always_waits : (login : Login) (before : Struct) (next : ClientSide) (text message : List ℕ)
+    → Answered login before text message next
+    → ((signature : List ℕ) (keys : Option ClientKeys) → next.state ≡ ClientFinalSent signature keys
+    → 64 < length signature) → Responds login text before before (Err statuses.TooLong)
+unfolding Answered
+always_waits login before next text message held none =
+    let fits = answer_fits held.0.state held.0 next text message held.2 in
+    absurd (omega (arith, none fits.1.0 fits.1.1 fits.1.2, fits.1.3))
+
+-- ---- whether the server is believed
+
+believing_login : (login : Login) (state : ClientState) (side next : ClientSide) (text : List ℕ)
+    → BelievesIn state side text (Ok tt) next → IsLogin login side → IsLogin login next
+believing_login login (ClientFinalSent signature keys) side next text held is =
+    rw held.1 (moved_login login side _ is)
+believing_login login Initial side next text held is = absurd held
+believing_login login (ClientFirstSent nonce bare) side next text held is = absurd held
+believing_login login (Complete keys) side next text held is = absurd held
+
+done_state : (user other : List ℕ) (before after : Struct) (state : ClientState) (side next : ClientSide)
+    (text : List ℕ) → IsState user before state → BelievesIn state side text (Ok tt) next → after.sent ≡ 3 → after.keys ≡ before.keys
+    → IsState other after next.state
+done_state user other before after (ClientFinalSent signature keys) side next text is held done same =
+    let moved : next.state ≡ Complete keys = ap (λ (last : ClientSide). last.state) held.1 in
+    let kept : Holds after.keys keys = carried (λ given. Holds given keys) before.keys after.keys (sym same) is.3 in
+    carried (IsState other after) (Complete keys) next.state (sym moved) (done, kept)
+done_state user other before after Initial side next text is held done same = absurd held
+done_state user other before after (ClientFirstSent nonce bare) side next text is held done same = absurd held
+done_state user other before after (Complete keys) side next text is held done same = absurd held
+
+pub believes : (login : Login) (before after : Struct) (side next : ClientSide) (text : List ℕ) (believed : Unit {0})
+    → IsSide login before side → BelievesIn side.state side text (Ok believed) next → after.sent ≡ 3
+    → after.keys ≡ before.keys → Believes login text before after (Ok tt)
+unfolding Believes
+believes login before after side next text believed is held done same = (
+  side,
+  next,
+  is,
+  held,
+  (
+    believing_login login side.state side next text held is.0,
+    done_state side.user next.user before after side.state side next text is.1 held done same,
+  ),
+)
+
+pub disbelieves : (login : Login) (before : Struct) (side next : ClientSide) (text : List ℕ) (why : ScramErrorKind)
+    (status : Status) → IsSide login before side → next ≡ side
+    → (why ≢ NoMemory → BelievesIn side.state side text (Err why) next) → status ≡ client_status why
+    → Believes login text before before (Err status)
+unfolding Believes
+disbelieves login before side next text why status is stays held gives = (
+  refl,
+  λ other.
+      let told : why ≢ NoMemory = λ same. other (gives ∙ ap client_status same) in
+      let refuses = carried (BelievesIn side.state side text (Err why)) next side stays (held told) in
+      inr (why, gives, (side, is, refuses)),
+)
+
+pub no_believer : (login : Login) (before : Struct) (text : List ℕ) (status : Status)
+    → (status ≢ statuses.OutOfMemory → IsNoLogin login status) → Believes login text before before (Err status)
+unfolding Believes
+no_believer login before text status wrong = (refl, λ other. inl (wrong other))
+
+-- what the client's answer takes
+pub ruleset answers = (answered, refused, no_login, client_not_room)
+
+pub ruleset sent = (responds, always_waits, answer_has_room, no_text)

@@ -1,0 +1,153 @@
+-- What a server answers to a client-first message, by the struct of its user's record.
+use Rattle.std.proofs.Common.{arith, refl, sym, ap, inl, inr, ◌∙◌, ◌≡◌, ◌≢◌, ◌≤◌, ℕ, List, length, take}
+use Rattle.std.specs.Prelude.{Some, None, Ok, Err, codes}
+use Rattle.std.proofs.lemmas.List.{length-append}
+use Rattle.fe2o3_scram.specs.declared.scram_messages.error.ServerScramErrorKind.{ServerScramErrorKind}
+use Rattle.fe2o3_scram.specs.declared.scram_messages.error.ServerScramErrorKind.TheVariants.{AuthenticationFailed, IllegalAuthenticatorState, OutOfMemory as NoMemory}
+use Rattle.fe2o3_scram.specs.ClientFinal.{Server}
+use Rattle.fe2o3_scram.specs.ClientFirst.{ReadsClientFirst}
+use Rattle.fe2o3_scram.specs.Keys.{auth_message, server_signature}
+use Rattle.fe2o3_scram.specs.ServerFinal.{AnswersClientFinal}
+use Rattle.fe2o3_scram.proofs.lemmas.hashes.DigestLemmas.{length-hmac_of}
+use Rattle.sasl_c.proofs.TextLemmas.{short, short_text}
+use Rattle.fe2o3_scram.specs.Credentials.{Provider, VersionedRecord}
+use Rattle.fe2o3_scram.specs.ScramServer.{ChallengesFrom, ConcludesFrom, ServerState, ServerFinalSent, ServerFirstSent}
+use Rattle.fe2o3_scram.specs.ServerFirst.{AnswersClientFirst, Challenge}
+use Rattle.fe2o3_scram.specs.Texts.{base64_text}
+use Rattle.sasl_c.specs.declared.records.ScramRecord.{ScramRecord as Kept}
+use Rattle.sasl_c.specs.declared.status.Status.{Status}
+use Rattle.sasl_c.specs.declared.status.Status.TheVariants as statuses
+use Rattle.sasl_c.specs.Records.{Shows, SpellsStruct}
+use Rattle.sasl_c.specs.declared.server.ScramServer.{ScramServer as Struct}
+use Rattle.sasl_c.specs.Server.{Challenged, Concluded, Concludes, HasRoom, IsOpen, NotChallenged, one_user}
+use Rattle.sasl_c.proofs.StatusLemmas.{carried}
+use Rattle.sasl_c.specs.Status.{server_status}
+
+-- a message that is refused
+pub unread : (kept : Kept) (nonce text : List ℕ) (why : ServerScramErrorKind) (status : Status)
+    → (why ≢ NoMemory → ReadsClientFirst text (Err why)) → status ≡ server_status why
+    → status ≢ statuses.OutOfMemory → NotChallenged kept nonce text status
+unfolding NotChallenged
+unread kept nonce text why status held gives other =
+    inl (why, gives, held (λ same. other (gives ∙ ap server_status same)))
+
+pub not_shown : (kept : Kept) (nonce text : List ℕ) (status : Status) → SpellsStruct kept (Err status)
+    → NotChallenged kept nonce text status
+unfolding NotChallenged
+not_shown kept nonce text status wrong = inr (inl wrong)
+
+pub no_room : (kept : Kept) (nonce text : List ℕ) (challenge : Challenge) → Challenged kept nonce text challenge
+    → ¬ HasRoom challenge → NotChallenged kept nonce text statuses.TooLong
+unfolding NotChallenged
+no_room kept nonce text challenge held wide = inr (inr (inl (refl, (challenge, held, wide))))
+
+-- the machine's answers
+pub challenged : (kept : Kept) (nonce text user message : List ℕ) (shown : VersionedRecord) (provider : Provider)
+    (state next : ServerState) → Shows kept shown → provider ≡ one_user user shown
+    → ChallengesFrom state provider nonce text (Ok (Some message)) next
+    → (challenge : Challenge) × (next ≡ ServerFirstSent challenge) × Challenged kept nonce text challenge
+unfolding Challenged
+challenged kept nonce text user message shown provider state next is same held =
+    let given = carried (λ p. AnswersClientFirst p.records (base64_text nonce) text (Ok (Some held.0))) provider
+    (one_user user shown) same held.1 in
+    (held.0, held.3, (shown, user, is, given))
+
+pub unknown : (kept : Kept) (nonce text user : List ℕ) (shown : VersionedRecord) (provider : Provider)
+    (state next : ServerState) → Shows kept shown → provider ≡ one_user user shown
+    → ChallengesFrom state provider nonce text (Ok None) next
+    → NotChallenged kept nonce text (statuses.Server AuthenticationFailed)
+unfolding NotChallenged
+unknown kept nonce text user shown provider state next is same held =
+    let given = carried (λ p. AnswersClientFirst p.records (base64_text nonce) text (Ok None)) provider
+    (one_user user shown) same held.0 in
+    inr (inr (inr (refl, (shown, user, is, given))))
+
+pub failed : (kept : Kept) (nonce text : List ℕ) (provider : Provider) (state next : ServerState)
+    (why : ServerScramErrorKind) (status : Status)
+    → (why ≢ NoMemory → ChallengesFrom state provider nonce text (Err why) next) → status ≡ server_status why
+    → status ≢ statuses.OutOfMemory → NotChallenged kept nonce text status
+failed kept nonce text provider state next why status held gives other =
+    unread kept nonce text why status (λ told. (held told).0) gives other
+
+-- ---- the end of an exchange
+
+-- a server-final message has at most 90 bytes
+short_final : (server : Server) (text message : List ℕ) → AnswersClientFinal server text (Ok message)
+    → length message ≤ 90
+short_final server text message held =
+    let signature = server_signature server.version server.server_key
+    (auth_message server.bare server.first held.0.without) in
+    let long = short server.version (length signature) (length-hmac_of server.version server.server_key _) in
+    omega (
+      arith,
+      ap length held.2,
+      length-append (codes "v=") (base64_text signature),
+      short_text signature long,
+    )
+
+pub concluded : (kept : Kept) (before : Struct) (text message : List ℕ) (challenge : Challenge)
+    (shown : VersionedRecord) (provider : Provider) (state next : ServerState) → IsOpen before challenge → Shows kept shown
+    → provider ≡ one_user challenge.user shown → state ≡ ServerFirstSent challenge
+    → ConcludesFrom state provider text (Ok (Some message)) next
+    → Concluded kept before text message challenge.user × (length message ≤ 90)
+unfolding Concluded
+concluded kept before text message challenge shown provider state next is shows same stands held =
+    let opened = carried (λ s. ConcludesFrom s provider text (Ok (Some message)) next) state (ServerFirstSent challenge)
+    stands held in
+    let given = carried (λ p. ConcludesFrom (ServerFirstSent challenge) p text (Ok (Some message)) next) provider
+    (one_user challenge.user shown) same opened in
+    let last = carried (λ s. ConcludesFrom (ServerFirstSent challenge) (one_user challenge.user shown) text
+    (Ok (Some message)) s) next (ServerFinalSent challenge.user) given.3 given in
+    ((challenge, shown, is, shows, refl, last), short_final _ text message given.2)
+
+pub never_nothing : (kept : Kept) (before : Struct) (text : List ℕ) (challenge : Challenge) (provider : Provider)
+    (state next : ServerState) (status : Status) → state ≡ ServerFirstSent challenge
+    → ConcludesFrom state provider text (Ok None) next → Concludes kept text before before (Err status)
+never_nothing kept before text challenge provider state next status stands held =
+    absurd (carried (λ s. ConcludesFrom s provider text (Ok None) next) state (ServerFirstSent challenge) stands held)
+
+pub refuses : (kept : Kept) (before : Struct) (text : List ℕ) (challenge : Challenge) (shown : VersionedRecord)
+    (provider : Provider) (state next : ServerState) (why : ServerScramErrorKind) (status : Status)
+    → IsOpen before challenge → Shows kept shown → provider ≡ one_user challenge.user shown
+    → state ≡ ServerFirstSent challenge → (why ≢ NoMemory → ConcludesFrom state provider text (Err why) next)
+    → next ≡ state → status ≡ server_status why → status ≢ statuses.OutOfMemory
+    → Concludes kept text before before (Err status)
+unfolding Concludes
+refuses kept before text challenge shown provider state next why status is shows same stands held stays gives other =
+    let told = held (λ memory. other (gives ∙ ap server_status memory)) in
+    let opened = carried (λ s. ConcludesFrom s provider text (Err why) next) state (ServerFirstSent challenge) stands
+    told in
+    let given = carried (λ p. ConcludesFrom (ServerFirstSent challenge) p text (Err why) next) provider
+    (one_user challenge.user shown) same opened in
+    let last = carried (λ s. ConcludesFrom (ServerFirstSent challenge) (one_user challenge.user shown) text (Err why) s)
+    next (ServerFirstSent challenge) (stays ∙ stands) given in
+    inr (inr (why, gives, (challenge, shown, is, shows, last)))
+
+pub not_open : (kept : Kept) (before : Struct) (text : List ℕ)
+    → ((challenge : Challenge) → ¬ IsOpen before challenge)
+    → Concludes kept text before before (Err (statuses.Server IllegalAuthenticatorState))
+unfolding Concludes
+not_open kept before text none = inr (inl (refl, none))
+
+pub keeps_none : (kept : Kept) (before : Struct) (text : List ℕ) (status : Status) → SpellsStruct kept (Err status)
+    → Concludes kept text before before (Err status)
+unfolding Concludes
+keeps_none kept before text status wrong = inl wrong
+
+-- the struct of a server that has logged its user in
+pub concludes : (kept : Kept) (before after : Struct) (text message user : List ℕ)
+    → Concluded kept before text message user → after.stands ≡ 2 → after.user_len ≡ before.user_len
+    → after.user ≡ before.user → Concludes kept text before after (Ok message)
+unfolding Concludes Concluded
+concludes kept before after text message user held done len same =
+    let named : user ≡ take before.user_len before.user =
+    held.4 ∙ ap (λ (challenge : Challenge). challenge.user) held.2.2 in (
+      user,
+      held,
+      (
+        done,
+        carried (λ n. n ≤ 256) before.user_len after.user_len (sym len) held.2.1.0,
+        carried (λ (n : ℕ). user ≡ take n after.user) before.user_len after.user_len (sym len)
+            (carried (λ (bytes : List ℕ). user ≡ take before.user_len bytes) before.user after.user (sym same) named),
+      ),
+    )

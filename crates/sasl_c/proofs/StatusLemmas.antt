@@ -1,0 +1,55 @@
+-- What a refusal of a client or a server is not: want of room, and want of memory only where that is its kind.
+use Rattle.std.proofs.Common.{ap, sym, ◌≡◌, ◌≢◌}
+use Rattle.fe2o3_scram.specs.declared.scram_messages.error.ScramErrorKind.{ScramErrorKind}
+use Rattle.fe2o3_scram.specs.declared.scram_messages.error.ScramErrorKind.TheVariants as client
+use Rattle.fe2o3_scram.specs.declared.scram_messages.error.ServerScramErrorKind.{ServerScramErrorKind}
+use Rattle.fe2o3_scram.specs.declared.scram_messages.error.ServerScramErrorKind.TheVariants as server
+use Rattle.sasl_c.specs.Status.{client_status, server_status}
+use Rattle.sasl_c.specs.declared.status.Status.TheVariants.{OutOfMemory, RoomTooSmall}
+
+pub client_not_room : (why : ScramErrorKind) → client_status why ≢ RoomTooSmall
+client_not_room client.Utf8Error = λ same. absurd (cc)
+client_not_room client.InsufficientParts = λ same. absurd (cc)
+client_not_room client.ExtensionNotSupported = λ same. absurd (cc)
+client_not_room client.NonceNotFound = λ same. absurd (cc)
+client_not_room client.ClientNonceMismatch = λ same. absurd (cc)
+client_not_room client.SaltNotFound = λ same. absurd (cc)
+client_not_room client.Base64DecodeError = λ same. absurd (cc)
+client_not_room client.IterationCountNotFound = λ same. absurd (cc)
+client_not_room client.IterationCountParseError = λ same. absurd (cc)
+client_not_room client.IterationCountTooSmall = λ same. absurd (cc)
+client_not_room client.IterationCountTooLarge = λ same. absurd (cc)
+client_not_room client.NormalizeError = λ same. absurd (cc)
+client_not_room client.OtherKeys = λ same. absurd (cc)
+client_not_room client.HmacErrorInvalidLength = λ same. absurd (cc)
+client_not_room client.XorLengthMismatch = λ same. absurd (cc)
+client_not_room client.IllegalClientState = λ same. absurd (cc)
+client_not_room client.ServerSignatureMismatch = λ same. absurd (cc)
+client_not_room client.OutOfMemory = λ same. absurd (cc)
+
+pub server_not_room : (why : ServerScramErrorKind) → server_status why ≢ RoomTooSmall
+server_not_room server.Utf8Error = λ same. absurd (cc)
+server_not_room server.CannotParseGs2Header = λ same. absurd (cc)
+server_not_room server.CannotParseUsername = λ same. absurd (cc)
+server_not_room server.CannotParseClientNonce = λ same. absurd (cc)
+server_not_room server.HmacErrorInvalidLength = λ same. absurd (cc)
+server_not_room server.XorLengthMismatch = λ same. absurd (cc)
+server_not_room server.NormalizeError = λ same. absurd (cc)
+server_not_room server.CannotParseClientFinalMessage = λ same. absurd (cc)
+server_not_room server.InvalidChannelBinding = λ same. absurd (cc)
+server_not_room server.Base64DecodeError = λ same. absurd (cc)
+server_not_room server.IncorrectClientFinalNonce = λ same. absurd (cc)
+server_not_room server.ProofNotFoundInClientFinal = λ same. absurd (cc)
+server_not_room server.AuthenticationFailed = λ same. absurd (cc)
+server_not_room server.IllegalAuthenticatorState = λ same. absurd (cc)
+server_not_room server.OutOfMemory = λ same. absurd (cc)
+
+pub client_memory : (why : ScramErrorKind) → client_status why ≢ OutOfMemory → why ≢ client.OutOfMemory
+client_memory why other same = other (ap client_status same)
+
+pub server_memory : (why : ServerScramErrorKind) → server_status why ≢ OutOfMemory → why ≢ server.OutOfMemory
+server_memory why other same = other (ap server_status same)
+
+-- what holds of one holds of its equal
+pub carried : {A : Type 0} (P : A → Type 0) (x y : A) → x ≡ y → P x → P y
+carried P x y same held = rw (sym same) held

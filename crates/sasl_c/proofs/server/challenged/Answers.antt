@@ -1,0 +1,39 @@
+use Rattle.std.proofs.Common.{rules, ◌∙◌, Ok, option_map}
+use Rattle.std.specs.Prelude.{Some, None}
+use Rattle.fe2o3_scram.specs.ScramServer.{ChallengesFrom, provider_in, state_in}
+use Rattle.sasl_c.proofs.ServerLemmas.{challenged, failed, not_shown, unknown, unread}
+use Rattle.sasl_c.proofs.StatusLemmas.{carried}
+use Rattle.sasl_c.proofs.server.challenged.Goals as goal
+
+pub returns-in-Err-clause-err : goal.returns-in-Err-clause-err
+returns-in-Err-clause-err c = search (rules, unread)
+
+pub returns-in-Err-read-clause-err : goal.returns-in-Err-read-clause-err
+returns-in-Err-read-clause-err c = search (rules, not_shown)
+
+pub returns-in-Ok-Some-clause-ok : goal.returns-in-Ok-Some-clause-ok
+returns-in-Ok-Some-clause-ok c =
+    let held = carried (λ answer. ChallengesFrom (state_in c.new-machine.result) (provider_in c.new-machine.result)
+    c.args.nonce.now c.args.client_first.now (Ok (option_map (λ message. message.items) answer))
+    (state_in c.compute_server_first_message.new.self)) c.in-Ok-Some.field-0 (Some c.in-Ok-Some.field-0-0)
+    c.in-Ok-Some.field-0-is c.in-Ok-Some.ensures.answer in
+    challenged c.args.kept.now c.args.nonce.now c.args.client_first.now _ _ c.in-Ok-read.kept
+    (provider_in c.new-machine.result) (state_in c.new-machine.result) _
+    c.in-Ok-read.ensures.ok (c.new-machine.ensures.provider ∙ c.new-credential.ensures) held
+
+pub returns-in-Ok-None-clause-err : goal.returns-in-Ok-None-clause-err
+returns-in-Ok-None-clause-err c = λ _.
+    let held = carried (λ answer. ChallengesFrom (state_in c.new-machine.result) (provider_in c.new-machine.result)
+    c.args.nonce.now c.args.client_first.now (Ok (option_map (λ message. message.items) answer))
+    (state_in c.compute_server_first_message.new.self)) c.in-Ok-None.field-0 None
+    c.in-Ok-None.field-0-is c.in-Ok-None.ensures.answer in
+    unknown c.args.kept.now c.args.nonce.now c.args.client_first.now _ c.in-Ok-read.kept
+    (provider_in c.new-machine.result) (state_in c.new-machine.result) _
+    c.in-Ok-read.ensures.ok (c.new-machine.ensures.provider ∙ c.new-credential.ensures) held
+
+pub returns-in-Err-compute_server_first_message-clause-err : goal.returns-in-Err-compute_server_first_message-clause-err
+returns-in-Err-compute_server_first_message-clause-err c =
+    failed c.args.kept.now c.args.nonce.now c.args.client_first.now (provider_in c.new-machine.result)
+    (state_in c.new-machine.result) _ c.in-Err-compute_server_first_message.why
+    c.from-in-Err-compute_server_first_message.result c.in-Err-compute_server_first_message.ensures.answer.1
+    c.from-in-Err-compute_server_first_message.ensures

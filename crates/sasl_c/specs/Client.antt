@@ -1,0 +1,111 @@
+-- A SCRAM client that stands in structs of C between its calls (RFC 5802, sections 3 and 5).
+use Rattle.std.specs.Prelude.{◌≡◌, ◌≢◌, ◌<◌, ◌≤◌, ◌⊎◌, ℕ, List, take, Option, Some, None, Result, Ok, Err}
+use Rattle.std.specs.Str.{IsUtf8}
+use Rattle.fe2o3_scram.specs.declared.hmac.ScramVersion.{ScramVersion}
+use Rattle.fe2o3_scram.specs.declared.scram_messages.error.ScramErrorKind.{ScramErrorKind}
+use Rattle.fe2o3_scram.specs.declared.scram_messages.error.ScramErrorKind.TheVariants.{IllegalClientState, Utf8Error}
+use Rattle.fe2o3_scram.specs.ClientFirst.{client_first, client_first_bare}
+use Rattle.fe2o3_scram.specs.ClientKeys.{ClientKeys}
+use Rattle.fe2o3_scram.specs.ClientSecret.{Secret, Password, Keys, Both}
+use Rattle.fe2o3_scram.specs.ScramClient.{AnswersIn, BelievesIn, ClientSide, ClientState, Initial, ClientFirstSent, ClientFinalSent, Complete, started}
+use Rattle.fe2o3_scram.specs.Texts.{base64_text}
+use Rattle.sasl_c.specs.declared.client.ScramClient.{ScramClient as Struct}
+use Rattle.sasl_c.specs.declared.client.Login.{Login}
+use Rattle.sasl_c.specs.declared.keys.ClientKeys.{ClientKeys as KeysStruct}
+use Rattle.sasl_c.specs.declared.status.Status.{Status}
+use Rattle.sasl_c.specs.declared.status.Status.TheVariants as statuses
+use Rattle.sasl_c.specs.Keys.{HasRoom, ShowsKeys}
+use Rattle.sasl_c.specs.Records.{IsVersion}
+use Rattle.sasl_c.specs.Status.{client_status}
+
+-- the secret of a login: its password, its keys, or both
+abbrev pub IsSecret : Login → Secret → Type 0
+IsSecret login (Password password) = (login.secret ≡ 0) × (password ≡ login.password.now)
+IsSecret login (Keys keys) = (login.secret ≡ 1) × ShowsKeys login.keys.now keys
+IsSecret login (Both password keys) = (login.secret ≡ 2) × (password ≡ login.password.now)
+    × ShowsKeys login.keys.now keys
+
+-- a client of this login
+pub record IsLogin (login : Login) (side : ClientSide) : Type 0 where
+  pub version : IsVersion login.version side.version
+  pub user : side.user ≡ login.username.now
+  pub secret : IsSecret login side.secret
+  pub least : side.limits.least ≡ login.least_iterations
+  pub most : side.limits.most ≡ login.most_iterations
+
+-- why a login is none
+abbrev pub IsNoLogin : Login → Status → Type 0
+IsNoLogin login statuses.NoSuchVersion = (known : ScramVersion) → ¬ IsVersion login.version known
+IsNoLogin login statuses.NotUtf8 = ¬ IsUtf8 login.username.now ⊎ ((login.secret ≢ 1) × ¬ IsUtf8 login.password.now)
+IsNoLogin login statuses.NoSuchSecret = 2 < login.secret
+IsNoLogin login statuses.NoKeys = (login.secret ≢ 0) × ((keys : ClientKeys) → ¬ ShowsKeys login.keys.now keys)
+IsNoLogin login statuses.OtherVersion = (login.secret ≢ 0) × (login.keys.now.version ≢ login.version)
+IsNoLogin login status = ⊥
+
+-- the struct holds no keys
+abbrev pub HoldsNone : KeysStruct → Type 0
+HoldsNone kept = (keys : ClientKeys) → ¬ ShowsKeys kept keys
+
+-- the struct holds the keys of a client, where it has some that have room
+abbrev pub Holds : KeysStruct → Option ClientKeys → Type 0
+Holds kept None = HoldsNone kept
+Holds kept (Some keys) = ShowsKeys kept keys ⊎ (¬ HasRoom keys × HoldsNone kept)
+
+-- the struct of a client of this user in this state: what was sent last, 1 for the client-first message and 2 for the
+-- client-final message; 3 is a login whose server was believed, and all else a client that has sent nothing
+abbrev pub IsState : List ℕ → Struct → ClientState → Type 0
+IsState user client Initial = (client.sent ≢ 1) × (client.sent ≡ 2 → 64 < client.signature_len)
+IsState user client (ClientFirstSent nonce bare) = (client.sent ≡ 1) × (nonce ≡ base64_text client.nonce)
+    × (bare ≡ client_first_bare user nonce)
+IsState user client (ClientFinalSent signature keys) = (client.sent ≡ 2) × (client.signature_len ≤ 64)
+    × (signature ≡ take client.signature_len client.signature) × Holds client.keys keys
+IsState user client (Complete keys) = (client.sent ≡ 3) × Holds client.keys keys
+
+-- the structs are those of this client
+abbrev pub IsSide : Login → Struct → ClientSide → Type 0
+IsSide login client side = IsLogin login side × IsState side.user client side.state
+
+-- ---- what the calls answer (RFC 5802, section 5), and the struct after them
+
+-- the client-first message
+abbrev pub Starts : Login → List ℕ → Result (List ℕ) Status → Type 0
+Starts login nonce (Ok message) = (side : ClientSide) × IsLogin login side
+    × (message ≡ client_first side.user (base64_text nonce))
+Starts login nonce (Err status) = IsNoLogin login status
+
+-- the struct after it
+abbrev pub Started : Login → List ℕ → Struct → Struct → Result (Unit {0}) Status → Type 0
+Started login nonce before after (Ok done) = (side : ClientSide) × IsLogin login side
+    × IsSide login after (started side nonce)
+Started login nonce before after (Err status) = after ≡ before
+
+-- a refusal of a client by the library
+abbrev pub Refuses : Login → Struct → (ClientSide → ScramErrorKind → Type 0) → Status → Type 0
+Refuses login before Because status = (why : ScramErrorKind) × (status ≡ client_status why)
+    × ((side : ClientSide) × IsSide login before side × Because side why)
+
+-- the struct's client answers a server-first message by this one, and is this client then
+unfoldable pub Answered : Login → Struct → List ℕ → List ℕ → ClientSide → Type 0
+Answered login before text message next = (side : ClientSide) × IsSide login before side
+    × AnswersIn side.state side text (Ok message) next
+
+-- the client-final message
+unfoldable pub Responds : Login → List ℕ → Struct → Struct → Result (List ℕ) Status → Type 0
+Responds login text before after (Ok message) = (next : ClientSide) × Answered login before text message next
+    × IsSide login after next
+Responds login text before after (Err status) = IsNoLogin login status
+    ⊎ ((status ≡ client_status Utf8Error) × ¬ IsUtf8 text)
+    ⊎ Refuses login before (λ side why. AnswersIn side.state side text (Err why) side) status
+
+-- whether the server is believed
+unfoldable pub Believes : Login → List ℕ → Struct → Struct → Result (Unit {0}) Status → Type 0
+Believes login text before after (Ok done) = (side next : ClientSide) × IsSide login before side
+    × BelievesIn side.state side text (Ok done) next × IsSide login after next
+Believes login text before after (Err status) = (after ≡ before) × (status ≢ statuses.OutOfMemory
+    → IsNoLogin login status ⊎ Refuses login before (λ side why. BelievesIn side.state side text (Err why) side) status)
+
+-- the keys of a login whose server was believed, and of no other
+abbrev pub HandsOut : Struct → Result KeysStruct Status → Type 0
+HandsOut client (Ok keys) = (client.sent ≡ 3) × (keys ≡ client.keys) × (keys.version ≢ 0)
+HandsOut client (Err statuses.NoKeys) = (client.sent ≡ 3) × (client.keys.version ≡ 0)
+HandsOut client (Err status) = (client.sent ≢ 3) × (status ≡ client_status IllegalClientState)

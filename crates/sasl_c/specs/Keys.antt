@@ -1,0 +1,48 @@
+-- What a client keeps in place of its password, as a struct of C (RFC 5802, section 3).
+use Rattle.std.specs.Prelude.{◌≡◌, ◌<◌, ◌≤◌, ℕ, List, length, take, Result}
+use Rattle.fe2o3_scram.specs.declared.hmac.ScramVersion.{ScramVersion}
+use Rattle.fe2o3_scram.specs.ClientKeys.{AreSized, ClientKeys, keys_of, keys_with}
+use Rattle.fe2o3_scram.specs.Hmac.{digest_len, zero_filled}
+use Rattle.fe2o3_scram.specs.Readings.{Reads}
+use Rattle.sasl_c.specs.declared.keys.ClientKeys.{ClientKeys as Struct}
+use Rattle.sasl_c.specs.declared.status.Status.{Status}
+use Rattle.sasl_c.specs.declared.status.Status.TheVariants as statuses
+use Rattle.sasl_c.specs.Records.{IsVersion, making_tests}
+use Rattle.sasl_c.specs.Status.{version_number}
+
+-- the struct of keys
+abbrev pub struct_of : ClientKeys → Struct
+struct_of keys = record {
+  version = version_number keys.version;
+  iterations = keys.count;
+  salt_len = length keys.salt;
+  salt = zero_filled 128 keys.salt;
+  client_key = zero_filled 64 keys.client_key;
+  server_key = zero_filled 64 keys.server_key;
+}
+
+-- keys that a struct can hold: their salt has room, and they are as long as a digest
+abbrev pub HasRoom : ClientKeys → Type 0
+HasRoom keys = (length keys.salt ≤ 128) × AreSized keys
+
+-- what a struct of this version shows, of whatever bits it is
+abbrev pub shown_keys : ScramVersion → Struct → ClientKeys
+shown_keys version kept = keys_with version (take kept.salt_len kept.salt) kept.iterations
+    (take (digest_len version) kept.client_key) (take (digest_len version) kept.server_key)
+
+-- the struct shows these keys: its version is known, and its salt is in it
+abbrev pub ShowsKeys : Struct → ClientKeys → Type 0
+ShowsKeys kept keys = IsVersion kept.version keys.version × (kept.salt_len ≤ 128)
+    × (keys ≡ shown_keys keys.version kept)
+
+-- why a struct shows none
+abbrev pub ShowsNoKeys : Struct → Status → Type 0
+ShowsNoKeys kept statuses.NoSuchVersion = (known : ScramVersion) → ¬ IsVersion kept.version known
+ShowsNoKeys kept statuses.TooLong = 128 < kept.salt_len
+ShowsNoKeys kept status = ⊥
+
+-- what comes of making the keys of a password (RFC 5802, section 3): the first refusal that holds, or their struct
+abbrev pub MakesStruct : ℕ → List ℕ → List ℕ → ℕ → Result Struct Status → Type 0
+MakesStruct version password salt count answer = Reads (making_tests version password salt count)
+    (λ made. (known : ScramVersion) × IsVersion version known × (made ≡ struct_of (keys_of known password salt count)))
+    answer

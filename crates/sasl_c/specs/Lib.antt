@@ -1,0 +1,5 @@
+pub mod Status
+pub mod Records
+pub mod Keys
+pub mod Client
+pub mod Server

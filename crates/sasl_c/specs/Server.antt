@@ -1,0 +1,111 @@
+-- A SCRAM server that stands in a struct of C between its calls (RFC 5802, sections 3 and 5).
+use Rattle.std.specs.Prelude.{◌≡◌, ◌≤◌, ◌⊎◌, ℕ, List, [], ◌∷◌, length, take, Some, None, Result, Ok, Err}
+use Rattle.std.specs.Str.{IsUtf8}
+use Rattle.fe2o3_scram.specs.declared.scram_messages.error.ServerScramErrorKind.{ServerScramErrorKind}
+use Rattle.fe2o3_scram.specs.declared.scram_messages.error.ServerScramErrorKind.TheVariants.{AuthenticationFailed, IllegalAuthenticatorState}
+use Rattle.fe2o3_scram.specs.ClientFirst.{ClientFirst, ReadsClientFirst}
+use Rattle.fe2o3_scram.specs.Credentials.{Provider, VersionedRecord}
+use Rattle.fe2o3_scram.specs.ScramServer.{ConcludesFrom, ServerFirstSent, ServerFinalSent}
+use Rattle.fe2o3_scram.specs.ServerFirst.{AnswersClientFirst, Challenge}
+use Rattle.fe2o3_scram.specs.Texts.{base64_text}
+use Rattle.sasl_c.specs.declared.records.ScramRecord.{ScramRecord as Kept}
+use Rattle.sasl_c.specs.declared.server.ScramServer.{ScramServer as Struct}
+use Rattle.sasl_c.specs.declared.status.Status.{Status}
+use Rattle.sasl_c.specs.declared.status.Status.TheVariants as statuses
+use Rattle.sasl_c.specs.Records.{Shows, SpellsStruct}
+use Rattle.sasl_c.specs.Status.{server_status}
+
+-- the provider of one user
+abbrev pub one_user : List ℕ → VersionedRecord → Provider
+one_user user shown = record { version = shown.version; records = (user, shown.stored) ∷ [] }
+
+-- a challenge whose texts have room in a struct
+abbrev pub HasRoom : Challenge → Type 0
+HasRoom challenge = (length challenge.user ≤ 256) × (length challenge.bare ≤ 1024) × (length challenge.nonce ≤ 512)
+    × (length challenge.first ≤ 1024)
+
+-- no length above that of its array
+abbrev pub AreLengths : Struct → Type 0
+AreLengths server = (server.user_len ≤ 256) × (server.bare_len ≤ 1024) × (server.nonce_len ≤ 512)
+    × (server.first_len ≤ 1024)
+
+-- the challenge that a struct shows
+abbrev pub challenge_of : Struct → Challenge
+challenge_of server = record {
+  user = take server.user_len server.user;
+  bare = take server.bare_len server.bare;
+  first = take server.first_len server.first;
+  nonce = take server.nonce_len server.nonce;
+}
+
+-- the struct is that of a server whose challenge is open
+abbrev pub IsOpen : Struct → Challenge → Type 0
+IsOpen server challenge = (server.stands ≡ 1) × AreLengths server × (challenge ≡ challenge_of server)
+    × IsUtf8 challenge.user
+
+-- the struct is that of a server that has logged this user in
+abbrev pub HasLoggedIn : Struct → List ℕ → Type 0
+HasLoggedIn server user = (server.stands ≡ 2) × (server.user_len ≤ 256) × (user ≡ take server.user_len server.user)
+
+-- ---- what the calls answer (RFC 5802, section 5), and the struct after them
+
+-- a client-first message is answered by this challenge, where the record is that of the user whom it names
+unfoldable pub Challenged : Kept → List ℕ → List ℕ → Challenge → Type 0
+Challenged kept nonce text challenge = (shown : VersionedRecord) × (user : List ℕ) × Shows kept shown
+    × AnswersClientFirst ((user, shown.stored) ∷ []) (base64_text nonce) text (Ok (Some challenge))
+
+-- a client-first message names a user who is not that of the record
+abbrev pub Unknown : Kept → List ℕ → List ℕ → Type 0
+Unknown kept nonce text = (shown : VersionedRecord) × (user : List ℕ) × Shows kept shown
+    × AnswersClientFirst ((user, shown.stored) ∷ []) (base64_text nonce) text (Ok None)
+
+-- why a client-first message is not answered: it is refused, or the struct of the record shows none, or a text of the
+-- challenge has no room in the struct, or the user is another one
+unfoldable pub NotChallenged : Kept → List ℕ → List ℕ → Status → Type 0
+NotChallenged kept nonce text status =
+    ((why : ServerScramErrorKind) × (status ≡ server_status why) × ReadsClientFirst text (Err why))
+    ⊎ SpellsStruct kept (Err status)
+    ⊎ ((status ≡ statuses.TooLong) × ((challenge : Challenge) × Challenged kept nonce text challenge
+    × ¬ HasRoom challenge))
+    ⊎ ((status ≡ server_status AuthenticationFailed) × Unknown kept nonce text)
+
+-- the server-first message
+abbrev pub Challenges : Kept → List ℕ → List ℕ → Result (List ℕ) Status → Type 0
+Challenges kept nonce text (Ok message) = (challenge : Challenge) × Challenged kept nonce text challenge
+    × (message ≡ challenge.first)
+Challenges kept nonce text (Err status) = NotChallenged kept nonce text status
+
+-- the struct after it
+abbrev pub Opens : Kept → List ℕ → List ℕ → Struct → Struct → Result (Unit {0}) Status → Type 0
+Opens kept nonce text before after (Ok done) = (challenge : Challenge) × Challenged kept nonce text challenge
+    × IsOpen after challenge
+Opens kept nonce text before after (Err status) = after ≡ before
+
+-- the user whom the init's message names
+abbrev pub NamesUser : List ℕ → Result (List ℕ) Status → Type 0
+NamesUser text (Ok name) = (first : ClientFirst) × ReadsClientFirst text (Ok first) × (name ≡ first.user)
+NamesUser text (Err status) = (why : ServerScramErrorKind) × (status ≡ server_status why)
+    × ReadsClientFirst text (Err why)
+
+-- the struct's open challenge is answered by this message, where the record is that of its user
+unfoldable pub Concluded : Kept → Struct → List ℕ → List ℕ → List ℕ → Type 0
+Concluded kept before text message user = (challenge : Challenge) × (shown : VersionedRecord) × IsOpen before challenge
+    × Shows kept shown × (user ≡ challenge.user)
+    × ConcludesFrom (ServerFirstSent challenge) (one_user user shown) text (Ok (Some message)) (ServerFinalSent user)
+
+-- the server-final message, and the struct after it
+unfoldable pub Concludes : Kept → List ℕ → Struct → Struct → Result (List ℕ) Status → Type 0
+Concludes kept text before after (Ok message) = (user : List ℕ) × Concluded kept before text message user
+    × HasLoggedIn after user
+Concludes kept text before after (Err status) = SpellsStruct kept (Err status)
+    ⊎ ((status ≡ server_status IllegalAuthenticatorState) × ((challenge : Challenge) → ¬ IsOpen before challenge))
+    ⊎ ((why : ServerScramErrorKind) × (status ≡ server_status why)
+    × ((challenge : Challenge) × (shown : VersionedRecord) × IsOpen before challenge × Shows kept shown
+    × ConcludesFrom (ServerFirstSent challenge) (one_user challenge.user shown) text (Err why)
+    (ServerFirstSent challenge)))
+
+-- who has logged in
+abbrev pub TellsUser : Struct → Result (List ℕ) Status → Type 0
+TellsUser server (Ok user) = HasLoggedIn server user
+TellsUser server (Err status) = (status ≡ server_status IllegalAuthenticatorState)
+    × ((user : List ℕ) → ¬ HasLoggedIn server user)

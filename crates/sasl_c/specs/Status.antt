@@ -1,0 +1,145 @@
+-- What a call from C answers: a number, in which 0 says that it is done.
+use Rattle.std.specs.Prelude.{◌≡◌, ◌≢◌, ◌<◌, ◌≤◌, ◌++◌, ℕ, List, length, drop, Result, Ok, Err}
+use Rattle.fe2o3_scram.specs.declared.hmac.ScramVersion.{ScramVersion}
+use Rattle.fe2o3_scram.specs.declared.hmac.ScramVersion.TheVariants as versions
+use Rattle.fe2o3_scram.specs.declared.credentials.record_text.RecordTextError.{RecordTextError}
+use Rattle.fe2o3_scram.specs.declared.credentials.record_text.RecordTextError.TheVariants as texts
+use Rattle.fe2o3_scram.specs.declared.scram_messages.error.ScramErrorKind.{ScramErrorKind}
+use Rattle.fe2o3_scram.specs.declared.scram_messages.error.ScramErrorKind.TheVariants as client
+use Rattle.fe2o3_scram.specs.declared.scram_messages.error.ServerScramErrorKind.{ServerScramErrorKind}
+use Rattle.fe2o3_scram.specs.declared.scram_messages.error.ServerScramErrorKind.TheVariants as server
+use Rattle.sasl_c.specs.declared.status.Status.{Status}
+use Rattle.sasl_c.specs.declared.status.Status.TheVariants as statuses
+use Rattle.sasl_c.specs.declared.status.Status.TheVariants.{OutOfMemory, RoomTooSmall}
+
+-- the number of a version: that of its hash, as in the name of its mechanism
+abbrev pub version_number : ScramVersion → ℕ
+version_number versions.Sha1 = 1
+version_number versions.Sha256 = 256
+version_number versions.Sha512 = 512
+
+-- the number of why a text is no record
+abbrev pub record_text_number : RecordTextError → ℕ
+record_text_number texts.PartsMismatch = 60
+record_text_number texts.UnknownMechanism = 61
+record_text_number texts.IterationCountParseError = 62
+record_text_number texts.Base64DecodeError = 63
+record_text_number texts.KeyLengthMismatch = 64
+record_text_number texts.OutOfMemory = 1
+
+-- the number of why a client refuses a message
+abbrev pub client_number : ScramErrorKind → ℕ
+client_number client.Utf8Error = 20
+client_number client.InsufficientParts = 21
+client_number client.ExtensionNotSupported = 22
+client_number client.NonceNotFound = 23
+client_number client.ClientNonceMismatch = 24
+client_number client.SaltNotFound = 25
+client_number client.Base64DecodeError = 26
+client_number client.IterationCountNotFound = 27
+client_number client.IterationCountParseError = 28
+client_number client.IterationCountTooSmall = 29
+client_number client.IterationCountTooLarge = 30
+client_number client.NormalizeError = 31
+client_number client.OtherKeys = 32
+client_number client.HmacErrorInvalidLength = 33
+client_number client.XorLengthMismatch = 34
+client_number client.IllegalClientState = 35
+client_number client.ServerSignatureMismatch = 36
+client_number client.OutOfMemory = 1
+
+-- the number of why a server refuses a message
+abbrev pub server_number : ServerScramErrorKind → ℕ
+server_number server.Utf8Error = 40
+server_number server.CannotParseGs2Header = 41
+server_number server.CannotParseUsername = 42
+server_number server.CannotParseClientNonce = 43
+server_number server.HmacErrorInvalidLength = 44
+server_number server.XorLengthMismatch = 45
+server_number server.NormalizeError = 46
+server_number server.CannotParseClientFinalMessage = 47
+server_number server.InvalidChannelBinding = 48
+server_number server.Base64DecodeError = 49
+server_number server.IncorrectClientFinalNonce = 50
+server_number server.ProofNotFoundInClientFinal = 51
+server_number server.AuthenticationFailed = 52
+server_number server.IllegalAuthenticatorState = 53
+server_number server.OutOfMemory = 1
+
+-- the number of why a call is not done
+abbrev pub status_number : Status → ℕ
+status_number statuses.OutOfMemory = 1
+status_number statuses.RoomTooSmall = 2
+status_number statuses.NotUtf8 = 3
+status_number statuses.NoSuchVersion = 4
+status_number statuses.TooLong = 5
+status_number statuses.NotPrintable = 6
+status_number statuses.ZeroIterations = 7
+status_number statuses.NoSuchSecret = 8
+status_number statuses.NoKeys = 9
+status_number statuses.OtherVersion = 10
+status_number statuses.OtherPassword = 11
+status_number (statuses.Client why) = client_number why
+status_number (statuses.Server why) = server_number why
+status_number (statuses.NoRecord why) = record_text_number why
+
+-- why a call is not done where a client refuses a message
+abbrev pub client_status : ScramErrorKind → Status
+client_status client.OutOfMemory = OutOfMemory
+client_status why = statuses.Client why
+
+-- why a call is not done where a server refuses a message
+abbrev pub server_status : ServerScramErrorKind → Status
+server_status server.OutOfMemory = OutOfMemory
+server_status why = statuses.Server why
+
+-- the number of an answer
+abbrev pub answer_number : {A : Type 0} → Result A Status → ℕ
+answer_number (Ok done) = 0
+answer_number (Err status) = status_number status
+
+-- the number is that of an answer of this kind
+abbrev pub Answers : ℕ → (Result (Unit {0}) Status → Type 0) → Type 0
+Answers number Answer = (answer : Result (Unit {0}) Status) × (number ≡ answer_number answer) × Answer answer
+
+-- ---- what a call writes
+
+-- a struct: where the call is done, one that it may make; otherwise the struct stays, and the refusal is the one that
+-- is due, or want of memory, where the call comes to ask for some
+abbrev pub Makes : {S : Type 0} → Type 0 → (Result S Status → Type 0) → S → S → Result (Unit {0}) Status → Type 0
+Makes Allocates Due before after (Ok done) = Due (Ok after)
+Makes Allocates Due before after (Err status) = (status ≡ OutOfMemory → Allocates)
+    × (status ≢ OutOfMemory → Due (Err status)) × (after ≡ before)
+
+-- the bytes at the head of the room, which is as it was behind them
+abbrev pub written : List ℕ → List ℕ → List ℕ
+written bytes room = bytes ++ drop (length bytes) room
+
+-- a room of a caller's, and the length that stands beside it
+pub record Room : Type 0 where
+  pub bytes : List ℕ
+  pub len : ℕ
+
+-- a text of this length has no room, which the length tells
+abbrev pub Lacks : Room → Room → List ℕ → Type 0
+Lacks before after text = (length before.bytes < length text) × (after.len ≡ length text)
+
+-- a text: where the call is done, one that it may say, at the head of the room, with its length; otherwise the room
+-- stays, and the refusal is the one that is due, or want of memory, or `RoomTooSmall` with the length of a text that it
+-- may say, and that has no room
+abbrev pub Fills : (Result (List ℕ) Status → Type 0) → Room → Room → Result (Unit {0}) Status → Type 0
+Fills Due before after (Ok done) = (text : List ℕ) × Due (Ok text) × (length text ≤ length before.bytes)
+    × (after.bytes ≡ written text before.bytes) × (after.len ≡ length text)
+Fills Due before after (Err status) = (after.bytes ≡ before.bytes)
+    × (status ≡ RoomTooSmall → (text : List ℕ) × Due (Ok text) × Lacks before after text)
+    × (status ≢ RoomTooSmall → (after.len ≡ before.len) × (status ≢ OutOfMemory → Due (Err status)))
+
+-- a text that has room wherever there are so many bytes: where there are fewer, `RoomTooSmall` is answered with this
+-- number before anything else, and the room stays
+abbrev pub FillsWithin : ℕ → (Result (List ℕ) Status → Type 0) → Room → Room → Result (Unit {0}) Status → Type 0
+FillsWithin suffices Due before after (Ok done) = (text : List ℕ) × Due (Ok text) × (suffices ≤ length before.bytes)
+    × (after.bytes ≡ written text before.bytes) × (after.len ≡ length text)
+FillsWithin suffices Due before after (Err status) = (after.bytes ≡ before.bytes)
+    × (status ≡ RoomTooSmall → (length before.bytes < suffices) × (after.len ≡ suffices))
+    × (status ≢ RoomTooSmall → (suffices ≤ length before.bytes) × (after.len ≡ before.len)
+    × (status ≢ OutOfMemory → Due (Err status)))

@@ -1,0 +1,383 @@
+//! A SCRAM client, which stands in a struct between its calls.
+
+ghost use Rattle.std.specs.Prelude.{◌≡◌, ◌≢◌, ◌<◌, ◌≤◌, ◌⊎◌, ◌+◌, ◌^◌, length, IfOk, OnErr, IfErr, MatchOption, Option, List, ℕ, Ok, Err, option_map};
+ghost use Rattle.std.specs.Str.{IsUtf8};
+ghost use Rattle.std.specs.String.{string_bytes};
+ghost use Rattle.fe2o3_scram.specs.ScramClient.{ClientFinalSent, Initial};
+ghost use Rattle.sasl_c.specs.Records.{IsVersion};
+ghost use Rattle.fe2o3_scram.specs.ClientKeys.{ClientKeys as Keys};
+ghost use Rattle.sasl_c.specs.Client.{Answered, Believes, HandsOut, Holds, HoldsNone, Responds, IsLogin, IsNoLogin, IsSide, IsState, Started, Starts};
+ghost use Rattle.sasl_c.specs.Keys.{ShowsKeys};
+ghost use Rattle.sasl_c.specs.Status.{Answers, Fills, FillsWithin, Makes};
+ghost use Rattle.sasl_c.specs.declared.status.Status.TheVariants.{OutOfMemory as StatusOutOfMemory, NotUtf8 as StatusNotUtf8, RoomTooSmall};
+
+use crate::arrays::{head, padded, put};
+use crate::keys::ClientKeys;
+use crate::status::{Status, number, text, version_of};
+use fe2o3_scram::{Meter, ScramClient as Machine, ScramClientKeys, ScramErrorKind};
+use std::alloc::Global;
+
+/// Who logs in: lent for each call of an exchange, and the same for all of them.
+#[repr(C)]
+#[derive(Drop)]
+pub struct Login<'a> {
+    /// 1, 256 or 512, for the mechanism's hash.
+    pub version: u32,
+
+    /// 0 for the password, 1 for the keys, and 2 for the keys where the server names the salt and the count that
+    /// they are of, and else the password.
+    pub secret: u32,
+
+    /// The lowest iteration count that is answered. RFC 7677 asks for 4096 at least.
+    pub least_iterations: u32,
+
+    /// The highest iteration count that is answered.
+    pub most_iterations: u32,
+
+    /// The plain name of the user.
+    pub username: &'a [u8],
+
+    /// The password, as it is typed.
+    pub password: &'a [u8],
+
+    /// The keys that an earlier login handed out.
+    pub keys: &'a ClientKeys,
+}
+
+/// What a client keeps of an exchange. All zeros is a client that has sent nothing.
+#[repr(C)]
+#[derive(Drop)]
+pub struct ScramClient {
+    /// What was sent last: 1 the client-first message, 2 the client-final message; 3 is a login whose server was
+    /// believed.
+    pub sent: u32,
+
+    /// How many bytes of `signature` there are.
+    pub signature_len: u32,
+
+    /// The nonce of the client-first message.
+    pub nonce: [u8; 32],
+
+    /// The signature that is waited for.
+    pub signature: [u8; 64],
+
+    /// The keys of the answer.
+    pub keys: ClientKeys,
+}
+
+/// A struct that shows no keys.
+fn no_keys() -> ClientKeys
+    ensures { HoldsNone result }
+{
+    ClientKeys {
+        version: 0,
+        iterations: 0,
+        salt_len: 0,
+        salt: [0; 128],
+        client_key: [0; 64],
+        server_key: [0; 64],
+    }
+}
+
+/// The struct of a client's keys, where it has some that have room.
+fn held(keys: Option<&ScramClientKeys>) -> ClientKeys
+    ensures { Holds result (option_map (λ held. held.now) keys.entry) }
+{
+    match keys {
+        Some(keys) => match ClientKeys::of(keys) {
+            Some(held) => held,
+            None => no_keys(),
+        },
+        None => no_keys(),
+    }
+}
+
+impl ScramClient {
+    /// The struct of a client that has sent its client-final message, or `None` where it has not, or where the
+    /// signature that it waits for has no room.
+    fn waiting(machine: &Machine) -> Option<ScramClient>
+        ensures { MatchOption result
+            ((signature : List ℕ) (keys : Option Keys) → machine.now.state ≡ ClientFinalSent signature keys
+            → 64 < length signature) (λ client. (user : List ℕ) → IsState user client machine.now.state) }
+    {
+        let signature = machine.server_signature()?;
+        Some(ScramClient {
+            sent: 2,
+            signature: padded(signature)?,
+            signature_len: signature.len() as u32,
+            nonce: [0; 32],
+            keys: held(machine.answer_keys()),
+        })
+    }
+
+    /// The client that the struct is, of this login.
+    fn read(&self, alloc: Global, login: &Login<'_>) -> Result<Machine, Status>
+        ensures ok { IfOk result (λ side. IsSide login.now self.now side) }
+        ensures err { IfErr result (λ status. status ≢ StatusOutOfMemory → IsNoLogin login.now status) }
+    {
+        let mut machine = login.client(alloc)?;
+        match self.sent {
+            1 => {
+                machine.compute_client_first_message(alloc, &self.nonce)?;
+                Ok(machine)
+            }
+            2 => match head(&self.signature, self.signature_len) {
+                Some(signature) => {
+                    let keys = shown(alloc, &self.keys)?;
+                    Ok(machine.waiting_for(signature.to_vec(alloc)?, keys))
+                }
+                None => Ok(machine),
+            },
+            _ => Ok(machine),
+        }
+    }
+}
+
+/// The keys that a struct shows, if it shows some. `OutOfMemory` is the only refusal.
+fn shown(alloc: Global, keys: &ClientKeys) -> Result<Option<ScramClientKeys>, Status>
+    ensures ok { IfOk result (λ shown. MatchOption shown (HoldsNone keys.now) (λ shown. ShowsKeys keys.now shown)) }
+    ensures err { IfErr result (λ status. status ≡ StatusOutOfMemory) }
+{
+    match keys.read(alloc) {
+        Ok(keys) => Ok(Some(keys)),
+        Err(Status::OutOfMemory) => Err(Status::OutOfMemory),
+        Err(_) => Ok(None),
+    }
+}
+
+impl Login<'_> {
+    /// The password as a text.
+    fn password(&self, alloc: Global) -> Result<String, Status>
+        ensures ok { IfOk result (λ password. string_bytes password ≡ self.now.password.now) }
+        ensures err { IfErr result (λ status. status ≢ StatusOutOfMemory
+            → (status ≡ StatusNotUtf8) × ¬ IsUtf8 self.now.password.now) }
+    {
+        Ok(text(self.password)?.to_string(alloc)?)
+    }
+
+    /// The keys, which are of the login's version.
+    fn keys(&self, alloc: Global) -> Result<ScramClientKeys, Status>
+        ensures ok { IfOk result (λ keys. ShowsKeys self.now.keys.now keys × IsVersion self.now.version keys.version) }
+        ensures err { IfErr result (λ status. status ≢ StatusOutOfMemory → self.now.secret ≢ 0
+            → IsNoLogin self.now status) }
+    {
+        let Some(keys) = shown(alloc, self.keys)? else {
+            return Err(Status::NoKeys);
+        };
+        if self.keys.version != self.version {
+            return Err(Status::OtherVersion);
+        }
+        Ok(keys)
+    }
+
+    /// A client that has sent nothing.
+    fn client(&self, alloc: Global) -> Result<Machine, Status>
+        ensures ok { IfOk result (λ side. IsLogin self.now side × (side.state ≡ Initial)) }
+        ensures err { IfErr result (λ status. status ≢ StatusOutOfMemory → IsNoLogin self.now status) }
+    {
+        let version = version_of(self.version).ok_or(Status::NoSuchVersion)?;
+        let username = text(self.username)?.to_string(alloc)?;
+        let client = match self.secret {
+            0 => Machine::new(username, self.password(alloc)?, version),
+            1 => Machine::with_keys(username, self.keys(alloc)?),
+            2 => {
+                let password = self.password(alloc)?;
+                Machine::with_password_and_keys(username, password, self.keys(alloc)?)
+            }
+            _ => return Err(Status::NoSuchSecret),
+        };
+        Ok(
+            client
+                .with_least_iterations(self.least_iterations)
+                .with_iteration_limit(self.most_iterations),
+        )
+    }
+}
+
+/// Writes the client-first message.
+fn first(
+    alloc: Global,
+    login: &Login<'_>,
+    client: &mut ScramClient,
+    nonce: &[u8; 32],
+    out: &mut [u8],
+    len: &mut usize,
+) -> Result<(), Status>
+    ensures text { Fills (Starts login.now nonce.now) (record { bytes = out.old; len = len.old })
+        (record { bytes = out.new; len = len.new }) result }
+    ensures moved { Started login.now nonce.now client.old client.new result }
+{
+    let message = login
+        .client(alloc)?
+        .compute_client_first_message(alloc, nonce)?;
+    put(message.as_slice(), out, len)?;
+    *client = ScramClient {
+        sent: 1,
+        signature_len: 0,
+        nonce: *nonce,
+        signature: [0; 64],
+        keys: no_keys(),
+    };
+    Ok(())
+}
+
+/// Writes the client-first message, which starts an exchange afresh at any time. The nonce is 32 random bytes, fresh
+/// for each.
+#[unsafe(no_mangle)]
+pub extern "C" fn fe2o3_scram_client_first(
+    alloc: Global,
+    login: &Login<'_>,
+    client: &mut ScramClient,
+    nonce: &[u8; 32],
+    out: &mut [u8],
+    len: &mut usize,
+) -> u32
+    ensures { Answers result (λ answer. Fills (Starts login.now nonce.now) (record { bytes = out.old; len = len.old })
+        (record { bytes = out.new; len = len.new }) answer × Started login.now nonce.now client.old client.new answer) }
+{
+    number(first(alloc, login, client, nonce, out, len))
+}
+
+/// How many bytes more than a server-first message its answer has at most.
+const ANSWER_MORE: usize = 128;
+
+/// The client-final message, and the client that has sent it.
+#[tactic(auto, using(crate::proofs::ClientLemmas::answers))]
+fn answered(
+    alloc: Global,
+    login: &Login<'_>,
+    client: &ScramClient,
+    server_first: &str,
+    meter: &mut Meter,
+) -> Result<(Vec<u8>, Machine), Status>
+    requires { meter.old ≤ 2 ^ 63 }
+    ensures ok { IfOk result (λ answered. Answered login.now client.now server_first.now answered.0.items answered.1) }
+    ensures err { IfErr result (λ status. status ≢ StatusOutOfMemory
+        → Responds login.now server_first.now client.now client.now (Err status)) }
+    ensures room { IfErr result (λ status. status ≢ RoomTooSmall) }
+{
+    let mut machine = client.read(alloc, login)?;
+    match machine.compute_client_final_message_metered(alloc, server_first, meter) {
+        Ok(message) => Ok((message, machine)),
+        Err(why) => Err(Status::from(why)),
+    }
+}
+
+/// Writes the client-final message.
+#[tactic(auto, using(crate::proofs::ClientLemmas::sent))]
+fn answer(
+    alloc: Global,
+    login: &Login<'_>,
+    client: &mut ScramClient,
+    server_first: &[u8],
+    meter: &mut Meter,
+    out: &mut [u8],
+    len: &mut usize,
+) -> Result<(), Status>
+    requires { meter.old ≤ 2 ^ 63 }
+    ensures text { FillsWithin (length server_first.now + 128)
+        (Responds login.now server_first.now client.old client.new) (record { bytes = out.old; len = len.old })
+        (record { bytes = out.new; len = len.new }) result }
+    ensures stays { OnErr result (client.new ≡ client.old) }
+    ensures first { IfErr result (λ status. status ≡ RoomTooSmall → meter.new ≡ meter.old) }
+{
+    let suffices = server_first.len() + ANSWER_MORE;
+    if out.len() < suffices {
+        *len = suffices;
+        return Err(Status::RoomTooSmall);
+    }
+    let Ok(text) = str::from_utf8(server_first) else {
+        return Err(Status::Client(ScramErrorKind::Utf8Error));
+    };
+    let (message, machine) = answered(alloc, login, client, text, meter)?;
+    let Some(waiting) = ScramClient::waiting(&machine) else {
+        return Err(Status::TooLong);
+    };
+    put(&message, out, len)?;
+    *client = waiting;
+    Ok(())
+}
+
+/// Answers the server-first message with the client-final message. A room of 128 bytes more than the server-first
+/// message suffices, and is asked for before any hash is made.
+#[unsafe(no_mangle)]
+pub extern "C" fn fe2o3_scram_client_final(
+    alloc: Global,
+    login: &Login<'_>,
+    client: &mut ScramClient,
+    server_first: &[u8],
+    out: &mut [u8],
+    len: &mut usize,
+) -> u32
+    ensures { Answers result (λ answer. FillsWithin (length server_first.now + 128)
+        (Responds login.now server_first.now client.old client.new) (record { bytes = out.old; len = len.old })
+        (record { bytes = out.new; len = len.new }) answer × OnErr answer (client.new ≡ client.old)) }
+{
+    let mut meter = Meter::new();
+    number(answer(alloc, login, client, server_first, &mut meter, out, len))
+}
+
+/// Believes the server, or not.
+#[tactic(auto, using(crate::proofs::ClientLemmas::believes))]
+fn verify(
+    alloc: Global,
+    login: &Login<'_>,
+    client: &mut ScramClient,
+    server_final: &[u8],
+) -> Result<(), Status>
+    ensures { Believes login.now server_final.now client.old client.new result }
+{
+    let mut machine = match client.read(alloc, login) {
+        Ok(machine) => machine,
+        #[tactic(auto, using(crate::proofs::ClientLemmas::no_believer))]
+        Err(status) => return Err(status),
+    };
+    if let Err(why) = machine.validate_server_final(alloc, server_final) {
+        return Err(Status::from(why));
+    }
+    client.sent = 3;
+    Ok(())
+}
+
+/// Believes the server-final message, or refuses it. The login is done only where the number is 0.
+#[unsafe(no_mangle)]
+pub extern "C" fn fe2o3_scram_client_verify(
+    alloc: Global,
+    login: &Login<'_>,
+    client: &mut ScramClient,
+    server_final: &[u8],
+) -> u32
+    ensures { Answers result (Believes login.now server_final.now client.old client.new) }
+{
+    number(verify(alloc, login, client, server_final))
+}
+
+/// The keys of a login whose server was believed.
+fn handed_out(client: &ScramClient) -> Result<ClientKeys, Status>
+    ensures { HandsOut client.now result }
+{
+    if client.sent != 3 {
+        return Err(Status::Client(ScramErrorKind::IllegalClientState));
+    }
+    if client.keys.version == 0 {
+        return Err(Status::NoKeys);
+    }
+    Ok(client.keys.copied())
+}
+
+/// Hands out the keys of a login whose server was believed, for the next login to the same server.
+fn hand_out(client: &ScramClient, keys: &mut ClientKeys) -> Result<(), Status>
+    ensures { Makes ⊥ (HandsOut client.now) keys.old keys.new result }
+{
+    *keys = handed_out(client)?;
+    Ok(())
+}
+
+/// Hands out the keys of a login whose server was believed: with them the next login to a server that keeps its salt
+/// and its count takes no password, and two hashes of HMAC. Whoever has them can log in.
+#[unsafe(no_mangle)]
+pub extern "C" fn fe2o3_scram_client_keys(client: &ScramClient, keys: &mut ClientKeys) -> u32
+    ensures { Answers result (Makes ⊥ (HandsOut client.now) keys.old keys.new) }
+{
+    number(hand_out(client, keys))
+}

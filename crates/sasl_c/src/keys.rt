@@ -1,0 +1,162 @@
+//! What a client keeps in place of its password, as a struct.
+
+ghost use Rattle.std.specs.Prelude.{◌≡◌, ◌≢◌, MatchOption, IfOk, IfErr};
+ghost use Rattle.fe2o3_scram.specs.Readings.{Gives, NoneHolds};
+ghost use Rattle.sasl_c.specs.Keys.{HasRoom, MakesStruct, ShowsKeys, ShowsNoKeys, struct_of};
+ghost use Rattle.sasl_c.specs.Records.{making_tests};
+ghost use Rattle.sasl_c.specs.Status.{Answers, Makes};
+ghost use Rattle.sasl_c.specs.declared.keys.ClientKeys.{ClientKeys as Struct};
+ghost use Rattle.sasl_c.specs.declared.status.Status.TheVariants.{OutOfMemory as StatusOutOfMemory};
+
+use crate::arrays::{head, padded};
+use crate::status::{Status, digest_len, number, number_of, text, version_of};
+use fe2o3_scram::{Meter, ScramClientKeys, saslprep};
+use std::alloc::Global;
+
+/// What a client keeps in place of its password: a secret, with which one can log in.
+#[repr(C)]
+#[derive(Drop)]
+pub struct ClientKeys {
+    /// 1, 256 or 512, for the mechanism's hash; 0 where there are no keys.
+    pub version: u32,
+
+    /// The iteration count that they are of.
+    pub iterations: u32,
+
+    /// How many bytes of `salt` there are.
+    pub salt_len: u32,
+
+    /// The salt that they are of.
+    pub salt: [u8; 128],
+
+    /// The ClientKey, as long as a digest of the hash.
+    pub client_key: [u8; 64],
+
+    /// The ServerKey, as long as a digest of the hash.
+    pub server_key: [u8; 64],
+}
+
+impl ClientKeys {
+    /// The struct of keys, or `None` where it cannot hold them.
+    pub fn of(keys: &ScramClientKeys) -> Option<ClientKeys>
+        ensures { MatchOption result (¬ HasRoom keys.now) (λ shown. HasRoom keys.now × (shown ≡ struct_of keys.now)) }
+    {
+        let (version, salt) = (keys.scram_version(), keys.salt());
+        let len = digest_len(version);
+        if keys.client_key().len() != len || keys.server_key().len() != len {
+            return None;
+        }
+        Some(ClientKeys {
+            version: number_of(version),
+            iterations: keys.iterations(),
+            salt: padded(salt)?,
+            salt_len: salt.len() as u32,
+            client_key: padded(keys.client_key())?,
+            server_key: padded(keys.server_key())?,
+        })
+    }
+
+    /// The same struct.
+    pub fn copied(&self) -> ClientKeys
+        ensures { result ≡ self.now }
+    {
+        ClientKeys {
+            version: self.version,
+            iterations: self.iterations,
+            salt_len: self.salt_len,
+            salt: self.salt,
+            client_key: self.client_key,
+            server_key: self.server_key,
+        }
+    }
+
+    /// The keys that the struct shows. `NoSuchVersion`, `TooLong` where `salt_len` is above 128, and else
+    /// `OutOfMemory`.
+    pub fn read(&self, alloc: Global) -> Result<ScramClientKeys, Status>
+        ensures ok { IfOk result (λ keys. ShowsKeys self.now keys) }
+        ensures err { IfErr result (λ status. status ≢ StatusOutOfMemory → ShowsNoKeys self.now status) }
+    {
+        let version = version_of(self.version).ok_or(Status::NoSuchVersion)?;
+        let salt = head(&self.salt, self.salt_len).ok_or(Status::TooLong)?;
+        let len = digest_len(version);
+        let keys = ScramClientKeys::from_parts(
+            version,
+            salt.to_vec(alloc)?,
+            self.iterations,
+            &self.client_key[..len],
+            &self.server_key[..len],
+        );
+        match keys {
+            Ok(keys) => Ok(keys),
+            Err(_) => Err(Status::TooLong),
+        }
+    }
+}
+
+/// The struct of a password's keys.
+#[tactic(auto, using(crate::proofs::RoomLemmas::keys_have_room))]
+fn made(
+    alloc: Global,
+    version: u32,
+    password: &[u8],
+    salt: &[u8],
+    iterations: u32,
+) -> Result<ClientKeys, Status>
+    ensures { Gives StatusOutOfMemory (NoneHolds (making_tests version password.now salt.now iterations))
+        (λ (keys : Struct). keys) result (MakesStruct version password.now salt.now iterations) }
+{
+    let version = version_of(version).ok_or(Status::NoSuchVersion)?;
+    let password = text(password)?;
+    if salt.len() > 128 {
+        return Err(Status::TooLong);
+    }
+    if saslprep(password).is_err() {
+        return Err(Status::NotPrintable);
+    }
+    if iterations == 0 {
+        return Err(Status::ZeroIterations);
+    }
+    let mut meter = Meter::new();
+    // (what it refuses besides is told by now)
+    let Ok(keys) = ScramClientKeys::from_password(
+        alloc, version, password, salt, iterations, &mut meter,
+    ) else {
+        return Err(Status::OutOfMemory);
+    };
+    match ClientKeys::of(&keys) {
+        Some(made) => Ok(made),
+        None => Err(Status::TooLong),
+    }
+}
+
+/// Makes the struct of a password's keys.
+fn make(
+    alloc: Global,
+    version: u32,
+    password: &[u8],
+    salt: &[u8],
+    iterations: u32,
+    keys: &mut ClientKeys,
+) -> Result<(), Status>
+    ensures { Makes (NoneHolds (making_tests version password.now salt.now iterations))
+        (MakesStruct version password.now salt.now iterations) keys.old keys.new result }
+{
+    *keys = made(alloc, version, password, salt, iterations)?;
+    Ok(())
+}
+
+/// Makes the keys that stand in place of a password, for a server that keeps this salt and this count.
+#[unsafe(no_mangle)]
+pub extern "C" fn fe2o3_scram_keys_make(
+    alloc: Global,
+    version: u32,
+    password: &[u8],
+    salt: &[u8],
+    iterations: u32,
+    keys: &mut ClientKeys,
+) -> u32
+    ensures { Answers result (Makes (NoneHolds (making_tests version password.now salt.now iterations))
+        (MakesStruct version password.now salt.now iterations) keys.old keys.new) }
+{
+    number(make(alloc, version, password, salt, iterations, keys))
+}

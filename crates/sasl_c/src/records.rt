@@ -1,0 +1,309 @@
+//! What a server keeps of a password, as a struct.
+
+ghost use Rattle.std.specs.Prelude.{◌≡◌, ◌≢◌, MatchOption, IfOk, IfErr, Err};
+ghost use Rattle.fe2o3_scram.specs.Readings.{Gives, NoneHolds};
+ghost use Rattle.fe2o3_scram.specs.RecordText.{ReachesValues};
+ghost use Rattle.sasl_c.specs.Status.{Answers, Fills, Makes};
+ghost use Rattle.sasl_c.specs.Records.{HasRoom, Shows, struct_of, making_tests, MakesStruct, MakesUp, nobody_tests, ParsesStruct, SpellsStruct, Verifies};
+ghost use Rattle.sasl_c.specs.declared.records.ScramRecord.{ScramRecord as Struct};
+ghost use Rattle.sasl_c.specs.declared.status.Status.TheVariants.{OutOfMemory as StatusOutOfMemory};
+
+use crate::arrays::{head, padded, put};
+use crate::status::{Status, digest_len, number, number_of, text, version_of};
+use fe2o3_scram::{RecordTextError, saslprep};
+use std::alloc::Global;
+
+/// What a server keeps of a password.
+#[repr(C)]
+#[derive(Drop)]
+pub struct ScramRecord {
+    /// 1, 256 or 512, for the mechanism's hash.
+    pub version: u32,
+
+    /// The iteration count.
+    pub iterations: u32,
+
+    /// How many bytes of `salt` there are.
+    pub salt_len: u32,
+
+    /// The salt.
+    pub salt: [u8; 128],
+
+    /// The StoredKey, as long as a digest of the hash.
+    pub stored_key: [u8; 64],
+
+    /// The ServerKey, as long as a digest of the hash.
+    pub server_key: [u8; 64],
+}
+
+impl ScramRecord {
+    /// The struct of a record, or `None` where it cannot hold it.
+    fn of(kept: &fe2o3_scram::ScramRecord) -> Option<ScramRecord>
+        ensures { MatchOption result (¬ HasRoom kept.now) (λ shown. HasRoom kept.now × (shown ≡ struct_of kept.now)) }
+    {
+        let (version, stored) = (*kept.scram_version(), kept.as_stored_password());
+        let len = digest_len(version);
+        if stored.stored_key.len() != len || stored.server_key.len() != len {
+            return None;
+        }
+        Some(ScramRecord {
+            version: number_of(version),
+            iterations: stored.iterations,
+            salt: padded(stored.salt)?,
+            salt_len: stored.salt.len() as u32,
+            stored_key: padded(stored.stored_key)?,
+            server_key: padded(stored.server_key)?,
+        })
+    }
+
+    /// The record that the struct shows. `NoSuchVersion`, `TooLong` where `salt_len` is above 128, and else
+    /// `OutOfMemory`.
+    pub fn read(&self, alloc: Global) -> Result<fe2o3_scram::ScramRecord, Status>
+        ensures ok { IfOk result (λ shown. Shows self.now shown) }
+        ensures err { IfErr result (λ status. status ≢ StatusOutOfMemory → SpellsStruct self.now (Err status)) }
+    {
+        let version = version_of(self.version).ok_or(Status::NoSuchVersion)?;
+        let salt = head(&self.salt, self.salt_len).ok_or(Status::TooLong)?;
+        let len = digest_len(version);
+        Ok(fe2o3_scram::ScramRecord::from_parts(
+            version,
+            salt.to_vec(alloc)?,
+            self.iterations,
+            self.stored_key[..len].to_vec(alloc)?,
+            self.server_key[..len].to_vec(alloc)?,
+        ))
+    }
+}
+
+/// The struct of a password's record.
+#[tactic(auto, using(crate::proofs::RoomLemmas::record_has_room))]
+fn made(
+    alloc: Global,
+    version: u32,
+    password: &[u8],
+    salt: &[u8],
+    iterations: u32,
+) -> Result<ScramRecord, Status>
+    ensures { Gives StatusOutOfMemory (NoneHolds (making_tests version password.now salt.now iterations))
+        (λ (kept : Struct). kept) result (MakesStruct version password.now salt.now iterations) }
+{
+    let version = version_of(version).ok_or(Status::NoSuchVersion)?;
+    let password = text(password)?;
+    if salt.len() > 128 {
+        return Err(Status::TooLong);
+    }
+    if saslprep(password).is_err() {
+        return Err(Status::NotPrintable);
+    }
+    if iterations == 0 {
+        return Err(Status::ZeroIterations);
+    }
+    // (what it refuses besides is told by now)
+    let Ok(kept) = fe2o3_scram::ScramRecord::from_password(
+        alloc, version, password, salt, iterations,
+    ) else {
+        return Err(Status::OutOfMemory);
+    };
+    match ScramRecord::of(&kept) {
+        Some(made) => Ok(made),
+        None => Err(Status::TooLong),
+    }
+}
+
+/// Makes the struct of a password's record.
+fn make(
+    alloc: Global,
+    version: u32,
+    password: &[u8],
+    salt: &[u8],
+    iterations: u32,
+    kept: &mut ScramRecord,
+) -> Result<(), Status>
+    ensures { Makes (NoneHolds (making_tests version password.now salt.now iterations))
+        (MakesStruct version password.now salt.now iterations) kept.old kept.new result }
+{
+    *kept = made(alloc, version, password, salt, iterations)?;
+    Ok(())
+}
+
+/// Makes the record of a password. Where the number is not 0, the struct stays as it was.
+#[unsafe(no_mangle)]
+pub extern "C" fn fe2o3_scram_record_make(
+    alloc: Global,
+    version: u32,
+    password: &[u8],
+    salt: &[u8],
+    iterations: u32,
+    kept: &mut ScramRecord,
+) -> u32
+    ensures { Answers result (Makes (NoneHolds (making_tests version password.now salt.now iterations))
+        (MakesStruct version password.now salt.now iterations) kept.old kept.new) }
+{
+    number(make(alloc, version, password, salt, iterations, kept))
+}
+
+/// The struct of the record that a text spells.
+fn parsed(alloc: Global, bytes: &[u8]) -> Result<ScramRecord, Status>
+    ensures { Gives StatusOutOfMemory (ReachesValues bytes.now) (λ (kept : Struct). kept) result
+        (ParsesStruct bytes.now) }
+{
+    let text = text(bytes)?;
+    match fe2o3_scram::ScramRecord::parse(alloc, text) {
+        Ok(kept) => match ScramRecord::of(&kept) {
+            Some(made) => Ok(made),
+            None => Err(Status::TooLong),
+        },
+        Err(RecordTextError::OutOfMemory) => Err(Status::OutOfMemory),
+        Err(why) => Err(Status::NoRecord(why)),
+    }
+}
+
+/// Makes the struct of the record that a text spells.
+fn parse(alloc: Global, bytes: &[u8], kept: &mut ScramRecord) -> Result<(), Status>
+    ensures { Makes (ReachesValues bytes.now) (ParsesStruct bytes.now) kept.old kept.new result }
+{
+    *kept = parsed(alloc, bytes)?;
+    Ok(())
+}
+
+/// Reads the text of a record, as PostgreSQL writes it (RFC 5803, section 2).
+#[unsafe(no_mangle)]
+pub extern "C" fn fe2o3_scram_record_parse(
+    alloc: Global,
+    text: &[u8],
+    kept: &mut ScramRecord,
+) -> u32
+    ensures { Answers result (Makes (ReachesValues text.now) (ParsesStruct text.now) kept.old kept.new) }
+{
+    number(parse(alloc, text, kept))
+}
+
+/// Writes the text of the record that the struct shows.
+fn spell(alloc: Global, kept: &ScramRecord, out: &mut [u8], len: &mut usize) -> Result<(), Status>
+    ensures { Fills (SpellsStruct kept.now) (record { bytes = out.old; len = len.old })
+        (record { bytes = out.new; len = len.new }) result }
+{
+    let kept = kept.read(alloc)?;
+    let text = kept.to_text(alloc)?;
+    put(text.as_bytes(), out, len)?;
+    Ok(())
+}
+
+/// Writes the text of a record, as PostgreSQL reads it (RFC 5803, section 2): at most 384 bytes.
+#[unsafe(no_mangle)]
+pub extern "C" fn fe2o3_scram_record_text(
+    alloc: Global,
+    kept: &ScramRecord,
+    out: &mut [u8],
+    len: &mut usize,
+) -> u32
+    ensures { Answers result (Fills (SpellsStruct kept.now) (record { bytes = out.old; len = len.old })
+        (record { bytes = out.new; len = len.new })) }
+{
+    number(spell(alloc, kept, out, len))
+}
+
+/// The struct of the record that is made up for a name.
+#[tactic(auto, using(crate::proofs::RoomLemmas::nobody_has_room))]
+fn made_up(
+    alloc: Global,
+    version: u32,
+    secret: &[u8],
+    username: &[u8],
+    made_salt_len: usize,
+    iterations: u32,
+) -> Result<ScramRecord, Status>
+    ensures { Gives StatusOutOfMemory (NoneHolds (nobody_tests version username.now made_salt_len))
+        (λ (kept : Struct). kept) result (MakesUp version secret.now username.now made_salt_len iterations) }
+{
+    let version = version_of(version).ok_or(Status::NoSuchVersion)?;
+    let username = text(username)?;
+    if made_salt_len > 64 {
+        return Err(Status::TooLong);
+    }
+    let made = fe2o3_scram::ScramRecord::of_nobody(
+        alloc,
+        version,
+        secret,
+        username,
+        made_salt_len,
+        iterations,
+    );
+    let Ok(kept) = made else {
+        return Err(Status::OutOfMemory);
+    };
+    match ScramRecord::of(&kept) {
+        Some(made) => Ok(made),
+        None => Err(Status::TooLong),
+    }
+}
+
+/// Makes up the struct of a record for a name.
+fn make_up(
+    alloc: Global,
+    version: u32,
+    secret: &[u8],
+    username: &[u8],
+    made_salt_len: usize,
+    iterations: u32,
+    kept: &mut ScramRecord,
+) -> Result<(), Status>
+    ensures { Makes (NoneHolds (nobody_tests version username.now made_salt_len))
+        (MakesUp version secret.now username.now made_salt_len iterations) kept.old kept.new result }
+{
+    *kept = made_up(alloc, version, secret, username, made_salt_len, iterations)?;
+    Ok(())
+}
+
+/// Makes up a record for a name that a server does not know, so that it can answer as to one that it knows: the login
+/// is refused at its proof. The secret is 32 random bytes, the same for all names and kept as long as the records;
+/// `made_salt_len`, of at most 64, and the count are those of the server's other records.
+#[unsafe(no_mangle)]
+pub extern "C" fn fe2o3_scram_record_of_nobody(
+    alloc: Global,
+    version: u32,
+    secret: &[u8],
+    username: &[u8],
+    made_salt_len: usize,
+    iterations: u32,
+    kept: &mut ScramRecord,
+) -> u32
+    ensures { Answers result (Makes (NoneHolds (nobody_tests version username.now made_salt_len))
+        (MakesUp version secret.now username.now made_salt_len iterations) kept.old kept.new) }
+{
+    number(make_up(
+        alloc,
+        version,
+        secret,
+        username,
+        made_salt_len,
+        iterations,
+        kept,
+    ))
+}
+
+/// Whether a password is that of the record.
+fn verify(alloc: Global, kept: &ScramRecord, password: &[u8]) -> Result<(), Status>
+    ensures { Verifies kept.now password.now result }
+{
+    let kept = kept.read(alloc)?;
+    let password = text(password)?;
+    let version = *kept.scram_version();
+    if kept.as_stored_password().verify_password(version, password) {
+        Ok(())
+    } else {
+        Err(Status::OtherPassword)
+    }
+}
+
+/// Whether a password that was told, as by PLAIN, is that of the record: 0 where it is.
+#[unsafe(no_mangle)]
+pub extern "C" fn fe2o3_scram_record_verify(
+    alloc: Global,
+    kept: &ScramRecord,
+    password: &[u8],
+) -> u32
+    ensures { Answers result (Verifies kept.now password.now) }
+{
+    number(verify(alloc, kept, password))
+}

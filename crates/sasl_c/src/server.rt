@@ -1,0 +1,314 @@
+//! A SCRAM server, which stands in a struct between its calls.
+
+ghost use Rattle.std.specs.Prelude.{◌≡◌, ◌≢◌, ◌≤◌, ◌^◌, List, ℕ, length, Err, IfOk, IfErr, OnErr, MatchOption};
+ghost use Rattle.fe2o3_scram.specs.ServerFirst.{Challenge};
+ghost use Rattle.fe2o3_scram.specs.ScramServer.{ServerFirstSent, challenge_kept, state_in};
+ghost use Rattle.sasl_c.specs.Server.{Challenged, Challenges, Concluded, Concludes, HasRoom, IsOpen, NamesUser, NotChallenged, Opens, TellsUser};
+ghost use Rattle.sasl_c.specs.Status.{Answers, Fills, FillsWithin};
+ghost use Rattle.sasl_c.specs.declared.status.Status.TheVariants.{OutOfMemory as StatusOutOfMemory, RoomTooSmall};
+
+use crate::arrays::{head, padded, put};
+use crate::records::ScramRecord;
+use crate::status::{Status, number};
+use fe2o3_scram::{
+    ClientFirst, Meter, OpenChallenge, ScramAuthenticator, ServerScramErrorKind,
+    StoredScramCredential,
+};
+use std::alloc::Global;
+
+/// What a server keeps of an exchange. All zeros is a server without an open challenge.
+#[repr(C)]
+#[derive(Drop)]
+pub struct ScramServer {
+    /// 1 while a challenge is open, and 2 once its user has logged in.
+    pub stands: u32,
+
+    /// How many bytes of `user` there are.
+    pub user_len: u32,
+
+    /// How many bytes of `bare` there are.
+    pub bare_len: u32,
+
+    /// How many bytes of `nonce` there are.
+    pub nonce_len: u32,
+
+    /// How many bytes of `first` there are.
+    pub first_len: u32,
+
+    /// The plain name of the user.
+    pub user: [u8; 256],
+
+    /// The client-first message without its GS2 header.
+    pub bare: [u8; 1024],
+
+    /// The nonce of both sides.
+    pub nonce: [u8; 512],
+
+    /// The server-first message.
+    pub first: [u8; 1024],
+}
+
+/// A server of one user.
+type Machine = ScramAuthenticator<StoredScramCredential>;
+
+impl ScramServer {
+    /// The struct of a server whose challenge is open, or `None` where a text of it has no room.
+    fn of(challenge: &OpenChallenge<'_>) -> Option<ScramServer>
+        ensures { MatchOption result (¬ HasRoom (challenge_kept challenge.now))
+            (λ server. HasRoom (challenge_kept challenge.now) × IsOpen server (challenge_kept challenge.now)) }
+    {
+        Some(ScramServer {
+            stands: 1,
+            user: padded(challenge.username.as_bytes())?,
+            user_len: challenge.username.len() as u32,
+            bare: padded(challenge.client_first_message_bare)?,
+            bare_len: challenge.client_first_message_bare.len() as u32,
+            nonce: padded(challenge.client_server_nonce)?,
+            nonce_len: challenge.client_server_nonce.len() as u32,
+            first: padded(challenge.server_first_message)?,
+            first_len: challenge.server_first_message.len() as u32,
+        })
+    }
+}
+
+impl ScramServer {
+    /// The challenge that is open, where the struct shows one.
+    fn challenge(&self) -> Option<OpenChallenge<'_>>
+        ensures { MatchOption result ((challenge : Challenge) → ¬ IsOpen self.now challenge)
+            (λ challenge. IsOpen self.now (challenge_kept challenge)) }
+    {
+        if self.stands != 1 {
+            return None;
+        }
+        let user = head(&self.user, self.user_len)?;
+        let bare = head(&self.bare, self.bare_len)?;
+        let nonce = head(&self.nonce, self.nonce_len)?;
+        let first = head(&self.first, self.first_len)?;
+        match str::from_utf8(user) {
+            Ok(username) => Some(OpenChallenge {
+                username,
+                client_first_message_bare: bare,
+                client_server_nonce: nonce,
+                server_first_message: first,
+            }),
+            Err(_) => None,
+        }
+    }
+}
+
+/// A server with an open challenge to a client-first message.
+fn challenged(
+    alloc: Global,
+    kept: &ScramRecord,
+    nonce: &[u8; 32],
+    client_first: &[u8],
+) -> Result<Machine, Status>
+    ensures ok { IfOk result (λ machine. (challenge : Challenge) × (state_in machine ≡ ServerFirstSent challenge)
+        × Challenged kept.now nonce.now client_first.now challenge) }
+    ensures err { IfErr result (λ status. status ≢ StatusOutOfMemory
+        → NotChallenged kept.now nonce.now client_first.now status) }
+    ensures room { IfErr result (λ status. status ≢ RoomTooSmall) }
+{
+    let first = match ClientFirst::parse(alloc, client_first) {
+        Ok(first) => first,
+        Err(why) => return Err(Status::from(why)),
+    };
+    let username = first.username.into_owned(alloc)?;
+    let kept = match kept.read(alloc) {
+        Ok(kept) => kept,
+        Err(status) => return Err(status),
+    };
+    let credential = StoredScramCredential::new(username, kept);
+    let mut machine = ScramAuthenticator::new(credential);
+    match machine.compute_server_first_message(alloc, client_first, nonce) {
+        Ok(Some(_)) => Ok(machine),
+        Ok(None) => Err(Status::Server(ServerScramErrorKind::AuthenticationFailed)),
+        Err(why) => Err(Status::from(why)),
+    }
+}
+
+/// Writes the server-first message.
+#[tactic(auto, using(crate::proofs::ServerLemmas::no_room))]
+fn first(
+    alloc: Global,
+    kept: &ScramRecord,
+    server: &mut ScramServer,
+    nonce: &[u8; 32],
+    client_first: &[u8],
+    out: &mut [u8],
+    len: &mut usize,
+) -> Result<(), Status>
+    ensures text { Fills (Challenges kept.now nonce.now client_first.now) (record { bytes = out.old; len = len.old })
+        (record { bytes = out.new; len = len.new }) result }
+    ensures moved { Opens kept.now nonce.now client_first.now server.old server.new result }
+{
+    let machine = challenged(alloc, kept, nonce, client_first)?;
+    let Some(challenge) = machine.open_challenge() else {
+        return Err(Status::TooLong);
+    };
+    let Some(opened) = ScramServer::of(&challenge) else {
+        return Err(Status::TooLong);
+    };
+    put(challenge.server_first_message, out, len)?;
+    *server = opened;
+    Ok(())
+}
+
+/// Answers a client-first message with the server-first message, which starts an exchange afresh at any time. The
+/// record is that of the user whom the message names (`fe2o3_scram_server_user`), or one that is made up
+/// (`fe2o3_scram_record_of_nobody`). The nonce is 32 random bytes, fresh for each.
+#[unsafe(no_mangle)]
+pub extern "C" fn fe2o3_scram_server_first(
+    alloc: Global,
+    kept: &ScramRecord,
+    server: &mut ScramServer,
+    nonce: &[u8; 32],
+    client_first: &[u8],
+    out: &mut [u8],
+    len: &mut usize,
+) -> u32
+    ensures { Answers result (λ answer. Fills (Challenges kept.now nonce.now client_first.now)
+        (record { bytes = out.old; len = len.old }) (record { bytes = out.new; len = len.new }) answer
+        × Opens kept.now nonce.now client_first.now server.old server.new answer) }
+{
+    number(first(alloc, kept, server, nonce, client_first, out, len))
+}
+
+/// Writes the name of the user.
+fn user(alloc: Global, client_first: &[u8], out: &mut [u8], len: &mut usize) -> Result<(), Status>
+    ensures { Fills (NamesUser client_first.now) (record { bytes = out.old; len = len.old })
+        (record { bytes = out.new; len = len.new }) result }
+{
+    let first = match ClientFirst::parse(alloc, client_first) {
+        Ok(first) => first,
+        Err(why) => return Err(Status::from(why)),
+    };
+    put(first.username.as_bytes(), out, len)?;
+    Ok(())
+}
+
+/// Writes the plain name of the user whom a client-first message names, and whose record is to be fetched.
+#[unsafe(no_mangle)]
+pub extern "C" fn fe2o3_scram_server_user(
+    alloc: Global,
+    client_first: &[u8],
+    out: &mut [u8],
+    len: &mut usize,
+) -> u32
+    ensures { Answers result (Fills (NamesUser client_first.now) (record { bytes = out.old; len = len.old })
+        (record { bytes = out.new; len = len.new })) }
+{
+    number(user(alloc, client_first, out, len))
+}
+
+/// The server-final message.
+fn concluded(
+    alloc: Global,
+    kept: &ScramRecord,
+    server: &ScramServer,
+    client_final: &[u8],
+    meter: &mut Meter,
+) -> Result<Vec<u8>, Status>
+    requires { meter.old ≤ 2 ^ 63 }
+    ensures ok { IfOk result (λ message. (user : List ℕ)
+        × Concluded kept.now server.now client_final.now message.items user) }
+    ensures fits { IfOk result (λ message. length message.items ≤ 90) }
+    ensures err { IfErr result (λ status. status ≢ StatusOutOfMemory
+        → Concludes kept.now client_final.now server.now server.now (Err status)) }
+    ensures room { IfErr result (λ status. status ≢ RoomTooSmall) }
+{
+    let Some(challenge) = server.challenge() else {
+        return Err(Status::Server(ServerScramErrorKind::IllegalAuthenticatorState));
+    };
+    let kept = match kept.read(alloc) {
+        Ok(kept) => kept,
+        Err(status) => return Err(status),
+    };
+    let username = challenge.username.to_string(alloc)?;
+    let fresh = ScramAuthenticator::new(StoredScramCredential::new(username, kept));
+    let mut machine = fresh.waiting_for(alloc, &challenge)?;
+    match machine.compute_server_final_message_metered(alloc, client_final, meter) {
+        Ok(Some(message)) => Ok(message),
+        Ok(None) => Err(Status::Server(ServerScramErrorKind::AuthenticationFailed)),
+        Err(why) => Err(Status::from(why)),
+    }
+}
+
+/// The most bytes of a server-final message.
+const FINAL_MOST: usize = 90;
+
+/// Writes the server-final message.
+#[tactic(auto, using(crate::proofs::ServerLemmas::concludes))]
+fn conclude(
+    alloc: Global,
+    kept: &ScramRecord,
+    server: &mut ScramServer,
+    client_final: &[u8],
+    meter: &mut Meter,
+    out: &mut [u8],
+    len: &mut usize,
+) -> Result<(), Status>
+    requires { meter.old ≤ 2 ^ 63 }
+    ensures text { FillsWithin 90 (Concludes kept.now client_final.now server.old server.new)
+        (record { bytes = out.old; len = len.old }) (record { bytes = out.new; len = len.new }) result }
+    ensures stays { OnErr result (server.new ≡ server.old) }
+    ensures first { IfErr result (λ status. status ≡ RoomTooSmall → meter.new ≡ meter.old) }
+{
+    if out.len() < FINAL_MOST {
+        *len = FINAL_MOST;
+        return Err(Status::RoomTooSmall);
+    }
+    let message = concluded(alloc, kept, server, client_final, meter)?;
+    put(&message, out, len)?;
+    server.stands = 2;
+    Ok(())
+}
+
+/// Answers a client-final message with the server-final message, where its proof meets the record: the user is
+/// logged in only where the number is 0. The record is the one of `fe2o3_scram_server_first`. A room of 90 bytes
+/// suffices, and is asked for before any hash is made.
+#[unsafe(no_mangle)]
+pub extern "C" fn fe2o3_scram_server_final(
+    alloc: Global,
+    kept: &ScramRecord,
+    server: &mut ScramServer,
+    client_final: &[u8],
+    out: &mut [u8],
+    len: &mut usize,
+) -> u32
+    ensures { Answers result (λ answer. FillsWithin 90 (Concludes kept.now client_final.now server.old server.new)
+        (record { bytes = out.old; len = len.old }) (record { bytes = out.new; len = len.new }) answer
+        × OnErr answer (server.new ≡ server.old)) }
+{
+    let mut meter = Meter::new();
+    number(conclude(alloc, kept, server, client_final, &mut meter, out, len))
+}
+
+/// Writes the name of the user who has logged in.
+fn tell(server: &ScramServer, out: &mut [u8], len: &mut usize) -> Result<(), Status>
+    ensures { Fills (TellsUser server.now) (record { bytes = out.old; len = len.old })
+        (record { bytes = out.new; len = len.new }) result }
+{
+    let illegal = Status::Server(ServerScramErrorKind::IllegalAuthenticatorState);
+    if server.stands != 2 {
+        return Err(illegal);
+    }
+    match head(&server.user, server.user_len) {
+        Some(user) => put(user, out, len)?,
+        None => return Err(illegal),
+    }
+    Ok(())
+}
+
+/// Writes the plain name of the user who has logged in: the one whose challenge was answered.
+#[unsafe(no_mangle)]
+pub extern "C" fn fe2o3_scram_server_logged_in(
+    server: &ScramServer,
+    out: &mut [u8],
+    len: &mut usize,
+) -> u32
+    ensures { Answers result (Fills (TellsUser server.now) (record { bytes = out.old; len = len.old })
+        (record { bytes = out.new; len = len.new })) }
+{
+    number(tell(server, out, len))
+}

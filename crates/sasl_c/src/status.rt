@@ -1,0 +1,231 @@
+//! What a call answers.
+
+ghost use Rattle.std.specs.Prelude.{◌≡◌, ◌≢◌, ◌≤◌, MatchOption, MatchResult};
+ghost use Rattle.fe2o3_scram.specs.Hmac.{digest_len};
+ghost use Rattle.sasl_c.specs.Status.{answer_number, client_number, client_status, server_number, server_status, status_number, record_text_number, version_number};
+ghost use Rattle.sasl_c.specs.declared.status.Status.TheVariants.{OutOfMemory as StatusOutOfMemory, NotUtf8 as StatusNotUtf8};
+ghost use Rattle.std.specs.Str.{IsUtf8};
+ghost use Rattle.fe2o3_scram.specs.declared.hmac.ScramVersion.{ScramVersion};
+
+use fe2o3_scram::{RecordTextError, ScramErrorKind, ScramVersion, ServerScramErrorKind};
+use std::alloc::AllocError;
+
+/// Why a call is not done.
+#[derive(Clone, Copy, Debug, PartialEq, Eq)]
+pub enum Status {
+    /// There was no memory. Nothing has changed, and the call can be made again.
+    OutOfMemory,
+
+    /// The room is too small. Nothing has changed, and the length says what suffices.
+    RoomTooSmall,
+
+    /// Bytes that are to be text are no UTF-8.
+    NotUtf8,
+
+    /// There is no such version: 1, 256 and 512 are known.
+    NoSuchVersion,
+
+    /// A text is longer than the array that is to hold it.
+    TooLong,
+
+    /// The password is not printable ASCII.
+    NotPrintable,
+
+    /// The iteration count is 0.
+    ZeroIterations,
+
+    /// There is no such secret: 0 is the password, 1 the keys, and 2 both.
+    NoSuchSecret,
+
+    /// The struct of keys shows none.
+    NoKeys,
+
+    /// The keys are of another version than the login.
+    OtherVersion,
+
+    /// The password is not that of the record.
+    OtherPassword,
+
+    /// A client refuses what a server sent.
+    Client(ScramErrorKind),
+
+    /// A server refuses what a client sent.
+    Server(ServerScramErrorKind),
+
+    /// The text is no record.
+    NoRecord(RecordTextError),
+}
+
+impl From<AllocError> for Status {
+    ghost from_gives = { λ _ status. status ≡ StatusOutOfMemory };
+
+    fn from(_error: AllocError) -> Self {
+        Status::OutOfMemory
+    }
+}
+
+impl From<ScramErrorKind> for Status {
+    ghost from_gives = { λ why status. status ≡ client_status why };
+
+    fn from(why: ScramErrorKind) -> Self {
+        match why {
+            ScramErrorKind::OutOfMemory => Status::OutOfMemory,
+            why => Status::Client(why),
+        }
+    }
+}
+
+impl From<ServerScramErrorKind> for Status {
+    ghost from_gives = { λ why status. status ≡ server_status why };
+
+    fn from(why: ServerScramErrorKind) -> Self {
+        match why {
+            ServerScramErrorKind::OutOfMemory => Status::OutOfMemory,
+            why => Status::Server(why),
+        }
+    }
+}
+
+impl Status {
+    /// The number that a call answers.
+    pub fn number(self) -> u32
+        ensures { result ≡ status_number self }
+    {
+        match self {
+            Status::OutOfMemory => 1,
+            Status::RoomTooSmall => 2,
+            Status::NotUtf8 => 3,
+            Status::NoSuchVersion => 4,
+            Status::TooLong => 5,
+            Status::NotPrintable => 6,
+            Status::ZeroIterations => 7,
+            Status::NoSuchSecret => 8,
+            Status::NoKeys => 9,
+            Status::OtherVersion => 10,
+            Status::OtherPassword => 11,
+            Status::Client(why) => client_number(why),
+            Status::Server(why) => server_number(why),
+            Status::NoRecord(why) => record_text_number(why),
+        }
+    }
+}
+
+/// The number of why a client refuses what a server sent.
+fn client_number(why: ScramErrorKind) -> u32
+    ensures { result ≡ client_number why }
+{
+    match why {
+        ScramErrorKind::Utf8Error => 20,
+        ScramErrorKind::InsufficientParts => 21,
+        ScramErrorKind::ExtensionNotSupported => 22,
+        ScramErrorKind::NonceNotFound => 23,
+        ScramErrorKind::ClientNonceMismatch => 24,
+        ScramErrorKind::SaltNotFound => 25,
+        ScramErrorKind::Base64DecodeError => 26,
+        ScramErrorKind::IterationCountNotFound => 27,
+        ScramErrorKind::IterationCountParseError => 28,
+        ScramErrorKind::IterationCountTooSmall => 29,
+        ScramErrorKind::IterationCountTooLarge => 30,
+        ScramErrorKind::NormalizeError => 31,
+        ScramErrorKind::OtherKeys => 32,
+        ScramErrorKind::HmacErrorInvalidLength => 33,
+        ScramErrorKind::XorLengthMismatch => 34,
+        ScramErrorKind::IllegalClientState => 35,
+        ScramErrorKind::ServerSignatureMismatch => 36,
+        ScramErrorKind::OutOfMemory => 1,
+    }
+}
+
+/// The number of why a server refuses what a client sent.
+fn server_number(why: ServerScramErrorKind) -> u32
+    ensures { result ≡ server_number why }
+{
+    match why {
+        ServerScramErrorKind::Utf8Error => 40,
+        ServerScramErrorKind::CannotParseGs2Header => 41,
+        ServerScramErrorKind::CannotParseUsername => 42,
+        ServerScramErrorKind::CannotParseClientNonce => 43,
+        ServerScramErrorKind::HmacErrorInvalidLength => 44,
+        ServerScramErrorKind::XorLengthMismatch => 45,
+        ServerScramErrorKind::NormalizeError => 46,
+        ServerScramErrorKind::CannotParseClientFinalMessage => 47,
+        ServerScramErrorKind::InvalidChannelBinding => 48,
+        ServerScramErrorKind::Base64DecodeError => 49,
+        ServerScramErrorKind::IncorrectClientFinalNonce => 50,
+        ServerScramErrorKind::ProofNotFoundInClientFinal => 51,
+        ServerScramErrorKind::AuthenticationFailed => 52,
+        ServerScramErrorKind::IllegalAuthenticatorState => 53,
+        ServerScramErrorKind::OutOfMemory => 1,
+    }
+}
+
+/// The number of why a text is no record.
+fn record_text_number(why: RecordTextError) -> u32
+    ensures { result ≡ record_text_number why }
+{
+    match why {
+        RecordTextError::PartsMismatch => 60,
+        RecordTextError::UnknownMechanism => 61,
+        RecordTextError::IterationCountParseError => 62,
+        RecordTextError::Base64DecodeError => 63,
+        RecordTextError::KeyLengthMismatch => 64,
+        RecordTextError::OutOfMemory => 1,
+    }
+}
+
+/// The number of an answer: 0 where the call is done.
+pub fn number(answer: Result<(), Status>) -> u32
+    ensures { result ≡ answer_number answer }
+{
+    match answer {
+        Ok(()) => 0,
+        Err(status) => status.number(),
+    }
+}
+
+/// The version of a number.
+pub fn version_of(number: u32) -> Option<ScramVersion>
+    ensures { MatchOption result ((version : ScramVersion) → version_number version ≢ number)
+        (λ version. version_number version ≡ number) }
+{
+    match number {
+        1 => Some(ScramVersion::Sha1),
+        256 => Some(ScramVersion::Sha256),
+        512 => Some(ScramVersion::Sha512),
+        _ => None,
+    }
+}
+
+/// The number of a version.
+pub fn number_of(version: ScramVersion) -> u32
+    ensures { result ≡ version_number version }
+{
+    match version {
+        ScramVersion::Sha1 => 1,
+        ScramVersion::Sha256 => 256,
+        ScramVersion::Sha512 => 512,
+    }
+}
+
+/// The length of a digest of the version, in bytes.
+pub fn digest_len(version: ScramVersion) -> usize
+    ensures len { result ≡ digest_len version }
+    ensures short { result ≤ 64 }
+{
+    match version {
+        ScramVersion::Sha1 => 20,
+        ScramVersion::Sha256 => 32,
+        ScramVersion::Sha512 => 64,
+    }
+}
+
+/// The text that the bytes spell.
+pub fn text(bytes: &[u8]) -> Result<&str, Status>
+    ensures { MatchResult result (λ text. (text.now ≡ bytes.now) × IsUtf8 bytes.now)
+        (λ status. (status ≡ StatusNotUtf8) × ¬ IsUtf8 bytes.now) }
+{
+    match str::from_utf8(bytes) {
+        Ok(text) => Ok(text),
+        Err(_) => Err(Status::NotUtf8),
+    }
+}

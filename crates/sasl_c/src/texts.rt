@@ -1,0 +1,101 @@
+//! The texts of statuses, and what tells whether the declarations of a caller fit.
+
+ghost use Rattle.std.specs.Prelude.{◌≡◌};
+
+use crate::client::{Login, ScramClient};
+use crate::keys::ClientKeys;
+use crate::records::ScramRecord;
+use crate::server::ScramServer;
+use std::mem::size_of;
+
+/// Bytes that are lent for ever.
+#[repr(C)]
+#[derive(Drop)]
+pub struct Text<'a> {
+    /// The bytes, of which the last is zero.
+    pub bytes: &'a [u8],
+}
+
+/// The text of a status.
+fn text_of(status: u32) -> &'static [u8] {
+    match status {
+        0 => b"Done\0",
+        1 => b"Out of memory\0",
+        2 => b"The room is too small\0",
+        3 => b"Not UTF-8\0",
+        4 => b"No such version\0",
+        5 => b"Too long\0",
+        6 => b"The password is not printable ASCII\0",
+        7 => b"The iteration count is 0\0",
+        8 => b"No such secret\0",
+        9 => b"No keys\0",
+        10 => b"The keys are of another version\0",
+        11 => b"The password is not that of the record\0",
+        20 => b"Client: Invalid UTF-8\0",
+        21 => b"Client: InsufficientParts\0",
+        22 => b"Client: Extensions are not supported\0",
+        23 => b"Client: Cannot find Nonce in challenge\0",
+        24 => b"Client: Server Nonce should start with client Nonce\0",
+        25 => b"Client: Salt key is not found in challenge\0",
+        26 => b"Client: Invalid base64\0",
+        27 => b"Client: Iteration count is not found in challenge\0",
+        28 => b"Client: Cannot parse iteration count\0",
+        29 => b"Client: Iteration count too small\0",
+        30 => b"Client: Iteration count too large\0",
+        31 => b"Client: Error normalizing password\0",
+        32 => b"Client: The keys are of another salt or iteration count\0",
+        33 => b"Client: Invalid length\0",
+        34 => b"Client: LHS and RHS of XOR have different length\0",
+        35 => b"Client: Illegal SCRAM client state\0",
+        36 => b"Client: Server signature mismatch\0",
+        40 => b"Server: Invalid UTF-8\0",
+        41 => b"Server: Cannot parse GS2-header\0",
+        42 => b"Server: Error parsing username field\0",
+        43 => b"Server: Error parsing client nonce\0",
+        44 => b"Server: Invalid length\0",
+        45 => b"Server: LHS and RHS of XOR have different length\0",
+        46 => b"Server: Error normalizing password\0",
+        47 => b"Server: Error parsing client final message\0",
+        48 => b"Server: Invalid channel binding\0",
+        49 => b"Server: Invalid base64\0",
+        50 => b"Server: Client final message has an incorrect nonce\0",
+        51 => b"Server: Client final message doesn't have a proof\0",
+        52 => b"Server: Authentication failed\0",
+        53 => b"Server: Illegal SCRAM client state\0",
+        60 => b"Record: Parts missing or left over\0",
+        61 => b"Record: Unknown SCRAM mechanism\0",
+        62 => b"Record: Cannot parse iteration count\0",
+        63 => b"Record: Invalid base64\0",
+        64 => b"Record: Key length mismatch\0",
+        _ => b"Unknown status\0",
+    }
+}
+
+/// Lends the text of a status for ever, with a zero behind it.
+#[unsafe(no_mangle)]
+pub extern "C" fn fe2o3_status_text(status: u32, text: &mut Text<'static>) {
+    text.bytes = text_of(status);
+}
+
+/// The version of the library: its three numbers, each of two digits.
+#[unsafe(no_mangle)]
+pub extern "C" fn fe2o3_version() -> u32
+    ensures { result ≡ 200 }
+{
+    200
+}
+
+/// How many bytes a struct has here: 0 `fe2o3_login`, 1 `fe2o3_scram_client`, 2 `fe2o3_client_keys`, 3
+/// `fe2o3_scram_server`, 4 `fe2o3_scram_record`; of other numbers 0. A caller whose own declarations have other sizes
+/// has another header.
+#[unsafe(no_mangle)]
+pub extern "C" fn fe2o3_size(which: u32) -> usize {
+    match which {
+        0 => size_of::<Login<'static>>(),
+        1 => size_of::<ScramClient>(),
+        2 => size_of::<ClientKeys>(),
+        3 => size_of::<ScramServer>(),
+        4 => size_of::<ScramRecord>(),
+        _ => 0,
+    }
+}
