@@ -1,4 +1,12 @@
-//! SASL's layer of AMQP, and SCRAM by itself, for C and for whoever calls C.
+//! SCRAM for C, and for whoever calls C: clients, servers, records and keys (RFC 5802, RFC 7677).
+//!
+//! What an exchange keeps between its calls is a struct of numbers and arrays in the caller's own memory: there is no
+//! handle, nothing to free, and no value of a struct that a call cannot be given. All zeros is a fresh one. A call
+//! answers a number, 0 where it is done, and a call that is refused changes nothing.
+//!
+//! Each export calls a function of this crate that does its work, and says the same in its clause: `Answers` that the
+//! number is that of an answer, `Makes` and `Fills` what was written, and `IsSide` and `IsOpen` of which client or server
+//! of `fe2o3_scram` a struct is. `tools/header.py` writes the C header from these sources.
 #![tactic(auto)]
 
 mod arrays;
