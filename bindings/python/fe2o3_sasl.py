@@ -273,13 +273,13 @@ def _written(room: int, call: Callable[..., int]) -> bytes:
 
 
 def _bytes(value: Bytes) -> bytes:
-    # (`bytes(5)` would be five zeros)
-    return value if isinstance(value, bytes) else memoryview(value).tobytes()
+    # (`bytes(5)` would be five zeros, and a class of another's could tell another length than there is)
+    return value if type(value) is bytes else memoryview(value).tobytes()
 
 
 def _text(value: Text) -> bytes:
     # What is no text, such as half of a surrogate pair, the library refuses, without a word of it in an exception.
-    return value.encode("utf-8", "surrogatepass") if isinstance(value, str) else _bytes(value)
+    return str.encode(value, "utf-8", "surrogatepass") if isinstance(value, str) else _bytes(value)
 
 
 def _number(value: int, most: int = 0xFFFFFFFF) -> int:
