@@ -533,13 +533,13 @@ class Server:
     """One side of one login at a time, at a server. The calls come in the order `first`, `final`, and `first` starts
     afresh at any time. The user is logged in only where `final` does not raise."""
 
-    __slots__ = ("_lock", "_record", "_struct")
+    __slots__ = ("_exchange", "_lock")
 
     def __init__(self) -> None:
         """A server without an open challenge."""
-        self._struct = _ServerStruct()
-        # That of the open challenge, which `final` needs again.
-        self._record = Record._of(_RecordStruct())
+        # The record that a challenge was made of, and the struct of the challenge: set at once, so that no challenge
+        # is ever answered by the record of another.
+        self._exchange = Record._of(_RecordStruct()), _ServerStruct()
         self._lock = threading.RLock()
 
     @staticmethod
@@ -552,31 +552,32 @@ class Server:
     def first(self, record: Record, client_first: Bytes) -> bytes:
         """The server-first message, with a fresh nonce, which answers the client-first message. The record is that of
         the user whom the message names, or `Record.of_nobody`."""
-        message, nonce, struct = _bytes(client_first), secrets.token_bytes(32), record._struct
+        message, nonce, opened = _bytes(client_first), secrets.token_bytes(32), _ServerStruct()
+        answer = _written(
+            1024,
+            lambda *room: _library.fe2o3_scram_server_first(
+                record._struct, opened, nonce, message, len(message), *room
+            ),
+        )
         with self._lock:
-            answer = _written(
-                1024,
-                lambda *room: _library.fe2o3_scram_server_first(
-                    struct, self._struct, nonce, message, len(message), *room
-                ),
-            )
-            self._record = record
+            self._exchange = record, opened
         return answer
 
     def final(self, client_final: Bytes) -> bytes:
         """The server-final message, which answers the client-final message where its proof meets the record."""
         message = _bytes(client_final)
         with self._lock:
-            struct = self._record._struct
+            record, opened = self._exchange
             return _written(
                 90,
-                lambda *room: _library.fe2o3_scram_server_final(struct, self._struct, message, len(message), *room),
+                lambda *room: _library.fe2o3_scram_server_final(record._struct, opened, message, len(message), *room),
             )
 
     def logged_in(self) -> str:
         """The plain name of the user who has logged in: the one whose challenge was answered."""
         with self._lock:
-            name = _written(256, lambda *room: _library.fe2o3_scram_server_logged_in(self._struct, *room))
+            opened = self._exchange[1]
+            name = _written(256, lambda *room: _library.fe2o3_scram_server_logged_in(opened, *room))
         return name.decode("utf-8")
 
     def __repr__(self) -> str:

@@ -12,7 +12,7 @@ import re
 import threading
 import unittest
 from pathlib import Path
-from typing import Any, Callable, Iterator, Optional
+from typing import Any, Callable, Optional
 from unittest import mock
 
 import fe2o3_sasl
@@ -225,8 +225,7 @@ class Records(Case):
         self.assertNotEqual(Record.make(SHA_1, "a").salt, Record.make(SHA_1, "a").salt)
 
     def test_example_of_the_standard(self) -> None:
-        # The exchange of RFC 7677, section 3: its salt and its count, and with its nonces the keys alone can be met,
-        # since those of this library are 32 bytes each.
+        # RFC 7677, section 3. Its messages cannot be met, since its nonces are not 32 bytes in base64; its record can.
         salt = base64.b64decode("W22ZaJ0SNY7soEsUEjb6gQ==")
         text = (
             "SCRAM-SHA-256$4096:W22ZaJ0SNY7soEsUEjb6gQ==$"
@@ -350,9 +349,9 @@ class Refusals(Case):
         other = Record.make(SHA_1, "pencil")
 
         def stays(status: int, call: Callable[..., object], *arguments: object) -> None:
-            before = bytes(client._struct), bytes(server._struct), server._record
+            before = bytes(client._struct), bytes(server._exchange[1]), server._exchange[0]
             self.refused(status, call, *arguments)
-            self.assertEqual((bytes(client._struct), bytes(server._struct), server._record), before)
+            self.assertEqual((bytes(client._struct), bytes(server._exchange[1]), server._exchange[0]), before)
 
         stays(Status.CLIENT_ILLEGAL_CLIENT_STATE, client.final, b"r=a,s=AAAA,i=4096")
         stays(Status.CLIENT_ILLEGAL_CLIENT_STATE, client.verify, b"v=AAAA")
@@ -395,8 +394,8 @@ class Refusals(Case):
         stays(Status.SERVER_ILLEGAL_AUTHENTICATOR_STATE, server.final, client_final)
 
     def test_a_room_that_is_too_small(self) -> None:
-        client, server, record = Client(SHA_512, "user", "pencil"), Server(), Record.make(SHA_512, "pencil")
-        given = client._login, client._struct
+        client, record = Client(SHA_512, "user", "pencil"), Record.make(SHA_512, "pencil")
+        given, server = (client._login, client._struct), fe2o3_sasl._ServerStruct()
 
         def rooms(suffices: Optional[int], struct: ctypes.Structure, call: Callable[..., int]) -> bytes:
             length = ctypes.c_size_t()
@@ -413,12 +412,12 @@ class Refusals(Case):
 
         one, two = os.urandom(32), os.urandom(32)
         first = rooms(None, client._struct, lambda *room: LIBRARY.fe2o3_scram_client_first(*given, one, *room))
-        known = record._struct, server._struct
-        user = rooms(None, server._struct, lambda *room: LIBRARY.fe2o3_scram_server_user(first, len(first), *room))
+        known = record._struct, server
+        user = rooms(None, server, lambda *room: LIBRARY.fe2o3_scram_server_user(first, len(first), *room))
         self.assertEqual(user, b"user")
         challenge = rooms(
             None,
-            server._struct,
+            server,
             lambda *room: LIBRARY.fe2o3_scram_server_first(*known, two, first, len(first), *room),
         )
         final = rooms(
@@ -426,11 +425,9 @@ class Refusals(Case):
             client._struct,
             lambda *room: LIBRARY.fe2o3_scram_client_final(*given, challenge, len(challenge), *room),
         )
-        verdict = rooms(
-            90, server._struct, lambda *room: LIBRARY.fe2o3_scram_server_final(*known, final, len(final), *room)
-        )
+        verdict = rooms(90, server, lambda *room: LIBRARY.fe2o3_scram_server_final(*known, final, len(final), *room))
         client.verify(verdict)
-        told = rooms(None, server._struct, lambda *room: LIBRARY.fe2o3_scram_server_logged_in(server._struct, *room))
+        told = rooms(None, server, lambda *room: LIBRARY.fe2o3_scram_server_logged_in(server, *room))
         self.assertEqual(told, b"user")
         text = rooms(None, record._struct, lambda *room: LIBRARY.fe2o3_scram_record_text(record._struct, *room))
         self.assertEqual(text.decode(), record.text())
@@ -449,7 +446,8 @@ class RandomStructs(Case):
         self.answers: dict[str, set[int]] = {}
 
     def filled(self, kind: Any) -> Any:
-        return kind.from_buffer_copy(self.random.getrandbits(8 * ctypes.sizeof(kind)).to_bytes(ctypes.sizeof(kind), "little"))
+        size = ctypes.sizeof(kind)
+        return kind.from_buffer_copy(self.random.getrandbits(8 * size).to_bytes(size, "little"))
 
     def chance(self) -> bool:
         return self.random.random() < 0.7
@@ -602,8 +600,13 @@ class RandomStructs(Case):
                 self.assertEqual(final, b"v=" + base64_of(mac(record.version, key, b",".join(parts))))
             # (a count of random bytes could take hours)
             record.iterations = self.random.randrange(4)
-            self.ask("fe2o3_scram_record_verify", (record,), record, b"pencil", 6)
-        self.answers["fe2o3_scram_record_verify"].add(Status.DONE)
+            meets = record.version in VERSIONS and record.salt_len <= 128 and record.iterations > 0 and self.chance()
+            if meets:
+                known = Secret(record.version, "pencil", bytes(record.salt)[: record.salt_len], record.iterations)
+                ctypes.memmove(record.stored_key, known.stored_key, len(known.stored_key))
+                ctypes.memmove(record.server_key, known.server_key, len(known.server_key))
+            verified = self.ask("fe2o3_scram_record_verify", (record,), record, b"pencil", 6)
+            self.assertEqual(verified is not None, meets)
         for name, statuses in self.answers.items():
             self.assertIn(Status.DONE, statuses, name)
             self.assertGreater(len(statuses), 1, name)
