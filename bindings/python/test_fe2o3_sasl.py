@@ -161,7 +161,8 @@ class Logins(Case):
         for version in VERSIONS:
             with self.subTest(version=version):
                 record, server = Record.make(version, "pencil"), Server()
-                self.refused(Status.SERVER_AUTHENTICATION_FAILED, login, Client(version, "u", "pencils"), server, record)
+                client = Client(version, "u", "pencils")
+                self.refused(Status.SERVER_AUTHENTICATION_FAILED, login, client, server, record)
                 self.refused(Status.SERVER_ILLEGAL_AUTHENTICATOR_STATE, server.logged_in)
                 nobody = Record.of_nobody(version, secret, "u", salt_length=20, iterations=5000)
                 salt = hmac.new(secret, b"Salt:u", "sha512").digest()[:20]
@@ -301,9 +302,9 @@ class Arguments(Case):
             Client(SHA_1, "a")
         with self.assertRaises(TypeError):
             Record()
-        for salt, key, other in ((bytes(129), bytes(20), bytes(20)), (b"", bytes(19), bytes(20)), (b"", bytes(20), b"")):
+        for lengths in ((129, 20, 20), (16, 19, 20), (16, 20, 0), (16, 20, 64)):
             with self.assertRaises(ValueError):
-                Keys(SHA_1, 1, salt, key, other)
+                Keys(SHA_1, 1, *map(bytes, lengths))
         with self.assertRaises(ValueError):
             Keys(0, 1, b"", b"", b"")
 
@@ -388,6 +389,7 @@ class Refusals(Case):
         stays(Status.SERVER_BASE64_DECODE_ERROR, server.final, without_proof + b",p=!")
         stays(Status.SERVER_XOR_LENGTH_MISMATCH, server.final, without_proof + b",p=AAAA")
         stays(Status.SERVER_AUTHENTICATION_FAILED, server.final, without_proof + b",p=" + base64_of(bytes(32)))
+        stays(Status.SERVER_CANNOT_PARSE_GS2_HEADER, server.first, other, b"")
         # None of this stood in the way of the login.
         client.verify(server.final(client_final))
         self.assertEqual(server.logged_in(), "user")
@@ -452,6 +454,10 @@ class RandomStructs(Case):
     def chance(self) -> bool:
         return self.random.random() < 0.7
 
+    def marred(self, message: bytes) -> bytes:
+        at = self.random.randrange(len(message))
+        return message[:at] + bytes([self.random.randrange(256)]) + message[at + self.random.randrange(2) :]
+
     def ask(self, name: str, structs: tuple[Any, ...], *arguments: Any, room: Optional[int] = None) -> Optional[bytes]:
         """Calls, and answers the text that was written, if the call is done."""
         before = [bytes(struct) for struct in structs]
@@ -515,16 +521,24 @@ class RandomStructs(Case):
             believing = fe2o3_sasl._ClientStruct.from_buffer_copy(client)
             server_final = b"v=" + base64_of(signature)
             sent = client.sent
-            believed = self.ask("fe2o3_scram_client_verify", (believing,), who, believing, server_final, len(server_final))
+            believed = self.ask(
+                "fe2o3_scram_client_verify", (believing,), who, believing, server_final, len(server_final)
+            )
             if believed is not None:
                 self.assertEqual((sent, believing.sent), (2, 3))
+            for message in (self.marred(server_first), os.urandom(self.random.randrange(40))):
+                other = fe2o3_sasl._ClientStruct.from_buffer_copy(client)
+                self.ask("fe2o3_scram_client_final", (other,), who, other, message, len(message), room=1024)
+                other = fe2o3_sasl._ClientStruct.from_buffer_copy(client)
+                self.ask("fe2o3_scram_client_verify", (other,), who, other, message, len(message))
             final = self.ask("fe2o3_scram_client_final", (client,), *given, server_first, len(server_first), room=1024)
             if final is not None:
                 self.assertEqual((sent, client.sent), (1, 2))
                 known = Secret(version, "pencil", salt, count)
                 if who.secret == 1 or (who.secret == 2 and keys.iterations == count):
                     digest = len(known.client_key)
-                    known.client_key, known.server_key = bytes(keys.client_key)[:digest], bytes(keys.server_key)[:digest]
+                    known.client_key = bytes(keys.client_key)[:digest]
+                    known.server_key = bytes(keys.server_key)[:digest]
                     known.stored_key = hashlib.new(VERSIONS[version], known.client_key).digest()
                 message, verdict = known.finals(bare_of("user", nonce), server_first)
                 self.assertEqual(final, message)
@@ -555,7 +569,8 @@ class RandomStructs(Case):
             if self.chance():
                 record.salt_len = self.random.randrange(140)
             proof = b""
-            if record.version in VERSIONS and max(server.bare_len, server.first_len) <= 1024 and server.nonce_len <= 512:
+            within = max(server.bare_len, server.first_len) <= 1024 and server.nonce_len <= 512
+            if within and record.version in VERSIONS:
                 # The proof that meets this struct, by a record whose key is known.
                 version = record.version
                 client_key = os.urandom(hashlib.new(VERSIONS[version]).digest_size)
@@ -585,6 +600,11 @@ class RandomStructs(Case):
                 len(first),
                 room=self.random.choice((100, 1024)),
             )
+            for message in (self.marred(client_final), self.marred(first), os.urandom(self.random.randrange(40))):
+                for export in ("fe2o3_scram_server_first", "fe2o3_scram_server_final"):
+                    other = fe2o3_sasl._ServerStruct.from_buffer_copy(server)
+                    nonce_too = [os.urandom(32)] if export == "fe2o3_scram_server_first" else []
+                    self.ask(export, (other, record), record, other, *nonce_too, message, len(message), room=1024)
             final = self.ask(
                 "fe2o3_scram_server_final",
                 (server, record),
