@@ -1,0 +1,584 @@
+"""SCRAM (RFC 5802, RFC 7677) by the library of `fe2o3_sasl.h`, called by `ctypes`.
+
+The library is the file that the environment variable FE2O3_SASL_LIB names, or else `libfe2o3_sasl.so.0` where the
+system finds it. It is loaded with the module, and refused where its structs have other sizes than those below.
+
+A client:
+
+    client = Client(SHA_256, "user", password="pencil")
+    send(client.first())
+    send(client.final(receive()))
+    client.verify(receive())            # logged in, and the server knew the password too
+    keys = client.keys()                # takes the place of the password at the next login
+
+A server:
+
+    server = Server()
+    message = receive()
+    send(server.first(record_of(Server.user(message)), message))
+    send(server.final(receive()))
+    name = server.logged_in()           # logged in
+
+where `record_of` answers `Record.of_nobody(..)` for a name that it does not know.
+
+A call that the library refuses raises `Refused` and leaves the object as it was. A call that does not raise is done.
+An argument that is none (another type, a number outside of its C type) raises TypeError or ValueError before any call.
+Any thread may call: calls on one object wait for each other, and what takes long does not hold the interpreter.
+
+No secret is in a `repr` or in an exception of this module. Secrets are not wiped from memory, neither here nor in the
+library nor by Python.
+"""
+
+from __future__ import annotations
+
+import ctypes
+import enum
+import operator
+import os
+import secrets
+import threading
+from typing import Any, Callable, Optional, Union
+
+__all__ = ["SHA_1", "SHA_256", "SHA_512", "Client", "Keys", "Record", "Refused", "Server", "Status", "library_version"]
+
+SHA_1 = 1
+SHA_256 = 256
+SHA_512 = 512
+
+_DIGEST_LENGTHS = {SHA_1: 20, SHA_256: 32, SHA_512: 64}
+
+#: A text as its characters or as the bytes of its UTF-8.
+Text = Union[str, bytes, bytearray, memoryview]
+Bytes = Union[bytes, bytearray, memoryview]
+
+
+class Status(enum.IntEnum):
+    """What a call of the library answers, as the header names it. The header says what each one means."""
+
+    DONE = 0
+    OUT_OF_MEMORY = 1
+    ROOM_TOO_SMALL = 2
+    NOT_UTF8 = 3
+    NO_SUCH_VERSION = 4
+    TOO_LONG = 5
+    NOT_PRINTABLE = 6
+    ZERO_ITERATIONS = 7
+    NO_SUCH_SECRET = 8
+    NO_KEYS = 9
+    OTHER_VERSION = 10
+    OTHER_PASSWORD = 11
+    CLIENT_UTF8_ERROR = 20
+    CLIENT_INSUFFICIENT_PARTS = 21
+    CLIENT_EXTENSION_NOT_SUPPORTED = 22
+    CLIENT_NONCE_NOT_FOUND = 23
+    CLIENT_CLIENT_NONCE_MISMATCH = 24
+    CLIENT_SALT_NOT_FOUND = 25
+    CLIENT_BASE64_DECODE_ERROR = 26
+    CLIENT_ITERATION_COUNT_NOT_FOUND = 27
+    CLIENT_ITERATION_COUNT_PARSE_ERROR = 28
+    CLIENT_ITERATION_COUNT_TOO_SMALL = 29
+    CLIENT_ITERATION_COUNT_TOO_LARGE = 30
+    CLIENT_NORMALIZE_ERROR = 31
+    CLIENT_OTHER_KEYS = 32
+    CLIENT_HMAC_ERROR_INVALID_LENGTH = 33
+    CLIENT_XOR_LENGTH_MISMATCH = 34
+    CLIENT_ILLEGAL_CLIENT_STATE = 35
+    CLIENT_SERVER_SIGNATURE_MISMATCH = 36
+    SERVER_UTF8_ERROR = 40
+    SERVER_CANNOT_PARSE_GS2_HEADER = 41
+    SERVER_CANNOT_PARSE_USERNAME = 42
+    SERVER_CANNOT_PARSE_CLIENT_NONCE = 43
+    SERVER_HMAC_ERROR_INVALID_LENGTH = 44
+    SERVER_XOR_LENGTH_MISMATCH = 45
+    SERVER_NORMALIZE_ERROR = 46
+    SERVER_CANNOT_PARSE_CLIENT_FINAL_MESSAGE = 47
+    SERVER_INVALID_CHANNEL_BINDING = 48
+    SERVER_BASE64_DECODE_ERROR = 49
+    SERVER_INCORRECT_CLIENT_FINAL_NONCE = 50
+    SERVER_PROOF_NOT_FOUND_IN_CLIENT_FINAL = 51
+    SERVER_AUTHENTICATION_FAILED = 52
+    SERVER_ILLEGAL_AUTHENTICATOR_STATE = 53
+    RECORD_PARTS_MISMATCH = 60
+    RECORD_UNKNOWN_MECHANISM = 61
+    RECORD_ITERATION_COUNT_PARSE_ERROR = 62
+    RECORD_BASE64_DECODE_ERROR = 63
+    RECORD_KEY_LENGTH_MISMATCH = 64
+
+
+class Refused(Exception):
+    """The library did not do a call. Nothing has changed.
+
+    `status` is the number that it answered: one of `Status`, or one that a later library has. `text` says the same in
+    words.
+    """
+
+    def __init__(self, status: int, text: str) -> None:
+        super().__init__(status, text)
+        self.status = status
+        self.text = text
+
+    def __str__(self) -> str:
+        return f"{self.text} ({self.status})"
+
+
+# The structs, as the header has them.
+
+
+class _KeysStruct(ctypes.Structure):
+    _fields_ = [
+        ("version", ctypes.c_uint32),
+        ("iterations", ctypes.c_uint32),
+        ("salt_len", ctypes.c_uint32),
+        ("salt", ctypes.c_uint8 * 128),
+        ("client_key", ctypes.c_uint8 * 64),
+        ("server_key", ctypes.c_uint8 * 64),
+    ]
+
+
+class _RecordStruct(ctypes.Structure):
+    _fields_ = [
+        ("version", ctypes.c_uint32),
+        ("iterations", ctypes.c_uint32),
+        ("salt_len", ctypes.c_uint32),
+        ("salt", ctypes.c_uint8 * 128),
+        ("stored_key", ctypes.c_uint8 * 64),
+        ("server_key", ctypes.c_uint8 * 64),
+    ]
+
+
+class _ServerStruct(ctypes.Structure):
+    _fields_ = [
+        ("stands", ctypes.c_uint32),
+        ("user_len", ctypes.c_uint32),
+        ("bare_len", ctypes.c_uint32),
+        ("nonce_len", ctypes.c_uint32),
+        ("first_len", ctypes.c_uint32),
+        ("user", ctypes.c_uint8 * 256),
+        ("bare", ctypes.c_uint8 * 1024),
+        ("nonce", ctypes.c_uint8 * 512),
+        ("first", ctypes.c_uint8 * 1024),
+    ]
+
+
+class _TextStruct(ctypes.Structure):
+    _fields_ = [("bytes", ctypes.c_void_p), ("bytes_len", ctypes.c_size_t)]
+
+
+class _LoginStruct(ctypes.Structure):
+    # The bytes and the keys that are assigned to a field are kept alive by the struct.
+    _fields_ = [
+        ("version", ctypes.c_uint32),
+        ("secret", ctypes.c_uint32),
+        ("least_iterations", ctypes.c_uint32),
+        ("most_iterations", ctypes.c_uint32),
+        ("username", ctypes.c_char_p),
+        ("username_len", ctypes.c_size_t),
+        ("password", ctypes.c_char_p),
+        ("password_len", ctypes.c_size_t),
+        ("keys", ctypes.POINTER(_KeysStruct)),
+    ]
+
+
+class _ClientStruct(ctypes.Structure):
+    _fields_ = [
+        ("sent", ctypes.c_uint32),
+        ("signature_len", ctypes.c_uint32),
+        ("nonce", ctypes.c_uint8 * 32),
+        ("signature", ctypes.c_uint8 * 64),
+        ("keys", _KeysStruct),
+    ]
+
+
+# What `fe2o3_size` is asked for, in the order of its numbers.
+_SIZED = (_LoginStruct, _ClientStruct, _KeysStruct, _ServerStruct, _RecordStruct)
+
+
+def _load(name: str) -> ctypes.CDLL:
+    """The library of this name, with the types of what it exports. OSError where it is not there or does not fit."""
+    library = ctypes.CDLL(name)
+    number, length = ctypes.c_uint32, ctypes.c_size_t
+    # An address of bytes that are only read, and one of a room.
+    read, room = ctypes.c_char_p, ctypes.c_void_p
+    written = [room, length, ctypes.POINTER(length)]
+    login, client = ctypes.POINTER(_LoginStruct), ctypes.POINTER(_ClientStruct)
+    keys, record = ctypes.POINTER(_KeysStruct), ctypes.POINTER(_RecordStruct)
+    server, text = ctypes.POINTER(_ServerStruct), ctypes.POINTER(_TextStruct)
+    exports: dict[str, tuple[Any, list[Any]]] = {
+        "fe2o3_scram_client_first": (number, [login, client, read, *written]),
+        "fe2o3_scram_client_final": (number, [login, client, read, length, *written]),
+        "fe2o3_scram_client_verify": (number, [login, client, read, length]),
+        "fe2o3_scram_client_keys": (number, [client, keys]),
+        "fe2o3_scram_keys_make": (number, [number, read, length, read, length, number, keys]),
+        "fe2o3_scram_record_make": (number, [number, read, length, read, length, number, record]),
+        "fe2o3_scram_record_parse": (number, [read, length, record]),
+        "fe2o3_scram_record_text": (number, [record, *written]),
+        "fe2o3_scram_record_of_nobody": (number, [number, read, length, read, length, length, number, record]),
+        "fe2o3_scram_record_verify": (number, [record, read, length]),
+        "fe2o3_scram_server_first": (number, [record, server, read, read, length, *written]),
+        "fe2o3_scram_server_user": (number, [read, length, *written]),
+        "fe2o3_scram_server_final": (number, [record, server, read, length, *written]),
+        "fe2o3_scram_server_logged_in": (number, [server, *written]),
+        "fe2o3_status_text": (None, [number, text]),
+        "fe2o3_version": (number, []),
+        "fe2o3_size": (length, [number]),
+    }
+    for export, (answers, takes) in exports.items():
+        try:
+            function = getattr(library, export)
+        except AttributeError:
+            raise OSError(f"{name} does not export {export}") from None
+        function.restype = answers
+        function.argtypes = takes
+    for which, struct in enumerate(_SIZED):
+        size = int(library.fe2o3_size(which))
+        if size != ctypes.sizeof(struct):
+            raise OSError(f"{name} does not fit: struct {which} has {size} bytes, and here {ctypes.sizeof(struct)}")
+    return library
+
+
+_library = _load(os.environ.get("FE2O3_SASL_LIB") or "libfe2o3_sasl.so.0")
+
+
+def library_version() -> tuple[int, int, int]:
+    """The version of the library."""
+    number = int(_library.fe2o3_version())
+    return number // 10000, number // 100 % 100, number % 100
+
+
+def _status_text(status: int) -> str:
+    text = _TextStruct()
+    _library.fe2o3_status_text(status, ctypes.byref(text))
+    if not text.bytes:
+        return ""
+    return ctypes.string_at(text.bytes, text.bytes_len).rstrip(b"\0").decode("utf-8", "replace")
+
+
+def _done(status: int) -> None:
+    if status != Status.DONE:
+        raise Refused(status, _status_text(status))
+
+
+def _written(room: int, call: Callable[..., int]) -> bytes:
+    """The text that a call writes: `call` is given the room, its length, and where the length of the text goes. A
+    call for which this room is too small has changed nothing, and is made again with one that suffices."""
+    length = ctypes.c_size_t(room)
+    for _ in range(2):
+        given = length.value
+        out = ctypes.create_string_buffer(max(given, 1))
+        status = call(out, given, ctypes.byref(length))
+        if status != Status.ROOM_TOO_SMALL:
+            break
+    _done(status)
+    return out.raw[: length.value]
+
+
+def _bytes(value: Bytes) -> bytes:
+    # (`bytes(5)` would be five zeros, and a class of another's could tell another length than there is)
+    return value if type(value) is bytes else memoryview(value).tobytes()
+
+
+def _text(value: Text) -> bytes:
+    # What is no text, such as half of a surrogate pair, the library refuses, without a word of it in an exception.
+    return str.encode(value, "utf-8", "surrogatepass") if isinstance(value, str) else _bytes(value)
+
+
+def _number(value: int, most: int = 0xFFFFFFFF) -> int:
+    # (ctypes would cut off what does not fit)
+    number = operator.index(value)
+    if not 0 <= number <= most:
+        raise ValueError(f"not from 0 to {most}")
+    return number
+
+
+class Keys:
+    """What a client keeps in place of its password: a secret, with which one can log in. It does not change."""
+
+    __slots__ = ("_struct",)
+
+    def __init__(self, version: int, iterations: int, salt: Bytes, client_key: Bytes, server_key: Bytes) -> None:
+        """The keys of these fields, which an earlier login handed out."""
+        if version not in _DIGEST_LENGTHS:
+            raise ValueError("the version is none of SHA_1, SHA_256 and SHA_512")
+        digest_length = _DIGEST_LENGTHS[version]
+        salt, client_key, server_key = _bytes(salt), _bytes(client_key), _bytes(server_key)
+        if len(salt) > 128:
+            raise ValueError("the salt has more than 128 bytes")
+        if len(client_key) != digest_length or len(server_key) != digest_length:
+            raise ValueError("a key is not as long as a digest of the version")
+        struct = _KeysStruct(version=version, iterations=_number(iterations), salt_len=len(salt))
+        ctypes.memmove(struct.salt, salt, len(salt))
+        ctypes.memmove(struct.client_key, client_key, digest_length)
+        ctypes.memmove(struct.server_key, server_key, digest_length)
+        self._struct = struct
+
+    @classmethod
+    def _of(cls, struct: _KeysStruct) -> Keys:
+        keys = cls.__new__(cls)
+        keys._struct = struct
+        return keys
+
+    @classmethod
+    def make(cls, version: int, password: Text, salt: Bytes, iterations: int) -> Keys:
+        """The keys that stand in place of a password, for a server that keeps this salt and this count."""
+        struct, secret, salt = _KeysStruct(), _text(password), _bytes(salt)
+        _done(
+            _library.fe2o3_scram_keys_make(
+                _number(version), secret, len(secret), salt, len(salt), _number(iterations), ctypes.byref(struct)
+            )
+        )
+        return cls._of(struct)
+
+    @property
+    def version(self) -> int:
+        """The hash: SHA_1, SHA_256 or SHA_512."""
+        return int(self._struct.version)
+
+    @property
+    def iterations(self) -> int:
+        """The iteration count that they are of."""
+        return int(self._struct.iterations)
+
+    @property
+    def salt(self) -> bytes:
+        """The salt that they are of."""
+        return bytes(self._struct.salt)[: self._struct.salt_len]
+
+    @property
+    def client_key(self) -> bytes:
+        """The ClientKey, a secret."""
+        return bytes(self._struct.client_key)[: _DIGEST_LENGTHS[self.version]]
+
+    @property
+    def server_key(self) -> bytes:
+        """The ServerKey, a secret."""
+        return bytes(self._struct.server_key)[: _DIGEST_LENGTHS[self.version]]
+
+    def __repr__(self) -> str:
+        return f"Keys(version={self.version}, iterations={self.iterations})"
+
+
+class Record:
+    """What a server keeps of a password. It does not change."""
+
+    __slots__ = ("_struct",)
+
+    def __init__(self) -> None:
+        raise TypeError("a record is made by Record.make, Record.parse or Record.of_nobody")
+
+    @classmethod
+    def _of(cls, struct: _RecordStruct) -> Record:
+        record = cls.__new__(cls)
+        record._struct = struct
+        return record
+
+    _struct: _RecordStruct
+
+    @classmethod
+    def make(cls, version: int, password: Text, *, salt: Optional[Bytes] = None, iterations: int = 4096) -> Record:
+        """The record of a password. Where no salt is given it is 16 random bytes."""
+        struct, secret = _RecordStruct(), _text(password)
+        salt = secrets.token_bytes(16) if salt is None else _bytes(salt)
+        _done(
+            _library.fe2o3_scram_record_make(
+                _number(version), secret, len(secret), salt, len(salt), _number(iterations), ctypes.byref(struct)
+            )
+        )
+        return cls._of(struct)
+
+    @classmethod
+    def parse(cls, text: Text) -> Record:
+        """The record of a text, as PostgreSQL writes it (RFC 5803, section 2)."""
+        struct, spelled = _RecordStruct(), _text(text)
+        _done(_library.fe2o3_scram_record_parse(spelled, len(spelled), ctypes.byref(struct)))
+        return cls._of(struct)
+
+    @classmethod
+    def of_nobody(
+        cls, version: int, secret: Bytes, username: Text, *, salt_length: int = 16, iterations: int = 4096
+    ) -> Record:
+        """A record for a name that a server does not know, so that it can answer as to one that it knows: the login
+        is refused at its proof. The secret is 32 random bytes or more, the same for all names and kept as long as the
+        records; the length of the salt, of at most 64, and the count are those of the server's other records."""
+        struct, secret, name = _RecordStruct(), _bytes(secret), _text(username)
+        if len(secret) < 32:
+            raise ValueError("the secret has fewer than 32 bytes")
+        _done(
+            _library.fe2o3_scram_record_of_nobody(
+                _number(version),
+                secret,
+                len(secret),
+                name,
+                len(name),
+                _number(salt_length),
+                _number(iterations),
+                ctypes.byref(struct),
+            )
+        )
+        return cls._of(struct)
+
+    def text(self) -> str:
+        """The text of the record, as PostgreSQL reads it (RFC 5803, section 2). Whoever has it can try passwords."""
+        return _written(384, lambda *room: _library.fe2o3_scram_record_text(self._struct, *room)).decode("ascii")
+
+    def verify(self, password: Text) -> bool:
+        """Whether a password that was told, as by PLAIN, is that of the record. Raises `Refused` where it is not
+        UTF-8 or memory ran out."""
+        told = _text(password)
+        status = _library.fe2o3_scram_record_verify(self._struct, told, len(told))
+        if status == Status.OTHER_PASSWORD:
+            return False
+        _done(status)
+        return True
+
+    @property
+    def version(self) -> int:
+        """The hash: SHA_1, SHA_256 or SHA_512."""
+        return int(self._struct.version)
+
+    @property
+    def iterations(self) -> int:
+        """The iteration count."""
+        return int(self._struct.iterations)
+
+    @property
+    def salt(self) -> bytes:
+        """The salt."""
+        return bytes(self._struct.salt)[: self._struct.salt_len]
+
+    def __repr__(self) -> str:
+        return f"Record(version={self.version}, iterations={self.iterations})"
+
+
+class Client:
+    """One who logs in: by the password, by the keys of an earlier login, or by both: then by the keys where the server
+    names the salt and the count that they are of, and else by the password.
+
+    The calls come in the order `first`, `final`, `verify`, and `first` starts afresh at any time. `verify` is the one
+    that tells whether the login is done.
+    """
+
+    __slots__ = ("_lock", "_login", "_struct")
+
+    def __init__(
+        self,
+        version: int,
+        username: Text,
+        password: Optional[Text] = None,
+        keys: Optional[Keys] = None,
+        *,
+        least_iterations: int = 4096,
+        most_iterations: int = 1_000_000,
+    ) -> None:
+        """A client that has sent nothing. It answers no iteration count below the least, which a server could name to
+        learn the password sooner (RFC 7677 asks for 4096 at least), and none above the most, which costs time."""
+        if password is None and keys is None:
+            raise ValueError("a login takes a password, keys, or both")
+        name, typed = _text(username), b"" if password is None else _text(password)
+        # 0 is the password, 1 the keys, 2 both.
+        secret = 0 if keys is None else 1 if password is None else 2
+        held = _KeysStruct() if keys is None else keys._struct
+        self._login = _LoginStruct(
+            version=_number(version),
+            secret=secret,
+            least_iterations=_number(least_iterations),
+            most_iterations=_number(most_iterations),
+            username=name,
+            username_len=len(name),
+            password=typed,
+            password_len=len(typed),
+            keys=ctypes.pointer(held),
+        )
+        self._struct = _ClientStruct()
+        self._lock = threading.RLock()
+
+    def first(self) -> bytes:
+        """The client-first message, with a fresh nonce."""
+        nonce = secrets.token_bytes(32)
+        with self._lock:
+            return _written(
+                512,
+                lambda *room: _library.fe2o3_scram_client_first(self._login, self._struct, nonce, *room),
+            )
+
+    def final(self, server_first: Bytes) -> bytes:
+        """The client-final message, which answers the server-first message."""
+        message = _bytes(server_first)
+        with self._lock:
+            return _written(
+                len(message) + 128,
+                lambda *room: _library.fe2o3_scram_client_final(
+                    self._login, self._struct, message, len(message), *room
+                ),
+            )
+
+    def verify(self, server_final: Bytes) -> None:
+        """Believes the server-final message, or raises `Refused`. The login is done only where this does not raise."""
+        message = _bytes(server_final)
+        with self._lock:
+            _done(_library.fe2o3_scram_client_verify(self._login, self._struct, message, len(message)))
+
+    def keys(self) -> Keys:
+        """The keys of a login whose server was believed: with them the next login to a server that keeps its salt and
+        its count takes no password, and little time. Whoever has them can log in."""
+        struct = _KeysStruct()
+        with self._lock:
+            _done(_library.fe2o3_scram_client_keys(self._struct, ctypes.byref(struct)))
+        return Keys._of(struct)
+
+    def __repr__(self) -> str:
+        return f"Client(version={int(self._login.version)})"
+
+
+class Server:
+    """One side of one login at a time, at a server. The calls come in the order `first`, `final`, and `first` starts
+    afresh at any time. The user is logged in only where `final` does not raise."""
+
+    __slots__ = ("_exchange", "_lock")
+
+    def __init__(self) -> None:
+        """A server without an open challenge."""
+        # The record that a challenge was made of, and the struct of the challenge: set at once, so that no challenge
+        # is ever answered by the record of another.
+        self._exchange = Record._of(_RecordStruct()), _ServerStruct()
+        self._lock = threading.RLock()
+
+    @staticmethod
+    def user(client_first: Bytes) -> str:
+        """The plain name of the user whom a client-first message names, and whose record is to be fetched."""
+        message = _bytes(client_first)
+        name = _written(256, lambda *room: _library.fe2o3_scram_server_user(message, len(message), *room))
+        return name.decode("utf-8")
+
+    def first(self, record: Record, client_first: Bytes) -> bytes:
+        """The server-first message, with a fresh nonce, which answers the client-first message. The record is that of
+        the user whom the message names, or `Record.of_nobody`."""
+        message, nonce, opened = _bytes(client_first), secrets.token_bytes(32), _ServerStruct()
+        answer = _written(
+            1024,
+            lambda *room: _library.fe2o3_scram_server_first(
+                record._struct, opened, nonce, message, len(message), *room
+            ),
+        )
+        with self._lock:
+            self._exchange = record, opened
+        return answer
+
+    def final(self, client_final: Bytes) -> bytes:
+        """The server-final message, which answers the client-final message where its proof meets the record."""
+        message = _bytes(client_final)
+        with self._lock:
+            record, opened = self._exchange
+            return _written(
+                90,
+                lambda *room: _library.fe2o3_scram_server_final(record._struct, opened, message, len(message), *room),
+            )
+
+    def logged_in(self) -> str:
+        """The plain name of the user who has logged in: the one whose challenge was answered."""
+        with self._lock:
+            opened = self._exchange[1]
+            name = _written(256, lambda *room: _library.fe2o3_scram_server_logged_in(opened, *room))
+        return name.decode("utf-8")
+
+    def __repr__(self) -> str:
+        return "Server()"

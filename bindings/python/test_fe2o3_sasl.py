@@ -1,0 +1,667 @@
+"""Tries fe2o3_sasl.py: each message against one that is made here by `hashlib` and `hmac` alone."""
+
+from __future__ import annotations
+
+import base64
+import ctypes
+import hashlib
+import hmac
+import os
+import random
+import re
+import threading
+import unittest
+from pathlib import Path
+from typing import Any, Callable, Optional
+from unittest import mock
+
+import fe2o3_sasl
+from fe2o3_sasl import SHA_1, SHA_256, SHA_512, Client, Keys, Record, Refused, Server, Status
+
+VERSIONS = {SHA_1: "sha1", SHA_256: "sha256", SHA_512: "sha512"}
+MECHANISMS = {SHA_1: "SCRAM-SHA-1", SHA_256: "SCRAM-SHA-256", SHA_512: "SCRAM-SHA-512"}
+HEADER = Path(__file__).resolve().parent.parent / "c" / "fe2o3_sasl.h"
+LIBRARY: Any = fe2o3_sasl._library
+
+SALT = bytes(range(16))
+OTHER_SALT = bytes(range(100, 124))
+NAMES = ["user", "", "a=b,c", "=2C", "J\u00fcrgen \U0001f600", "x" * 240]
+PASSWORDS = ["pencil", "", " ~!,=", "p" * 200]
+
+
+# SCRAM again, apart from the library.
+
+
+def base64_of(value: bytes) -> bytes:
+    return base64.b64encode(value)
+
+
+def mac(version: int, key: bytes, *texts: bytes) -> bytes:
+    return hmac.new(key, b"".join(texts), VERSIONS[version]).digest()
+
+
+def exclusive_or(one: bytes, other: bytes) -> bytes:
+    return bytes(a ^ b for a, b in zip(one, other))
+
+
+class Secret:
+    """The keys of a password."""
+
+    def __init__(self, version: int, password: str, salt: bytes, iterations: int) -> None:
+        salted = hashlib.pbkdf2_hmac(VERSIONS[version], password.encode(), salt, iterations)
+        self.version, self.salt, self.iterations = version, salt, iterations
+        self.client_key = mac(version, salted, b"Client Key")
+        self.server_key = mac(version, salted, b"Server Key")
+        self.stored_key = hashlib.new(VERSIONS[version], self.client_key).digest()
+
+    def record_text(self) -> str:
+        salt, stored, server = (base64_of(x).decode() for x in (self.salt, self.stored_key, self.server_key))
+        return f"{MECHANISMS[self.version]}${self.iterations}:{salt}${stored}:{server}"
+
+    def server_first(self, client_nonce: bytes, server_nonce: bytes) -> bytes:
+        return b"r=%s%s,s=%s,i=%d" % (
+            base64_of(client_nonce),
+            base64_of(server_nonce),
+            base64_of(self.salt),
+            self.iterations,
+        )
+
+    def finals(self, bare: bytes, server_first: bytes) -> tuple[bytes, bytes]:
+        """The client-final and the server-final message."""
+        without_proof = b"c=biws," + server_first.split(b",")[0]
+        exchange = b",".join((bare, server_first, without_proof))
+        proof = exclusive_or(self.client_key, mac(self.version, self.stored_key, exchange))
+        client_final = without_proof + b",p=" + base64_of(proof)
+        return client_final, b"v=" + base64_of(mac(self.version, self.server_key, exchange))
+
+
+def bare_of(name: str, client_nonce: bytes) -> bytes:
+    return b"n=" + name.replace("=", "=3D").replace(",", "=2C").encode() + b",r=" + base64_of(client_nonce)
+
+
+def nonces(*values: bytes) -> Any:
+    return mock.patch("secrets.token_bytes", side_effect=list(values))
+
+
+def login(client: Client, server: Server, record: Record) -> None:
+    server_first = server.first(record, client.first())
+    client.verify(server.final(client.final(server_first)))
+
+
+class Case(unittest.TestCase):
+    def refused(self, status: int, call: Callable[..., object], *arguments: object) -> None:
+        with self.assertRaises(Refused) as caught:
+            call(*arguments)
+        self.assertEqual(caught.exception.status, status)
+        self.assertTrue(caught.exception.text)
+
+
+class Logins(Case):
+    def test_each_message_of_each_hash(self) -> None:
+        client_nonce, server_nonce = os.urandom(32), os.urandom(32)
+        for version in VERSIONS:
+            for number, name in enumerate(NAMES):
+                password = PASSWORDS[number % len(PASSWORDS)]
+                iterations = 4096 + number
+                with self.subTest(version=version, name=name, password=password):
+                    known = Secret(version, password, SALT, iterations)
+                    record = Record.make(version, password, salt=SALT, iterations=iterations)
+                    client, server = Client(version, name, password), Server()
+                    with nonces(client_nonce, server_nonce):
+                        client_first = client.first()
+                        server_first = server.first(record, client_first)
+                    bare = bare_of(name, client_nonce)
+                    self.assertEqual(client_first, b"n,," + bare)
+                    self.assertEqual(Server.user(client_first), name)
+                    self.assertEqual(server_first, known.server_first(client_nonce, server_nonce))
+                    client_final = client.final(server_first)
+                    server_final = server.final(client_final)
+                    self.assertEqual((client_final, server_final), known.finals(bare, server_first))
+                    client.verify(server_final)
+                    self.assertEqual(server.logged_in(), name)
+                    keys = client.keys()
+                    self.assertEqual(
+                        (keys.version, keys.iterations, keys.salt, keys.client_key, keys.server_key),
+                        (version, iterations, SALT, known.client_key, known.server_key),
+                    )
+
+    def test_keys(self) -> None:
+        for version in VERSIONS:
+            with self.subTest(version=version):
+                record = Record.make(version, "pencil", salt=SALT)
+                other = Record.make(version, "pencil", salt=OTHER_SALT)
+                made = Keys.make(version, "pencil", SALT, 4096)
+                again = Keys(version, 4096, made.salt, made.client_key, made.server_key)
+                self.assertEqual(bytes(made._struct), bytes(again._struct))
+                server = Server()
+                login(Client(version, "user", keys=again), server, record)
+                self.assertEqual(server.logged_in(), "user")
+                client = Client(version, "user", keys=made)
+                self.refused(Status.CLIENT_OTHER_KEYS, login, client, Server(), other)
+                # With both: by the keys, also where the password is another, and else by the password.
+                both = Client(version, "user", "pencils", made)
+                login(both, Server(), record)
+                self.refused(Status.SERVER_AUTHENTICATION_FAILED, login, both, Server(), other)
+                both = Client(version, "user", "pencil", made)
+                login(both, Server(), other)
+                self.assertEqual(both.keys().salt, OTHER_SALT)
+
+    def test_iteration_limits(self) -> None:
+        for version in VERSIONS:
+            low, high = (Record.make(version, "pencil", iterations=count) for count in (4095, 4097))
+            self.refused(
+                Status.CLIENT_ITERATION_COUNT_TOO_SMALL, login, Client(version, "user", "pencil"), Server(), low
+            )
+            login(Client(version, "user", "pencil", least_iterations=4095), Server(), low)
+            client = Client(version, "user", "pencil", most_iterations=4096)
+            self.refused(Status.CLIENT_ITERATION_COUNT_TOO_LARGE, login, client, Server(), high)
+
+    def test_wrong_password_and_unknown_user(self) -> None:
+        secret = os.urandom(32)
+        for version in VERSIONS:
+            with self.subTest(version=version):
+                record, server = Record.make(version, "pencil"), Server()
+                client = Client(version, "u", "pencils")
+                self.refused(Status.SERVER_AUTHENTICATION_FAILED, login, client, server, record)
+                self.refused(Status.SERVER_ILLEGAL_AUTHENTICATOR_STATE, server.logged_in)
+                nobody = Record.of_nobody(version, secret, "u", salt_length=20, iterations=5000)
+                salt = hmac.new(secret, b"Salt:u", "sha512").digest()[:20]
+                stored, server_key = mac(version, secret, b"StoredKey:u"), mac(version, secret, b"ServerKey:u")
+                self.assertEqual(
+                    nobody.text(),
+                    f"{MECHANISMS[version]}$5000:{base64_of(salt).decode()}"
+                    f"${base64_of(stored).decode()}:{base64_of(server_key).decode()}",
+                )
+                self.refused(Status.SERVER_AUTHENTICATION_FAILED, login, Client(version, "u", "pencil"), server, nobody)
+                self.assertFalse(nobody.verify("pencil"))
+        self.refused(Status.TOO_LONG, lambda: Record.of_nobody(SHA_256, secret, "u", salt_length=65))
+        with self.assertRaises(ValueError):
+            Record.of_nobody(SHA_256, secret[:31], "u")
+
+    def test_another_server_is_not_believed(self) -> None:
+        client, server = Client(SHA_256, "user", "pencil"), Server()
+        record = Record.make(SHA_256, "pencil")
+        server_final = server.final(client.final(server.first(record, client.first())))
+        before = bytes(client._struct)
+        for other in (b"", b"v=", b"v=AAAA", b"e=other-error", server_final[:-4], server_final + b"A", b"\xff"):
+            with self.assertRaises(Refused):
+                client.verify(other)
+            self.assertEqual(bytes(client._struct), before)
+            self.refused(Status.CLIENT_ILLEGAL_CLIENT_STATE, client.keys)
+        client.verify(server_final)
+
+    def test_threads(self) -> None:
+        record = Record.make(SHA_256, "pencil")
+        keys = Keys.make(SHA_256, "pencil", record.salt, 4096)
+        done: list[str] = []
+
+        def some() -> None:
+            for number in range(50):
+                server = Server()
+                login(Client(SHA_256, f"user {number}", keys=keys), server, record)
+                done.append(server.logged_in())
+
+        threads = [threading.Thread(target=some) for _ in range(4)]
+        for thread in threads:
+            thread.start()
+        for thread in threads:
+            thread.join()
+        self.assertEqual(sorted(done), sorted([f"user {number}" for number in range(50)] * 4))
+
+
+class Records(Case):
+    def test_text_and_verify(self) -> None:
+        for version in VERSIONS:
+            for password in PASSWORDS:
+                for salt in (b"", SALT, os.urandom(128)):
+                    for iterations in (1, 2, 4096):
+                        record = Record.make(version, password, salt=salt, iterations=iterations)
+                        text = record.text()
+                        self.assertEqual(text, Secret(version, password, salt, iterations).record_text())
+                        self.assertEqual(bytes(Record.parse(text)._struct), bytes(record._struct))
+                        self.assertTrue(record.verify(password))
+                        self.assertFalse(record.verify(password + "s"))
+                        self.assertFalse(record.verify("\u00e9"))
+                        self.assertEqual((record.version, record.iterations, record.salt), (version, iterations, salt))
+        self.assertNotEqual(Record.make(SHA_1, "a").salt, Record.make(SHA_1, "a").salt)
+
+    def test_example_of_the_standard(self) -> None:
+        # RFC 7677, section 3. Its messages cannot be met, since its nonces are not 32 bytes in base64; its record can.
+        salt = base64.b64decode("W22ZaJ0SNY7soEsUEjb6gQ==")
+        text = (
+            "SCRAM-SHA-256$4096:W22ZaJ0SNY7soEsUEjb6gQ==$"
+            "WG5d8oPm3OtcPnkdi4Uo7BkeZkBFzpcXkuLmtbsT4qY=:wfPLwcE6nTWhTAmQ7tl2KeoiWGPlZqQxSrmfPwDl2dU="
+        )
+        self.assertEqual(Record.make(SHA_256, "pencil", salt=salt).text(), text)
+        self.assertTrue(Record.parse(text).verify("pencil"))
+        # What is written above, against the messages of the example.
+        known = Secret(SHA_256, "pencil", salt, 4096)
+        server_first = b"r=rOprNGfwEbeRWgbNEkqO%hvYDpWUa2RaTCAfuxFIlj)hNlF$k0,s=W22ZaJ0SNY7soEsUEjb6gQ==,i=4096"
+        self.assertEqual(
+            known.finals(b"n=user,r=rOprNGfwEbeRWgbNEkqO", server_first),
+            (
+                b"c=biws,r=rOprNGfwEbeRWgbNEkqO%hvYDpWUa2RaTCAfuxFIlj)hNlF$k0,"
+                b"p=dHzbZapWIk4jUhN+Ute9ytag9zjfMHgsqmmiz7AndVQ=",
+                b"v=6rriTRBi23WpRR/wtup+mMhUZUn/dB5nLTJRsjl95G4=",
+            ),
+        )
+
+    def test_refusals(self) -> None:
+        text = Record.make(SHA_256, "pencil").text()
+        for spelled, status in {
+            "": Status.RECORD_PARTS_MISMATCH,
+            text + ":": Status.RECORD_PARTS_MISMATCH,
+            "X" + text: Status.RECORD_UNKNOWN_MECHANISM,
+            text.replace("$4096", "$04096"): Status.RECORD_ITERATION_COUNT_PARSE_ERROR,
+            text.replace("$4096", "$0"): Status.RECORD_ITERATION_COUNT_PARSE_ERROR,
+            text + "!": Status.RECORD_BASE64_DECODE_ERROR,
+            text.replace("256", "512"): Status.RECORD_KEY_LENGTH_MISMATCH,
+            "\ud800": Status.NOT_UTF8,
+        }.items():
+            with self.subTest(spelled=spelled):
+                self.refused(status, Record.parse, spelled)
+        for make in (
+            lambda version, password, salt, count: Record.make(version, password, salt=salt, iterations=count),
+            Keys.make,
+        ):
+            self.refused(Status.NO_SUCH_VERSION, make, 2, "a", SALT, 1)
+            self.refused(Status.NOT_UTF8, make, SHA_1, b"\xff", SALT, 1)
+            self.refused(Status.NOT_UTF8, make, SHA_1, "\ud800", SALT, 1)
+            self.refused(Status.TOO_LONG, make, SHA_1, "a", bytes(129), 1)
+            self.refused(Status.NOT_PRINTABLE, make, SHA_1, "\u00e9", SALT, 1)
+            self.refused(Status.NOT_PRINTABLE, make, SHA_1, "a\0b", SALT, 1)
+            self.refused(Status.ZERO_ITERATIONS, make, SHA_1, "a", SALT, 0)
+        self.refused(Status.NOT_UTF8, Record.parse(text).verify, b"\xff")
+
+
+class Arguments(Case):
+    def test_none_is_called_with_what_does_not_fit(self) -> None:
+        record: Any = Record.make(SHA_1, "a")
+        unfit: Any = None
+        for number in (-1, 2**32, 2**32 + 1, 2**64 + 1):
+            with self.assertRaises(ValueError):
+                Record.make(number, "a")
+            with self.assertRaises(ValueError):
+                Record.make(SHA_1, "a", iterations=number)
+            with self.assertRaises(ValueError):
+                Keys.make(SHA_1, "a", SALT, number)
+            with self.assertRaises(ValueError):
+                Client(SHA_1, "a", "a", least_iterations=number)
+            with self.assertRaises(ValueError):
+                Client(SHA_1, "a", "a", most_iterations=number)
+            with self.assertRaises(ValueError):
+                Record.of_nobody(SHA_1, bytes(32), "a", salt_length=number)
+        for unfit in (None, 5, 5.0, object()):
+            for call in (record.verify, Record.parse, Server.user, Client(SHA_1, "a", "a").verify, Server().final):
+                with self.assertRaises(TypeError):
+                    call(unfit)
+        for message in ("text", None, 3):
+            with self.assertRaises(TypeError):
+                Client(SHA_1, "a", "a").final(message)  # type: ignore[arg-type]
+        with self.assertRaises(ValueError):
+            Client(SHA_1, "a")
+        with self.assertRaises(TypeError):
+            Record()
+        for lengths in ((129, 20, 20), (16, 19, 20), (16, 20, 0), (16, 20, 64)):
+            with self.assertRaises(ValueError):
+                Keys(SHA_1, 1, *map(bytes, lengths))
+        with self.assertRaises(ValueError):
+            Keys(0, 1, b"", b"", b"")
+
+        class Longer(bytes):
+            def __len__(self) -> int:
+                return 1 << 40
+
+        self.assertTrue(Record.make(SHA_1, Longer(b"a"), salt=bytearray(SALT)).verify(memoryview(b"a")))
+
+    def test_logins_that_are_none(self) -> None:
+        keys = Keys.make(SHA_1, "pencil", SALT, 4096)
+        self.refused(Status.NO_SUCH_VERSION, Client(2, "user", "pencil").first)
+        self.refused(Status.NOT_UTF8, Client(SHA_1, b"\xff", "pencil").first)
+        self.refused(Status.OTHER_VERSION, Client(SHA_256, "user", keys=keys).first)
+        self.refused(Status.NO_KEYS, Client(SHA_1, "user", keys=Keys._of(fe2o3_sasl._KeysStruct())).first)
+        client = Client(SHA_1, "user", "\u00e9")
+        server_first = Server().first(Record.make(SHA_1, "pencil"), client.first())
+        self.refused(Status.CLIENT_NORMALIZE_ERROR, client.final, server_first)
+
+    def test_no_secret_is_shown(self) -> None:
+        password, name = "a rare password", "user"
+        record = Record.make(SHA_256, password)
+        client, server = Client(SHA_256, name, password), Server()
+        login(client, server, record)
+        keys = client.keys()
+        secret = Secret(SHA_256, password, record.salt, 4096)
+        shown = "".join(map(repr, (client, server, record, keys, client._struct, client._login, keys._struct)))
+        shown += "".join(map(str, (client, server, record, keys)))
+        for status in range(100):
+            try:
+                fe2o3_sasl._done(status)
+            except Refused as refused:
+                shown += repr(refused) + str(refused)
+        for part in (secret.client_key, secret.server_key, secret.stored_key):
+            for text in (repr(part), part.hex(), base64_of(part).decode()):
+                self.assertNotIn(text[4:20], shown)
+        self.assertNotIn(password, shown)
+
+
+class Refusals(Case):
+    def test_a_refusal_changes_nothing(self) -> None:
+        client, server, record = Client(SHA_256, "user", "pencil"), Server(), Record.make(SHA_256, "pencil")
+        other = Record.make(SHA_1, "pencil")
+
+        def stays(status: int, call: Callable[..., object], *arguments: object) -> None:
+            before = bytes(client._struct), bytes(server._exchange[1]), server._exchange[0]
+            self.refused(status, call, *arguments)
+            self.assertEqual((bytes(client._struct), bytes(server._exchange[1]), server._exchange[0]), before)
+
+        stays(Status.CLIENT_ILLEGAL_CLIENT_STATE, client.final, b"r=a,s=AAAA,i=4096")
+        stays(Status.CLIENT_ILLEGAL_CLIENT_STATE, client.verify, b"v=AAAA")
+        stays(Status.CLIENT_ILLEGAL_CLIENT_STATE, client.keys)
+        stays(Status.SERVER_ILLEGAL_AUTHENTICATOR_STATE, server.final, b"c=biws,r=a,p=AAAA")
+        stays(Status.SERVER_ILLEGAL_AUTHENTICATOR_STATE, server.logged_in)
+        client_first = client.first()
+        nonce = client_first.split(b"r=")[1]
+        server_first = server.first(record, client_first)
+        stays(Status.SERVER_UTF8_ERROR, server.first, other, b"\xff")
+        stays(Status.SERVER_CANNOT_PARSE_GS2_HEADER, server.first, other, b"y,,n=user,r=a")
+        stays(Status.SERVER_CANNOT_PARSE_USERNAME, server.first, other, b"n,,m=user,r=a")
+        stays(Status.SERVER_CANNOT_PARSE_USERNAME, server.first, other, b"n,,n=a=2D,r=a")
+        stays(Status.SERVER_CANNOT_PARSE_CLIENT_NONCE, server.first, other, b"n,,n=user")
+        stays(Status.TOO_LONG, server.first, other, b"n,,n=" + b"x" * 257 + b",r=a")
+        stays(Status.TOO_LONG, server.first, other, b"n,,n=user,r=" + b"x" * 1100)
+        stays(Status.CLIENT_UTF8_ERROR, client.final, b"\xff")
+        stays(Status.CLIENT_INSUFFICIENT_PARTS, client.final, b"r=a")
+        stays(Status.CLIENT_EXTENSION_NOT_SUPPORTED, client.final, b"m=a," + server_first)
+        stays(Status.CLIENT_NONCE_NOT_FOUND, client.final, b"x=a,s=AAAA,i=4096")
+        stays(Status.CLIENT_CLIENT_NONCE_MISMATCH, client.final, b"r=a,s=AAAA,i=4096")
+        stays(Status.CLIENT_SALT_NOT_FOUND, client.final, b"r=%sa,x=AAAA,i=4096" % nonce)
+        stays(Status.CLIENT_BASE64_DECODE_ERROR, client.final, b"r=%sa,s=!,i=4096" % nonce)
+        stays(Status.CLIENT_ITERATION_COUNT_NOT_FOUND, client.final, b"r=%sa,s=AAAA,x=4096" % nonce)
+        stays(Status.CLIENT_ITERATION_COUNT_PARSE_ERROR, client.final, b"r=%sa,s=AAAA,i=0" % nonce)
+        stays(Status.CLIENT_ITERATION_COUNT_TOO_SMALL, client.final, b"r=%sa,s=AAAA,i=4095" % nonce)
+        stays(Status.CLIENT_ITERATION_COUNT_TOO_LARGE, client.final, b"r=%sa,s=AAAA,i=4294967295" % nonce)
+        client_final = client.final(server_first)
+        without_proof = client_final[: client_final.index(b",p=")]
+        stays(Status.SERVER_CANNOT_PARSE_CLIENT_FINAL_MESSAGE, server.final, b"x=biws")
+        stays(Status.SERVER_INVALID_CHANNEL_BINDING, server.final, client_final.replace(b"biws", b"eSws"))
+        stays(Status.SERVER_INCORRECT_CLIENT_FINAL_NONCE, server.final, client_final.replace(b"r=", b"r=x"))
+        stays(Status.SERVER_PROOF_NOT_FOUND_IN_CLIENT_FINAL, server.final, without_proof)
+        stays(Status.SERVER_BASE64_DECODE_ERROR, server.final, without_proof + b",p=!")
+        stays(Status.SERVER_XOR_LENGTH_MISMATCH, server.final, without_proof + b",p=AAAA")
+        stays(Status.SERVER_AUTHENTICATION_FAILED, server.final, without_proof + b",p=" + base64_of(bytes(32)))
+        stays(Status.SERVER_CANNOT_PARSE_GS2_HEADER, server.first, other, b"")
+        # None of this stood in the way of the login.
+        client.verify(server.final(client_final))
+        self.assertEqual(server.logged_in(), "user")
+        stays(Status.SERVER_ILLEGAL_AUTHENTICATOR_STATE, server.final, client_final)
+
+    def test_a_room_that_is_too_small(self) -> None:
+        client, record = Client(SHA_512, "user", "pencil"), Record.make(SHA_512, "pencil")
+        given, server = (client._login, client._struct), fe2o3_sasl._ServerStruct()
+
+        def rooms(suffices: Optional[int], struct: ctypes.Structure, call: Callable[..., int]) -> bytes:
+            length = ctypes.c_size_t()
+            out = ctypes.create_string_buffer(b"\xa5" * 2048, 2048)
+            before = bytes(struct)
+            self.assertEqual(call(out, 0, ctypes.byref(length)), Status.ROOM_TOO_SMALL)
+            needed = length.value
+            self.assertEqual(call(out, needed - 1, ctypes.byref(length)), Status.ROOM_TOO_SMALL)
+            self.assertEqual((length.value, out.raw, bytes(struct)), (needed, b"\xa5" * 2048, before))
+            self.assertEqual(call(out, needed, ctypes.byref(length)), Status.DONE)
+            self.assertEqual(needed, length.value if suffices is None else suffices)
+            self.assertEqual(out.raw[length.value :], b"\xa5" * (2048 - length.value))
+            return out.raw[: length.value]
+
+        one, two = os.urandom(32), os.urandom(32)
+        first = rooms(None, client._struct, lambda *room: LIBRARY.fe2o3_scram_client_first(*given, one, *room))
+        known = record._struct, server
+        user = rooms(None, server, lambda *room: LIBRARY.fe2o3_scram_server_user(first, len(first), *room))
+        self.assertEqual(user, b"user")
+        challenge = rooms(
+            None,
+            server,
+            lambda *room: LIBRARY.fe2o3_scram_server_first(*known, two, first, len(first), *room),
+        )
+        final = rooms(
+            len(challenge) + 128,
+            client._struct,
+            lambda *room: LIBRARY.fe2o3_scram_client_final(*given, challenge, len(challenge), *room),
+        )
+        verdict = rooms(90, server, lambda *room: LIBRARY.fe2o3_scram_server_final(*known, final, len(final), *room))
+        client.verify(verdict)
+        told = rooms(None, server, lambda *room: LIBRARY.fe2o3_scram_server_logged_in(server, *room))
+        self.assertEqual(told, b"user")
+        text = rooms(None, record._struct, lambda *room: LIBRARY.fe2o3_scram_record_text(record._struct, *room))
+        self.assertEqual(text.decode(), record.text())
+        # A name that no room of the module's own suffices for.
+        name = "=" * 5000
+        self.assertEqual(Server.user(Client(SHA_1, name, "pencil").first()), name)
+
+
+class RandomStructs(Case):
+    """Structs of random bytes: each call answers a status, and what is refused is left as it was."""
+
+    COUNT = 10_000
+
+    def setUp(self) -> None:
+        self.random = random.Random(20240229)
+        self.answers: dict[str, set[int]] = {}
+
+    def filled(self, kind: Any) -> Any:
+        size = ctypes.sizeof(kind)
+        return kind.from_buffer_copy(self.random.getrandbits(8 * size).to_bytes(size, "little"))
+
+    def chance(self) -> bool:
+        return self.random.random() < 0.7
+
+    def marred(self, message: bytes) -> bytes:
+        at = self.random.randrange(len(message))
+        return message[:at] + bytes([self.random.randrange(256)]) + message[at + self.random.randrange(2) :]
+
+    def ask(self, name: str, structs: tuple[Any, ...], *arguments: Any, room: Optional[int] = None) -> Optional[bytes]:
+        """Calls, and answers the text that was written, if the call is done."""
+        before = [bytes(struct) for struct in structs]
+        length, out = ctypes.c_size_t(7), ctypes.create_string_buffer(b"\xa5" * 4096, 4096)
+        behind = () if room is None else (out, room, ctypes.byref(length))
+        status = getattr(LIBRARY, name)(*arguments, *behind)
+        self.assertIn(status, set(Status))
+        self.answers.setdefault(name, set()).add(status)
+        if status != Status.DONE:
+            self.assertEqual([bytes(struct) for struct in structs], before)
+            self.assertEqual(out.raw, b"\xa5" * 4096)
+            if status != Status.ROOM_TOO_SMALL:
+                self.assertEqual(length.value, 7)
+            return None
+        if room is None:
+            return b""
+        self.assertLessEqual(length.value, room)
+        self.assertEqual(out.raw[length.value :], b"\xa5" * (4096 - length.value))
+        return out.raw[: length.value]
+
+    def keys(self) -> Any:
+        keys = self.filled(fe2o3_sasl._KeysStruct)
+        if self.chance():
+            keys.version = self.random.choice(list(VERSIONS))
+        if self.chance():
+            keys.salt_len = self.random.randrange(140)
+        return keys
+
+    def test_clients(self) -> None:
+        finals = 0
+        for _ in range(self.COUNT):
+            client, keys, handed = self.filled(fe2o3_sasl._ClientStruct), self.keys(), self.keys()
+            if self.chance():
+                client.sent = self.random.randrange(5)
+            if self.chance():
+                client.signature_len = self.random.choice((0, 20, 32, 64, 65))
+            if self.chance():
+                client.keys = self.keys()
+            version = self.random.choice([*VERSIONS, 0, 2]) if self.chance() else keys.version
+            who = fe2o3_sasl._LoginStruct(
+                version=version,
+                secret=self.random.randrange(4),
+                least_iterations=self.random.randrange(3),
+                most_iterations=self.random.randrange(2, 9),
+                username=b"user",
+                username_len=4,
+                password=b"pencil",
+                password_len=6,
+                keys=ctypes.pointer(keys),
+            )
+            salt, count = bytes(keys.salt)[: min(keys.salt_len, 128)], self.random.randrange(1, 9)
+            if self.chance():
+                keys.iterations = count
+            nonce = bytes(client.nonce)
+            server_first = b"r=%sx,s=%s,i=%d" % (base64_of(nonce), base64_of(salt), count)
+            signature = bytes(client.signature)[: client.signature_len]
+            given = who, client
+            self.ask("fe2o3_scram_client_keys", (client, handed), client, handed)
+            started = fe2o3_sasl._ClientStruct.from_buffer_copy(client)
+            self.ask("fe2o3_scram_client_first", (started,), who, started, nonce, room=self.random.randrange(120))
+            believing = fe2o3_sasl._ClientStruct.from_buffer_copy(client)
+            server_final = b"v=" + base64_of(signature)
+            sent = client.sent
+            believed = self.ask(
+                "fe2o3_scram_client_verify", (believing,), who, believing, server_final, len(server_final)
+            )
+            if believed is not None:
+                self.assertEqual((sent, believing.sent), (2, 3))
+            for message in (self.marred(server_first), os.urandom(self.random.randrange(40))):
+                other = fe2o3_sasl._ClientStruct.from_buffer_copy(client)
+                self.ask("fe2o3_scram_client_final", (other,), who, other, message, len(message), room=1024)
+                other = fe2o3_sasl._ClientStruct.from_buffer_copy(client)
+                self.ask("fe2o3_scram_client_verify", (other,), who, other, message, len(message))
+            final = self.ask("fe2o3_scram_client_final", (client,), *given, server_first, len(server_first), room=1024)
+            if final is not None:
+                self.assertEqual((sent, client.sent), (1, 2))
+                known = Secret(version, "pencil", salt, count)
+                if who.secret == 1 or (who.secret == 2 and keys.iterations == count):
+                    digest = len(known.client_key)
+                    known.client_key = bytes(keys.client_key)[:digest]
+                    known.server_key = bytes(keys.server_key)[:digest]
+                    known.stored_key = hashlib.new(VERSIONS[version], known.client_key).digest()
+                message, verdict = known.finals(bare_of("user", nonce), server_first)
+                self.assertEqual(final, message)
+                self.ask("fe2o3_scram_client_verify", (client,), *given, verdict, len(verdict))
+                self.assertEqual(client.sent, 3)
+                finals += 1
+        self.assertGreater(finals, 100)
+        for name, statuses in self.answers.items():
+            self.assertIn(Status.DONE, statuses, name)
+            self.assertGreater(len(statuses), 1, name)
+
+    def test_servers(self) -> None:
+        for _ in range(self.COUNT):
+            server, record = self.filled(fe2o3_sasl._ServerStruct), self.filled(fe2o3_sasl._RecordStruct)
+            if self.chance():
+                server.stands = self.random.randrange(4)
+            for field, most in (("user", 256), ("bare", 1024), ("nonce", 512), ("first", 1024)):
+                if self.random.random() < 0.9:
+                    setattr(server, field + "_len", self.random.randrange(most + 2))
+            if self.chance():
+                server.user_len = self.random.randrange(3)
+            if self.chance():
+                nonce = base64_of(os.urandom(33))
+                server.nonce_len = len(nonce)
+                ctypes.memmove(server.nonce, nonce, len(nonce))
+            if self.chance():
+                record.version = self.random.choice(list(VERSIONS))
+            if self.chance():
+                record.salt_len = self.random.randrange(140)
+            proof = b""
+            within = max(server.bare_len, server.first_len) <= 1024 and server.nonce_len <= 512
+            if within and record.version in VERSIONS:
+                # The proof that meets this struct, by a record whose key is known.
+                version = record.version
+                client_key = os.urandom(hashlib.new(VERSIONS[version]).digest_size)
+                stored = hashlib.new(VERSIONS[version], client_key).digest()
+                ctypes.memmove(record.stored_key, stored, len(stored))
+                parts = (
+                    bytes(server.bare)[: server.bare_len],
+                    bytes(server.first)[: server.first_len],
+                    b"c=biws,r=" + bytes(server.nonce)[: server.nonce_len],
+                )
+                proof = exclusive_or(client_key, mac(version, stored, b",".join(parts)))
+                if self.random.random() < 0.1:
+                    proof = proof[::-1]
+            client_final = b"c=biws,r=" + bytes(server.nonce)[: min(server.nonce_len, 512)] + b",p=" + base64_of(proof)
+            stands = server.stands
+            self.ask("fe2o3_scram_server_logged_in", (server,), server, room=self.random.choice((0, 256)))
+            self.ask("fe2o3_scram_record_text", (record,), record, room=self.random.choice((200, 384)))
+            again = fe2o3_sasl._ServerStruct.from_buffer_copy(server)
+            first = b"n,,n=user,r=" + base64_of(os.urandom(32))
+            self.ask(
+                "fe2o3_scram_server_first",
+                (again, record),
+                record,
+                again,
+                os.urandom(32),
+                first,
+                len(first),
+                room=self.random.choice((100, 1024)),
+            )
+            for message in (self.marred(client_final), self.marred(first), os.urandom(self.random.randrange(40))):
+                for export in ("fe2o3_scram_server_first", "fe2o3_scram_server_final"):
+                    other = fe2o3_sasl._ServerStruct.from_buffer_copy(server)
+                    nonce_too = [os.urandom(32)] if export == "fe2o3_scram_server_first" else []
+                    self.ask(export, (other, record), record, other, *nonce_too, message, len(message), room=1024)
+            final = self.ask(
+                "fe2o3_scram_server_final",
+                (server, record),
+                record,
+                server,
+                client_final,
+                len(client_final),
+                room=self.random.choice((89, 90, 90, 90)),
+            )
+            if final is not None:
+                self.assertEqual((stands, server.stands), (1, 2))
+                key = bytes(record.server_key)[: len(proof)]
+                self.assertEqual(final, b"v=" + base64_of(mac(record.version, key, b",".join(parts))))
+            # (a count of random bytes could take hours)
+            record.iterations = self.random.randrange(4)
+            meets = record.version in VERSIONS and record.salt_len <= 128 and record.iterations > 0 and self.chance()
+            if meets:
+                known = Secret(record.version, "pencil", bytes(record.salt)[: record.salt_len], record.iterations)
+                ctypes.memmove(record.stored_key, known.stored_key, len(known.stored_key))
+                ctypes.memmove(record.server_key, known.server_key, len(known.server_key))
+            verified = self.ask("fe2o3_scram_record_verify", (record,), record, b"pencil", 6)
+            self.assertEqual(verified is not None, meets)
+        for name, statuses in self.answers.items():
+            self.assertIn(Status.DONE, statuses, name)
+            self.assertGreater(len(statuses), 1, name)
+
+
+class Declarations(Case):
+    def test_statuses_are_those_of_the_header(self) -> None:
+        declared = re.findall(r"^    FE2O3_(\w+) = (\d+)", HEADER.read_text(encoding="utf-8"), re.MULTILINE)
+        self.assertEqual([(name, int(number)) for name, number in declared], [(x.name, x.value) for x in Status])
+
+    def test_exports_are_those_of_the_header(self) -> None:
+        declared = set(re.findall(r"\b(fe2o3_\w+)\(\n?", HEADER.read_text(encoding="utf-8")))
+        written = set(re.findall(r'"(fe2o3_\w+)": \(', Path(fe2o3_sasl.__file__).read_text(encoding="utf-8")))
+        self.assertEqual(written, declared)
+
+    def test_texts_of_statuses(self) -> None:
+        texts = {fe2o3_sasl._status_text(status) for status in Status}
+        self.assertNotIn("", texts)
+        self.assertEqual(fe2o3_sasl._status_text(4_000_000_000), "Unknown status")
+
+    def test_a_library_that_does_not_fit(self) -> None:
+        fits = {which: ctypes.sizeof(struct) for which, struct in enumerate(fe2o3_sasl._SIZED)}
+        for which in fits:
+            other = mock.MagicMock()
+            other.fe2o3_size.side_effect = lambda asked: fits[asked] + (asked == which)
+            with mock.patch("ctypes.CDLL", return_value=other), self.assertRaises(OSError):
+                fe2o3_sasl._load("other")
+        with self.assertRaises(OSError):
+            fe2o3_sasl._load("libc.so.6")
+        with self.assertRaises(OSError):
+            fe2o3_sasl._load("there is none")
+
+    def test_version(self) -> None:
+        self.assertEqual(len(fe2o3_sasl.library_version()), 3)
+
+
+if __name__ == "__main__":
+    unittest.main()
