@@ -107,8 +107,6 @@ kinds! {
         IllegalClientState = CLIENT_ILLEGAL_CLIENT_STATE,
         /// The server-final message does not begin with `v=`, or has another signature.
         ServerSignatureMismatch = CLIENT_SERVER_SIGNATURE_MISMATCH,
-        /// The salt of the server is longer than the 128 bytes that the library has for it.
-        TooLong = TOO_LONG,
         /// There was no memory. Nothing has changed, and the call can be made again.
         OutOfMemory = OUT_OF_MEMORY,
     }

@@ -177,7 +177,6 @@ fn what_a_client_refuses() {
     assert_eq!(client.compute_client_final_message("r=x,s=YQ==,i=2"), Err(IllegalClientState));
     assert_eq!(client.validate_server_final(b"v=YQ=="), Err(IllegalClientState));
     let nonce = challenged(&mut client);
-    let long_salt = format!("s={}", "YWFh".repeat(43));
     let rows = [
         (format!("r={}x,s=YQ==", nonce), InsufficientParts),
         (format!("m=x,r={}x,s=YQ==,i=2", nonce), ExtensionNotSupported),
@@ -189,7 +188,6 @@ fn what_a_client_refuses() {
         (format!("r={}x,s=YQ==,i=two", nonce), IterationCountParseError),
         (format!("r={}x,s=YQ==,i=1", nonce), IterationCountTooSmall),
         (format!("r={}x,s=YQ==,i=4097", nonce), IterationCountTooLarge),
-        (format!("r={}x,{},i=2", nonce, long_salt), TooLong),
     ];
     for (message, why) in rows {
         assert_eq!(client.compute_client_final_message(&message), Err(why), "{}", message);
