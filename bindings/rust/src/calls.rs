@@ -45,7 +45,8 @@ pub fn library_version() -> u32 {
 
 /// The text of a status.
 pub(crate) fn text_of(status: u32) -> &'static str {
-    let mut text = sys::Text { bytes: b"\0".as_ptr(), bytes_len: 1 };
+    let none: &[u8] = &[];
+    let mut text = sys::Text { bytes: none.as_ptr(), bytes_len: 0 };
     // SAFETY: `text` is a struct of this function, and any status has its text. The text that the call lends stands for
     // ever, for as many bytes as its length says.
     let bytes: &'static [u8] = unsafe {

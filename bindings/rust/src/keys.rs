@@ -4,8 +4,14 @@ use crate::calls::{done, head, put};
 use crate::{sys, RecordError, ScramVersion};
 use std::fmt;
 
-pub(crate) const NO_KEYS: sys::ClientKeys =
-    sys::ClientKeys { version: 0, iterations: 0, salt_len: 0, salt: [0; 128], client_key: [0; 64], server_key: [0; 64] };
+pub(crate) const NO_KEYS: sys::ClientKeys = sys::ClientKeys {
+    version: 0,
+    iterations: 0,
+    salt_len: 0,
+    salt: [0; 128],
+    client_key: [0; 64],
+    server_key: [0; 64],
+};
 
 /// The keys that stand in place of a password, for a server that keeps its salt and its count: a secret, with which one
 /// can log in.

@@ -35,6 +35,7 @@ mod keys;
 mod records;
 mod server;
 #[allow(dead_code, missing_docs)]
+#[rustfmt::skip]
 mod sys;
 mod version;
 

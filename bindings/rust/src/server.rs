@@ -259,13 +259,7 @@ fn named_user(client_first: &[u8]) -> Result<String, ServerScramErrorKind> {
         // SAFETY: the message is a slice that lives through the call; the room and its length are borrowed for writing,
         // and so overlap nothing.
         unsafe {
-            sys::fe2o3_scram_server_user(
-                client_first.as_ptr(),
-                client_first.len(),
-                out.as_mut_ptr(),
-                out.len(),
-                len,
-            )
+            sys::fe2o3_scram_server_user(client_first.as_ptr(), client_first.len(), out.as_mut_ptr(), out.len(), len)
         }
     })
     .map_err(ServerScramErrorKind::of)?;

@@ -93,6 +93,14 @@ fn logins_by_keys() {
 }
 
 #[test]
+fn a_salt_longer_than_keys_have_room_for_is_answered() {
+    let mut client = ScramClient::new("user", "pencil", ScramVersion::Sha256);
+    let nonce = challenged(&mut client);
+    let challenge = format!("r={}x,s={},i=1", nonce, "YWFh".repeat(43));
+    assert!(client.compute_client_final_message(&challenge).is_ok());
+}
+
+#[test]
 fn a_wrong_password() {
     let refused = Err(Refused::ByServer(ServerScramErrorKind::AuthenticationFailed));
     for version in VERSIONS {
@@ -162,7 +170,7 @@ fn what_is_no_record() {
     assert_eq!(parsed("SCRAM-SHA-256$1:YQ==$YQ==:YQ=="), RecordTextError::KeyLengthMismatch);
 }
 
-/// A server-first message that goes on as told behind the client's nonce, and a client that waits for one.
+/// The nonce of a client-first message, for a server-first message that is written by hand.
 fn challenged(client: &mut ScramClient) -> String {
     let client_first = client.compute_client_first_message();
     text(&client_first).split(",r=").nth(1).unwrap().to_string()
@@ -171,9 +179,8 @@ fn challenged(client: &mut ScramClient) -> String {
 #[test]
 fn what_a_client_refuses() {
     use ScramErrorKind::*;
-    let mut client = ScramClient::new("user", "pencil", ScramVersion::Sha256)
-        .with_least_iterations(2)
-        .with_iteration_limit(4096);
+    let mut client =
+        ScramClient::new("user", "pencil", ScramVersion::Sha256).with_least_iterations(2).with_iteration_limit(4096);
     assert_eq!(client.compute_client_final_message("r=x,s=YQ==,i=2"), Err(IllegalClientState));
     assert_eq!(client.validate_server_final(b"v=YQ=="), Err(IllegalClientState));
     let nonce = challenged(&mut client);
@@ -186,6 +193,7 @@ fn what_a_client_refuses() {
         (format!("r={}x,s=YQ=,i=2", nonce), Base64DecodeError),
         (format!("r={}x,s=YQ==,j=2", nonce), IterationCountNotFound),
         (format!("r={}x,s=YQ==,i=two", nonce), IterationCountParseError),
+        (format!("r={}x,s=YQ==,i=0", nonce), IterationCountParseError),
         (format!("r={}x,s=YQ==,i=1", nonce), IterationCountTooSmall),
         (format!("r={}x,s=YQ==,i=4097", nonce), IterationCountTooLarge),
     ];
@@ -222,8 +230,12 @@ fn what_a_server_refuses_first() {
     for (message, why) in rows {
         assert_eq!(server.compute_server_first_message(message), Err(why), "{:?}", message);
     }
-    let long = format!("n,,n=user,r={}", "x".repeat(2000));
+    let long = format!("n,,n=user,r={}", "x".repeat(512));
     assert_eq!(server.compute_server_first_message(long.as_bytes()), Err(TooLong));
+    let mut answers_all = self::server(ScramVersion::Sha256, &SALT).hiding_unknown_users(SECRET, 16, 4096);
+    let mut named = |len| answers_all.compute_server_first_message(format!("n,,n={},r=x", "u".repeat(len)).as_bytes());
+    assert!(matches!(named(256), Ok(Some(_))));
+    assert_eq!(named(257), Err(TooLong));
     assert_eq!(server.compute_server_final_message(b"c=biws"), Err(IllegalAuthenticatorState));
 }
 
