@@ -178,8 +178,8 @@ impl ScramClient {
         done(status).map_err(ScramErrorKind::of)
     }
 
-    /// The keys of a login whose server was believed; `None` before that, and where the server's salt is longer than the
-    /// 128 bytes that keys have room for. Whoever has them can log in.
+    /// The keys of a login whose server was believed; `None` before that, and where the server's salt is longer than
+    /// the 128 bytes that keys have room for. Whoever has them can log in.
     pub fn keys(&self) -> Option<ScramClientKeys> {
         let mut keys = NO_KEYS;
         // SAFETY: the state is borrowed, and the struct is one of this function.
