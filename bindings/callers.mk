@@ -1,9 +1,10 @@
-# The library for callers in C and in Rust; the repository's Makefile includes this. `lib` needs `rt`, and what is built
+# The library for callers in C, Rust and Python; the repository's Makefile includes this. `lib` needs `rt`, and what is built
 # of it ar, ld, objcopy, a C compiler and Python 3.
 #
 #   make lib       proves crates/sasl_c, and builds build/libfe2o3_sasl.a, .so and the file for pkg-config
 #   make header    writes the C header and the Rust declarations from the sources
 #   make callers   compares these, and builds and runs the programs of bindings/c: plain, shared and sanitized
+#   make rust      tests the crate of bindings/rust, which needs cargo and no other crate
 #   make python    tries the module of bindings/python over the shared library
 #   make install   PREFIX, LIBDIR, INCLUDEDIR, DOCDIR and DESTDIR as usual
 #   make dist      the same into build/fe2o3_sasl-VERSION-CPU.tar.gz, whose bytes depend on the files alone
@@ -27,7 +28,7 @@ WARNINGS = -Wall -Wextra -Wpedantic
 SANITIZERS = -g -O1 -fsanitize=address,undefined -fno-sanitize-recover=all
 PROGRAMS = fits scram threads
 
-.PHONY: lib header header-check callers python install dist build/fe2o3_sasl.pc
+.PHONY: lib header header-check callers rust python install dist build/fe2o3_sasl.pc
 
 lib:
 	cd crates/sasl_c && rt lib --cpu $(CPU)
@@ -88,6 +89,9 @@ callers: header-check $(foreach kind,plain shared sanitized,$(PROGRAMS:%=build/c
 	    echo "$$program $$kind"; \
 	    LD_LIBRARY_PATH=build build/callers/$${program}_$$kind || exit 1; \
 	done; done
+
+rust: build/libfe2o3_sasl.a
+	cd bindings/rust && FE2O3_SASL_LIB=$(abspath build) CARGO_TARGET_DIR=$(abspath build/rust) cargo test --offline
 
 python: build/libfe2o3_sasl.so
 	FE2O3_SASL_LIB=$(abspath build/libfe2o3_sasl.so) python3 -B bindings/python/test_fe2o3_sasl.py

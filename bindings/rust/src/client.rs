@@ -1,0 +1,199 @@
+//! The client's side of an exchange.
+
+use crate::calls::{done, filled};
+use crate::keys::NO_KEYS;
+use crate::{generate_nonce, sys, ScramClientKeys, ScramErrorKind, ScramVersion};
+use std::fmt;
+use std::marker::PhantomData;
+
+const NOTHING_SENT: sys::ScramClient =
+    sys::ScramClient { sent: 0, signature_len: 0, nonce: [0; 32], signature: [0; 64], keys: NO_KEYS };
+
+/// Which secrets a login has, by the numbers of the library.
+const PASSWORD: u32 = 0;
+const KEYS: u32 = 1;
+const PASSWORD_AND_KEYS: u32 = 2;
+
+/// Who logs in, and by what.
+#[derive(Clone)]
+struct Who {
+    username: String,
+    password: String,
+    keys: sys::ClientKeys,
+    secret: u32,
+    version: ScramVersion,
+    least_iterations: u32,
+    most_iterations: u32,
+}
+
+/// A login of the library, whose pointers are to what is borrowed for `'a`.
+struct Lent<'a> {
+    login: sys::Login,
+    who: PhantomData<&'a Who>,
+}
+
+impl Who {
+    fn lend(&self) -> Lent<'_> {
+        let login = sys::Login {
+            version: self.version.number(),
+            secret: self.secret,
+            least_iterations: self.least_iterations,
+            most_iterations: self.most_iterations,
+            username: self.username.as_ptr(),
+            username_len: self.username.len(),
+            password: self.password.as_ptr(),
+            password_len: self.password.len(),
+            keys: &self.keys,
+        };
+        Lent { login, who: PhantomData }
+    }
+}
+
+/// A client of one user.
+///
+/// The keys that a login hands out stand in place of the password at the next one:
+///
+/// ```
+/// use fe2o3_sasl_proved::*;
+///
+/// # fn main() -> Result<(), Box<dyn std::error::Error>> {
+/// fn log_in(
+///     client: &mut ScramClient,
+///     server: &mut ScramAuthenticator<SingleScramCredential>,
+/// ) -> Result<(), Box<dyn std::error::Error>> {
+///     let client_first = client.compute_client_first_message();
+///     let server_first = server.compute_server_first_message(&client_first)?.ok_or("no such user")?;
+///     let client_final = client.compute_client_final_message(std::str::from_utf8(&server_first)?)?;
+///     let server_final = server.compute_server_final_message(&client_final)?.ok_or("no such user")?;
+///     Ok(client.validate_server_final(&server_final)?)
+/// }
+///
+/// let mut server = ScramAuthenticator::new(SingleScramCredential::new("user", "pencil", ScramVersion::Sha256)?);
+/// let mut client = ScramClient::new("user", "pencil", ScramVersion::Sha256).with_least_iterations(4096);
+/// log_in(&mut client, &mut server)?;
+///
+/// let keys = client.keys().ok_or("not logged in")?;
+/// log_in(&mut ScramClient::with_keys("user", keys), &mut server)?;
+/// # Ok(())
+/// # }
+/// ```
+#[derive(Clone)]
+pub struct ScramClient {
+    who: Who,
+    state: sys::ScramClient,
+}
+
+impl ScramClient {
+    /// A client that logs in by a password.
+    pub fn new(username: impl Into<String>, password: impl Into<String>, scram_version: ScramVersion) -> Self {
+        Self::by(username.into(), password.into(), NO_KEYS, PASSWORD, scram_version)
+    }
+
+    /// A client that logs in by the keys of an earlier login.
+    pub fn with_keys(username: impl Into<String>, keys: ScramClientKeys) -> Self {
+        Self::by(username.into(), String::new(), keys.0, KEYS, keys.version())
+    }
+
+    /// A client that logs in by keys where the server names the salt and the count that they are of, and else by the
+    /// password.
+    pub fn with_password_and_keys(
+        username: impl Into<String>,
+        password: impl Into<String>,
+        keys: ScramClientKeys,
+    ) -> Self {
+        Self::by(username.into(), password.into(), keys.0, PASSWORD_AND_KEYS, keys.version())
+    }
+
+    fn by(username: String, password: String, keys: sys::ClientKeys, secret: u32, version: ScramVersion) -> Self {
+        let who = Who { username, password, keys, secret, version, least_iterations: 1, most_iterations: u32::MAX };
+        Self { who, state: NOTHING_SENT }
+    }
+
+    /// The same client, which refuses an iteration count above the limit. Without this there is none.
+    pub fn with_iteration_limit(mut self, limit: u32) -> Self {
+        self.who.most_iterations = limit;
+        self
+    }
+
+    /// The same client, which refuses an iteration count below the least. RFC 7677 asks for 4096 at least; without this
+    /// it is 1.
+    pub fn with_least_iterations(mut self, least: u32) -> Self {
+        self.who.least_iterations = least;
+        self
+    }
+
+    /// Writes the client-first message, which starts an exchange afresh at any time.
+    ///
+    /// # Panics
+    ///
+    /// Where there is no memory, or the system has no random bytes.
+    pub fn compute_client_first_message(&mut self) -> Vec<u8> {
+        self.compute_client_first_message_with(&generate_nonce()).expect("there is memory for a message")
+    }
+
+    /// The same with a nonce of the caller's: 32 random bytes, fresh for each exchange.
+    pub fn compute_client_first_message_with(&mut self, nonce: &[u8; 32]) -> Result<Vec<u8>, ScramErrorKind> {
+        let lent = self.who.lend();
+        let state = &mut self.state;
+        // (each `,` and each `=` of a name is written with three bytes)
+        let room = self.who.username.len().saturating_mul(3).saturating_add(64);
+        filled(room, |out, len| {
+            // SAFETY: the login's pointers are to what `lent` borrows; the state, the room and its length are borrowed
+            // for writing, and so overlap nothing.
+            unsafe { sys::fe2o3_scram_client_first(&lent.login, state, nonce, out.as_mut_ptr(), out.len(), len) }
+        })
+        .map_err(ScramErrorKind::of)
+    }
+
+    /// Answers the server-first message with the client-final message. A refusal leaves the client as it was.
+    pub fn compute_client_final_message(&mut self, server_first: &str) -> Result<Vec<u8>, ScramErrorKind> {
+        let lent = self.who.lend();
+        let state = &mut self.state;
+        filled(server_first.len() + 128, |out, len| {
+            // SAFETY: the login's pointers are to what `lent` borrows, and the message is a slice that lives through
+            // the call; the state, the room and its length are borrowed for writing, and so overlap nothing.
+            unsafe {
+                sys::fe2o3_scram_client_final(
+                    &lent.login,
+                    state,
+                    server_first.as_ptr(),
+                    server_first.len(),
+                    out.as_mut_ptr(),
+                    out.len(),
+                    len,
+                )
+            }
+        })
+        .map_err(ScramErrorKind::of)
+    }
+
+    /// Believes the server-final message, or refuses it. The login is done only where this is `Ok`.
+    pub fn validate_server_final(&mut self, server_final: &[u8]) -> Result<(), ScramErrorKind> {
+        let lent = self.who.lend();
+        // SAFETY: the login's pointers are to what `lent` borrows, and the message is a slice that lives through the
+        // call; the state is borrowed for writing, and so overlaps nothing.
+        let status = unsafe {
+            sys::fe2o3_scram_client_verify(&lent.login, &mut self.state, server_final.as_ptr(), server_final.len())
+        };
+        done(status).map_err(ScramErrorKind::of)
+    }
+
+    /// The keys of a login whose server was believed; `None` before that, and where the server's salt is longer than
+    /// the 128 bytes that keys have room for. Whoever has them can log in.
+    pub fn keys(&self) -> Option<ScramClientKeys> {
+        let mut keys = NO_KEYS;
+        // SAFETY: the state is borrowed, and the struct is one of this function.
+        let status = unsafe { sys::fe2o3_scram_client_keys(&self.state, &mut keys) };
+        done(status).ok()?;
+        Some(ScramClientKeys(keys))
+    }
+}
+
+impl fmt::Debug for ScramClient {
+    fn fmt(&self, f: &mut fmt::Formatter<'_>) -> fmt::Result {
+        f.debug_struct("ScramClient")
+            .field("username", &self.who.username)
+            .field("scram", &self.who.version)
+            .finish_non_exhaustive()
+    }
+}

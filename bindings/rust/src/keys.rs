@@ -1,0 +1,110 @@
+//! What a client keeps in place of its password.
+
+use crate::calls::{done, head, put};
+use crate::{sys, RecordError, ScramVersion};
+use std::fmt;
+
+pub(crate) const NO_KEYS: sys::ClientKeys = sys::ClientKeys {
+    version: 0,
+    iterations: 0,
+    salt_len: 0,
+    salt: [0; 128],
+    client_key: [0; 64],
+    server_key: [0; 64],
+};
+
+/// The keys that stand in place of a password, for a server that keeps its salt and its count: a secret, with which one
+/// can log in.
+///
+/// ```
+/// use fe2o3_sasl_proved::{ScramClientKeys, ScramVersion};
+///
+/// let keys = ScramClientKeys::from_password(ScramVersion::Sha256, "pencil", b"a salt of the server", 4096)?;
+/// let kept = ScramClientKeys::from_parts(
+///     keys.version(), keys.salt(), keys.iterations(), keys.client_key(), keys.server_key())?;
+/// assert!(kept.salt() == keys.salt() && kept.client_key() == keys.client_key());
+/// # Ok::<(), fe2o3_sasl_proved::RecordError>(())
+/// ```
+#[derive(Clone)]
+pub struct ScramClientKeys(pub(crate) sys::ClientKeys);
+
+impl ScramClientKeys {
+    /// The keys of a password.
+    pub fn from_password(
+        version: ScramVersion,
+        password: &str,
+        salt: &[u8],
+        iterations: u32,
+    ) -> Result<Self, RecordError> {
+        let mut keys = NO_KEYS;
+        // SAFETY: the texts are slices that live through the call, and the struct is one of this function.
+        let status = unsafe {
+            sys::fe2o3_scram_keys_make(
+                version.number(),
+                password.as_ptr(),
+                password.len(),
+                salt.as_ptr(),
+                salt.len(),
+                iterations,
+                &mut keys,
+            )
+        };
+        done(status).map_err(RecordError::of)?;
+        Ok(Self(keys))
+    }
+
+    /// Keys as they were kept, part by part.
+    pub fn from_parts(
+        version: ScramVersion,
+        salt: &[u8],
+        iterations: u32,
+        client_key: &[u8],
+        server_key: &[u8],
+    ) -> Result<Self, RecordError> {
+        if iterations == 0 {
+            return Err(RecordError::ZeroIterations);
+        }
+        if client_key.len() != version.digest_len() || server_key.len() != version.digest_len() {
+            return Err(RecordError::KeyLengthMismatch);
+        }
+        let mut keys = sys::ClientKeys { version: version.number(), iterations, ..NO_KEYS };
+        keys.salt_len = put(salt, &mut keys.salt).ok_or(RecordError::TooLong)?;
+        put(client_key, &mut keys.client_key).ok_or(RecordError::TooLong)?;
+        put(server_key, &mut keys.server_key).ok_or(RecordError::TooLong)?;
+        Ok(Self(keys))
+    }
+
+    /// The version that they are of.
+    pub fn version(&self) -> ScramVersion {
+        ScramVersion::of_keys(&self.0)
+    }
+
+    /// The salt that they are of.
+    pub fn salt(&self) -> &[u8] {
+        head(&self.0.salt, self.0.salt_len as usize)
+    }
+
+    /// The iteration count that they are of.
+    pub fn iterations(&self) -> u32 {
+        self.0.iterations
+    }
+
+    /// The ClientKey.
+    pub fn client_key(&self) -> &[u8] {
+        head(&self.0.client_key, self.version().digest_len())
+    }
+
+    /// The ServerKey.
+    pub fn server_key(&self) -> &[u8] {
+        head(&self.0.server_key, self.version().digest_len())
+    }
+}
+
+impl fmt::Debug for ScramClientKeys {
+    fn fmt(&self, f: &mut fmt::Formatter<'_>) -> fmt::Result {
+        f.debug_struct("ScramClientKeys")
+            .field("version", &self.version())
+            .field("iterations", &self.iterations())
+            .finish_non_exhaustive()
+    }
+}

@@ -1,0 +1,51 @@
+//! SCRAM (RFC 5802, RFC 7677) for safe Rust, by a proved static library. The names are those of the crate fe2o3-amqp.
+//!
+//! No proof covers this crate. Each of its calls of the library is an `unsafe` block that says why its pointers are
+//! what the library's C header asks for.
+//!
+//! A login, both sides in one program:
+//!
+//! ```
+//! use fe2o3_sasl_proved::{ScramAuthenticator, ScramClient, ScramVersion, SingleScramCredential};
+//!
+//! # fn main() -> Result<(), Box<dyn std::error::Error>> {
+//! let credential = SingleScramCredential::new("user", "pencil", ScramVersion::Sha256)?;
+//! let mut server = ScramAuthenticator::new(credential);
+//! let mut client = ScramClient::new("user", "pencil", ScramVersion::Sha256);
+//!
+//! let client_first = client.compute_client_first_message();
+//! let server_first = server.compute_server_first_message(&client_first)?.ok_or("no such user")?;
+//! let client_final = client.compute_client_final_message(std::str::from_utf8(&server_first)?)?;
+//! let server_final = server.compute_server_final_message(&client_final)?.ok_or("no such user")?;
+//! client.validate_server_final(&server_final)?;
+//!
+//! assert_eq!(server.user().as_deref(), Some("user"));
+//! # Ok(())
+//! # }
+//! ```
+//!
+//! Secrets are not wiped from memory, neither here nor in the library. No `Debug` shows one.
+#![deny(missing_docs)]
+#![deny(unsafe_op_in_unsafe_fn)]
+
+mod calls;
+mod client;
+mod errors;
+mod keys;
+mod records;
+mod server;
+#[allow(dead_code, missing_docs)]
+#[rustfmt::skip]
+mod sys;
+mod version;
+
+pub use calls::{fits, generate_nonce, library_version};
+pub use client::ScramClient;
+pub use errors::{RecordError, RecordTextError, ScramErrorKind, ServerScramErrorKind, Status};
+pub use keys::ScramClientKeys;
+pub use records::{ScramRecord, StoredPassword};
+pub use server::{ScramAuthenticator, ScramCredentialProvider, SingleScramCredential};
+pub use version::ScramVersion;
+
+/// The iteration count of a credential that names none.
+pub const DEFAULT_SCRAM_ITERATIONS: u32 = 4096;

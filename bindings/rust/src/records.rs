@@ -1,0 +1,198 @@
+//! What a server keeps of a password.
+
+use crate::calls::{done, filled, head, put};
+use crate::{sys, RecordError, RecordTextError, ScramVersion};
+use std::fmt;
+use std::str::FromStr;
+
+const NO_RECORD: sys::ScramRecord = sys::ScramRecord {
+    version: 0,
+    iterations: 0,
+    salt_len: 0,
+    salt: [0; 128],
+    stored_key: [0; 64],
+    server_key: [0; 64],
+};
+
+/// No text of a record is longer.
+const LONGEST_TEXT: usize = 384;
+
+/// What a store of credentials lends of a record. Who has the ServerKey can play the server.
+pub struct StoredPassword<'a> {
+    /// The salt.
+    pub salt: &'a [u8],
+
+    /// The iteration count.
+    pub iterations: u32,
+
+    /// The StoredKey, as long as a digest of the version.
+    pub stored_key: &'a [u8],
+
+    /// The ServerKey, as long as a digest of the version.
+    pub server_key: &'a [u8],
+}
+
+impl fmt::Debug for StoredPassword<'_> {
+    fn fmt(&self, f: &mut fmt::Formatter<'_>) -> fmt::Result {
+        f.debug_struct("StoredPassword").field("iterations", &self.iterations).finish_non_exhaustive()
+    }
+}
+
+/// What a server keeps of one password.
+///
+/// Its text is the one of PostgreSQL (RFC 5803, section 2):
+///
+/// ```
+/// use fe2o3_sasl_proved::{ScramRecord, ScramVersion};
+///
+/// # fn main() -> Result<(), Box<dyn std::error::Error>> {
+/// let record = ScramRecord::from_password(ScramVersion::Sha256, "pencil", b"random bytes", 4096)?;
+/// let read = ScramRecord::parse(&record.to_text())?;
+/// assert!(read.verify_password("pencil") && !read.verify_password("pencils"));
+/// # Ok(())
+/// # }
+/// ```
+#[derive(Clone)]
+pub struct ScramRecord(pub(crate) sys::ScramRecord);
+
+impl ScramRecord {
+    /// The record of a password. The salt is random, and fresh for each record.
+    pub fn from_password(
+        version: ScramVersion,
+        password: &str,
+        salt: &[u8],
+        iterations: u32,
+    ) -> Result<Self, RecordError> {
+        let mut record = NO_RECORD;
+        // SAFETY: the texts are slices that live through the call, and the struct is one of this function.
+        let status = unsafe {
+            sys::fe2o3_scram_record_make(
+                version.number(),
+                password.as_ptr(),
+                password.len(),
+                salt.as_ptr(),
+                salt.len(),
+                iterations,
+                &mut record,
+            )
+        };
+        done(status).map_err(RecordError::of)?;
+        Ok(Self(record))
+    }
+
+    /// The record that a store lends in parts.
+    pub fn from_parts(version: ScramVersion, stored: &StoredPassword<'_>) -> Result<Self, RecordError> {
+        if stored.iterations == 0 {
+            return Err(RecordError::ZeroIterations);
+        }
+        if stored.stored_key.len() != version.digest_len() || stored.server_key.len() != version.digest_len() {
+            return Err(RecordError::KeyLengthMismatch);
+        }
+        let mut record = sys::ScramRecord { version: version.number(), iterations: stored.iterations, ..NO_RECORD };
+        record.salt_len = put(stored.salt, &mut record.salt).ok_or(RecordError::TooLong)?;
+        put(stored.stored_key, &mut record.stored_key).ok_or(RecordError::TooLong)?;
+        put(stored.server_key, &mut record.server_key).ok_or(RecordError::TooLong)?;
+        Ok(Self(record))
+    }
+
+    /// Makes up a record for a name that a server does not know, so that it can answer as to one that it knows: the
+    /// login is refused at its proof. The secret is 32 random bytes, the same for all names and kept as long as the
+    /// records; the salt's length, of at most 64, and the count are those of the server's other records.
+    pub fn of_nobody(
+        version: ScramVersion,
+        secret: &[u8; 32],
+        username: &str,
+        salt_len: usize,
+        iterations: u32,
+    ) -> Result<Self, RecordError> {
+        if iterations == 0 {
+            return Err(RecordError::ZeroIterations);
+        }
+        let mut record = NO_RECORD;
+        // SAFETY: the secret and the name are slices that live through the call, and the struct is one of this
+        // function.
+        let status = unsafe {
+            sys::fe2o3_scram_record_of_nobody(
+                version.number(),
+                secret.as_ptr(),
+                secret.len(),
+                username.as_ptr(),
+                username.len(),
+                salt_len,
+                iterations,
+                &mut record,
+            )
+        };
+        done(status).map_err(RecordError::of)?;
+        Ok(Self(record))
+    }
+
+    /// Reads the text of a record.
+    pub fn parse(text: &str) -> Result<Self, RecordTextError> {
+        let mut record = NO_RECORD;
+        // SAFETY: the text is a slice that lives through the call, and the struct is one of this function.
+        let status = unsafe { sys::fe2o3_scram_record_parse(text.as_ptr(), text.len(), &mut record) };
+        done(status).map_err(RecordTextError::of)?;
+        Ok(Self(record))
+    }
+
+    /// Writes the text of the record.
+    ///
+    /// # Panics
+    ///
+    /// Where there is no memory.
+    pub fn to_text(&self) -> String {
+        let text = filled(LONGEST_TEXT, |out, len| {
+            // SAFETY: the record is borrowed; the room and its length are borrowed for writing, and so overlap nothing.
+            unsafe { sys::fe2o3_scram_record_text(&self.0, out.as_mut_ptr(), out.len(), len) }
+        });
+        String::from_utf8(text.expect("there is memory for a text")).expect("a record's text is ASCII")
+    }
+
+    /// Whether a password that was told, as by PLAIN, is that of the record. It is not where there is no memory.
+    pub fn verify_password(&self, password: &str) -> bool {
+        // SAFETY: the record is borrowed, and the password is a slice that lives through the call.
+        let status = unsafe { sys::fe2o3_scram_record_verify(&self.0, password.as_ptr(), password.len()) };
+        done(status).is_ok()
+    }
+
+    /// The version that the record is of.
+    pub fn version(&self) -> ScramVersion {
+        ScramVersion::of_record(&self.0)
+    }
+
+    /// The record in parts, as a store lends it.
+    pub fn as_stored_password(&self) -> StoredPassword<'_> {
+        let len = self.version().digest_len();
+        StoredPassword {
+            salt: head(&self.0.salt, self.0.salt_len as usize),
+            iterations: self.0.iterations,
+            stored_key: head(&self.0.stored_key, len),
+            server_key: head(&self.0.server_key, len),
+        }
+    }
+}
+
+/// The text of the record, which holds its keys.
+impl fmt::Display for ScramRecord {
+    fn fmt(&self, f: &mut fmt::Formatter<'_>) -> fmt::Result {
+        f.write_str(&self.to_text())
+    }
+}
+
+impl FromStr for ScramRecord {
+    type Err = RecordTextError;
+
+    fn from_str(text: &str) -> Result<Self, RecordTextError> {
+        Self::parse(text)
+    }
+}
+
+impl fmt::Debug for ScramRecord {
+    fn fmt(&self, f: &mut fmt::Formatter<'_>) -> fmt::Result {
+        f.debug_struct("ScramRecord")
+            .field("version", &self.version())
+            .field("iterations", &self.0.iterations)
+            .finish_non_exhaustive()
+    }
+}

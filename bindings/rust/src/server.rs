@@ -1,0 +1,275 @@
+//! The server's side of an exchange.
+
+use crate::calls::filled;
+use crate::{
+    generate_nonce, sys, ScramRecord, ScramVersion, ServerScramErrorKind, StoredPassword, DEFAULT_SCRAM_ITERATIONS,
+};
+use std::fmt;
+use std::sync::Arc;
+
+const NO_CHALLENGE: sys::ScramServer = sys::ScramServer {
+    stands: 0,
+    user_len: 0,
+    bare_len: 0,
+    nonce_len: 0,
+    first_len: 0,
+    user: [0; 256],
+    bare: [0; 1024],
+    nonce: [0; 512],
+    first: [0; 1024],
+};
+
+/// How a server's struct says that a challenge is open.
+const CHALLENGE_IS_OPEN: u32 = 1;
+
+/// A store of credentials.
+pub trait ScramCredentialProvider {
+    /// The version that the credentials are of.
+    fn scram_version(&self) -> &ScramVersion;
+
+    /// What is kept of the password of a user, whose name is plain; `None` where there is no such user. It is asked at
+    /// both messages of an exchange.
+    fn get_stored_password<'a>(&'a self, username: &str) -> Option<StoredPassword<'a>>;
+}
+
+impl<T: ScramCredentialProvider> ScramCredentialProvider for Arc<T> {
+    fn scram_version(&self) -> &ScramVersion {
+        self.as_ref().scram_version()
+    }
+
+    fn get_stored_password<'a>(&'a self, username: &str) -> Option<StoredPassword<'a>> {
+        self.as_ref().get_stored_password(username)
+    }
+}
+
+/// The credential of one user.
+#[derive(Clone)]
+pub struct SingleScramCredential {
+    scram_version: ScramVersion,
+    username: String,
+    record: ScramRecord,
+}
+
+impl SingleScramCredential {
+    /// The credential of a password, with 32 random bytes of salt and [`DEFAULT_SCRAM_ITERATIONS`].
+    ///
+    /// # Panics
+    ///
+    /// Where the system has no random bytes.
+    pub fn new(
+        username: impl Into<String>,
+        password: impl AsRef<str>,
+        scram_version: ScramVersion,
+    ) -> Result<Self, ServerScramErrorKind> {
+        let salt = generate_nonce();
+        let record = ScramRecord::from_password(scram_version, password.as_ref(), &salt, DEFAULT_SCRAM_ITERATIONS)?;
+        Ok(Self::with_record(username, record))
+    }
+
+    /// The credential of a record.
+    pub fn with_record(username: impl Into<String>, record: ScramRecord) -> Self {
+        Self { scram_version: record.version(), username: username.into(), record }
+    }
+}
+
+impl ScramCredentialProvider for SingleScramCredential {
+    fn scram_version(&self) -> &ScramVersion {
+        &self.scram_version
+    }
+
+    fn get_stored_password<'a>(&'a self, username: &str) -> Option<StoredPassword<'a>> {
+        if username == self.username {
+            Some(self.record.as_stored_password())
+        } else {
+            None
+        }
+    }
+}
+
+impl fmt::Debug for SingleScramCredential {
+    fn fmt(&self, f: &mut fmt::Formatter<'_>) -> fmt::Result {
+        f.debug_struct("SingleScramCredential")
+            .field("scram_version", &self.scram_version)
+            .field("username", &self.username)
+            .finish_non_exhaustive()
+    }
+}
+
+/// Of what records are made up for unknown names.
+#[derive(Clone)]
+struct Nobody {
+    secret: [u8; 32],
+    salt_len: usize,
+    iterations: u32,
+}
+
+/// A server over a store of credentials.
+///
+/// With `hiding_unknown_users` a stranger learns no names from its answers:
+///
+/// ```
+/// use fe2o3_sasl_proved::*;
+///
+/// # fn main() -> Result<(), Box<dyn std::error::Error>> {
+/// let credential = SingleScramCredential::new("user", "pencil", ScramVersion::Sha256)?;
+/// let secret = generate_nonce(); // in earnest kept as long as the records
+/// let mut server = ScramAuthenticator::new(credential).hiding_unknown_users(secret, 32, 4096);
+/// let mut client = ScramClient::new("nobody", "pencil", ScramVersion::Sha256);
+///
+/// let client_first = client.compute_client_first_message();
+/// let server_first = server.compute_server_first_message(&client_first)?.expect("each name is answered");
+/// let client_final = client.compute_client_final_message(std::str::from_utf8(&server_first)?)?;
+/// let refused = server.compute_server_final_message(&client_final);
+/// assert_eq!(refused, Err(ServerScramErrorKind::AuthenticationFailed));
+/// # Ok(())
+/// # }
+/// ```
+#[derive(Clone)]
+pub struct ScramAuthenticator<C: ScramCredentialProvider + Clone> {
+    credentials: C,
+    nobody: Option<Nobody>,
+    challenged: String,
+    state: sys::ScramServer,
+}
+
+impl<C: ScramCredentialProvider + Clone> ScramAuthenticator<C> {
+    /// A server without an open challenge, which answers an unknown user by `None`.
+    pub fn new(credentials: C) -> Self {
+        Self { credentials, nobody: None, challenged: String::new(), state: NO_CHALLENGE }
+    }
+
+    /// The same server, which answers an unknown user by a record that is made up ([`ScramRecord::of_nobody`]).
+    pub fn hiding_unknown_users(mut self, secret: [u8; 32], salt_len: usize, iterations: u32) -> Self {
+        self.nobody = Some(Nobody { secret, salt_len, iterations });
+        self
+    }
+
+    /// The store of credentials.
+    pub fn credentials(&self) -> &C {
+        &self.credentials
+    }
+
+    /// Answers a client-first message with the server-first message, which starts an exchange afresh at any time; or by
+    /// `None` where there is no such user.
+    ///
+    /// # Panics
+    ///
+    /// Where the system has no random bytes.
+    pub fn compute_server_first_message(
+        &mut self,
+        client_first: &[u8],
+    ) -> Result<Option<Vec<u8>>, ServerScramErrorKind> {
+        self.compute_server_first_message_with(client_first, &generate_nonce())
+    }
+
+    /// The same with a nonce of the caller's: 32 random bytes, fresh for each exchange.
+    pub fn compute_server_first_message_with(
+        &mut self,
+        client_first: &[u8],
+        nonce: &[u8; 32],
+    ) -> Result<Option<Vec<u8>>, ServerScramErrorKind> {
+        let username = named_user(client_first)?;
+        let record = match self.record(&username)? {
+            Some(record) => record,
+            None => return Ok(None),
+        };
+        let state = &mut self.state;
+        let message = filled(client_first.len() + 256, |out, len| {
+            // SAFETY: the record, the nonce and the message are borrowed and live through the call; the state, the room
+            // and its length are borrowed for writing, and so overlap nothing.
+            unsafe {
+                sys::fe2o3_scram_server_first(
+                    &record.0,
+                    state,
+                    nonce,
+                    client_first.as_ptr(),
+                    client_first.len(),
+                    out.as_mut_ptr(),
+                    out.len(),
+                    len,
+                )
+            }
+        })
+        .map_err(ServerScramErrorKind::of)?;
+        self.challenged = username;
+        Ok(Some(message))
+    }
+
+    /// Answers a client-final message with the server-final message, where its proof meets the record: the user is
+    /// logged in only where this is `Ok(Some(_))`. `None` is a user who is there no longer.
+    pub fn compute_server_final_message(
+        &mut self,
+        client_final: &[u8],
+    ) -> Result<Option<Vec<u8>>, ServerScramErrorKind> {
+        if self.state.stands != CHALLENGE_IS_OPEN {
+            return Err(ServerScramErrorKind::IllegalAuthenticatorState);
+        }
+        let record = match self.record(&self.challenged)? {
+            Some(record) => record,
+            None => return Ok(None),
+        };
+        let state = &mut self.state;
+        filled(90, |out, len| {
+            // SAFETY: the record and the message are borrowed and live through the call; the state, the room and its
+            // length are borrowed for writing, and so overlap nothing.
+            unsafe {
+                sys::fe2o3_scram_server_final(
+                    &record.0,
+                    state,
+                    client_final.as_ptr(),
+                    client_final.len(),
+                    out.as_mut_ptr(),
+                    out.len(),
+                    len,
+                )
+            }
+        })
+        .map(Some)
+        .map_err(ServerScramErrorKind::of)
+    }
+
+    /// The user who has logged in: the one whose challenge was answered.
+    pub fn user(&self) -> Option<String> {
+        let name = filled(self.state.user.len(), |out, len| {
+            // SAFETY: the state is borrowed; the room and its length are borrowed for writing, and so overlap nothing.
+            unsafe { sys::fe2o3_scram_server_logged_in(&self.state, out.as_mut_ptr(), out.len(), len) }
+        });
+        String::from_utf8(name.ok()?).ok()
+    }
+
+    /// The record of a user, or one that is made up; `None` where there is none and none is made up.
+    fn record(&self, username: &str) -> Result<Option<ScramRecord>, ServerScramErrorKind> {
+        let version = *self.credentials.scram_version();
+        if let Some(stored) = self.credentials.get_stored_password(username) {
+            return Ok(Some(ScramRecord::from_parts(version, &stored)?));
+        }
+        match &self.nobody {
+            Some(nobody) => {
+                let Nobody { secret, salt_len, iterations } = nobody;
+                Ok(Some(ScramRecord::of_nobody(version, secret, username, *salt_len, *iterations)?))
+            }
+            None => Ok(None),
+        }
+    }
+}
+
+/// The plain name of the user whom a client-first message names.
+fn named_user(client_first: &[u8]) -> Result<String, ServerScramErrorKind> {
+    let name = filled(client_first.len(), |out, len| {
+        // SAFETY: the message is a slice that lives through the call; the room and its length are borrowed for writing,
+        // and so overlap nothing.
+        unsafe {
+            sys::fe2o3_scram_server_user(client_first.as_ptr(), client_first.len(), out.as_mut_ptr(), out.len(), len)
+        }
+    })
+    .map_err(ServerScramErrorKind::of)?;
+    String::from_utf8(name).map_err(|_| ServerScramErrorKind::Utf8Error)
+}
+
+impl<C: ScramCredentialProvider + Clone> fmt::Debug for ScramAuthenticator<C> {
+    fn fmt(&self, f: &mut fmt::Formatter<'_>) -> fmt::Result {
+        f.debug_struct("ScramAuthenticator")
+            .field("scram_version", self.credentials.scram_version())
+            .finish_non_exhaustive()
+    }
+}

@@ -1,0 +1,332 @@
+//! Logins by each hash, both sides in one program, and what is refused.
+
+use fe2o3_sasl_proved::*;
+
+const VERSIONS: [ScramVersion; 3] = [ScramVersion::Sha1, ScramVersion::Sha256, ScramVersion::Sha512];
+const SALT: [u8; 16] = [4; 16];
+const OTHER_SALT: [u8; 16] = [5; 16];
+const SECRET: [u8; 32] = [3; 32];
+
+type Server = ScramAuthenticator<SingleScramCredential>;
+
+/// Where an exchange was refused.
+#[derive(Debug, PartialEq)]
+enum Refused {
+    ByClient(ScramErrorKind),
+    ByServer(ServerScramErrorKind),
+    NoSuchUser,
+}
+
+fn text(bytes: &[u8]) -> &str {
+    std::str::from_utf8(bytes).unwrap()
+}
+
+fn record(version: ScramVersion, salt: &[u8]) -> ScramRecord {
+    ScramRecord::from_password(version, "pencil", salt, 4096).unwrap()
+}
+
+fn server(version: ScramVersion, salt: &[u8]) -> Server {
+    ScramAuthenticator::new(SingleScramCredential::with_record("user", record(version, salt)))
+}
+
+/// The client's answer to the challenge, and the challenge.
+fn answered(client: &mut ScramClient, server: &mut Server) -> Result<(Vec<u8>, Vec<u8>), Refused> {
+    let client_first = client.compute_client_first_message();
+    let server_first = server.compute_server_first_message(&client_first).map_err(Refused::ByServer)?;
+    let server_first = server_first.ok_or(Refused::NoSuchUser)?;
+    let client_final = client.compute_client_final_message(text(&server_first)).map_err(Refused::ByClient)?;
+    Ok((client_final, server_first))
+}
+
+fn log_in(client: &mut ScramClient, server: &mut Server) -> Result<(), Refused> {
+    let (client_final, _) = answered(client, server)?;
+    let server_final = server.compute_server_final_message(&client_final).map_err(Refused::ByServer)?;
+    client.validate_server_final(&server_final.ok_or(Refused::NoSuchUser)?).map_err(Refused::ByClient)
+}
+
+#[test]
+fn the_library_is_the_one_of_the_declarations() {
+    assert!(fits());
+    assert!(library_version() > 0);
+}
+
+#[test]
+fn logins_by_password() {
+    for version in VERSIONS {
+        let mut server = server(version, &SALT);
+        assert_eq!(server.user(), None);
+        let mut client = ScramClient::new("user", "pencil", version).with_least_iterations(4096);
+        assert_eq!(log_in(&mut client, &mut server), Ok(()));
+        assert_eq!(server.user().as_deref(), Some("user"));
+    }
+}
+
+#[test]
+fn a_name_that_is_escaped() {
+    let name = "a,b=c,,==\u{e9}";
+    let record = record(ScramVersion::Sha256, &SALT);
+    let mut server = ScramAuthenticator::new(SingleScramCredential::with_record(name, record));
+    assert_eq!(log_in(&mut ScramClient::new(name, "pencil", ScramVersion::Sha256), &mut server), Ok(()));
+    assert_eq!(server.user().as_deref(), Some(name));
+}
+
+#[test]
+fn logins_by_keys() {
+    for version in VERSIONS {
+        let mut first = ScramClient::new("user", "pencil", version);
+        assert!(first.keys().is_none());
+        assert_eq!(log_in(&mut first, &mut server(version, &SALT)), Ok(()));
+        let keys = first.keys().unwrap();
+        let made = ScramClientKeys::from_password(version, "pencil", &SALT, 4096).unwrap();
+        assert!(keys.client_key() == made.client_key() && keys.server_key() == made.server_key());
+        assert!(keys.salt() == SALT && keys.iterations() == 4096 && keys.version() == version);
+
+        let mut by_keys = ScramClient::with_keys("user", keys.clone());
+        assert_eq!(log_in(&mut by_keys, &mut server(version, &SALT)), Ok(()));
+        let other_keys = Err(Refused::ByClient(ScramErrorKind::OtherKeys));
+        assert_eq!(log_in(&mut by_keys, &mut server(version, &OTHER_SALT)), other_keys);
+
+        let mut by_both = ScramClient::with_password_and_keys("user", "pencil", keys);
+        assert_eq!(log_in(&mut by_both, &mut server(version, &SALT)), Ok(()));
+        assert_eq!(log_in(&mut by_both, &mut server(version, &OTHER_SALT)), Ok(()));
+    }
+}
+
+#[test]
+fn a_salt_longer_than_keys_have_room_for_is_answered() {
+    let mut client = ScramClient::new("user", "pencil", ScramVersion::Sha256);
+    let nonce = challenged(&mut client);
+    let challenge = format!("r={}x,s={},i=1", nonce, "YWFh".repeat(43));
+    assert!(client.compute_client_final_message(&challenge).is_ok());
+}
+
+#[test]
+fn a_wrong_password() {
+    let refused = Err(Refused::ByServer(ServerScramErrorKind::AuthenticationFailed));
+    for version in VERSIONS {
+        let mut server = server(version, &SALT);
+        assert_eq!(log_in(&mut ScramClient::new("user", "pencils", version), &mut server), refused);
+        assert_eq!(server.user(), None);
+        assert_eq!(log_in(&mut ScramClient::new("user", "pencil", version), &mut server), Ok(()));
+    }
+}
+
+#[test]
+fn an_unknown_user() {
+    let refused = Err(Refused::ByServer(ServerScramErrorKind::AuthenticationFailed));
+    for version in VERSIONS {
+        let mut stranger = ScramClient::new("nobody", "pencil", version);
+        assert_eq!(log_in(&mut stranger, &mut server(version, &SALT)), Err(Refused::NoSuchUser));
+
+        let mut hiding = server(version, &SALT).hiding_unknown_users(SECRET, SALT.len(), 4096);
+        assert_eq!(log_in(&mut stranger, &mut hiding), refused);
+        assert_eq!(log_in(&mut ScramClient::new("user", "pencil", version), &mut hiding), Ok(()));
+
+        let made_up = || ScramRecord::of_nobody(version, &SECRET, "nobody", SALT.len(), 4096).unwrap().to_text();
+        assert_eq!(made_up(), made_up());
+    }
+}
+
+#[test]
+fn records() {
+    for version in VERSIONS {
+        let record = record(version, &SALT);
+        let read: ScramRecord = record.to_string().parse().unwrap();
+        assert_eq!(read.to_text(), record.to_text());
+        let parts = ScramRecord::from_parts(version, &read.as_stored_password()).unwrap();
+        assert_eq!(parts.to_text(), record.to_text());
+        assert!(parts.verify_password("pencil") && !parts.verify_password("pencils"));
+    }
+}
+
+#[test]
+fn the_record_of_the_example_in_rfc_7677() {
+    let text = "SCRAM-SHA-256$4096:W22ZaJ0SNY7soEsUEjb6gQ==$\
+        WG5d8oPm3OtcPnkdi4Uo7BkeZkBFzpcXkuLmtbsT4qY=:wfPLwcE6nTWhTAmQ7tl2KeoiWGPlZqQxSrmfPwDl2dU=";
+    let salt = [0x5b, 0x6d, 0x99, 0x68, 0x9d, 0x12, 0x35, 0x8e, 0xec, 0xa0, 0x4b, 0x14, 0x12, 0x36, 0xfa, 0x81];
+    assert_eq!(record(ScramVersion::Sha256, &salt).to_text(), text);
+}
+
+#[test]
+fn what_is_no_record() {
+    let version = ScramVersion::Sha256;
+    let made = |password, salt: &[u8], count| ScramRecord::from_password(version, password, salt, count).err();
+    assert_eq!(made("\u{e9}", &SALT, 4096), Some(RecordError::NotPrintable));
+    assert_eq!(made("pencil", &SALT, 0), Some(RecordError::ZeroIterations));
+    assert_eq!(made("pencil", &[0; 129], 1), Some(RecordError::TooLong));
+    let stored = StoredPassword { salt: &SALT, iterations: 4096, stored_key: &[0; 20], server_key: &[0; 32] };
+    assert_eq!(ScramRecord::from_parts(version, &stored).err(), Some(RecordError::KeyLengthMismatch));
+    let keys = |key: &[u8]| ScramClientKeys::from_parts(version, &SALT, 4096, key, key).err();
+    assert_eq!(keys(&[0; 64]), Some(RecordError::KeyLengthMismatch));
+    assert_eq!(ScramRecord::of_nobody(version, &SECRET, "nobody", 65, 1).err(), Some(RecordError::TooLong));
+    let new = SingleScramCredential::new("user", "\u{e9}", version);
+    assert_eq!(new.err(), Some(ServerScramErrorKind::NormalizeError));
+
+    let parsed = |text: &str| ScramRecord::parse(text).unwrap_err();
+    assert_eq!(parsed("SCRAM-SHA-256"), RecordTextError::PartsMismatch);
+    assert_eq!(parsed("SCRAM-MD5$1:YQ==$YQ==:YQ=="), RecordTextError::UnknownMechanism);
+    assert_eq!(parsed("SCRAM-SHA-256$01:YQ==$YQ==:YQ=="), RecordTextError::IterationCountParseError);
+    assert_eq!(parsed("SCRAM-SHA-256$1:YQ=$YQ==:YQ=="), RecordTextError::Base64DecodeError);
+    assert_eq!(parsed("SCRAM-SHA-256$1:YQ==$YQ==:YQ=="), RecordTextError::KeyLengthMismatch);
+}
+
+/// The nonce of a client-first message, for a server-first message that is written by hand.
+fn challenged(client: &mut ScramClient) -> String {
+    let client_first = client.compute_client_first_message();
+    text(&client_first).split(",r=").nth(1).unwrap().to_string()
+}
+
+#[test]
+fn what_a_client_refuses() {
+    use ScramErrorKind::*;
+    let mut client =
+        ScramClient::new("user", "pencil", ScramVersion::Sha256).with_least_iterations(2).with_iteration_limit(4096);
+    assert_eq!(client.compute_client_final_message("r=x,s=YQ==,i=2"), Err(IllegalClientState));
+    assert_eq!(client.validate_server_final(b"v=YQ=="), Err(IllegalClientState));
+    let nonce = challenged(&mut client);
+    let rows = [
+        (format!("r={}x,s=YQ==", nonce), InsufficientParts),
+        (format!("m=x,r={}x,s=YQ==,i=2", nonce), ExtensionNotSupported),
+        (format!("n={}x,s=YQ==,i=2", nonce), NonceNotFound),
+        ("r=x,s=YQ==,i=2".to_string(), ClientNonceMismatch),
+        (format!("r={}x,t=YQ==,i=2", nonce), SaltNotFound),
+        (format!("r={}x,s=YQ=,i=2", nonce), Base64DecodeError),
+        (format!("r={}x,s=YQ==,j=2", nonce), IterationCountNotFound),
+        (format!("r={}x,s=YQ==,i=two", nonce), IterationCountParseError),
+        (format!("r={}x,s=YQ==,i=0", nonce), IterationCountParseError),
+        (format!("r={}x,s=YQ==,i=1", nonce), IterationCountTooSmall),
+        (format!("r={}x,s=YQ==,i=4097", nonce), IterationCountTooLarge),
+    ];
+    for (message, why) in rows {
+        assert_eq!(client.compute_client_final_message(&message), Err(why), "{}", message);
+    }
+    // None of them has changed the client: it still answers a challenge to its nonce.
+    let answer = client.compute_client_final_message(&format!("r={}x,s=YQ==,i=2", nonce)).unwrap();
+    assert!(text(&answer).starts_with(&format!("c=biws,r={}x,p=", nonce)));
+    assert_eq!(client.validate_server_final(b"\xff"), Err(Utf8Error));
+    assert_eq!(client.validate_server_final(b"v=YQ="), Err(Base64DecodeError));
+    assert_eq!(client.validate_server_final(b"v=YQ=="), Err(ServerSignatureMismatch));
+    assert_eq!(client.validate_server_final(b"e=other-error"), Err(ServerSignatureMismatch));
+    assert!(client.keys().is_none());
+
+    let mut accented = ScramClient::new("user", "p\u{e9}ncil", ScramVersion::Sha256);
+    let nonce = challenged(&mut accented);
+    let refused = accented.compute_client_final_message(&format!("r={}x,s=YQ==,i=2", nonce));
+    assert_eq!(refused, Err(NormalizeError));
+}
+
+#[test]
+fn what_a_server_refuses_first() {
+    use ServerScramErrorKind::*;
+    let mut server = server(ScramVersion::Sha256, &SALT);
+    let rows: [(&[u8], ServerScramErrorKind); 6] = [
+        (b"n,,n=user,r=\xff", Utf8Error),
+        (b"y,,n=user,r=x", CannotParseGs2Header),
+        (b"n,,m=user,r=x", CannotParseUsername),
+        (b"n,,n=us=er,r=x", CannotParseUsername),
+        (b"n,,n=user", CannotParseClientNonce),
+        (b"n,,n=user,s=x", CannotParseClientNonce),
+    ];
+    for (message, why) in rows {
+        assert_eq!(server.compute_server_first_message(message), Err(why), "{:?}", message);
+    }
+    let long = format!("n,,n=user,r={}", "x".repeat(512));
+    assert_eq!(server.compute_server_first_message(long.as_bytes()), Err(TooLong));
+    let mut answers_all = self::server(ScramVersion::Sha256, &SALT).hiding_unknown_users(SECRET, 16, 4096);
+    let mut named = |len| answers_all.compute_server_first_message(format!("n,,n={},r=x", "u".repeat(len)).as_bytes());
+    assert!(matches!(named(256), Ok(Some(_))));
+    assert_eq!(named(257), Err(TooLong));
+    assert_eq!(server.compute_server_final_message(b"c=biws"), Err(IllegalAuthenticatorState));
+}
+
+#[test]
+fn what_a_server_refuses_last() {
+    use ServerScramErrorKind::*;
+    let mut client = ScramClient::new("user", "pencil", ScramVersion::Sha256);
+    let mut server = server(ScramVersion::Sha256, &SALT);
+    let (client_final, server_first) = answered(&mut client, &mut server).unwrap();
+    let nonce = text(&server_first).split(',').next().unwrap();
+    let other_proof = format!("c=biws,{},p={}=", nonce, "A".repeat(43));
+    let rows = [
+        (format!("b=biws,{},p=YQ==", nonce), CannotParseClientFinalMessage),
+        ("c=biws".to_string(), CannotParseClientFinalMessage),
+        (format!("c=eSws,{},p=YQ==", nonce), InvalidChannelBinding),
+        (format!("c=biw,{},p=YQ==", nonce), Base64DecodeError),
+        (format!("c=biws,{}x,p=YQ==", nonce), IncorrectClientFinalNonce),
+        (format!("c=biws,{}", nonce), ProofNotFoundInClientFinal),
+        (format!("c=biws,{},p=YQ=", nonce), Base64DecodeError),
+        (format!("c=biws,{},p=YQ==", nonce), XorLengthMismatch),
+        (other_proof, AuthenticationFailed),
+    ];
+    for (message, why) in rows {
+        assert_eq!(server.compute_server_final_message(message.as_bytes()), Err(why), "{}", message);
+    }
+    assert_eq!(server.compute_server_final_message(b"\xff"), Err(Utf8Error));
+    assert_eq!(server.compute_server_first_message(b"y,,"), Err(CannotParseGs2Header));
+    assert_eq!(server.compute_server_first_message(b"n,,n=nobody,r=x"), Ok(None));
+    assert_eq!(server.user(), None);
+    // None of them has closed the challenge: its answer still logs in, and once only.
+    let server_final = server.compute_server_final_message(&client_final).unwrap().unwrap();
+    assert_eq!(client.validate_server_final(&server_final), Ok(()));
+    assert_eq!(server.user().as_deref(), Some("user"));
+    assert_eq!(server.compute_server_final_message(&client_final), Err(IllegalAuthenticatorState));
+    assert_eq!(client.validate_server_final(&server_final), Err(ScramErrorKind::IllegalClientState));
+}
+
+/// A store that lends what is no record of its version.
+#[derive(Clone)]
+struct BadStore(u32, usize, usize);
+
+impl ScramCredentialProvider for BadStore {
+    fn scram_version(&self) -> &ScramVersion {
+        &ScramVersion::Sha256
+    }
+
+    fn get_stored_password<'a>(&'a self, _username: &str) -> Option<StoredPassword<'a>> {
+        let BadStore(iterations, salt_len, key_len) = *self;
+        let (salt, key) = (&[0; 200][..salt_len], &[0; 64][..key_len]);
+        Some(StoredPassword { salt, iterations, stored_key: key, server_key: key })
+    }
+}
+
+#[test]
+fn what_a_store_may_not_lend() {
+    let first = |store| ScramAuthenticator::new(store).compute_server_first_message(b"n,,n=user,r=x");
+    assert_eq!(first(BadStore(0, 16, 32)), Err(ServerScramErrorKind::ZeroIterations));
+    assert_eq!(first(BadStore(1, 129, 32)), Err(ServerScramErrorKind::TooLong));
+    assert_eq!(first(BadStore(1, 16, 20)), Err(ServerScramErrorKind::KeyLengthMismatch));
+    assert!(matches!(first(BadStore(1, 16, 32)), Ok(Some(_))));
+}
+
+#[test]
+fn no_debug_shows_a_secret() {
+    let version = ScramVersion::Sha256;
+    let (mut client, mut server) = (ScramClient::new("user", "pencil", version), server(version, &SALT));
+    log_in(&mut client, &mut server).unwrap();
+    let (keys, record) = (client.keys().unwrap(), record(version, &SALT));
+    let stored = record.as_stored_password();
+    let shown = format!("{:?}{:?}{:?}{:?}{:?}{:?}", client, server, keys, record, stored, server.credentials());
+    assert!(!shown.contains("pencil"));
+    // No array of bytes, and so no key, is shown.
+    assert!(!shown.contains('['));
+}
+
+#[test]
+fn errors_have_the_texts_of_the_library() {
+    fn shown(error: &dyn std::error::Error) -> String {
+        error.to_string()
+    }
+    assert_eq!(shown(&ScramErrorKind::NonceNotFound), "Client: Cannot find Nonce in challenge");
+    assert_eq!(shown(&ServerScramErrorKind::AuthenticationFailed), "Server: Authentication failed");
+    assert_eq!(shown(&RecordError::ZeroIterations), "The iteration count is 0");
+    assert_eq!(shown(&RecordTextError::UnknownMechanism), "Record: Unknown SCRAM mechanism");
+}
+
+#[test]
+fn all_of_it_may_go_to_another_thread() {
+    fn may<T: Send + Sync>() {}
+    may::<ScramClient>();
+    may::<ScramClientKeys>();
+    may::<ScramRecord>();
+    may::<Server>();
+}
