@@ -322,7 +322,8 @@ uint32_t fe2o3_scram_record_of_nobody(
     uint32_t iterations,
     struct fe2o3_scram_record *kept);
 
-/* Whether a password that was told, as by PLAIN, is that of the record: 0 where it is. */
+/* Whether a password that was told, as by PLAIN, is that of the record: 0 where it is. It hashes as often as the
+ * record's count says, so the record is to be one of the caller's own. */
 uint32_t fe2o3_scram_record_verify(
     const struct fe2o3_scram_record *kept,
     const uint8_t *password,

@@ -327,7 +327,8 @@ extern "C" {
         iterations: u32,
         kept: *mut ScramRecord) -> u32;
 
-    /// Whether a password that was told, as by PLAIN, is that of the record: 0 where it is.
+    /// Whether a password that was told, as by PLAIN, is that of the record: 0 where it is. It hashes as often as the
+    /// record's count says, so the record is to be one of the caller's own.
     pub fn fe2o3_scram_record_verify(kept: *const ScramRecord, password: *const u8, password_len: usize) -> u32;
 
     /// Answers a client-first message with the server-first message, which starts an exchange afresh at any time. The

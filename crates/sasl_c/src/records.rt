@@ -296,7 +296,8 @@ fn verify(alloc: Global, kept: &ScramRecord, password: &[u8]) -> Result<(), Stat
     }
 }
 
-/// Whether a password that was told, as by PLAIN, is that of the record: 0 where it is.
+/// Whether a password that was told, as by PLAIN, is that of the record: 0 where it is. It hashes as often as the
+/// record's count says, so the record is to be one of the caller's own.
 #[unsafe(no_mangle)]
 pub extern "C" fn fe2o3_scram_record_verify(
     alloc: Global,
