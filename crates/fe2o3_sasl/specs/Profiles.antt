@@ -1,5 +1,5 @@
 -- What a client's profile answers to one frame (AMQP 1.0, part 5, section 5.3.2).
-use Rattle.std.specs.Prelude.{◌≡◌, ◌⊎◌, ℕ, Option, Some, None, List, ◌∷◌, ◌++◌, codes, Result, Ok, Err}
+use Rattle.std.specs.Prelude.{◌≡◌, ◌⊎◌, ℕ, Bool, true, false, Option, Some, None, List, ◌∷◌, ◌++◌, codes, Result, Ok, Err}
 use Rattle.std.specs.List.{Contains}
 use Rattle.std.specs.Str.{IsUtf8}
 use Rattle.fe2o3_sasl_wire.specs.declared.amqp_types.SaslCode.TheVariants as outcomes
@@ -21,6 +21,11 @@ pub data Profile : Type 0 where
   PlainProfile : (user password : List ℕ) → Profile
   AnonymousProfile : Profile
   ExternalProfile : Profile
+
+-- whether it is of SCRAM
+abbrev pub is_scram : Profile → Bool
+is_scram (ScramProfile client) = true
+is_scram profile = false
 
 -- the name of its mechanism
 abbrev pub profile_name : Profile → List ℕ

@@ -11,12 +11,12 @@ ghost use Rattle.fe2o3_scram.specs.ClientKeys.{ClientKeys};
 ghost use Rattle.fe2o3_scram.specs.ScramClient.{Initial, ClientFirstSent, ClientFinalSent, answer_keys, login_keys};
 ghost use Rattle.fe2o3_scram.specs.Texts.{base64_text};
 ghost use Rattle.fe2o3_sasl.specs.Costs.{ProfileCosts};
-ghost use Rattle.fe2o3_sasl.specs.Profiles.{ScramProfile, PlainProfile, scram_profile, profile_name, profile_state, in_state, initial_response, after_init, FrameAllocates, ViewAllocates, StepAllocates, ProfileAnswers};
+ghost use Rattle.fe2o3_sasl.specs.Profiles.{ScramProfile, PlainProfile, scram_profile, profile_name, is_scram, profile_state, in_state, initial_response, after_init, FrameAllocates, ViewAllocates, StepAllocates, ProfileAnswers};
 ghost use Rattle.fe2o3_sasl.specs.Events.{Scram};
 ghost use Rattle.fe2o3_sasl.specs.ProfileFaults.{answered, client_fault};
 ghost use Rattle.fe2o3_sasl.specs.Runs.{login_of};
 ghost use Rattle.fe2o3_sasl.specs.SaslProfile.{RefusesUrl, HasCredentials, negotiated_frame, profile_of};
-ghost use Rattle.fe2o3_sasl.specs.private.Writing.{is_scram, AnswersAlways, RefusesAlways};
+ghost use Rattle.fe2o3_sasl.specs.private.Writing.{AnswersAlways, RefusesAlways};
 
 mod error;
 mod scram;
@@ -125,8 +125,8 @@ impl SaslProfile {
         ))
     }
 
-    /// The client of a profile of SCRAM.
-    fn client(&self) -> Option<&ScramClient>
+    /// The client of a profile of SCRAM, and `None` of another profile.
+    pub fn scram_client(&self) -> Option<&ScramClient>
         ensures state { MatchOption result (profile_state (profile_of self.now) ≡ Initial)
             (λ client. profile_state (profile_of self.now) ≡ client.now.state) }
         ensures side { MatchOption result (is_scram (profile_of self.now) ≡ false)
@@ -147,7 +147,7 @@ impl SaslProfile {
         ensures { MatchOption result (login_keys (profile_state (profile_of self.now)) ≡ None)
             (λ keys. login_keys (profile_state (profile_of self.now)) ≡ Some keys.now) }
     {
-        self.client()?.keys()
+        self.scram_client()?.keys()
     }
 
     /// The nonce of the client-first message of SCRAM, where that is what the client sent last. A client
@@ -158,7 +158,7 @@ impl SaslProfile {
             (λ nonce. (bare : List ℕ)
             × (profile_state (profile_of self.now) ≡ ClientFirstSent (base64_text nonce.now) bare)) }
     {
-        self.client()?.nonce()
+        self.scram_client()?.nonce()
     }
 
     /// The signature that a client of SCRAM waits for, where it has sent its client-final message last. A
@@ -169,7 +169,7 @@ impl SaslProfile {
             (λ signature. (keys : Option ClientKeys)
             × (profile_state (profile_of self.now) ≡ ClientFinalSent signature.now keys)) }
     {
-        self.client()?.server_signature()
+        self.scram_client()?.server_signature()
     }
 
     /// The keys of the answer for which a client of SCRAM waits for a signature. They are for a client that
@@ -179,7 +179,7 @@ impl SaslProfile {
         ensures { MatchOption result (answer_keys (profile_state (profile_of self.now)) ≡ None)
             (λ keys. answer_keys (profile_state (profile_of self.now)) ≡ Some keys.now) }
     {
-        self.client()?.answer_keys()
+        self.scram_client()?.answer_keys()
     }
 
     /// The same profile, where the client-final message of SCRAM is what it sent last, and it waits for
@@ -405,7 +405,7 @@ impl SaslProfile {
         ensures { MatchOption result (StepAllocates (profile_of self.now) (Challenge challenge.now))
             (λ fault. RefusesAlways (profile_of self.now) (Challenge challenge.now) (client_fault fault)) }
     {
-        match self.client() {
+        match self.scram_client() {
             Some(client) => refusal_unread(client, challenge),
             None => Some(ProfileError::NotImplemented),
         }
@@ -422,7 +422,7 @@ impl SaslProfile {
             → StepAllocates (profile_of self.now) (Outcome code (Some text)))
             (λ kind. RefusesAlways (profile_of self.now) (Outcome code (shown additional_data.entry)) (Scram kind)) }
     {
-        match self.client() {
+        match self.scram_client() {
             Some(client) => outcome_refusal_unread(client, code, additional_data),
             None => None,
         }
@@ -486,6 +486,14 @@ impl Clone for SaslProfile {
             SaslProfile::ScramSha256(scram) => SaslProfile::ScramSha256(scram.clone()?),
             SaslProfile::ScramSha512(scram) => SaslProfile::ScramSha512(scram.clone()?),
         })
+    }
+}
+
+impl From<ScramClient> for SaslProfile {
+    ghost from_gives = { λ client profile. profile_of profile ≡ ScramProfile client };
+
+    fn from(client: ScramClient) -> Self {
+        SaslProfile::scram_of(client)
     }
 }
 

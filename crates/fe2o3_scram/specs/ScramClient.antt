@@ -1,5 +1,5 @@
 -- A SCRAM client from message to message (RFC 5802, section 5).
-use Rattle.std.specs.Prelude.{ℕ, List, Option, Some, None, ◌≡◌, Result, Ok, Err}
+use Rattle.std.specs.Prelude.{ℕ, Bool, true, false, List, Option, Some, None, ◌≡◌, Result, Ok, Err}
 use Rattle.fe2o3_scram.specs.declared.client_secret.IterationLimits.{IterationLimits}
 use Rattle.fe2o3_scram.specs.declared.hmac.ScramVersion.{ScramVersion}
 use Rattle.fe2o3_scram.specs.declared.scram_client.ScramClientState.{ScramClientState}
@@ -108,6 +108,11 @@ state_of CodeInitial keys = Initial
 state_of (CodeClientFirstSent nonce bare) keys = ClientFirstSent (base64_text nonce) bare.items
 state_of (CodeClientFinalSent signature) keys = ClientFinalSent signature.items keys
 state_of CodeComplete keys = Complete keys
+
+-- whether the server was believed, which ends an exchange (RFC 5802, section 5)
+abbrev pub is_complete : ClientState → Bool
+is_complete (Complete keys) = true
+is_complete state = false
 
 -- the keys of a login whose server was believed (RFC 5802, section 5), and of no other
 abbrev pub login_keys : ClientState → Option ClientKeys

@@ -6,7 +6,7 @@ ghost use Rattle.fe2o3_scram.specs.Texts.{base64_text};
 ghost use Rattle.fe2o3_scram.specs.ClientFirst.{client_first};
 ghost use Rattle.fe2o3_scram.specs.ClientKeys.{ClientKeys};
 ghost use Rattle.fe2o3_scram.specs.ClientSecret.{Password, Keys, Both, kept_secret, no_limit, up_to};
-ghost use Rattle.fe2o3_scram.specs.ScramClient.{Initial, ClientFirstSent, ClientFinalSent, AnswersIn, AnswerCostsIn, BelievesIn, ReachesSaltIn, ReachesVerifierIn, started, state_of, answer_keys, login_keys, with_state, with_limits};
+ghost use Rattle.fe2o3_scram.specs.ScramClient.{Initial, ClientFirstSent, ClientFinalSent, AnswersIn, AnswerCostsIn, BelievesIn, ReachesSaltIn, ReachesVerifierIn, started, state_of, answer_keys, is_complete, login_keys, with_state, with_limits};
 ghost use Rattle.fe2o3_scram.specs.Readings.{Gives};
 
 use crate::OutOfMemory;
@@ -328,6 +328,16 @@ impl ScramClient {
         match &self.state {
             ScramClientState::Complete => self.keys.as_ref(),
             _ => None,
+        }
+    }
+
+    /// Whether the server was believed, which ends the exchange.
+    pub fn is_complete(&self) -> bool
+        ensures { result ≡ is_complete self.now.state }
+    {
+        match &self.state {
+            ScramClientState::Complete => true,
+            _ => false,
         }
     }
 

@@ -4,6 +4,7 @@ use fe2o3_sasl::client_keys::ScramClientKeys;
 use fe2o3_sasl::runs::{ClientReply, profile_step};
 use fe2o3_sasl::sasl_profile::{ProfileError, SaslProfile, SaslScramSha256};
 use fe2o3_sasl::scram_messages::ScramErrorKind;
+use fe2o3_sasl::{ScramClient, ScramVersion};
 use fe2o3_sasl_wire::SaslCode;
 use help_bodies::bodies::*;
 use help_bodies::replies::{bytes_of, event};
@@ -29,8 +30,9 @@ const OTHER_OUTCOME: &str =
 /// A profile with the password.
 pub fn by_password(alloc: Global) -> Result<Box<SaslProfile>, Fail> {
     let username = USER.to_string(alloc)?;
-    let scram = SaslScramSha256::new(username, PASSWORD.to_string(alloc)?);
-    Ok(Box::new(alloc, SaslProfile::from(scram))?)
+    let password = PASSWORD.to_string(alloc)?;
+    let client = ScramClient::new(username, password, ScramVersion::Sha256);
+    Ok(Box::new(alloc, SaslProfile::from(client))?)
 }
 
 /// A profile with keys in place of the password.
@@ -181,18 +183,28 @@ fn after_a_change_of_the_salt_the_password_gives_the_keys_anew(
     Ok(())
 }
 
-/// Whether the profile shows a nonce, a signature, the keys of an answer and those of a login.
-fn shown(profile: &SaslProfile) -> [bool; 4] {
+/// Whether the client of SCRAM is one that is done.
+fn is_complete(profile: &SaslProfile) -> bool {
+    match profile.scram_client() {
+        Some(client) => client.is_complete(),
+        None => false,
+    }
+}
+
+/// Whether the profile shows a nonce, a signature, the keys of an answer and those of a login, and whether its
+/// client is done.
+fn shown(profile: &SaslProfile) -> [bool; 5] {
     [
         profile.nonce().is_some(),
         profile.server_signature().is_some(),
         profile.answer_keys().is_some(),
         profile.keys().is_some(),
+        is_complete(profile),
     ]
 }
 
 /// What the profile shows before each body, behind a refused outcome, and at the end of its login.
-fn shown_on_the_way(alloc: Global, profile: &mut SaslProfile) -> Result<[[bool; 4]; 5], Fail> {
+fn shown_on_the_way(alloc: Global, profile: &mut SaslProfile) -> Result<[[bool; 5]; 5], Fail> {
     let initial = shown(profile);
     answers(alloc, profile, MECHANISMS, INIT_WITH_HOSTNAME)?;
     let started = shown(profile);
@@ -214,11 +226,11 @@ fn keys_are_handed_out_once_the_server_is_believed(rt: HostRuntime) -> Result<()
     let mut profile = by_password(rt.alloc())?;
     let shown = shown_on_the_way(rt.alloc(), &mut profile)?;
     let wanted = [
-        [false, false, false, false],
-        [true, false, false, false],
-        [false, true, true, false],
-        [false, true, true, false],
-        [false, false, false, true],
+        [false, false, false, false, false],
+        [true, false, false, false, false],
+        [false, true, true, false, false],
+        [false, true, true, false, false],
+        [false, false, false, true, true],
     ];
     assert!(rt; shown == wanted);
     Ok(())
@@ -238,7 +250,7 @@ fn a_refused_login_has_no_keys(rt: HostRuntime) -> Result<(), Fail> {
     let mut profile = answered(rt.alloc())?;
     let told = refusal(rt.alloc(), &mut profile, OUTCOME_AUTH)?;
     assert!(rt; told == None);
-    assert!(rt; shown(&profile) == [false, true, true, false]);
+    assert!(rt; shown(&profile) == [false, true, true, false, false]);
     Ok(())
 }
 

@@ -120,19 +120,20 @@ fn after_a_change_of_the_salt_the_password_gives_the_keys_anew(
     Ok(())
 }
 
-/// Whether the client shows a nonce, a signature, the keys of an answer and those of a login.
-fn shown(client: &ScramClient) -> [bool; 4] {
+/// Whether the client shows a nonce, a signature, the keys of an answer and those of a login, and is done.
+fn shown(client: &ScramClient) -> [bool; 5] {
     [
         client.nonce().is_some(),
         client.server_signature().is_some(),
         client.answer_keys().is_some(),
         client.keys().is_some(),
+        client.is_complete(),
     ]
 }
 
 /// What the client shows before each message, behind a signature that it refuses, at the end of its
 /// login, and when it starts again.
-fn shown_on_the_way(alloc: Global, client: &mut ScramClient) -> Result<[[bool; 4]; 6], Fail> {
+fn shown_on_the_way(alloc: Global, client: &mut ScramClient) -> Result<[[bool; 5]; 6], Fail> {
     let initial = shown(client);
     client.compute_client_first_message(alloc, &[1; 32])?;
     let started = shown(client);
@@ -156,12 +157,12 @@ fn keys_are_handed_out_once_the_server_is_believed(rt: HostRuntime) -> Result<()
     let mut client = client(rt.alloc())?;
     let shown = shown_on_the_way(rt.alloc(), &mut client)?;
     let wanted = [
-        [false, false, false, false],
-        [true, false, false, false],
-        [false, true, true, false],
-        [false, true, true, false],
-        [false, false, false, true],
-        [true, false, false, false],
+        [false, false, false, false, false],
+        [true, false, false, false, false],
+        [false, true, true, false, false],
+        [false, true, true, false, false],
+        [false, false, false, true, true],
+        [true, false, false, false, false],
     ];
     assert!(rt; shown == wanted);
     Ok(())
@@ -246,7 +247,7 @@ fn a_client_is_taken_up_behind_its_answer(rt: HostRuntime) -> Result<(), Fail> {
     let SetDown { signature, keys } = answered(rt.alloc())?;
     assert!(rt; are_keys(rt.alloc(), &keys, &[3; 32], KEYS));
     let mut client = taken_up(rt.alloc(), signature, Some(keys))?;
-    assert!(rt; shown(&client) == [false, true, true, false]);
+    assert!(rt; shown(&client) == [false, true, true, false, false]);
     assert!(rt; verdicts(rt.alloc(), &mut client) == BELIEVES);
     let kept = kept(&client)?;
     assert!(rt; are_keys(rt.alloc(), &kept, &[3; 32], KEYS));
@@ -257,8 +258,8 @@ fn a_client_is_taken_up_behind_its_answer(rt: HostRuntime) -> Result<(), Fail> {
 fn a_client_that_is_taken_up_without_its_keys_hands_out_none(rt: HostRuntime) -> Result<(), Fail> {
     let SetDown { signature, .. } = answered(rt.alloc())?;
     let mut client = taken_up(rt.alloc(), signature, None)?;
-    assert!(rt; shown(&client) == [false, true, false, false]);
+    assert!(rt; shown(&client) == [false, true, false, false, false]);
     assert!(rt; verdicts(rt.alloc(), &mut client) == BELIEVES);
-    assert!(rt; shown(&client) == [false, false, false, false]);
+    assert!(rt; shown(&client) == [false, false, false, false, true]);
     Ok(())
 }

@@ -1,5 +1,5 @@
 -- Which frames are answered, and how replies are written in bodies. Contracts of private functions alone cite this.
-use Rattle.std.specs.Prelude.{◌≡◌, ℕ, Bool, true, false, List, Option, Some, None, Result, Ok, Err}
+use Rattle.std.specs.Prelude.{◌≡◌, ℕ, List, Option, Some, None, Result, Ok, Err}
 use Rattle.fe2o3_sasl_wire.specs.SaslFrames as frames
 use Rattle.fe2o3_sasl_wire.specs.SaslFrames.{SaslFrame}
 use Rattle.fe2o3_sasl_wire.specs.declared.sasl_frames.error.Error.{Error}
@@ -7,12 +7,7 @@ use Rattle.fe2o3_sasl_wire.specs.declared.sasl_frames.error.Error.TheVariants as
 use Rattle.fe2o3_sasl.specs.declared.sasl_profile.error.ProfileError.{ProfileError}
 use Rattle.fe2o3_sasl.specs.declared.sasl_profile.error.ProfileError.TheVariants as profile_faults
 use Rattle.fe2o3_sasl.specs.Events.{ClientFault}
-use Rattle.fe2o3_sasl.specs.Profiles.{Profile, ScramProfile, FrameAllocates, ProfileAnswers, profile_machine}
-
--- whether a profile answers challenges
-abbrev pub is_scram : Profile → Bool
-is_scram (ScramProfile client) = true
-is_scram profile = false
+use Rattle.fe2o3_sasl.specs.Profiles.{Profile, FrameAllocates, ProfileAnswers, profile_machine}
 
 -- what a profile answers to a frame, whatever the hostname and the nonce are
 abbrev pub AnswersAlways : Profile → SaslFrame → Result SaslFrame ClientFault → Profile → Type 0

@@ -16,9 +16,9 @@ use Rattle.fe2o3_sasl_wire.specs.declared.amqp_types.SaslCode.TheVariants as out
 use Rattle.fe2o3_scram.specs.ClientKeys.{ClientKeys}
 use Rattle.fe2o3_scram.specs.ServerFinal.{ReadsServerFinal, ReadsSignature}
 use Rattle.fe2o3_sasl.specs.Events.{ClientFault, NotImplemented, Scram, OtherKeys, Frame, OutOfMemory}
-use Rattle.fe2o3_sasl.specs.Profiles.{Profile, ScramProfile, PlainProfile, AnonymousProfile, ExternalProfile, FrameAllocates, ViewAllocates, StepAllocates, IsAnswered, ProfileAnswers}
+use Rattle.fe2o3_sasl.specs.Profiles.{Profile, ScramProfile, PlainProfile, AnonymousProfile, ExternalProfile, FrameAllocates, ViewAllocates, StepAllocates, IsAnswered, ProfileAnswers, is_scram}
 use Rattle.fe2o3_sasl.specs.ProfileFaults.{client_fault, fault_of_kind}
-use Rattle.fe2o3_sasl.specs.private.Writing.{is_scram, RefusesAlways}
+use Rattle.fe2o3_sasl.specs.private.Writing.{RefusesAlways}
 
 -- a challenge that the client refuses: its fault is that of the machine, or want of memory
 pub challenge_refused : {V : Type 0} (view : V → List ℕ) (client next : ClientSide)
