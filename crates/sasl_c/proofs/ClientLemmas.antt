@@ -19,7 +19,7 @@ use Rattle.sasl_c.specs.declared.status.Status.{Status}
 use Rattle.sasl_c.specs.declared.status.Status.TheVariants as statuses
 use Rattle.sasl_c.specs.declared.client.Login.{Login}
 use Rattle.sasl_c.specs.declared.client.ScramClient.{ScramClient as Struct}
-use Rattle.sasl_c.specs.Client.{Answered, Believes, Holds, IsLogin, IsNoLogin, IsSide, IsState, Responds}
+use Rattle.sasl_c.specs.Client.{Answered, Believes, Holds, IsLogin, IsNoLogin, IsSide, IsState, NotAnswered, Responds}
 use Rattle.sasl_c.proofs.StatusLemmas.{carried, client_not_room}
 use Rattle.sasl_c.proofs.TextLemmas.{short, short_text, text_length}
 use Rattle.sasl_c.specs.Status.{client_status}
@@ -104,7 +104,7 @@ answer_fits (ClientFinalSent signature keys) side next text message held = absur
 answer_fits (Complete keys) side next text message held = absurd held
 
 -- the client is of the same login in another state
-moved_login : (login : Login) (side : ClientSide) (state : ClientState) → IsLogin login side
+pub moved_login : (login : Login) (side : ClientSide) (state : ClientState) → IsLogin login side
     → IsLogin login (with_state side state)
 moved_login login side state is = record {
   version = is.version;
@@ -115,7 +115,7 @@ moved_login login side state is = record {
 }
 
 -- and behind an answer
-answering_login : (login : Login) (state : ClientState) (side next : ClientSide) (text message : List ℕ)
+pub answering_login : (login : Login) (state : ClientState) (side next : ClientSide) (text message : List ℕ)
     → AnswersIn state side text (Ok message) next → IsLogin login side → IsLogin login next
 answering_login login (ClientFirstSent nonce bare) side next text message held is =
     rw held.3 (moved_login login side _ is)
@@ -148,23 +148,28 @@ responds login before after next text message held waits =
 pub refused : (login : Login) (before : Struct) (side next : ClientSide) (text : List ℕ) (why : ScramErrorKind)
     (status : Status) → IsSide login before side → next ≡ side
     → (why ≢ NoMemory → AnswersIn side.state side text (Err why) next) → status ≡ client_status why
-    → status ≢ statuses.OutOfMemory → Responds login text before before (Err status)
-unfolding Responds
+    → status ≢ statuses.OutOfMemory → NotAnswered login before text status
+unfolding NotAnswered
 refused login before side next text why status is stays held gives other =
     let told : why ≢ NoMemory = λ same. other (gives ∙ ap client_status same) in
     let refuses = carried (AnswersIn side.state side text (Err why)) next side stays (held told) in
-    inr (inr (why, gives, (side, is, refuses)))
+    inr (why, gives, (side, is, refuses))
 
 -- other refusals
 pub no_text : (login : Login) (before : Struct) (text : List ℕ) → ¬ IsUtf8 text
     → Responds login text before before (Err (statuses.Client Utf8Error))
 unfolding Responds
-no_text login before text wrong = inr (inl (refl, wrong))
+no_text login before text wrong = inl (refl, wrong)
 
 pub no_login : (login : Login) (before : Struct) (text : List ℕ) (status : Status) → IsNoLogin login status
-    → Responds login text before before (Err status)
-unfolding Responds
+    → NotAnswered login before text status
+unfolding NotAnswered
 no_login login before text status wrong = inl wrong
+
+pub not_answered : (login : Login) (before : Struct) (text : List ℕ) (status : Status) → IsUtf8 text
+    → NotAnswered login before text status → Responds login text before before (Err status)
+unfolding Responds
+not_answered login before text status utf8 wrong = inr (utf8, wrong)
 
 -- a client that has answered always waits for a signature that has room
 pub always_waits : (login : Login) (before : Struct) (next : ClientSide) (text message : List ℕ)
@@ -178,7 +183,7 @@ always_waits login before next text message held none =
 
 -- ---- whether the server is believed
 
-believing_login : (login : Login) (state : ClientState) (side next : ClientSide) (text : List ℕ)
+pub believing_login : (login : Login) (state : ClientState) (side next : ClientSide) (text : List ℕ)
     → BelievesIn state side text (Ok tt) next → IsLogin login side → IsLogin login next
 believing_login login (ClientFinalSent signature keys) side next text held is =
     rw held.1 (moved_login login side _ is)
@@ -187,8 +192,8 @@ believing_login login (ClientFirstSent nonce bare) side next text held is = absu
 believing_login login (Complete keys) side next text held is = absurd held
 
 done_state : (user other : List ℕ) (before after : Struct) (state : ClientState) (side next : ClientSide)
-    (text : List ℕ) → IsState user before state → BelievesIn state side text (Ok tt) next → after.sent ≡ 3 → after.keys ≡ before.keys
-    → IsState other after next.state
+    (text : List ℕ) → IsState user before state → BelievesIn state side text (Ok tt) next → after.sent ≡ 3
+    → after.keys ≡ before.keys → IsState other after next.state
 done_state user other before after (ClientFinalSent signature keys) side next text is held done same =
     let moved : next.state ≡ Complete keys = ap (λ (last : ClientSide). last.state) held.1 in
     let kept : Holds after.keys keys = carried (λ given. Holds given keys) before.keys after.keys (sym same) is.3 in
@@ -233,4 +238,4 @@ no_believer login before text status wrong = (refl, λ other. inl (wrong other))
 -- what the client's answer takes
 pub ruleset answers = (answered, refused, no_login, client_not_room)
 
-pub ruleset sent = (responds, always_waits, answer_has_room, no_text)
+pub ruleset sent = (responds, always_waits, answer_has_room, no_text, not_answered)

@@ -4,3 +4,7 @@ pub mod TextLemmas
 pub mod RecordLemmas
 pub mod ClientLemmas
 pub mod ServerLemmas
+pub mod StateLemmas
+pub mod SaslClientLemmas
+pub mod LineLemmas
+pub mod LoginLemmas

@@ -3,9 +3,13 @@ use Rattle.std.proofs.Common.{arith, refl, sym, ap, inl, inr, ◌∙◌, ◌≡�
 use Rattle.std.specs.Prelude.{Some, None, Ok, Err, codes}
 use Rattle.std.proofs.lemmas.List.{length-append}
 use Rattle.fe2o3_scram.specs.declared.scram_messages.error.ServerScramErrorKind.{ServerScramErrorKind}
-use Rattle.fe2o3_scram.specs.declared.scram_messages.error.ServerScramErrorKind.TheVariants.{AuthenticationFailed, IllegalAuthenticatorState, OutOfMemory as NoMemory}
+use Rattle.fe2o3_scram.specs.declared.scram_messages.error.ServerScramErrorKind.TheVariants.{IllegalAuthenticatorState, OutOfMemory as NoMemory}
+use Rattle.std.proofs.lemmas.Slice.Eq.{bytes_eq-Decides}
+use Rattle.std.specs.Cmp.Lexicographic.{pointwise}
+use Rattle.std.specs.Prelude.{cond, nat_eq, true}
+use Rattle.fe2o3_scram.proofs.lemmas.messages.OneValueLemmas.{one_client_first_value}
 use Rattle.fe2o3_scram.specs.ClientFinal.{Server}
-use Rattle.fe2o3_scram.specs.ClientFirst.{ReadsClientFirst}
+use Rattle.fe2o3_scram.specs.ClientFirst.{ClientFirst, ReadsClientFirst}
 use Rattle.fe2o3_scram.specs.Keys.{auth_message, server_signature}
 use Rattle.fe2o3_scram.specs.ServerFinal.{AnswersClientFinal}
 use Rattle.fe2o3_scram.proofs.lemmas.hashes.DigestLemmas.{length-hmac_of}
@@ -31,15 +35,15 @@ unfolding NotChallenged
 unread kept nonce text why status held gives other =
     inl (why, gives, held (λ same. other (gives ∙ ap server_status same)))
 
-pub not_shown : (kept : Kept) (nonce text : List ℕ) (status : Status) → SpellsStruct kept (Err status)
-    → NotChallenged kept nonce text status
+pub not_shown : (kept : Kept) (nonce text : List ℕ) (first : ClientFirst) (status : Status)
+    → ReadsClientFirst text (Ok first) → SpellsStruct kept (Err status) → NotChallenged kept nonce text status
 unfolding NotChallenged
-not_shown kept nonce text status wrong = inr (inl wrong)
+not_shown kept nonce text first status reads wrong = inr (inl (first, reads, wrong))
 
 pub no_room : (kept : Kept) (nonce text : List ℕ) (challenge : Challenge) → Challenged kept nonce text challenge
     → ¬ HasRoom challenge → NotChallenged kept nonce text statuses.TooLong
 unfolding NotChallenged
-no_room kept nonce text challenge held wide = inr (inr (inl (refl, (challenge, held, wide))))
+no_room kept nonce text challenge held wide = inr (inr (refl, (challenge, held, wide)))
 
 -- the machine's answers
 pub challenged : (kept : Kept) (nonce text user message : List ℕ) (shown : VersionedRecord) (provider : Provider)
@@ -52,15 +56,20 @@ challenged kept nonce text user message shown provider state next is same held =
     (one_user user shown) same held.1 in
     (held.0, held.3, (shown, user, is, given))
 
-pub unknown : (kept : Kept) (nonce text user : List ℕ) (shown : VersionedRecord) (provider : Provider)
-    (state next : ServerState) → Shows kept shown → provider ≡ one_user user shown
-    → ChallengesFrom state provider nonce text (Ok None) next
-    → NotChallenged kept nonce text (statuses.Server AuthenticationFailed)
-unfolding NotChallenged
-unknown kept nonce text user shown provider state next is same held =
+-- the record stands under the name that the message has, so its user is never unknown
+pub never_unknown : (kept : Kept) (nonce text user : List ℕ) (shown : VersionedRecord) (provider : Provider)
+    (state next : ServerState) (first : ClientFirst) (status : Status) → ReadsClientFirst text (Ok first)
+    → user ≡ first.user → provider ≡ one_user user shown → ChallengesFrom state provider nonce text (Ok None) next
+    → NotChallenged kept nonce text status
+never_unknown kept nonce text user shown provider state next first status reads named same held =
     let given = carried (λ p. AnswersClientFirst p.records (base64_text nonce) text (Ok None)) provider
     (one_user user shown) same held.0 in
-    inr (inr (inr (refl, (shown, user, is, given))))
+    let one : first ≡ given.0 = one_client_first_value text first given.0 reads given.1 in
+    let here : pointwise nat_eq user given.0.user ≡ true =
+    (bytes_eq-Decides user given.0.user).1 (named ∙ ap (λ (client : ClientFirst). client.user) one) in
+    let none : Some shown.stored ≡ None = carried (λ test. cond test (Some shown.stored) None ≡ None)
+    (pointwise nat_eq user given.0.user) true here given.2 in
+    absurd (cc)
 
 pub failed : (kept : Kept) (nonce text : List ℕ) (provider : Provider) (state next : ServerState)
     (why : ServerScramErrorKind) (status : Status)
@@ -127,12 +136,12 @@ pub not_open : (kept : Kept) (before : Struct) (text : List ℕ)
     → ((challenge : Challenge) → ¬ IsOpen before challenge)
     → Concludes kept text before before (Err (statuses.Server IllegalAuthenticatorState))
 unfolding Concludes
-not_open kept before text none = inr (inl (refl, none))
+not_open kept before text none = inl (refl, none)
 
-pub keeps_none : (kept : Kept) (before : Struct) (text : List ℕ) (status : Status) → SpellsStruct kept (Err status)
-    → Concludes kept text before before (Err status)
+pub keeps_none : (kept : Kept) (before : Struct) (text : List ℕ) (challenge : Challenge) (status : Status)
+    → IsOpen before challenge → SpellsStruct kept (Err status) → Concludes kept text before before (Err status)
 unfolding Concludes
-keeps_none kept before text status wrong = inl wrong
+keeps_none kept before text challenge status is wrong = inr (inl (challenge, is, wrong))
 
 -- the struct of a server that has logged its user in
 pub concludes : (kept : Kept) (before after : Struct) (text message user : List ℕ)

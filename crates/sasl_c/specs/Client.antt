@@ -1,5 +1,5 @@
 -- A SCRAM client that stands in structs of C between its calls (RFC 5802, sections 3 and 5).
-use Rattle.std.specs.Prelude.{◌≡◌, ◌≢◌, ◌<◌, ◌≤◌, ◌⊎◌, ℕ, List, take, Option, Some, None, Result, Ok, Err}
+use Rattle.std.specs.Prelude.{◌≡◌, ◌≢◌, ◌<◌, ◌≤◌, ◌⊎◌, ℕ, List, [], ◌∷◌, length, take, Option, Some, None, Result, Ok, Err}
 use Rattle.std.specs.Str.{IsUtf8}
 use Rattle.fe2o3_scram.specs.declared.hmac.ScramVersion.{ScramVersion}
 use Rattle.fe2o3_scram.specs.declared.scram_messages.error.ScramErrorKind.{ScramErrorKind}
@@ -8,6 +8,7 @@ use Rattle.fe2o3_scram.specs.ClientFirst.{client_first, client_first_bare}
 use Rattle.fe2o3_scram.specs.ClientKeys.{ClientKeys}
 use Rattle.fe2o3_scram.specs.ClientSecret.{Secret, Password, Keys, Both}
 use Rattle.fe2o3_scram.specs.ScramClient.{AnswersIn, BelievesIn, ClientSide, ClientState, Initial, ClientFirstSent, ClientFinalSent, Complete, started}
+use Rattle.fe2o3_scram.specs.Readings.{IsFirst, NoneHolds}
 use Rattle.fe2o3_scram.specs.Texts.{base64_text}
 use Rattle.sasl_c.specs.declared.client.ScramClient.{ScramClient as Struct}
 use Rattle.sasl_c.specs.declared.client.Login.{Login}
@@ -33,14 +34,26 @@ pub record IsLogin (login : Login) (side : ClientSide) : Type 0 where
   pub least : side.limits.least ≡ login.least_iterations
   pub most : side.limits.most ≡ login.most_iterations
 
--- why a login is none
+-- the tests of the keys of a login, in their order
+abbrev pub keys_tests : Login → List (Status × Type 0)
+keys_tests login = (statuses.NoKeys, (keys : ClientKeys) → ¬ ShowsKeys login.keys.now keys)
+    ∷ (statuses.OtherVersion, login.keys.now.version ≢ login.version) ∷ []
+
+-- the tests of its secret, by what it has: a password is UTF-8
+unfoldable pub IsNoSecret : Login → Status → Type 0
+IsNoSecret login status = ((login.secret ≡ 0) × (status ≡ statuses.NotUtf8) × ¬ IsUtf8 login.password.now)
+    ⊎ ((login.secret ≡ 1) × IsFirst (keys_tests login) status)
+    ⊎ ((login.secret ≡ 2) × IsFirst ((statuses.NotUtf8, ¬ IsUtf8 login.password.now) ∷ keys_tests login) status)
+    ⊎ ((2 < login.secret) × (status ≡ statuses.NoSuchSecret))
+
+-- the tests of its version and its user, in their order
+abbrev pub name_tests : Login → List (Status × Type 0)
+name_tests login = (statuses.NoSuchVersion, (known : ScramVersion) → ¬ IsVersion login.version known)
+    ∷ (statuses.NotUtf8, ¬ IsUtf8 login.username.now) ∷ []
+
+-- why a login is none: the first test that holds, and the secret's are the last
 abbrev pub IsNoLogin : Login → Status → Type 0
-IsNoLogin login statuses.NoSuchVersion = (known : ScramVersion) → ¬ IsVersion login.version known
-IsNoLogin login statuses.NotUtf8 = ¬ IsUtf8 login.username.now ⊎ ((login.secret ≢ 1) × ¬ IsUtf8 login.password.now)
-IsNoLogin login statuses.NoSuchSecret = 2 < login.secret
-IsNoLogin login statuses.NoKeys = (login.secret ≢ 0) × ((keys : ClientKeys) → ¬ ShowsKeys login.keys.now keys)
-IsNoLogin login statuses.OtherVersion = (login.secret ≢ 0) × (login.keys.now.version ≢ login.version)
-IsNoLogin login status = ⊥
+IsNoLogin login status = IsFirst (name_tests login) status ⊎ (NoneHolds (name_tests login) × IsNoSecret login status)
 
 -- the struct holds no keys
 abbrev pub HoldsNone : KeysStruct → Type 0
@@ -60,6 +73,13 @@ IsState user client (ClientFirstSent nonce bare) = (client.sent ≡ 1) × (nonce
 IsState user client (ClientFinalSent signature keys) = (client.sent ≡ 2) × (client.signature_len ≤ 64)
     × (signature ≡ take client.signature_len client.signature) × Holds client.keys keys
 IsState user client (Complete keys) = (client.sent ≡ 3) × Holds client.keys keys
+
+-- what holds of each state that a client comes to: its message is that of its user, and the signature that it waits for
+-- has room
+abbrev pub IsReached : List ℕ → ClientState → Type 0
+IsReached user (ClientFirstSent nonce bare) = bare ≡ client_first_bare user nonce
+IsReached user (ClientFinalSent signature keys) = length signature ≤ 64
+IsReached user state = Unit {0}
 
 -- the structs are those of this client
 abbrev pub IsSide : Login → Struct → ClientSide → Type 0
@@ -89,13 +109,17 @@ unfoldable pub Answered : Login → Struct → List ℕ → List ℕ → ClientS
 Answered login before text message next = (side : ClientSide) × IsSide login before side
     × AnswersIn side.state side text (Ok message) next
 
--- the client-final message
+-- why a text is not answered: there is no such login, or its client refuses the text
+unfoldable pub NotAnswered : Login → Struct → List ℕ → Status → Type 0
+NotAnswered login before text status = IsNoLogin login status
+    ⊎ Refuses login before (λ side why. AnswersIn side.state side text (Err why) side) status
+
+-- the client-final message; bytes that are not UTF-8 are refused before all else
 unfoldable pub Responds : Login → List ℕ → Struct → Struct → Result (List ℕ) Status → Type 0
 Responds login text before after (Ok message) = (next : ClientSide) × Answered login before text message next
     × IsSide login after next
-Responds login text before after (Err status) = IsNoLogin login status
-    ⊎ ((status ≡ client_status Utf8Error) × ¬ IsUtf8 text)
-    ⊎ Refuses login before (λ side why. AnswersIn side.state side text (Err why) side) status
+Responds login text before after (Err status) = ((status ≡ client_status Utf8Error) × ¬ IsUtf8 text)
+    ⊎ (IsUtf8 text × NotAnswered login before text status)
 
 -- whether the server is believed
 unfoldable pub Believes : Login → List ℕ → Struct → Struct → Result (Unit {0}) Status → Type 0

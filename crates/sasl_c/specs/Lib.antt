@@ -3,3 +3,7 @@ pub mod Records
 pub mod Keys
 pub mod Client
 pub mod Server
+pub mod Connection
+pub mod SaslClient
+pub mod Frames
+pub mod Lines

@@ -88,11 +88,11 @@ MakesUp version secret name salt_len count answer = Reads (nobody_tests version 
     (λ made. (known : ScramVersion) × IsVersion version known × (made ≡ struct_of (versioned known
     (nobody_record (record { version = known; secret = secret; salt_len = salt_len; count = count }) name)))) answer
 
--- the tests of a password that was told, in their order (RFC 5802, section 3): the last is that the record is not of it
+-- whether a password that was told is that of the record (RFC 5802, section 3); or that the struct shows none, or it
+-- shows one and the password is not UTF-8, or it is and is another one
 abbrev pub Verifies : Struct → List ℕ → Result (Unit {0}) Status → Type 0
 Verifies kept password (Ok done) = (shown : VersionedRecord) × Shows kept shown
     × MeetsRecord shown.version password shown.stored
 Verifies kept password (Err status) = (status ≢ statuses.OutOfMemory) → SpellsStruct kept (Err status)
-    ⊎ ((status ≡ statuses.NotUtf8) × ¬ IsUtf8 password)
-    ⊎ ((status ≡ statuses.OtherPassword) × ((shown : VersionedRecord) × Shows kept shown
-    × ¬ MeetsRecord shown.version password shown.stored))
+    ⊎ ((shown : VersionedRecord) × Shows kept shown × (((status ≡ statuses.NotUtf8) × ¬ IsUtf8 password)
+    ⊎ ((status ≡ statuses.OtherPassword) × IsUtf8 password × ¬ MeetsRecord shown.version password shown.stored)))

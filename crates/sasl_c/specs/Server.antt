@@ -1,8 +1,8 @@
 -- A SCRAM server that stands in a struct of C between its calls (RFC 5802, sections 3 and 5).
-use Rattle.std.specs.Prelude.{◌≡◌, ◌≤◌, ◌⊎◌, ℕ, List, [], ◌∷◌, length, take, Some, None, Result, Ok, Err}
+use Rattle.std.specs.Prelude.{◌≡◌, ◌≤◌, ◌⊎◌, ℕ, List, [], ◌∷◌, length, take, Some, Result, Ok, Err}
 use Rattle.std.specs.Str.{IsUtf8}
 use Rattle.fe2o3_scram.specs.declared.scram_messages.error.ServerScramErrorKind.{ServerScramErrorKind}
-use Rattle.fe2o3_scram.specs.declared.scram_messages.error.ServerScramErrorKind.TheVariants.{AuthenticationFailed, IllegalAuthenticatorState}
+use Rattle.fe2o3_scram.specs.declared.scram_messages.error.ServerScramErrorKind.TheVariants.{IllegalAuthenticatorState}
 use Rattle.fe2o3_scram.specs.ClientFirst.{ClientFirst, ReadsClientFirst}
 use Rattle.fe2o3_scram.specs.Credentials.{Provider, VersionedRecord}
 use Rattle.fe2o3_scram.specs.ScramServer.{ConcludesFrom, ServerFirstSent, ServerFinalSent}
@@ -54,20 +54,14 @@ unfoldable pub Challenged : Kept → List ℕ → List ℕ → Challenge → Typ
 Challenged kept nonce text challenge = (shown : VersionedRecord) × (user : List ℕ) × Shows kept shown
     × AnswersClientFirst ((user, shown.stored) ∷ []) (base64_text nonce) text (Ok (Some challenge))
 
--- a client-first message names a user who is not that of the record
-abbrev pub Unknown : Kept → List ℕ → List ℕ → Type 0
-Unknown kept nonce text = (shown : VersionedRecord) × (user : List ℕ) × Shows kept shown
-    × AnswersClientFirst ((user, shown.stored) ∷ []) (base64_text nonce) text (Ok None)
-
--- why a client-first message is not answered: it is refused, or the struct of the record shows none, or a text of the
--- challenge has no room in the struct, or the user is another one
+-- why a client-first message is not answered: it is refused; or it is read, and the struct of the record shows none; or
+-- there is a challenge, and a text of it has no room in the struct
 unfoldable pub NotChallenged : Kept → List ℕ → List ℕ → Status → Type 0
 NotChallenged kept nonce text status =
     ((why : ServerScramErrorKind) × (status ≡ server_status why) × ReadsClientFirst text (Err why))
-    ⊎ SpellsStruct kept (Err status)
+    ⊎ ((first : ClientFirst) × ReadsClientFirst text (Ok first) × SpellsStruct kept (Err status))
     ⊎ ((status ≡ statuses.TooLong) × ((challenge : Challenge) × Challenged kept nonce text challenge
     × ¬ HasRoom challenge))
-    ⊎ ((status ≡ server_status AuthenticationFailed) × Unknown kept nonce text)
 
 -- the server-first message
 abbrev pub Challenges : Kept → List ℕ → List ℕ → Result (List ℕ) Status → Type 0
@@ -93,12 +87,14 @@ Concluded kept before text message user = (challenge : Challenge) × (shown : Ve
     × Shows kept shown × (user ≡ challenge.user)
     × ConcludesFrom (ServerFirstSent challenge) (one_user user shown) text (Ok (Some message)) (ServerFinalSent user)
 
--- the server-final message, and the struct after it
+-- the server-final message, and the struct after it; or that no challenge is open, or one is and the struct of the
+-- record shows none, or it shows one and the message is refused
 unfoldable pub Concludes : Kept → List ℕ → Struct → Struct → Result (List ℕ) Status → Type 0
 Concludes kept text before after (Ok message) = (user : List ℕ) × Concluded kept before text message user
     × HasLoggedIn after user
-Concludes kept text before after (Err status) = SpellsStruct kept (Err status)
-    ⊎ ((status ≡ server_status IllegalAuthenticatorState) × ((challenge : Challenge) → ¬ IsOpen before challenge))
+Concludes kept text before after (Err status) =
+    ((status ≡ server_status IllegalAuthenticatorState) × ((challenge : Challenge) → ¬ IsOpen before challenge))
+    ⊎ ((challenge : Challenge) × IsOpen before challenge × SpellsStruct kept (Err status))
     ⊎ ((why : ServerScramErrorKind) × (status ≡ server_status why)
     × ((challenge : Challenge) × (shown : VersionedRecord) × IsOpen before challenge × Shows kept shown
     × ConcludesFrom (ServerFirstSent challenge) (one_user challenge.user shown) text (Err why)

@@ -79,9 +79,29 @@ status_number statuses.NoSuchSecret = 8
 status_number statuses.NoKeys = 9
 status_number statuses.OtherVersion = 10
 status_number statuses.OtherPassword = 11
+status_number statuses.NoSuchMechanism = 12
+status_number statuses.Ended = 13
+status_number statuses.NotKept = 14
 status_number (statuses.Client why) = client_number why
 status_number (statuses.Server why) = server_number why
 status_number (statuses.NoRecord why) = record_text_number why
+status_number statuses.LineFeedMissing = 65
+status_number statuses.SpaceMissing = 66
+status_number statuses.InvalidName = 67
+status_number statuses.NoSuchUser = 68
+status_number statuses.NotWritable = 69
+status_number statuses.OtherHeader = 70
+status_number statuses.FrameSize = 71
+status_number statuses.OutOfTurn = 72
+status_number statuses.ReplyTooLarge = 73
+status_number statuses.FrameUnread = 74
+status_number statuses.NoSaslFrame = 75
+status_number statuses.FrameTooLarge = 76
+status_number statuses.NotImplemented = 77
+status_number statuses.RefusedAuth = 81
+status_number statuses.RefusedSys = 82
+status_number statuses.RefusedSysPerm = 83
+status_number statuses.RefusedSysTemp = 84
 
 -- why a call is not done where a client refuses a message
 abbrev pub client_status : ScramErrorKind → Status

@@ -4,9 +4,10 @@ ghost use Rattle.std.specs.Prelude.{◌≡◌, ◌≢◌, ◌<◌, ◌≤◌, �
 ghost use Rattle.std.specs.Str.{IsUtf8};
 ghost use Rattle.std.specs.String.{string_bytes};
 ghost use Rattle.fe2o3_scram.specs.ScramClient.{ClientFinalSent, Initial};
+ghost use Rattle.fe2o3_scram.specs.Readings.{IsFirst};
 ghost use Rattle.sasl_c.specs.Records.{IsVersion};
 ghost use Rattle.fe2o3_scram.specs.ClientKeys.{ClientKeys as Keys};
-ghost use Rattle.sasl_c.specs.Client.{Answered, Believes, HandsOut, Holds, HoldsNone, Responds, IsLogin, IsNoLogin, IsSide, IsState, Started, Starts};
+ghost use Rattle.sasl_c.specs.Client.{Answered, Believes, HandsOut, Holds, HoldsNone, Responds, IsLogin, IsNoLogin, IsNoSecret, IsSecret, IsReached, IsSide, IsState, NotAnswered, Started, Starts, keys_tests};
 ghost use Rattle.sasl_c.specs.Keys.{ShowsKeys};
 ghost use Rattle.sasl_c.specs.Status.{Answers, Fills, FillsWithin, Makes};
 ghost use Rattle.sasl_c.specs.declared.status.Status.TheVariants.{OutOfMemory as StatusOutOfMemory, NotUtf8 as StatusNotUtf8, RoomTooSmall};
@@ -14,7 +15,7 @@ ghost use Rattle.sasl_c.specs.declared.status.Status.TheVariants.{OutOfMemory as
 use crate::arrays::{head, padded, put};
 use crate::keys::ClientKeys;
 use crate::status::{Status, number, text, version_of};
-use fe2o3_scram::{Meter, ScramClient as Machine, ScramClientKeys, ScramErrorKind};
+use fe2o3_scram::{Meter, ScramClient as Machine, ScramClientKeys, ScramErrorKind, ScramVersion};
 use std::alloc::Global;
 
 /// Who logs in: lent for each call of an exchange, and the same for all of them.
@@ -93,6 +94,57 @@ fn held(keys: Option<&ScramClientKeys>) -> ClientKeys
 }
 
 impl ScramClient {
+    /// The struct of a client that has sent nothing.
+    pub fn fresh() -> ScramClient
+        ensures { (user : List ℕ) → IsState user result Initial }
+    {
+        ScramClient {
+            sent: 0,
+            signature_len: 0,
+            nonce: [0; 32],
+            signature: [0; 64],
+            keys: no_keys(),
+        }
+    }
+
+    /// The struct of a client that has sent its client-first message, with this nonce.
+    fn started(nonce: &[u8; 32]) -> ScramClient
+        ensures sent { result.sent ≡ 1 }
+        ensures nonce { result.nonce ≡ nonce.now }
+    {
+        ScramClient {
+            sent: 1,
+            signature_len: 0,
+            nonce: *nonce,
+            signature: [0; 64],
+            keys: no_keys(),
+        }
+    }
+
+    /// The struct of a client, or `None` where the signature that it waits for has no room.
+    #[tactic(auto, using(crate::proofs::StateLemmas::of_state))]
+    pub fn of(machine: &Machine) -> Option<ScramClient>
+        ensures { (user : List ℕ) → IsReached user machine.now.state
+            → MatchOption result ⊥ (λ client. IsState user client machine.now.state) }
+    {
+        if let Some(nonce) = machine.nonce() {
+            return Some(ScramClient::started(nonce));
+        }
+        if machine.is_complete() {
+            return Some(ScramClient {
+                sent: 3,
+                signature_len: 0,
+                nonce: [0; 32],
+                signature: [0; 64],
+                keys: held(machine.keys()),
+            });
+        }
+        match machine.server_signature() {
+            Some(_) => ScramClient::waiting(machine),
+            None => Some(ScramClient::fresh()),
+        }
+    }
+
     /// The struct of a client that has sent its client-final message, or `None` where it has not, or where the
     /// signature that it waits for has no room.
     fn waiting(machine: &Machine) -> Option<ScramClient>
@@ -111,9 +163,10 @@ impl ScramClient {
     }
 
     /// The client that the struct is, of this login.
-    fn read(&self, alloc: Global, login: &Login<'_>) -> Result<Machine, Status>
+    pub fn read(&self, alloc: Global, login: &Login<'_>) -> Result<Machine, Status>
         ensures ok { IfOk result (λ side. IsSide login.now self.now side) }
         ensures err { IfErr result (λ status. status ≢ StatusOutOfMemory → IsNoLogin login.now status) }
+        ensures room { IfErr result (λ status. status ≢ RoomTooSmall) }
     {
         let mut machine = login.client(alloc)?;
         match self.sent {
@@ -147,10 +200,12 @@ fn shown(alloc: Global, keys: &ClientKeys) -> Result<Option<ScramClientKeys>, St
 
 impl Login<'_> {
     /// The password as a text.
-    fn password(&self, alloc: Global) -> Result<String, Status>
+    pub fn password(&self, alloc: Global) -> Result<String, Status>
         ensures ok { IfOk result (λ password. string_bytes password ≡ self.now.password.now) }
+        ensures utf8 { IfOk result (λ _. IsUtf8 self.now.password.now) }
         ensures err { IfErr result (λ status. status ≢ StatusOutOfMemory
             → (status ≡ StatusNotUtf8) × ¬ IsUtf8 self.now.password.now) }
+        ensures room { IfErr result (λ status. status ≢ RoomTooSmall) }
     {
         Ok(text(self.password)?.to_string(alloc)?)
     }
@@ -158,8 +213,9 @@ impl Login<'_> {
     /// The keys, which are of the login's version.
     fn keys(&self, alloc: Global) -> Result<ScramClientKeys, Status>
         ensures ok { IfOk result (λ keys. ShowsKeys self.now.keys.now keys × IsVersion self.now.version keys.version) }
-        ensures err { IfErr result (λ status. status ≢ StatusOutOfMemory → self.now.secret ≢ 0
-            → IsNoLogin self.now status) }
+        ensures err { IfErr result (λ status. status ≢ StatusOutOfMemory
+            → IsFirst (keys_tests self.now) status) }
+        ensures room { IfErr result (λ status. status ≢ RoomTooSmall) }
     {
         let Some(keys) = shown(alloc, self.keys)? else {
             return Err(Status::NoKeys);
@@ -170,27 +226,51 @@ impl Login<'_> {
         Ok(keys)
     }
 
+    /// A client of this user and version, by the secret of the login.
+    #[tactic(auto, using(crate::proofs::LoginLemmas::no_secrets))]
+    fn by_secret(
+        &self,
+        alloc: Global,
+        username: String,
+        version: ScramVersion,
+    ) -> Result<Machine, Status>
+        ensures ok { IfOk result (λ side. IsSecret self.now side.secret × (side.user ≡ string_bytes username)
+            × (side.state ≡ Initial)) }
+        ensures version { IfOk result (λ side. IsVersion self.now.version version
+            → IsVersion self.now.version side.version) }
+        ensures err { IfErr result (λ status. status ≢ StatusOutOfMemory → IsNoSecret self.now status) }
+        ensures room { IfErr result (λ status. status ≢ RoomTooSmall) }
+    {
+        match self.secret {
+            0 => Ok(Machine::new(username, self.password(alloc)?, version)),
+            1 => Ok(Machine::with_keys(username, self.keys(alloc)?)),
+            2 => {
+                let password = self.password(alloc)?;
+                let keys = self.keys(alloc)?;
+                Ok(Machine::with_password_and_keys(username, password, keys))
+            }
+            _ => Err(Status::NoSuchSecret),
+        }
+    }
+
     /// A client that has sent nothing.
     fn client(&self, alloc: Global) -> Result<Machine, Status>
         ensures ok { IfOk result (λ side. IsLogin self.now side × (side.state ≡ Initial)) }
         ensures err { IfErr result (λ status. status ≢ StatusOutOfMemory → IsNoLogin self.now status) }
+        ensures room { IfErr result (λ status. status ≢ RoomTooSmall) }
     {
-        let version = version_of(self.version).ok_or(Status::NoSuchVersion)?;
-        let username = text(self.username)?.to_string(alloc)?;
-        let client = match self.secret {
-            0 => Machine::new(username, self.password(alloc)?, version),
-            1 => Machine::with_keys(username, self.keys(alloc)?),
-            2 => {
-                let password = self.password(alloc)?;
-                Machine::with_password_and_keys(username, password, self.keys(alloc)?)
-            }
-            _ => return Err(Status::NoSuchSecret),
+        let Some(version) = version_of(self.version) else {
+            return Err(Status::NoSuchVersion);
         };
-        Ok(
-            client
-                .with_least_iterations(self.least_iterations)
-                .with_iteration_limit(self.most_iterations),
-        )
+        let username = text(self.username)?.to_string(alloc)?;
+        match self.by_secret(alloc, username, version) {
+            Ok(client) => Ok(
+                client
+                    .with_least_iterations(self.least_iterations)
+                    .with_iteration_limit(self.most_iterations),
+            ),
+            Err(status) => Err(status),
+        }
     }
 }
 
@@ -207,17 +287,13 @@ fn first(
         (record { bytes = out.new; len = len.new }) result }
     ensures moved { Started login.now nonce.now client.old client.new result }
 {
-    let message = login
-        .client(alloc)?
-        .compute_client_first_message(alloc, nonce)?;
-    put(message.as_slice(), out, len)?;
-    *client = ScramClient {
-        sent: 1,
-        signature_len: 0,
-        nonce: *nonce,
-        signature: [0; 64],
-        keys: no_keys(),
+    let mut machine = match login.client(alloc) {
+        Ok(machine) => machine,
+        Err(status) => return Err(status),
     };
+    let message = machine.compute_client_first_message(alloc, nonce)?;
+    put(message.as_slice(), out, len)?;
+    *client = ScramClient::started(nonce);
     Ok(())
 }
 
@@ -253,10 +329,13 @@ fn answered(
     requires { meter.old ≤ 2 ^ 63 }
     ensures ok { IfOk result (λ answered. Answered login.now client.now server_first.now answered.0.items answered.1) }
     ensures err { IfErr result (λ status. status ≢ StatusOutOfMemory
-        → Responds login.now server_first.now client.now client.now (Err status)) }
+        → NotAnswered login.now client.now server_first.now status) }
     ensures room { IfErr result (λ status. status ≢ RoomTooSmall) }
 {
-    let mut machine = client.read(alloc, login)?;
+    let mut machine = match client.read(alloc, login) {
+        Ok(machine) => machine,
+        Err(status) => return Err(status),
+    };
     match machine.compute_client_final_message_metered(alloc, server_first, meter) {
         Ok(message) => Ok((message, machine)),
         Err(why) => Err(Status::from(why)),

@@ -141,8 +141,13 @@ fn make(
     ensures { Makes (NoneHolds (making_tests version password.now salt.now iterations))
         (MakesStruct version password.now salt.now iterations) keys.old keys.new result }
 {
-    *keys = made(alloc, version, password, salt, iterations)?;
-    Ok(())
+    match made(alloc, version, password, salt, iterations) {
+        Ok(made) => {
+            *keys = made;
+            Ok(())
+        }
+        Err(status) => Err(status),
+    }
 }
 
 /// Makes the keys that stand in place of a password, for a server that keeps this salt and this count.

@@ -11,8 +11,12 @@
 
 mod arrays;
 mod client;
+mod connection;
+mod frames;
 mod keys;
+mod lines;
 mod records;
+mod sasl_client;
 mod server;
 mod status;
 mod texts;

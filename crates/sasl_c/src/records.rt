@@ -38,7 +38,7 @@ pub struct ScramRecord {
 
 impl ScramRecord {
     /// The struct of a record, or `None` where it cannot hold it.
-    fn of(kept: &fe2o3_scram::ScramRecord) -> Option<ScramRecord>
+    pub fn of(kept: &fe2o3_scram::ScramRecord) -> Option<ScramRecord>
         ensures { MatchOption result (¬ HasRoom kept.now) (λ shown. HasRoom kept.now × (shown ≡ struct_of kept.now)) }
     {
         let (version, stored) = (*kept.scram_version(), kept.as_stored_password());
@@ -122,8 +122,13 @@ fn make(
     ensures { Makes (NoneHolds (making_tests version password.now salt.now iterations))
         (MakesStruct version password.now salt.now iterations) kept.old kept.new result }
 {
-    *kept = made(alloc, version, password, salt, iterations)?;
-    Ok(())
+    match made(alloc, version, password, salt, iterations) {
+        Ok(made) => {
+            *kept = made;
+            Ok(())
+        }
+        Err(status) => Err(status),
+    }
 }
 
 /// Makes the record of a password. Where the number is not 0, the struct stays as it was.

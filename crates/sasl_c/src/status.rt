@@ -46,6 +46,15 @@ pub enum Status {
     /// The password is not that of the record.
     OtherPassword,
 
+    /// There is no such mechanism: 0 is SCRAM, 1 PLAIN, 2 ANONYMOUS, and 3 EXTERNAL.
+    NoSuchMechanism,
+
+    /// The connection has ended: its client is logged in, or it is to be closed.
+    Ended,
+
+    /// The struct of the connection is none that a call leaves.
+    NotKept,
+
     /// A client refuses what a server sent.
     Client(ScramErrorKind),
 
@@ -54,6 +63,57 @@ pub enum Status {
 
     /// The text is no record.
     NoRecord(RecordTextError),
+
+    /// No line feed ends the line, which is the last.
+    LineFeedMissing,
+
+    /// No space stands in the line.
+    SpaceMissing,
+
+    /// What stands before the last space of the line is no escaped name.
+    InvalidName,
+
+    /// No line has a record of this version for this name.
+    NoSuchUser,
+
+    /// A line feed stands in the name, or the iteration count is 0.
+    NotWritable,
+
+    /// The other side's header is not that of SASL.
+    OtherHeader,
+
+    /// The size of a frame is below 8 or above 512.
+    FrameSize,
+
+    /// The frame is not the one that is due.
+    OutOfTurn,
+
+    /// The answer fits in no frame of 512 bytes.
+    ReplyTooLarge,
+
+    /// The bytes of the frame are none of its type.
+    FrameUnread,
+
+    /// The frame's type or its data offset is not that of a SASL frame.
+    NoSaslFrame,
+
+    /// A size of the frame is more than 32 bits can say.
+    FrameTooLarge,
+
+    /// The frame is none that the client answers, or the server does not have its mechanism.
+    NotImplemented,
+
+    /// The login is refused: its credentials were.
+    RefusedAuth,
+
+    /// The login is refused by a system error.
+    RefusedSys,
+
+    /// The login is refused by a system error that stays.
+    RefusedSysPerm,
+
+    /// The login is refused by a system error that may pass.
+    RefusedSysTemp,
 }
 
 impl From<AllocError> for Status {
@@ -103,9 +163,29 @@ impl Status {
             Status::NoKeys => 9,
             Status::OtherVersion => 10,
             Status::OtherPassword => 11,
+            Status::NoSuchMechanism => 12,
+            Status::Ended => 13,
+            Status::NotKept => 14,
             Status::Client(why) => client_number(why),
             Status::Server(why) => server_number(why),
             Status::NoRecord(why) => record_text_number(why),
+            Status::LineFeedMissing => 65,
+            Status::SpaceMissing => 66,
+            Status::InvalidName => 67,
+            Status::NoSuchUser => 68,
+            Status::NotWritable => 69,
+            Status::OtherHeader => 70,
+            Status::FrameSize => 71,
+            Status::OutOfTurn => 72,
+            Status::ReplyTooLarge => 73,
+            Status::FrameUnread => 74,
+            Status::NoSaslFrame => 75,
+            Status::FrameTooLarge => 76,
+            Status::NotImplemented => 77,
+            Status::RefusedAuth => 81,
+            Status::RefusedSys => 82,
+            Status::RefusedSysPerm => 83,
+            Status::RefusedSysTemp => 84,
         }
     }
 }

@@ -3,8 +3,11 @@
 ghost use Rattle.std.specs.Prelude.{◌≡◌};
 
 use crate::client::{Login, ScramClient};
+use crate::connection::Connection;
+use crate::frames::SaslFrameView;
 use crate::keys::ClientKeys;
 use crate::records::ScramRecord;
+use crate::sasl_client::{SaslClient, SaslLogin};
 use crate::server::ScramServer;
 use std::mem::size_of;
 
@@ -31,6 +34,9 @@ fn text_of(status: u32) -> &'static [u8] {
         9 => b"No keys\0",
         10 => b"The keys are of another version\0",
         11 => b"The password is not that of the record\0",
+        12 => b"No such mechanism\0",
+        13 => b"The connection has ended\0",
+        14 => b"No connection is kept so\0",
         20 => b"Client: Invalid UTF-8\0",
         21 => b"Client: InsufficientParts\0",
         22 => b"Client: Extensions are not supported\0",
@@ -67,6 +73,23 @@ fn text_of(status: u32) -> &'static [u8] {
         62 => b"Record: Cannot parse iteration count\0",
         63 => b"Record: Invalid base64\0",
         64 => b"Record: Key length mismatch\0",
+        65 => b"Line: Line feed missing\0",
+        66 => b"Line: Space missing\0",
+        67 => b"Line: Cannot parse username\0",
+        68 => b"Lines: No such user\0",
+        69 => b"Line: User not writable\0",
+        70 => b"Connection: The header is not that of SASL\0",
+        71 => b"Connection: A frame of this size is refused\0",
+        72 => b"Connection: The frame is out of turn\0",
+        73 => b"Connection: The answer is too large\0",
+        74 => b"Connection: Decode Error\0",
+        75 => b"Connection: No SASL frame\0",
+        76 => b"Connection: Too large\0",
+        77 => b"Connection: Not implemented\0",
+        81 => b"Connection: The login is refused\0",
+        82 => b"Connection: The login is refused by a system error\0",
+        83 => b"Connection: The login is refused by a system error that stays\0",
+        84 => b"Connection: The login is refused by a system error that may pass\0",
         _ => b"Unknown status\0",
     }
 }
@@ -86,8 +109,8 @@ pub extern "C" fn fe2o3_version() -> u32
 }
 
 /// How many bytes a struct has here: 0 `fe2o3_login`, 1 `fe2o3_scram_client`, 2 `fe2o3_client_keys`, 3
-/// `fe2o3_scram_server`, 4 `fe2o3_scram_record`; of other numbers 0. A caller whose own declarations have other sizes
-/// has another header.
+/// `fe2o3_scram_server`, 4 `fe2o3_scram_record`, 5 `fe2o3_connection`, 6 `fe2o3_sasl_login`, 7 `fe2o3_sasl_client`,
+/// 8 `fe2o3_sasl_frame_view`; of other numbers 0. A caller whose own declarations have other sizes has another header.
 #[unsafe(no_mangle)]
 pub extern "C" fn fe2o3_size(which: u32) -> usize {
     match which {
@@ -96,6 +119,10 @@ pub extern "C" fn fe2o3_size(which: u32) -> usize {
         2 => size_of::<ClientKeys>(),
         3 => size_of::<ScramServer>(),
         4 => size_of::<ScramRecord>(),
+        5 => size_of::<Connection>(),
+        6 => size_of::<SaslLogin<'static>>(),
+        7 => size_of::<SaslClient>(),
+        8 => size_of::<SaslFrameView<'static>>(),
         _ => 0,
     }
 }

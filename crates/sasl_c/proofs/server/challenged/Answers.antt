@@ -1,7 +1,8 @@
 use Rattle.std.proofs.Common.{rules, ◌∙◌, Ok, option_map}
 use Rattle.std.specs.Prelude.{Some, None}
+use Rattle.fe2o3_scram.specs.ClientFirst.{client_first_values}
 use Rattle.fe2o3_scram.specs.ScramServer.{ChallengesFrom, provider_in, state_in}
-use Rattle.sasl_c.proofs.ServerLemmas.{challenged, failed, not_shown, unknown, unread}
+use Rattle.sasl_c.proofs.ServerLemmas.{challenged, failed, never_unknown, not_shown, unread}
 use Rattle.sasl_c.proofs.StatusLemmas.{carried}
 use Rattle.sasl_c.proofs.server.challenged.Goals as goal
 
@@ -9,7 +10,9 @@ pub returns-in-Err-clause-err : goal.returns-in-Err-clause-err
 returns-in-Err-clause-err c = search (rules, unread)
 
 pub returns-in-Err-read-clause-err : goal.returns-in-Err-read-clause-err
-returns-in-Err-read-clause-err c = search (rules, not_shown)
+returns-in-Err-read-clause-err c = λ other.
+    not_shown c.args.kept.now c.args.nonce.now c.args.client_first.now (client_first_values c.in-Ok.first)
+    c.in-Err-read.status c.in-Ok.ensures.answer (c.in-Err-read.ensures.err other)
 
 pub returns-in-Ok-Some-clause-ok : goal.returns-in-Ok-Some-clause-ok
 returns-in-Ok-Some-clause-ok c =
@@ -27,9 +30,10 @@ returns-in-Ok-None-clause-err c = λ _.
     c.args.nonce.now c.args.client_first.now (Ok (option_map (λ message. message.items) answer))
     (state_in c.compute_server_first_message.new.self)) c.in-Ok-None.field-0 None
     c.in-Ok-None.field-0-is c.in-Ok-None.ensures.answer in
-    unknown c.args.kept.now c.args.nonce.now c.args.client_first.now _ c.in-Ok-read.kept
-    (provider_in c.new-machine.result) (state_in c.new-machine.result) _
-    c.in-Ok-read.ensures.ok (c.new-machine.ensures.provider ∙ c.new-credential.ensures) held
+    never_unknown c.args.kept.now c.args.nonce.now c.args.client_first.now _ c.in-Ok-read.kept
+    (provider_in c.new-machine.result) (state_in c.new-machine.result) _ (client_first_values c.in-Ok.first) _
+    c.in-Ok.ensures.answer c.in_ok-username.ensures.ok
+    (c.new-machine.ensures.provider ∙ c.new-credential.ensures) held
 
 pub returns-in-Err-compute_server_first_message-clause-err : goal.returns-in-Err-compute_server_first_message-clause-err
 returns-in-Err-compute_server_first_message-clause-err c =

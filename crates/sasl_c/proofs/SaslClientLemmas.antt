@@ -1,0 +1,468 @@
+-- What a client of a connection comes to (AMQP 1.0, part 5, section 5.3.2).
+use Rattle.std.proofs.Common.{arith, refl, sym, ap, inl, inr, ◌∙◌, ◌≡◌, ◌≤◌, ◌<◌, ◌⊎◌, ◌+◌, ◌++◌, ℕ, List, [], length}
+use Rattle.std.specs.Prelude.{Option, Some, None, false, MatchOption, Result, Ok, Err, drop, nat_eq, if◌then◌else◌}
+use Rattle.std.proofs.lemmas.Bool.{cases_lt}
+use Rattle.fe2o3_sasl_wire.specs.declared.amqp_types.SaslCode.TheVariants as outcomes
+use Rattle.fe2o3_sasl_wire.specs.declared.sasl_frames.error.Error.{Error}
+use Rattle.fe2o3_sasl_wire.specs.SaslFrames as frames
+use Rattle.fe2o3_sasl_wire.specs.SaslFrames.{SaslFrame, canonical}
+use Rattle.fe2o3_scram.specs.declared.scram_messages.error.ScramErrorKind.{ScramErrorKind}
+use Rattle.fe2o3_scram.specs.Readings.{IsFirst, NoneHolds}
+use Rattle.fe2o3_scram.specs.ScramClient as states
+use Rattle.fe2o3_scram.specs.ScramClient.{AnswersIn, BelievesIn, ClientSide, ClientState, started}
+use Rattle.fe2o3_sasl.specs.Bodies.{carried as sent_or_not}
+use Rattle.fe2o3_sasl.specs.Events.{Given, ClientSays, Started, Answered, Reported, Refused, ClientFault, NotImplemented, Scram, OtherKeys, Frame as FrameFault, OutOfMemory}
+use Rattle.fe2o3_sasl.specs.Profiles.{Profile, ScramProfile, PlainProfile, AnonymousProfile, ExternalProfile, is_scram, profile_machine}
+use Rattle.fe2o3_sasl.specs.Runs.{ProfileGives, Replies}
+use Rattle.fe2o3_sasl_negotiation.specs.declared.set_down.SetDown.{SetDown}
+use Rattle.fe2o3_sasl_negotiation.specs.declared.standing.Due.{Due}
+use Rattle.fe2o3_sasl_negotiation.specs.declared.standing.Due.TheVariants.{Header, Frame}
+use Rattle.fe2o3_sasl_negotiation.specs.declared.standing.Standing.{Standing}
+use Rattle.fe2o3_sasl_negotiation.specs.declared.standing.Standing.TheVariants.{Wanting}
+use Rattle.fe2o3_sasl_negotiation.specs.declared.standing.Turn.{Turn}
+use Rattle.fe2o3_sasl_negotiation.specs.declared.standing.Turn.TheVariants as turns
+use Rattle.fe2o3_sasl_negotiation.specs.ClientNegotiation.{ClientAnswers, ClientReceives, Says}
+use Rattle.fe2o3_sasl_negotiation.specs.Framing.{IsPart}
+use Rattle.fe2o3_sasl_negotiation.specs.Negotiations.{Side, Answer, Sends, ReceivesAt}
+use Rattle.fe2o3_sasl_negotiation.specs.SetDown.{IsKept, side_of}
+use Rattle.fe2o3_sasl_negotiation.proofs.lemmas.UnitLemmas.{length-framed}
+use Rattle.sasl_c.specs.declared.client.Login.{Login as Words}
+use Rattle.sasl_c.specs.declared.client.ScramClient.{ScramClient as ScramStruct}
+use Rattle.sasl_c.specs.declared.connection.Connection.{Connection as Kept}
+use Rattle.sasl_c.specs.declared.sasl_client.SaslClient.{SaslClient as Struct}
+use Rattle.sasl_c.specs.declared.sasl_client.SaslLogin.{SaslLogin as Login}
+use Rattle.sasl_c.specs.declared.status.Status.{Status}
+use Rattle.sasl_c.specs.declared.status.Status.TheVariants as statuses
+use Rattle.sasl_c.specs.Client.{IsNoLogin, IsReached, IsState}
+use Rattle.sasl_c.specs.Connection.{Keeps, KeepsNoPart, due_number, side_tests}
+use Rattle.sasl_c.specs.SaslClient.{Comes, HasNoHostname, HasNoWords, IsClient, IsHostname, IsNoClient, IsNoProfile, IsProfile, Receives, Stands}
+use Rattle.sasl_c.proofs.ClientLemmas.{answer_fits, answering_login, believing_login, moved_login}
+use Rattle.sasl_c.proofs.StateLemmas.{reached}
+use Rattle.sasl_c.proofs.StatusLemmas.{carried}
+
+-- ---- a profile that a login comes to stays one
+
+same_stands : (words : Words) (client after : ClientSide) → after ≡ client → Stands words client → Stands words after
+same_stands words client after same stands = carried (Stands words) client after (sym same) stands
+
+answered_stands : (words : Words) (state : ClientState) (client after : ClientSide) (text : List ℕ)
+    (answer : Result (List ℕ) ScramErrorKind) → AnswersIn state client text answer after → Stands words client
+    → Stands words after
+answered_stands words state client after text (Ok message) is stands =
+    let fits = answer_fits state client after text message is in (
+      answering_login words state client after text message is stands.0,
+      carried (IsReached after.user) (states.ClientFinalSent fits.1.0 fits.1.1) after.state (sym fits.1.2) fits.1.3,
+    )
+answered_stands words states.Initial client after text (Err fault) is stands =
+    same_stands words client after is.1 stands
+answered_stands words (states.ClientFirstSent nonce bare) client after text (Err fault) is stands =
+    same_stands words client after is.1 stands
+answered_stands words (states.ClientFinalSent signature keys) client after text (Err fault) is stands =
+    same_stands words client after is.1 stands
+answered_stands words (states.Complete keys) client after text (Err fault) is stands =
+    same_stands words client after is.1 stands
+
+believed_stands : (words : Words) (state : ClientState) (client after : ClientSide) (text : List ℕ)
+    (answer : Result (Unit {0}) ScramErrorKind) → BelievesIn state client text answer after → Stands words client
+    → Stands words after
+believed_stands words (states.ClientFinalSent signature keys) client after text (Ok believed) is stands = (
+  believing_login words (states.ClientFinalSent signature keys) client after text is stands.0,
+  carried (IsReached after.user) (states.Complete keys) after.state
+      (sym (ap (λ (side : ClientSide). side.state) is.1)) tt,
+)
+believed_stands words states.Initial client after text (Ok believed) is stands = absurd is
+believed_stands words (states.ClientFirstSent nonce bare) client after text (Ok believed) is stands = absurd is
+believed_stands words (states.Complete keys) client after text (Ok believed) is stands = absurd is
+believed_stands words states.Initial client after text (Err fault) is stands =
+    same_stands words client after is.1 stands
+believed_stands words (states.ClientFirstSent nonce bare) client after text (Err fault) is stands =
+    same_stands words client after is.1 stands
+believed_stands words (states.ClientFinalSent signature keys) client after text (Err fault) is stands =
+    same_stands words client after is.1 stands
+believed_stands words (states.Complete keys) client after text (Err fault) is stands =
+    same_stands words client after is.1 stands
+
+-- a profile of SCRAM whose client is of these words
+abbrev Moves : Words → Profile → Type 0
+Moves words next = (side : ClientSide) × (next ≡ ScramProfile side) × Stands words side
+
+scram_moves : (words : Words) (client : ClientSide) (hostname : Option (List ℕ)) (nonce : List ℕ) (frame : SaslFrame)
+    (reply : Result SaslFrame ClientFault) (moved : Profile)
+    → profile_machine (ScramProfile client) hostname nonce frame reply moved → Stands words client
+    → Moves words moved
+scram_moves words client hostname nonce (frames.Mechanisms names) reply moved (inl is) stands =
+    (started client nonce, is.2, (moved_login words client _ stands.0, refl))
+scram_moves words client hostname nonce (frames.Mechanisms names) reply moved (inr is) stands = (client, is.2, stands)
+scram_moves words client hostname nonce (frames.Challenge text) reply moved (inl is) stands = (client, is.2, stands)
+scram_moves words client hostname nonce (frames.Challenge text) reply moved (inr is) stands = let turn = is.1 in
+    (turn.1, turn.4, answered_stands words client.state client turn.1 text turn.0 turn.2 stands)
+scram_moves words client hostname nonce (frames.Outcome outcomes.Ok None) reply moved is stands =
+    (client, is.1, stands)
+scram_moves words client hostname nonce (frames.Outcome outcomes.Ok (Some text)) reply moved is stands =
+    (is.1, is.4, believed_stands words client.state client is.1 text is.0 is.2 stands)
+scram_moves words client hostname nonce (frames.Outcome code more) reply moved is stands = (client, is.1, stands)
+scram_moves words client hostname nonce (frames.Init mechanism response host) reply moved is stands =
+    (client, is.1, stands)
+scram_moves words client hostname nonce (frames.Response text) reply moved is stands = (client, is.1, stands)
+
+-- a profile that is not of SCRAM stays as it is
+plain_stays : (user password : List ℕ) (hostname : Option (List ℕ)) (nonce : List ℕ) (frame : SaslFrame)
+    (reply : Result SaslFrame ClientFault) (moved : Profile)
+    → profile_machine (PlainProfile user password) hostname nonce frame reply moved
+    → moved ≡ PlainProfile user password
+plain_stays user password hostname nonce (frames.Mechanisms names) reply moved (inl is) = is.2
+plain_stays user password hostname nonce (frames.Mechanisms names) reply moved (inr is) = is.2
+plain_stays user password hostname nonce (frames.Challenge text) reply moved is = is.1
+plain_stays user password hostname nonce (frames.Outcome code more) reply moved is = is.1
+plain_stays user password hostname nonce (frames.Init mechanism response host) reply moved is = is.1
+plain_stays user password hostname nonce (frames.Response text) reply moved is = is.1
+
+anonymous_stays : (hostname : Option (List ℕ)) (nonce : List ℕ) (frame : SaslFrame)
+    (reply : Result SaslFrame ClientFault) (moved : Profile)
+    → profile_machine AnonymousProfile hostname nonce frame reply moved → moved ≡ AnonymousProfile
+anonymous_stays hostname nonce (frames.Mechanisms names) reply moved (inl is) = is.2
+anonymous_stays hostname nonce (frames.Mechanisms names) reply moved (inr is) = is.2
+anonymous_stays hostname nonce (frames.Challenge text) reply moved is = is.1
+anonymous_stays hostname nonce (frames.Outcome code more) reply moved is = is.1
+anonymous_stays hostname nonce (frames.Init mechanism response host) reply moved is = is.1
+anonymous_stays hostname nonce (frames.Response text) reply moved is = is.1
+
+external_stays : (hostname : Option (List ℕ)) (nonce : List ℕ) (frame : SaslFrame)
+    (reply : Result SaslFrame ClientFault) (moved : Profile)
+    → profile_machine ExternalProfile hostname nonce frame reply moved → moved ≡ ExternalProfile
+external_stays hostname nonce (frames.Mechanisms names) reply moved (inl is) = is.2
+external_stays hostname nonce (frames.Mechanisms names) reply moved (inr is) = is.2
+external_stays hostname nonce (frames.Challenge text) reply moved is = is.1
+external_stays hostname nonce (frames.Outcome code more) reply moved is = is.1
+external_stays hostname nonce (frames.Init mechanism response host) reply moved is = is.1
+external_stays hostname nonce (frames.Response text) reply moved is = is.1
+
+same_comes : (login : Login) (profile next : Profile) → next ≡ profile → Comes login profile → Comes login next
+same_comes login profile next same comes = carried (Comes login) profile next (sym same) comes
+
+machine_comes : (login : Login) (profile : Profile) (hostname : Option (List ℕ)) (nonce : List ℕ) (frame : SaslFrame)
+    (reply : Result SaslFrame ClientFault) (moved : Profile)
+    → profile_machine profile hostname nonce frame reply moved → Comes login profile → Comes login moved
+machine_comes login (ScramProfile client) hostname nonce frame reply moved is comes =
+    let moves = scram_moves login.login client hostname nonce frame reply moved is comes.1 in
+    same_comes login (ScramProfile moves.0) moved moves.1 (comes.0, moves.2)
+machine_comes login (PlainProfile user password) hostname nonce frame reply moved is comes =
+    same_comes login _ moved (plain_stays user password hostname nonce frame reply moved is) comes
+machine_comes login AnonymousProfile hostname nonce frame reply moved is comes =
+    same_comes login _ moved (anonymous_stays hostname nonce frame reply moved is) comes
+machine_comes login ExternalProfile hostname nonce frame reply moved is comes =
+    same_comes login _ moved (external_stays hostname nonce frame reply moved is) comes
+
+-- also where the reply is not sent
+sent_comes : (login : Login) (profile : Profile) (body : Option (List ℕ)) (moved next : Profile)
+    → Comes login profile → Comes login moved → next ≡ sent_or_not profile (λ _. moved) body → Comes login next
+sent_comes login profile None moved next comes moves is = same_comes login profile next is comes
+sent_comes login profile (Some body) moved next comes moves is = same_comes login moved next is moves
+
+replied_comes : (login : Login) (profile moved next : Profile) (reply : Result SaslFrame ClientFault)
+    (says : ClientSays) → Comes login profile → Comes login moved → Replies profile moved reply says next
+    → Comes login next
+replied_comes login profile moved next (Err fault) says comes moves is = same_comes login moved next is.1 moves
+replied_comes login profile moved next (Ok (frames.Outcome code more)) says comes moves is =
+    same_comes login moved next is.1 moves
+replied_comes login profile moved next (Ok (frames.Init mechanism response host)) says comes moves is =
+    sent_comes login profile (canonical (frames.Init mechanism response host)) moved next comes moves is.1
+replied_comes login profile moved next (Ok (frames.Response text)) says comes moves is =
+    sent_comes login profile (canonical (frames.Response text)) moved next comes moves is.1
+replied_comes login profile moved next (Ok (frames.Mechanisms names)) says comes moves is =
+    sent_comes login profile (canonical (frames.Mechanisms names)) moved next comes moves is.1
+replied_comes login profile moved next (Ok (frames.Challenge text)) says comes moves is =
+    sent_comes login profile (canonical (frames.Challenge text)) moved next comes moves is.1
+
+gives_comes : (login : Login) (hostname : Option (List ℕ)) (profile : Profile) (event : Given)
+    (spelled : Result SaslFrame Error) (says : ClientSays) (next : Profile)
+    → ProfileGives hostname profile event spelled says next → Comes login profile → Comes login next
+gives_comes login hostname profile event (Err fault) says next is comes = same_comes login profile next is.1 comes
+gives_comes login hostname profile event (Ok frame) says next (inl is) comes =
+    same_comes login profile next is.2 comes
+gives_comes login hostname profile event (Ok frame) says next (inr is) comes =
+    replied_comes login profile is.1 next is.0 says comes
+    (machine_comes login profile hostname event.nonce frame is.0 is.1 is.2 comes) is.3
+
+answers_comes : (login : Login) (hostname : Option (List ℕ)) (due : Due) (profile next : Profile)
+    (nonce unit : List ℕ) (answer : Answer) → ClientAnswers hostname due profile nonce unit answer next
+    → Comes login profile → Comes login next
+answers_comes login hostname Header profile next nonce unit answer is comes =
+    same_comes login profile next is.1 comes
+answers_comes login hostname (Frame turn) profile next nonce unit answer (Err fault, spells, unread) comes =
+    same_comes login profile next unread.1 comes
+answers_comes login hostname (Frame turn) profile next nonce unit answer (Ok frame, spells, inl out) comes =
+    same_comes login profile next out.2 comes
+answers_comes login hostname (Frame turn) profile next nonce unit answer
+    (Ok frame, spells, inr (in_turn, (says, steps, said))) comes =
+    gives_comes login hostname profile (record { body = drop 4 unit; nonce = nonce }) steps.0 says next steps.2 comes
+
+-- ---- an answer has 512 bytes at most (part 5, section 5.3.1)
+
+abbrev Short : Answer → Type 0
+Short answer = length answer.sent ≤ 512
+
+silent_short : (answer other : Answer) → answer ≡ other → other.sent ≡ [] → Short answer
+silent_short answer other same nothing =
+    let sent : length answer.sent ≡ 0 = ap (λ (a : Answer). length a.sent) same ∙ ap length nothing in
+    omega (arith, sent)
+
+sends_short : (body : List ℕ) (standing : Standing) (due : Due) (answer : Answer) → Sends body standing due answer
+    → Short answer
+sends_short body standing due answer (inr (long, same)) = silent_short answer _ same refl
+sends_short body standing due answer (inl (fits, same)) =
+    let sent : length answer.sent ≡ length body + 4 = ap (λ (a : Answer). length a.sent) same ∙ length-framed body in
+    omega (arith, sent, fits)
+
+says_short : (says : ClientSays) (turn : Turn) (answer : Answer) → Says says turn answer → Short answer
+says_short (Started body) turns.Mechanisms answer sends = sends_short body _ _ answer sends
+says_short (Started body) turns.Init answer same = silent_short answer _ same refl
+says_short (Started body) turns.Challenge answer same = silent_short answer _ same refl
+says_short (Started body) turns.Response answer same = silent_short answer _ same refl
+says_short (Started body) turns.Outcome answer same = silent_short answer _ same refl
+says_short (Answered body) turns.Challenge answer sends = sends_short body _ _ answer sends
+says_short (Answered body) turns.Mechanisms answer same = silent_short answer _ same refl
+says_short (Answered body) turns.Init answer same = silent_short answer _ same refl
+says_short (Answered body) turns.Response answer same = silent_short answer _ same refl
+says_short (Answered body) turns.Outcome answer same = silent_short answer _ same refl
+says_short (Reported outcomes.Ok more) turn answer same = silent_short answer _ same refl
+says_short (Reported outcomes.Auth more) turn answer same = silent_short answer _ same refl
+says_short (Reported outcomes.Sys more) turn answer same = silent_short answer _ same refl
+says_short (Reported outcomes.SysPerm more) turn answer same = silent_short answer _ same refl
+says_short (Reported outcomes.SysTemp more) turn answer same = silent_short answer _ same refl
+says_short (Refused OutOfMemory) turn answer never = absurd never
+says_short (Refused NotImplemented) turn answer refused = silent_short answer _ refused.2 refl
+says_short (Refused (Scram kind)) turn answer refused = silent_short answer _ refused.2 refl
+says_short (Refused OtherKeys) turn answer refused = silent_short answer _ refused.2 refl
+says_short (Refused (FrameFault fault)) turn answer refused = silent_short answer _ refused.2 refl
+
+answers_short : (hostname : Option (List ℕ)) (due : Due) (profile next : Profile) (nonce unit : List ℕ)
+    (answer : Answer) → ClientAnswers hostname due profile nonce unit answer next → Short answer
+answers_short hostname Header profile next nonce unit answer (inl other, kept) = silent_short answer _ other.1 refl
+answers_short hostname Header profile next nonce unit answer (inr is, kept) = silent_short answer _ is.1 refl
+answers_short hostname (Frame turn) profile next nonce unit answer (Err fault, spells, unread) =
+    silent_short answer _ unread.0 refl
+answers_short hostname (Frame turn) profile next nonce unit answer (Ok frame, spells, inl out) =
+    silent_short answer _ out.1 refl
+answers_short hostname (Frame turn) profile next nonce unit answer
+    (Ok frame, spells, inr (in_turn, (says, steps, said))) = says_short says turn answer said
+
+-- ---- a call
+
+-- what has come of a unit
+pub part_short : (due : Due) (come : List ℕ) → IsPart due 512 come → length come ≤ 512
+part_short Header come part = omega (arith, part)
+part_short (Frame turn) come part = go (cases_lt (length come) 4)
+  where
+    go : (length come < 4) ⊎ (4 ≤ length come) → length come ≤ 512
+    go (inl few) = omega (arith, few)
+    go (inr four) = omega (arith, (part four).0.1, (part four).1)
+
+-- what is behind a call of this login
+record Behind (login : Login) (next : Side Profile) (sent : List ℕ) : Type 0 where
+  comes : Comes login next.state
+  limit : next.limit ≡ 512
+  held : length next.held ≤ 512
+  short : length sent ≤ 512
+
+behind : (login : Login) (next other : Side Profile) (sent more : List ℕ) → next ≡ other → sent ≡ more
+    → Comes login other.state → other.limit ≡ 512 → length other.held ≤ 512 → length more ≤ 512
+    → Behind login next sent
+behind login next other sent more same is comes limit held short =
+    carried (λ given. Behind login given sent) other next (sym same) (record {
+      comes = comes;
+      limit = limit;
+      held = held;
+      short = carried (λ (s : List ℕ). length s ≤ 512) more sent (sym is) short;
+    })
+
+wanting_behind : (login : Login) (hostname : Option (List ℕ)) (side next : Side Profile) (bytes nonce : List ℕ)
+    (taken : ℕ) (sent : List ℕ) → ReceivesAt Wanting (ClientAnswers hostname) side bytes nonce taken sent next
+    → side.limit ≡ 512 → Comes login side.state → Behind login next sent
+wanting_behind login hostname side next bytes nonce taken sent (inl (part, waits)) limit comes =
+    behind login next _ sent [] waits.2 waits.1 comes limit
+    (part_short side.due (side.held ++ bytes)
+    (carried (λ n. IsPart side.due n (side.held ++ bytes)) side.limit 512 limit part)) (omega arith)
+wanting_behind login hostname side next bytes nonce taken sent (inr (inl (refused, ends))) limit comes =
+    behind login next _ sent [] ends.2 ends.1 comes limit (omega arith) (omega arith)
+wanting_behind login hostname side next bytes nonce taken sent (inr (inr (answer, state, whole, answers, ends))) limit
+    comes =
+    behind login next _ sent answer.sent ends.2 ends.1
+    (answers_comes login hostname side.due side.state state nonce _ answer answers comes) limit (omega arith)
+    (answers_short hostname side.due side.state state nonce _ answer answers)
+
+receives_behind : (login : Login) (hostname : Option (List ℕ)) (side next : Side Profile) (bytes nonce : List ℕ)
+    (taken : ℕ) (sent : List ℕ) → side.standing ≡ Wanting
+    → ClientReceives hostname side bytes nonce taken sent next → side.limit ≡ 512 → Comes login side.state
+    → Behind login next sent
+receives_behind login hostname side next bytes nonce taken sent wanting is limit comes =
+    wanting_behind login hostname side next bytes nonce taken sent
+    (carried (λ s. ReceivesAt s (ClientAnswers hostname) side bytes nonce taken sent next) side.standing Wanting
+    wanting is) limit comes
+
+-- ---- structs
+
+-- the profile of a struct is one that the login comes to
+profile_comes : (login : Login) (client : Struct) (profile : Profile) → IsProfile login client.scram profile
+    → Comes login profile
+profile_comes login client (ScramProfile side) is =
+    (is.0, (is.1.0, reached side.user client.scram side.state is.1.1))
+profile_comes login client (PlainProfile user password) is = is
+profile_comes login client AnonymousProfile is = is
+profile_comes login client ExternalProfile is = is
+
+-- the struct that a profile was set down as
+pub shows_scram : (login : Login) (profile : Profile) (machine : ClientSide) (answer : Option ScramStruct)
+    → profile ≡ ScramProfile machine → Comes login profile
+    → ((user : List ℕ) → IsReached user machine.state
+    → MatchOption answer ⊥ (λ client. IsState user client machine.state))
+    → MatchOption answer ⊥ (λ scram. IsProfile login scram profile)
+shows_scram login profile machine None is comes held =
+    let stands = carried (Comes login) profile (ScramProfile machine) is comes in held machine.user stands.1.1
+shows_scram login profile machine (Some scram) is comes held =
+    let stands = carried (Comes login) profile (ScramProfile machine) is comes in
+    carried (IsProfile login scram) (ScramProfile machine) profile (sym is)
+    (stands.0, (stands.1.0, held machine.user stands.1.1))
+
+pub shows_other : (login : Login) (profile : Profile) (scram : ScramStruct) → is_scram profile ≡ false
+    → Comes login profile → IsProfile login scram profile
+shows_other login (ScramProfile side) scram other comes = absurd (cc)
+shows_other login (PlainProfile user password) scram other comes = comes
+shows_other login AnonymousProfile scram other comes = comes
+shows_other login ExternalProfile scram other comes = comes
+
+-- the structs of a side, of its values
+pub shows_side : (login : Login) (connection : Kept) (scram : ScramStruct) (side : Side Profile) (kept : SetDown)
+    → side_of kept side.state ≡ side → side.limit ≡ 512 → Keeps connection kept.standing kept.due kept.held.now
+    → IsProfile login scram side.state
+    → IsClient login (record { connection = connection; scram = scram }) side
+shows_side login connection scram side kept same limit keeps is = (
+  (
+    carried (λ (s : Side Profile). Keeps connection s.standing s.due s.held) (side_of kept side.state) side same keeps,
+    limit,
+  ),
+  is,
+)
+
+pub never_more : (side : Side Profile) (kept : SetDown) → side_of kept side.state ≡ side → length side.held ≤ 512
+    → 512 < length kept.held.now → ⊥
+never_more side kept same few more =
+    let held : length kept.held.now ≡ length side.held = ap (λ (s : Side Profile). length s.held) same in
+    absurd (omega (arith, held, few, more))
+
+-- the side that was taken up is that of the struct
+pub is_taken_up : (login : Login) (client : Struct) (kept : SetDown) (profile : Profile) (side : Side Profile)
+    → Keeps client.connection kept.standing kept.due kept.held.now → kept.limit ≡ 512
+    → IsProfile login client.scram profile → side ≡ side_of kept profile → IsClient login client side
+is_taken_up login client kept profile side keeps limit is same =
+    carried (IsClient login client) (side_of kept profile) side (sym same) ((keeps, limit), is)
+
+due_named : ℕ → Due
+due_named number = if nat_eq number 0 then Header else if nat_eq number 1 then Frame turns.Mechanisms
+    else if nat_eq number 2 then Frame turns.Init else if nat_eq number 3 then Frame turns.Challenge
+    else if nat_eq number 4 then Frame turns.Response else Frame turns.Outcome
+
+named_back : (due : Due) → due_named (due_number due) ≡ due
+unfolding due_named
+named_back Header = refl
+named_back (Frame turns.Mechanisms) = refl
+named_back (Frame turns.Init) = refl
+named_back (Frame turns.Challenge) = refl
+named_back (Frame turns.Response) = refl
+named_back (Frame turns.Outcome) = refl
+
+one_due : (due other : Due) → due_number due ≡ due_number other → due ≡ other
+one_due due other same = sym (named_back due) ∙ (ap due_named same ∙ named_back other)
+
+keeps_no_part : (client : Struct) (kept : SetDown)
+    → Keeps client.connection kept.standing kept.due kept.held.now → kept.limit ≡ 512 → ¬ IsKept kept
+    → KeepsNoPart client.connection
+keeps_no_part client kept keeps limit wrong = λ due held other part.
+    let one = one_due due kept.due (other.due ∙ sym keeps.due) in
+    let same : held ≡ kept.held.now = other.held ∙ sym keeps.held in
+    let less : IsPart kept.due 512 held = carried (λ d. IsPart d 512 held) due kept.due one part in
+    let come : IsPart kept.due 512 kept.held.now = carried (λ h. IsPart kept.due 512 h) held kept.held.now same less
+    in
+    wrong (
+      omega (arith, limit),
+      carried (λ n. IsPart kept.due n kept.held.now) 512 kept.limit (sym limit) come,
+    )
+
+-- none of the tests of the struct holds
+none_holds : (client : Struct) (kept : SetDown) → Keeps client.connection kept.standing kept.due kept.held.now
+    → kept.standing ≡ Wanting → NoneHolds (side_tests client.connection)
+none_holds client kept keeps wanting =
+    let stands = carried (λ s. Keeps client.connection s kept.due kept.held.now) kept.standing Wanting wanting keeps in
+    ((λ ended. ended stands.standing), ((λ nothing. nothing kept.due kept.held.now stands), tt))
+
+-- why there is no side
+pub no_connection : (login : Login) (client : Struct) (status : Status)
+    → IsFirst (side_tests client.connection) status → IsNoClient login client status
+no_connection login client status first = inl first
+
+pub no_hostname : (login : Login) (client : Struct) (kept : SetDown) (status : Status)
+    → Keeps client.connection kept.standing kept.due kept.held.now → kept.standing ≡ Wanting
+    → status ≡ statuses.NotUtf8 → HasNoHostname login → IsNoClient login client status
+no_hostname login client kept status keeps wanting is wrong =
+    inr (none_holds client kept keeps wanting, inl (is, wrong))
+
+pub no_profile : (login : Login) (client : Struct) (kept : SetDown) (status : Status)
+    → Keeps client.connection kept.standing kept.due kept.held.now → kept.standing ≡ Wanting → ¬ HasNoHostname login
+    → IsNoProfile login status → IsNoClient login client status
+no_profile login client kept status keeps wanting named wrong =
+    inr (none_holds client kept keeps wanting, inr (named, inl wrong))
+
+pub is_not_kept : (login : Login) (client : Struct) (kept : SetDown) (profile : Profile)
+    → Keeps client.connection kept.standing kept.due kept.held.now → kept.standing ≡ Wanting → kept.limit ≡ 512
+    → ¬ HasNoHostname login → IsProfile login client.scram profile → ¬ IsKept kept
+    → IsNoClient login client statuses.NotKept
+is_not_kept login client kept profile keeps wanting limit named is wrong = inr (
+  none_holds client kept keeps wanting,
+  inr (named, inr (refl, keeps_no_part client kept keeps limit wrong, (profile, is))),
+)
+
+-- why a login has no profile
+pub no_scram : (login : Login) (status : Status) → login.mechanism ≡ 0 → IsNoLogin login.login status
+    → IsNoProfile login status
+unfolding IsNoProfile
+no_scram login status is wrong = inl (is, wrong)
+
+pub no_plain : (login : Login) (status : Status) → login.mechanism ≡ 1 → HasNoWords login.login status
+    → IsNoProfile login status
+unfolding IsNoProfile
+no_plain login status is wrong = inr (inl (is, wrong))
+
+pub no_mechanism : (login : Login) → 3 < login.mechanism → IsNoProfile login statuses.NoSuchMechanism
+unfolding IsNoProfile
+no_mechanism login wide = inr (inr (wide, refl))
+
+pub ruleset no_profiles = (no_scram, no_plain, no_mechanism)
+
+-- what a call makes of bytes
+pub received : (login : Login) (bytes nonce : List ℕ) (before after : Struct) (hostname : Option (List ℕ))
+    (side next : Side Profile) (taken : ℕ) (sent : List ℕ) → IsHostname login hostname → IsClient login before side
+    → side.standing ≡ Wanting → ClientReceives hostname side bytes nonce taken sent next
+    → IsClient login after next → Receives login bytes nonce before after taken (Ok sent)
+unfolding Receives
+received login bytes nonce before after hostname side next taken sent named is wanting held last =
+    (hostname, side, next, named, is, wanting, held, last)
+
+pub not_received : (login : Login) (bytes nonce : List ℕ) (before after : Struct) (taken : ℕ) (status : Status)
+    → IsNoClient login before status → Receives login bytes nonce before after taken (Err status)
+unfolding Receives
+not_received login bytes nonce before after taken status wrong = wrong
+
+-- what the side behind a call is, and what is sent
+pub behind_all : (login : Login) (before : Struct) (hostname : Option (List ℕ)) (side next : Side Profile)
+    (bytes nonce old items : List ℕ) (taken : ℕ) → IsClient login before side → side.standing ≡ Wanting → old ≡ []
+    → (sent : List ℕ) × (items ≡ old ++ sent) × ClientReceives hostname side bytes nonce taken sent next
+    → ClientReceives hostname side bytes nonce taken items next × Comes login next.state × (next.limit ≡ 512)
+    × (length next.held ≤ 512) × (length items ≤ 512)
+behind_all login before hostname side next bytes nonce old items taken is wanting empty (sent, all, held) =
+    let same : items ≡ sent = all ∙ ap (λ (o : List ℕ). o ++ sent) empty in
+    let whole = carried (λ s. ClientReceives hostname side bytes nonce taken s next) sent items (sym same) held in
+    let last = receives_behind login hostname side next bytes nonce taken items wanting whole is.0.1
+    (profile_comes login before side.state is.1) in
+    (whole, last.comes, last.limit, last.held, last.short)
+
+pub ruleset taken_up = (is_taken_up, no_connection, no_hostname, no_profile, is_not_kept)

@@ -1,0 +1,64 @@
+-- That a struct is that of the client whose values it was made of.
+use Rattle.std.proofs.Common.{arith, refl, sym, ap, ◌≡◌, ◌≢◌, ◌<◌, ℕ, List, length}
+use Rattle.std.specs.Prelude.{Option, Some, None, MatchOption, true, false}
+use Rattle.std.proofs.lemmas.List.{length-take}
+use Rattle.fe2o3_scram.specs.ClientKeys.{ClientKeys}
+use Rattle.fe2o3_scram.specs.ScramClient.{ClientState, Initial, ClientFirstSent, ClientFinalSent, Complete, is_complete, login_keys}
+use Rattle.fe2o3_scram.specs.Texts.{base64_text}
+use Rattle.sasl_c.specs.declared.client.ScramClient.{ScramClient as Struct}
+use Rattle.sasl_c.specs.Client.{Holds, IsReached, IsState}
+use Rattle.sasl_c.proofs.StatusLemmas.{carried}
+
+pub first_sent : (user : List ℕ) (client : Struct) (state : ClientState) (nonce bare : List ℕ)
+    → state ≡ ClientFirstSent (base64_text nonce) bare → IsReached user state → client.sent ≡ 1 → client.nonce ≡ nonce
+    → IsState user client state
+first_sent user client state nonce bare is reached sent same =
+    let of_user = carried (IsReached user) state (ClientFirstSent (base64_text nonce) bare) is reached in
+    carried (IsState user client) (ClientFirstSent (base64_text nonce) bare) state (sym is)
+    (sent, ap base64_text (sym same), of_user)
+
+pub completed : (user : List ℕ) (client : Struct) (state : ClientState) → is_complete state ≡ true → client.sent ≡ 3
+    → Holds client.keys (login_keys state) → IsState user client state
+completed user client (Complete keys) is sent holds = (sent, holds)
+completed user client Initial is sent holds = absurd (cc)
+completed user client (ClientFirstSent nonce bare) is sent holds = absurd (cc)
+completed user client (ClientFinalSent signature keys) is sent holds = absurd (cc)
+
+pub nothing_sent : (user : List ℕ) (client : Struct) (state : ClientState)
+    → ((nonce bare : List ℕ) → state ≢ ClientFirstSent nonce bare)
+    → ((signature : List ℕ) (keys : Option ClientKeys) → state ≢ ClientFinalSent signature keys)
+    → is_complete state ≡ false → IsState user client Initial → IsState user client state
+nothing_sent user client Initial first final done is = is
+nothing_sent user client (ClientFirstSent nonce bare) first final done is = absurd (first nonce bare refl)
+nothing_sent user client (ClientFinalSent signature keys) first final done is = absurd (final signature keys refl)
+nothing_sent user client (Complete keys) first final done is = absurd (cc)
+
+-- a signature that was reached has room
+pub never_too_long : (user : List ℕ) (state : ClientState) (signature : List ℕ) (keys : Option ClientKeys)
+    → state ≡ ClientFinalSent signature keys → IsReached user state
+    → ((signature : List ℕ) (keys : Option ClientKeys) → state ≡ ClientFinalSent signature keys
+    → 64 < length signature) → ⊥
+never_too_long user state signature keys is reached long =
+    let few = carried (IsReached user) state (ClientFinalSent signature keys) is reached in
+    absurd (omega (arith, few, long signature keys is))
+
+-- so a client that waits for a signature always has a struct
+pub waiting : (user : List ℕ) (state : ClientState) (answer : Option Struct) (signature : List ℕ)
+    (keys : Option ClientKeys) → state ≡ ClientFinalSent signature keys → IsReached user state
+    → MatchOption answer ((signature : List ℕ) (keys : Option ClientKeys) → state ≡ ClientFinalSent signature keys
+    → 64 < length signature) (λ client. (user : List ℕ) → IsState user client state)
+    → MatchOption answer ⊥ (λ client. IsState user client state)
+waiting user state None signature keys is reached held = never_too_long user state signature keys is reached held
+waiting user state (Some client) signature keys is reached held = held user
+
+-- the client that a struct shows has such a state
+pub reached : (user : List ℕ) (client : Struct) (state : ClientState) → IsState user client state
+    → IsReached user state
+reached user client Initial is = tt
+reached user client (ClientFirstSent nonce bare) is = is.2
+reached user client (ClientFinalSent signature keys) is =
+    omega (arith, is.1, ap length is.2, length-take client.signature_len client.signature)
+reached user client (Complete keys) is = tt
+
+-- what the struct of a client takes
+pub ruleset of_state = (first_sent, completed, nothing_sent, never_too_long)

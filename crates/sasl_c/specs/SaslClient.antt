@@ -1,0 +1,82 @@
+-- The client's side of a connection that stands in structs of C between its calls (AMQP 1.0, part 5, section 5.3.2).
+use Rattle.std.specs.Prelude.{◌≡◌, ◌≢◌, ◌<◌, ◌⊎◌, ℕ, Option, Some, None, List, [], Result, Ok, Err}
+use Rattle.std.specs.Str.{IsUtf8}
+use Rattle.fe2o3_scram.specs.Readings.{IsFirst, NoneHolds}
+use Rattle.fe2o3_scram.specs.ScramClient.{ClientSide}
+use Rattle.fe2o3_sasl.specs.Profiles.{Profile, ScramProfile, PlainProfile, AnonymousProfile, ExternalProfile}
+use Rattle.fe2o3_sasl_negotiation.specs.declared.standing.Standing.TheVariants.{Wanting}
+use Rattle.fe2o3_sasl_negotiation.specs.ClientNegotiation.{ClientReceives}
+use Rattle.fe2o3_sasl_negotiation.specs.Framing.{sasl_header}
+use Rattle.fe2o3_sasl_negotiation.specs.Negotiations.{Side}
+use Rattle.sasl_c.specs.declared.client.Login.{Login as Words}
+use Rattle.sasl_c.specs.declared.client.ScramClient.{ScramClient as ScramStruct}
+use Rattle.sasl_c.specs.declared.sasl_client.SaslClient.{SaslClient as Struct}
+use Rattle.sasl_c.specs.declared.sasl_client.SaslLogin.{SaslLogin as Login}
+use Rattle.sasl_c.specs.declared.status.Status.{Status}
+use Rattle.sasl_c.specs.declared.status.Status.TheVariants as statuses
+use Rattle.sasl_c.specs.Client.{IsLogin, IsNoLogin, IsReached, IsSide}
+use Rattle.sasl_c.specs.Connection.{IsSideOf, KeepsNoPart, side_tests}
+
+-- the hostname of a login: none where it is empty
+abbrev pub IsHostname : Login → Option (List ℕ) → Type 0
+IsHostname login None = login.hostname.now ≡ []
+IsHostname login (Some name) = (login.hostname.now ≢ []) × (name ≡ login.hostname.now)
+
+-- a login has one that cannot be sent: it is not UTF-8
+abbrev pub HasNoHostname : Login → Type 0
+HasNoHostname login = (login.hostname.now ≢ []) × ¬ IsUtf8 login.hostname.now
+
+-- the profile of a login; that of SCRAM has the client of the struct (RFC 4616, RFC 4505, RFC 4422, RFC 5802)
+abbrev pub IsProfile : Login → ScramStruct → Profile → Type 0
+IsProfile login scram (ScramProfile side) = (login.mechanism ≡ 0) × IsSide login.login scram side
+IsProfile login scram (PlainProfile user password) = (login.mechanism ≡ 1) × (user ≡ login.login.username.now)
+    × (password ≡ login.login.password.now)
+IsProfile login scram AnonymousProfile = login.mechanism ≡ 2
+IsProfile login scram ExternalProfile = login.mechanism ≡ 3
+
+-- why the words of a login give no PLAIN: they are not UTF-8
+abbrev pub HasNoWords : Words → Status → Type 0
+HasNoWords words status = (status ≡ statuses.NotUtf8) × (¬ IsUtf8 words.username.now ⊎ ¬ IsUtf8 words.password.now)
+
+-- why a login has no profile
+unfoldable pub IsNoProfile : Login → Status → Type 0
+IsNoProfile login status = ((login.mechanism ≡ 0) × IsNoLogin login.login status)
+    ⊎ ((login.mechanism ≡ 1) × HasNoWords login.login status)
+    ⊎ ((3 < login.mechanism) × (status ≡ statuses.NoSuchMechanism))
+
+-- the structs are those of this side
+abbrev pub IsClient : Login → Struct → Side Profile → Type 0
+IsClient login client side = IsSideOf client.connection side × IsProfile login client.scram side.state
+
+-- why the structs are those of no side that wants more bytes: the tests of the connection, those of the hostname and of
+-- the profile, and last that what was kept is a part of what is due
+abbrev pub IsNoClient : Login → Struct → Status → Type 0
+IsNoClient login client status = IsFirst (side_tests client.connection) status
+    ⊎ (NoneHolds (side_tests client.connection) × (((status ≡ statuses.NotUtf8) × HasNoHostname login)
+    ⊎ (¬ HasNoHostname login × (IsNoProfile login status ⊎ ((status ≡ statuses.NotKept)
+    × KeepsNoPart client.connection × ((profile : Profile) × IsProfile login client.scram profile))))))
+
+-- a client of SCRAM that a login comes to
+abbrev pub Stands : Words → ClientSide → Type 0
+Stands words side = IsLogin words side × IsReached side.user side.state
+
+-- and the profile that a login comes to
+abbrev pub Comes : Login → Profile → Type 0
+Comes login (ScramProfile side) = (login.mechanism ≡ 0) × Stands login.login side
+Comes login (PlainProfile user password) = (login.mechanism ≡ 1) × (user ≡ login.login.username.now)
+    × (password ≡ login.login.password.now)
+Comes login AnonymousProfile = login.mechanism ≡ 2
+Comes login ExternalProfile = login.mechanism ≡ 3
+
+-- the header with which a client begins
+abbrev pub Opens : Result (List ℕ) Status → Type 0
+Opens (Ok header) = header ≡ sasl_header
+Opens (Err status) = ⊥
+
+-- what a call makes of bytes: between two structs, what the library's side of the connection makes of them
+unfoldable pub Receives : Login → List ℕ → List ℕ → Struct → Struct → ℕ → Result (List ℕ) Status → Type 0
+Receives login bytes nonce before after taken (Ok sent) =
+    (hostname : Option (List ℕ)) × (side next : Side Profile) × IsHostname login hostname
+    × IsClient login before side × (side.standing ≡ Wanting)
+    × ClientReceives hostname side bytes nonce taken sent next × IsClient login after next
+Receives login bytes nonce before after taken (Err status) = IsNoClient login before status

@@ -1,0 +1,167 @@
+//! Frames of SASL, read where they stand (AMQP 1.0, part 5, section 5.3.3).
+
+ghost use Rattle.std.specs.Prelude.{◌≡◌, [], None};
+ghost use Rattle.fe2o3_sasl_wire.specs.FrameView.{shown, viewed_frame};
+ghost use Rattle.sasl_c.specs.Frames.{Given, Offers, Shows, ShowsFrame, Views, code_number};
+ghost use Rattle.sasl_c.specs.Status.{Answers};
+
+use crate::connection::of_frame;
+use crate::status::{Status, number, text};
+use fe2o3_sasl_wire::{FrameView, SaslCode, view_frame};
+
+/// What the body of a frame says. What it shows are bytes of that body, where they stand.
+#[repr(C)]
+#[derive(Drop)]
+pub struct SaslFrameView<'a> {
+    /// Which frame it is, by its descriptor: 64 the mechanisms, 65 an init, 66 a challenge, 67 a response, and 68 an
+    /// outcome.
+    pub kind: u32,
+
+    /// The code of an outcome, from 0 to 4, and else 0.
+    pub code: u32,
+
+    /// 1 where there is a message, and else 0.
+    pub has_message: u32,
+
+    /// 1 where there is a hostname, and else 0.
+    pub has_hostname: u32,
+
+    /// How many mechanisms there are.
+    pub count: usize,
+
+    /// How many bytes of the body the frame takes. Those behind it are left alone.
+    pub taken: usize,
+
+    /// The mechanism of an init.
+    pub mechanism: &'a [u8],
+
+    /// The initial response, the challenge, the response, or what the mechanism says at its end.
+    pub message: &'a [u8],
+
+    /// The hostname of an init.
+    pub hostname: &'a [u8],
+}
+
+/// The number of a code.
+fn number_of(code: SaslCode) -> u32
+    ensures { result ≡ code_number code }
+{
+    match code {
+        SaslCode::Ok => 0,
+        SaslCode::Auth => 1,
+        SaslCode::Sys => 2,
+        SaslCode::SysPerm => 3,
+        SaslCode::SysTemp => 4,
+    }
+}
+
+/// Whether there are bytes, and them.
+fn given<'a>(bytes: Option<&'a [u8]>) -> (u32, &'a [u8])
+    ensures { Given result.0 result.1.now (shown bytes.entry) }
+{
+    match bytes {
+        Some(bytes) => (1, bytes),
+        None => (0, &[]),
+    }
+}
+
+impl<'a> SaslFrameView<'a> {
+    /// A struct with this message alone.
+    fn with_message(kind: u32, code: u32, message: Option<&'a [u8]>) -> SaslFrameView<'a>
+        ensures { Shows result kind code 0 [] (shown message.entry) None }
+    {
+        let (has_message, message) = given(message);
+        SaslFrameView {
+            kind,
+            code,
+            has_message,
+            has_hostname: 0,
+            count: 0,
+            taken: 0,
+            mechanism: &[],
+            message,
+            hostname: &[],
+        }
+    }
+
+    /// The struct of a frame.
+    fn of(frame: &FrameView<'a>) -> SaslFrameView<'a>
+        ensures { ShowsFrame result (viewed_frame frame.now) }
+    {
+        match frame {
+            FrameView::Mechanisms(names) => {
+                let mut view = SaslFrameView::with_message(64, 0, None);
+                view.count = names.len();
+                view
+            }
+            FrameView::Init {
+                mechanism,
+                initial_response,
+                hostname,
+            } => {
+                let mut view = SaslFrameView::with_message(65, 0, *initial_response);
+                view.mechanism = mechanism.as_bytes();
+                if let Some(name) = hostname {
+                    view.has_hostname = 1;
+                    view.hostname = name.as_bytes();
+                }
+                view
+            }
+            FrameView::Challenge(text) => SaslFrameView::with_message(66, 0, Some(text)),
+            FrameView::Response(text) => SaslFrameView::with_message(67, 0, Some(text)),
+            FrameView::Outcome {
+                code,
+                additional_data,
+            } => SaslFrameView::with_message(68, number_of(*code), *additional_data),
+        }
+    }
+}
+
+/// Reads the body of a frame.
+fn view_body<'a>(body: &'a [u8], view: &mut SaslFrameView<'a>) -> Result<(), Status>
+    ensures { Views body.now view.old view.new result }
+{
+    match view_frame(body) {
+        Ok((frame, taken)) => {
+            *view = SaslFrameView::of(&frame);
+            view.taken = taken;
+            Ok(())
+        }
+        Err(fault) => Err(of_frame(fault)),
+    }
+}
+
+/// Reads the body of a frame, which begins with its data offset, behind the four bytes of its size. It takes no memory.
+#[unsafe(no_mangle)]
+pub extern "C" fn fe2o3_sasl_view_frame<'a>(body: &'a [u8], view: &mut SaslFrameView<'a>) -> u32
+    ensures { Answers result (Views body.now view.old view.new) }
+{
+    number(view_body(body, view))
+}
+
+/// Whether a server offers a mechanism.
+fn offers(body: &[u8], mechanism: &[u8]) -> Result<(), Status>
+    ensures { Offers body.now mechanism.now result }
+{
+    let name = text(mechanism)?;
+    match view_frame(body) {
+        Ok((FrameView::Mechanisms(names), _)) => {
+            if names.contains(name) {
+                Ok(())
+            } else {
+                Err(Status::NotImplemented)
+            }
+        }
+        Ok(_) => Err(Status::OutOfTurn),
+        Err(fault) => Err(of_frame(fault)),
+    }
+}
+
+/// Whether the body of a frame is a server's list of mechanisms with this one in it: 0, or `NOT_IMPLEMENTED` where it is
+/// not in the list, and `OUT_OF_TURN` where the frame is another one.
+#[unsafe(no_mangle)]
+pub extern "C" fn fe2o3_sasl_offers(body: &[u8], mechanism: &[u8]) -> u32
+    ensures { Answers result (Offers body.now mechanism.now) }
+{
+    number(offers(body, mechanism))
+}

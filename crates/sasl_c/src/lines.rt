@@ -1,0 +1,185 @@
+//! The text of users and their records, a line for each (RFC 5802, section 5.1; RFC 5803, section 2).
+
+ghost use Rattle.std.specs.Prelude.{◌≡◌, ◌≢◌, Ok, Err, IfOk, IfErr};
+ghost use Rattle.sasl_c.specs.Lines.{Chosen, Finds, FindsInto, NotChosen, SpellsLine, line_status};
+ghost use Rattle.sasl_c.specs.Status.{Answers, Fills};
+ghost use Rattle.sasl_c.specs.declared.status.Status.TheVariants.{OutOfMemory as StatusOutOfMemory, RoomTooSmall};
+
+use crate::arrays::put;
+use crate::records::ScramRecord;
+use crate::status::{Status, number, text, version_of};
+use fe2o3_scram::{
+    MixedCredentials, ReadLinesErrorKind, RecordTextError, ScramVersion, WriteLinesError,
+};
+use std::alloc::Global;
+
+/// Why a line is not read, as a status.
+fn of_line(kind: ReadLinesErrorKind) -> Status
+    ensures { result ≡ line_status kind }
+{
+    match kind {
+        ReadLinesErrorKind::LineFeedMissing => Status::LineFeedMissing,
+        ReadLinesErrorKind::SpaceMissing => Status::SpaceMissing,
+        ReadLinesErrorKind::InvalidName => Status::InvalidName,
+        ReadLinesErrorKind::InvalidRecord(RecordTextError::OutOfMemory) => Status::OutOfMemory,
+        ReadLinesErrorKind::InvalidRecord(why) => Status::NoRecord(why),
+        ReadLinesErrorKind::VersionMismatch => Status::OtherVersion,
+        ReadLinesErrorKind::OutOfMemory => Status::OutOfMemory,
+    }
+}
+
+/// The struct of the record of this version that a user has.
+fn chosen(
+    users: &MixedCredentials,
+    username: &str,
+    version: ScramVersion,
+) -> Result<ScramRecord, Status>
+    ensures ok { IfOk result (λ made. Chosen users.now username.now version made) }
+    ensures err { IfErr result (λ status. NotChosen users.now username.now version status) }
+{
+    match users.for_version(version).record(username) {
+        Some(kept) => match ScramRecord::of(kept) {
+            Some(made) => Ok(made),
+            None => Err(Status::TooLong),
+        },
+        None => Err(Status::NoSuchUser),
+    }
+}
+
+/// Why nothing is found, and at which line, counted from 1; 0 where each line is read.
+#[derive(Clone, Copy)]
+struct NotFound {
+    why: Status,
+    line: usize,
+}
+
+impl From<Status> for NotFound {
+    ghost from_gives = { λ status found. found ≡ record { why = status; line = 0 } };
+
+    fn from(why: Status) -> Self {
+        NotFound { why, line: 0 }
+    }
+}
+
+/// The struct of the record that a user has in a text.
+#[tactic(auto, using(crate::proofs::LineLemmas::finds))]
+fn found(
+    alloc: Global,
+    lines: &[u8],
+    username: &[u8],
+    version: u32,
+) -> Result<ScramRecord, NotFound>
+    ensures ok { IfOk result (λ made. Finds lines.now username.now version 0 (Ok made)) }
+    ensures err { IfErr result (λ none. none.why ≢ StatusOutOfMemory
+        → Finds lines.now username.now version none.line (Err none.why)) }
+{
+    let Some(version) = version_of(version) else {
+        return Err(NotFound::from(Status::NoSuchVersion));
+    };
+    let username = text(username)?;
+    let lines = text(lines)?;
+    match MixedCredentials::parse_lines(alloc, lines) {
+        Ok(users) => match chosen(&users, username, version) {
+            Ok(made) => Ok(made),
+            Err(status) => Err(NotFound::from(status)),
+        },
+        Err(error) => Err(NotFound {
+            why: of_line(error.kind),
+            line: error.line,
+        }),
+    }
+}
+
+/// Finds the record that a user has in a text.
+fn find(
+    alloc: Global,
+    lines: &[u8],
+    username: &[u8],
+    version: u32,
+    line: &mut usize,
+    kept: &mut ScramRecord,
+) -> Result<(), Status>
+    ensures { FindsInto lines.now username.now version line.old line.new kept.old kept.new result }
+{
+    match found(alloc, lines, username, version) {
+        Ok(made) => {
+            *kept = made;
+            Ok(())
+        }
+        Err(none) => {
+            *line = none.line;
+            Err(none.why)
+        }
+    }
+}
+
+/// Finds the record of this version that a user has in a text of users, a line for each: the name, with each comma as
+/// `=2C` and each equals sign as `=3D`, a space, the text of the record, and a line feed. Of several lines for one name
+/// and version the first counts. Where nothing is found, `line` says which line is not read, counted from 1, or 0 where
+/// each is.
+#[unsafe(no_mangle)]
+pub extern "C" fn fe2o3_scram_lines_find(
+    alloc: Global,
+    lines: &[u8],
+    username: &[u8],
+    version: u32,
+    line: &mut usize,
+    kept: &mut ScramRecord,
+) -> u32
+    ensures { Answers result (FindsInto lines.now username.now version line.old line.new kept.old kept.new) }
+{
+    number(find(alloc, lines, username, version, line, kept))
+}
+
+/// The line of a user.
+fn line_of(alloc: Global, username: &[u8], kept: &ScramRecord) -> Result<Vec<u8>, Status>
+    ensures ok { IfOk result (λ text. SpellsLine username.now kept.now (Ok text.items)) }
+    ensures err { IfErr result (λ status. status ≢ StatusOutOfMemory
+        → SpellsLine username.now kept.now (Err status)) }
+    ensures room { IfErr result (λ status. status ≢ RoomTooSmall) }
+{
+    let username = text(username)?.to_string(alloc)?;
+    let kept = match kept.read(alloc) {
+        Ok(kept) => kept,
+        Err(status) => return Err(status),
+    };
+    let mut users = MixedCredentials::new(alloc);
+    users.add(username, kept)?;
+    match users.to_lines(alloc) {
+        Ok(text) => Ok(text),
+        Err(WriteLinesError::UserNotWritable) => Err(Status::NotWritable),
+        Err(WriteLinesError::OutOfMemory) => Err(Status::OutOfMemory),
+    }
+}
+
+/// Writes the line of a user.
+fn write(
+    alloc: Global,
+    username: &[u8],
+    kept: &ScramRecord,
+    out: &mut [u8],
+    len: &mut usize,
+) -> Result<(), Status>
+    ensures { Fills (SpellsLine username.now kept.now) (record { bytes = out.old; len = len.old })
+        (record { bytes = out.new; len = len.new }) result }
+{
+    let line = line_of(alloc, username, kept)?;
+    put(&line, out, len)?;
+    Ok(())
+}
+
+/// Writes the line of a user and a record, with its line feed, as `fe2o3_scram_lines_find` reads it. `NOT_WRITABLE`
+/// where a line feed stands in the name, or the count is 0.
+#[unsafe(no_mangle)]
+pub extern "C" fn fe2o3_scram_line(
+    alloc: Global,
+    username: &[u8],
+    kept: &ScramRecord,
+    out: &mut [u8],
+    len: &mut usize,
+) -> u32
+    ensures { Answers result (Fills (SpellsLine username.now kept.now) (record { bytes = out.old; len = len.old })
+        (record { bytes = out.new; len = len.new })) }
+{
+    number(write(alloc, username, kept, out, len))
+}

@@ -1,0 +1,265 @@
+//! The client's side of a connection, which stands in a struct between its calls.
+
+ghost use Rattle.std.specs.Prelude.{◌≡◌, ◌≢◌, ◌≤◌, ◌^◌, List, ℕ, Ok, Err, length, option_map, string_bytes, IfOk, IfErr, OnErr, MatchOption};
+ghost use Rattle.fe2o3_sasl.specs.Profiles.{PlainProfile};
+ghost use Rattle.fe2o3_sasl.specs.SaslProfile.{profile_of};
+ghost use Rattle.fe2o3_sasl_negotiation.specs.declared.standing.Standing.TheVariants.{Wanting};
+ghost use Rattle.fe2o3_sasl_negotiation.specs.Sides.{client_side, hostname_in};
+ghost use Rattle.sasl_c.specs.SaslClient.{Comes, HasNoWords, IsClient, IsHostname, IsNoClient, HasNoHostname, IsNoProfile, IsProfile, Opens, Receives};
+ghost use Rattle.sasl_c.specs.declared.sasl_client.SaslLogin.{SaslLogin as LoginStruct};
+ghost use Rattle.sasl_c.specs.Status.{Answers, Fills, FillsWithin};
+ghost use Rattle.sasl_c.specs.declared.status.Status.TheVariants.{NotUtf8, OutOfMemory as StatusOutOfMemory, RoomTooSmall};
+
+use crate::arrays::put;
+use crate::client::{Login, ScramClient};
+use crate::connection::Connection;
+use crate::status::{Status, number, text};
+use bytes::BytesMut;
+use fe2o3_sasl::SaslProfile;
+use fe2o3_sasl_negotiation::{ClientNegotiation, TakeUpError};
+use fe2o3_sasl_wire::ProtocolHeader;
+use fe2o3_scram::Meter;
+use std::alloc::Global;
+
+/// Who logs in on a connection, and by which mechanism: lent for each call, and the same for all of them.
+#[repr(C)]
+#[derive(Drop)]
+pub struct SaslLogin<'a> {
+    /// 0 for SCRAM of the login's version, 1 for PLAIN, 2 for ANONYMOUS, and 3 for EXTERNAL.
+    pub mechanism: u32,
+
+    /// The hostname that the init names. Where it is empty the init names none.
+    pub hostname: &'a [u8],
+
+    /// The user and the secret. PLAIN takes the name and the password of it, ANONYMOUS and EXTERNAL nothing.
+    pub login: Login<'a>,
+}
+
+/// What a client keeps of a connection between its calls. All zeros is one of which no byte has come.
+#[repr(C)]
+#[derive(Drop)]
+pub struct SaslClient {
+    /// The connection.
+    pub connection: Connection,
+
+    /// What SCRAM keeps. Once the client is logged in, it hands out the keys (`fe2o3_scram_client_keys`).
+    pub scram: ScramClient,
+}
+
+impl SaslLogin<'_> {
+    /// The hostname, if there is one.
+    fn hostname(&self, alloc: Global) -> Result<Option<String>, Status>
+        ensures ok { IfOk result (λ hostname. IsHostname self.now (option_map string_bytes hostname)) }
+        ensures utf8 { IfOk result (λ _. ¬ HasNoHostname self.now) }
+        ensures err { IfErr result (λ status. status ≢ StatusOutOfMemory → (status ≡ NotUtf8) × HasNoHostname self.now) }
+        ensures room { IfErr result (λ status. status ≢ RoomTooSmall) }
+    {
+        if self.hostname.is_empty() {
+            return Ok(None);
+        }
+        Ok(Some(text(self.hostname)?.to_string(alloc)?))
+    }
+
+    /// PLAIN of the login. `NotUtf8`, and else `OutOfMemory`.
+    fn plain(&self, alloc: Global) -> Result<SaslProfile, Status>
+        ensures ok { IfOk result (λ profile.
+            profile_of profile ≡ PlainProfile self.now.login.username.now self.now.login.password.now) }
+        ensures err { IfErr result (λ status. status ≢ StatusOutOfMemory → HasNoWords self.now.login status) }
+        ensures room { IfErr result (λ status. status ≢ RoomTooSmall) }
+    {
+        let username = text(self.login.username)?.to_string(alloc)?;
+        let password = self.login.password(alloc)?;
+        Ok(SaslProfile::plain(username, password))
+    }
+
+    /// The profile, whose client of SCRAM is that of the struct.
+    #[tactic(auto, using(crate::proofs::SaslClientLemmas::no_profiles))]
+    fn profile(&self, alloc: Global, scram: &ScramClient) -> Result<SaslProfile, Status>
+        ensures ok { IfOk result (λ profile. IsProfile self.now scram.now (profile_of profile)) }
+        ensures err { IfErr result (λ status. status ≢ StatusOutOfMemory → IsNoProfile self.now status) }
+        ensures room { IfErr result (λ status. status ≢ RoomTooSmall) }
+    {
+        match self.mechanism {
+            0 => match scram.read(alloc, &self.login) {
+                Ok(client) => Ok(SaslProfile::from(client)),
+                Err(status) => Err(status),
+            },
+            1 => self.plain(alloc),
+            2 => Ok(SaslProfile::Anonymous),
+            3 => Ok(SaslProfile::External),
+            _ => Err(Status::NoSuchMechanism),
+        }
+    }
+}
+
+/// The struct of a profile's client of SCRAM, and a fresh one of another profile.
+fn scram_of(profile: &SaslProfile) -> Option<ScramClient>
+    ensures { (login : LoginStruct) → Comes login (profile_of profile.now)
+        → MatchOption result ⊥ (λ scram. IsProfile login scram (profile_of profile.now)) }
+{
+    match profile.scram_client() {
+        Some(machine) => ScramClient::of(machine),
+        None => Some(ScramClient::fresh()),
+    }
+}
+
+impl SaslClient {
+    /// The structs of a side.
+    fn of(side: &ClientNegotiation) -> Option<SaslClient>
+        ensures { (login : LoginStruct) → Comes login (client_side side.now).state → (client_side side.now).limit ≡ 512
+            → length (client_side side.now).held ≤ 512
+            → MatchOption result ⊥ (λ client. IsClient login client (client_side side.now)) }
+    {
+        let kept = side.set_down();
+        let Some(connection) = Connection::of(&kept) else {
+            return None;
+        };
+        let Some(scram) = scram_of(side.profile()) else {
+            return None;
+        };
+        Some(SaslClient { connection, scram })
+    }
+
+    /// The side that the structs are.
+    #[tactic(auto, using(crate::proofs::SaslClientLemmas::taken_up))]
+    fn read(&self, alloc: Global, login: &SaslLogin<'_>) -> Result<ClientNegotiation, Status>
+        ensures ok { IfOk result (λ side. IsHostname login.now (hostname_in side)
+            × IsClient login.now self.now (client_side side) × ((client_side side).standing ≡ Wanting)) }
+        ensures err { IfErr result (λ status. status ≢ StatusOutOfMemory → IsNoClient login.now self.now status) }
+        ensures room { IfErr result (λ status. status ≢ RoomTooSmall) }
+    {
+        let kept = self.connection.read()?;
+        let hostname = login.hostname(alloc)?;
+        let profile = match login.profile(alloc, &self.scram) {
+            Ok(profile) => profile,
+            Err(status) => return Err(status),
+        };
+        match ClientNegotiation::take_up(alloc, profile, hostname, &kept) {
+            Ok(side) => Ok(side),
+            Err(TakeUpError::NotKept) => Err(Status::NotKept),
+            Err(TakeUpError::OutOfMemory) => Err(Status::OutOfMemory),
+        }
+    }
+}
+
+/// Writes the header of SASL.
+fn open(out: &mut [u8], len: &mut usize) -> Result<(), Status>
+    ensures { Fills Opens (record { bytes = out.old; len = len.old }) (record { bytes = out.new; len = len.new }) result }
+{
+    put(&<[u8; 8]>::from(ProtocolHeader::sasl()), out, len)
+}
+
+/// Writes the header of SASL, with which a client begins a connection.
+#[unsafe(no_mangle)]
+pub extern "C" fn fe2o3_sasl_client_open(out: &mut [u8], len: &mut usize) -> u32
+    ensures { Answers result (Fills Opens (record { bytes = out.old; len = len.old })
+        (record { bytes = out.new; len = len.new })) }
+{
+    number(open(out, len))
+}
+
+/// What a call makes of bytes.
+#[derive(Drop)]
+struct Made {
+    /// How many it takes.
+    taken: usize,
+
+    /// What is to be sent.
+    sent: BytesMut,
+
+    /// The structs then.
+    next: SaslClient,
+}
+
+/// What a client makes of bytes.
+fn received(
+    alloc: Global,
+    login: &SaslLogin<'_>,
+    client: &SaslClient,
+    bytes: &[u8],
+    nonce: &[u8; 32],
+    meter: &mut Meter,
+) -> Result<Made, Status>
+    requires { meter.old ≤ 2 ^ 63 }
+    ensures ok { IfOk result (λ made. Receives login.now bytes.now nonce.now client.now made.next made.taken
+        (Ok made.sent.items)) }
+    ensures fits { IfOk result (λ made. length made.sent.items ≤ 512) }
+    ensures err { IfErr result (λ status. status ≢ StatusOutOfMemory → IsNoClient login.now client.now status) }
+    ensures room { IfErr result (λ status. status ≢ RoomTooSmall) }
+{
+    let mut side = match client.read(alloc, login) {
+        Ok(side) => side,
+        Err(status) => return Err(status),
+    };
+    let mut sent = BytesMut::new(alloc);
+    let received = side.receive(alloc, bytes, nonce, meter, &mut sent)?;
+    let Some(next) = SaslClient::of(&side) else {
+        return Err(Status::NotKept);
+    };
+    Ok(Made {
+        taken: received.taken,
+        sent,
+        next,
+    })
+}
+
+/// The most bytes that a client sends at once.
+const FRAME_MOST: usize = 512;
+
+/// Takes bytes, and writes what is to be sent.
+fn receive(
+    alloc: Global,
+    login: &SaslLogin<'_>,
+    client: &mut SaslClient,
+    bytes: &[u8],
+    nonce: &[u8; 32],
+    meter: &mut Meter,
+    taken: &mut usize,
+    out: &mut [u8],
+    len: &mut usize,
+) -> Result<(), Status>
+    requires { meter.old ≤ 2 ^ 63 }
+    ensures text { FillsWithin 512 (Receives login.now bytes.now nonce.now client.old client.new taken.new)
+        (record { bytes = out.old; len = len.old }) (record { bytes = out.new; len = len.new }) result }
+    ensures stays { OnErr result ((client.new ≡ client.old) × (taken.new ≡ taken.old)) }
+    ensures first { IfErr result (λ status. status ≡ RoomTooSmall → meter.new ≡ meter.old) }
+{
+    if out.len() < FRAME_MOST {
+        *len = FRAME_MOST;
+        return Err(Status::RoomTooSmall);
+    }
+    let made = match received(alloc, login, client, bytes, nonce, meter) {
+        Ok(made) => made,
+        Err(status) => return Err(status),
+    };
+    put(&made.sent, out, len)?;
+    *taken = made.taken;
+    *client = made.next;
+    Ok(())
+}
+
+/// Takes bytes of the connection as they came, to the end of the header or of the frame that is due, and writes what is
+/// to be sent, of at most 512 bytes, a room that is asked for before any hash is made. What is left of the bytes is to
+/// be handed in again while the connection stands at 0; behind a login it is AMQP's. The nonce is 32 random bytes,
+/// fresh for each call.
+#[unsafe(no_mangle)]
+pub extern "C" fn fe2o3_sasl_client_receive(
+    alloc: Global,
+    login: &SaslLogin<'_>,
+    client: &mut SaslClient,
+    bytes: &[u8],
+    nonce: &[u8; 32],
+    taken: &mut usize,
+    out: &mut [u8],
+    len: &mut usize,
+) -> u32
+    ensures { Answers result (λ answer. FillsWithin 512
+        (Receives login.now bytes.now nonce.now client.old client.new taken.new)
+        (record { bytes = out.old; len = len.old }) (record { bytes = out.new; len = len.new }) answer
+        × OnErr answer ((client.new ≡ client.old) × (taken.new ≡ taken.old))) }
+{
+    let mut meter = Meter::new();
+    number(receive(
+        alloc, login, client, bytes, nonce, &mut meter, taken, out, len,
+    ))
+}
