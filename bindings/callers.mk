@@ -27,6 +27,7 @@ DIST = fe2o3_sasl-$(VERSION)-$(CPU)
 WARNINGS = -Wall -Wextra -Wpedantic
 SANITIZERS = -g -O1 -fsanitize=address,undefined -fno-sanitize-recover=all
 PROGRAMS = fits scram threads
+KINDS = plain shared sanitized
 
 .PHONY: lib header header-check callers rust python install dist build/fe2o3_sasl.pc
 
@@ -79,16 +80,26 @@ build/callers/%_sanitized: bindings/c/%.c $(HEADER) build/libfe2o3_sasl.a
 	@mkdir -p $(@D)
 	$(CC) -std=c99 $(WARNINGS) $(SANITIZERS) -pthread -o $@ $< build/libfe2o3_sasl.a $(LDLIBS)
 
-# The header by itself, that the library exports what it declares and nothing else, and the programs.
-callers: header-check $(foreach kind,plain shared sanitized,$(PROGRAMS:%=build/callers/%_$(kind)))
+# (the requests for memory of the library go to functions of the program)
+build/callers/memory_plain build/callers/memory_sanitized: LDLIBS += $(foreach name,malloc realloc free,-Wl,--wrap=$(name))
+
+# The header by itself, that the library exports what it declares and nothing else, and the programs, that of client.c
+# against a server in Python.
+callers: header-check $(foreach kind,$(KINDS),$(PROGRAMS:%=build/callers/%_$(kind)) build/callers/client_$(kind)) \
+    build/callers/memory_plain build/callers/memory_sanitized
 	$(CC) -std=c99 $(WARNINGS) -fsyntax-only -x c $(HEADER)
 	$(CXX) $(WARNINGS) -fsyntax-only -x c++ $(HEADER)
 	sed -n 's/^[a-z0-9_]* \(fe2o3_[a-z0-9_]*\)(.*/\1/p' $(HEADER) | LC_ALL=C sort > build/callers/declared
 	nm -D --defined-only build/libfe2o3_sasl.so | sed 's/.* //' | LC_ALL=C sort | diff build/callers/declared -
-	@for program in $(PROGRAMS); do for kind in plain shared sanitized; do \
+	@for program in $(PROGRAMS); do for kind in $(KINDS); do \
 	    echo "$$program $$kind"; \
 	    LD_LIBRARY_PATH=build build/callers/$${program}_$$kind || exit 1; \
 	done; done
+	@for kind in plain sanitized; do echo "memory $$kind"; build/callers/memory_$$kind || exit 1; done
+	@for kind in $(KINDS); do \
+	    echo "client $$kind"; \
+	    LD_LIBRARY_PATH=build python3 bindings/c/tcp.py build/callers/client_$$kind || exit 1; \
+	done
 
 rust: build/libfe2o3_sasl.a
 	cd bindings/rust && FE2O3_SASL_LIB=$(abspath build) CARGO_TARGET_DIR=$(abspath build/rust) cargo test --offline

@@ -12,7 +12,8 @@
  *   What it only reads may overlap, and others may read it meanwhile.
  * - A struct that is written to is in one call at a time. Apart from that any thread may call, but no signal handler.
  * - A struct is set to zeros before its first use, but one with pointers to its FE2O3_.._INIT. One that is all
- *   zeros is a client that has sent nothing, a server without a challenge, or no keys.
+ *   zeros is a client that has sent nothing, a server without a challenge, a connection of which no byte has come, or
+ *   no keys.
  * - malloc, realloc and free are those of C, and there is stack enough.
  *
  * What is no duty: numbers, bytes, and lengths inside structs may be any. So any bit pattern of a struct without
@@ -44,6 +45,17 @@ extern "C" {
 #define FE2O3_SHA_1 1u
 #define FE2O3_SHA_256 256u
 #define FE2O3_SHA_512 512u
+
+/* The mechanisms of a login on a connection. */
+#define FE2O3_SCRAM 0u
+#define FE2O3_PLAIN 1u
+#define FE2O3_ANONYMOUS 2u
+#define FE2O3_EXTERNAL 3u
+
+/* How a connection stands. */
+#define FE2O3_WANTING 0u
+#define FE2O3_LOGGED_IN 1u
+#define FE2O3_TO_BE_CLOSED 2u
 
 /* An empty text: a pointer and its length, as an argument or behind `=` in a struct. */
 #define FE2O3_NONE (const uint8_t *)"", 0

@@ -12,7 +12,8 @@
  *   What it only reads may overlap, and others may read it meanwhile.
  * - A struct that is written to is in one call at a time. Apart from that any thread may call, but no signal handler.
  * - A struct is set to zeros before its first use, but one with pointers to its FE2O3_.._INIT. One that is all
- *   zeros is a client that has sent nothing, a server without a challenge, or no keys.
+ *   zeros is a client that has sent nothing, a server without a challenge, a connection of which no byte has come, or
+ *   no keys.
  * - malloc, realloc and free are those of C, and there is stack enough.
  *
  * What is no duty: numbers, bytes, and lengths inside structs may be any. So any bit pattern of a struct without
@@ -45,6 +46,17 @@ extern "C" {
 #define FE2O3_SHA_256 256u
 #define FE2O3_SHA_512 512u
 
+/* The mechanisms of a login on a connection. */
+#define FE2O3_SCRAM 0u
+#define FE2O3_PLAIN 1u
+#define FE2O3_ANONYMOUS 2u
+#define FE2O3_EXTERNAL 3u
+
+/* How a connection stands. */
+#define FE2O3_WANTING 0u
+#define FE2O3_LOGGED_IN 1u
+#define FE2O3_TO_BE_CLOSED 2u
+
 /* An empty text: a pointer and its length, as an argument or behind `=` in a struct. */
 #define FE2O3_NONE (const uint8_t *)"", 0
 
@@ -74,6 +86,12 @@ enum fe2o3_status {
     FE2O3_OTHER_VERSION = 10,
     /* The password is not that of the record. */
     FE2O3_OTHER_PASSWORD = 11,
+    /* There is no such mechanism: 0 is SCRAM, 1 PLAIN, 2 ANONYMOUS, and 3 EXTERNAL. */
+    FE2O3_NO_SUCH_MECHANISM = 12,
+    /* The connection has ended: its client is logged in, or it is to be closed. */
+    FE2O3_ENDED = 13,
+    /* The struct of the connection is none that a call leaves. */
+    FE2O3_NOT_KEPT = 14,
     /* The message is not UTF-8. */
     FE2O3_CLIENT_UTF8_ERROR = 20,
     /* The server-first message has fewer than three parts. */
@@ -149,8 +167,85 @@ enum fe2o3_status {
     /* The salt or a key is not base64. */
     FE2O3_RECORD_BASE64_DECODE_ERROR = 63,
     /* A key is not as long as a digest of the mechanism. */
-    FE2O3_RECORD_KEY_LENGTH_MISMATCH = 64
+    FE2O3_RECORD_KEY_LENGTH_MISMATCH = 64,
+    /* No line feed ends the line, which is the last. */
+    FE2O3_LINE_FEED_MISSING = 65,
+    /* No space stands in the line. */
+    FE2O3_SPACE_MISSING = 66,
+    /* What stands before the last space of the line is no escaped name. */
+    FE2O3_INVALID_NAME = 67,
+    /* No line has a record of this version for this name. */
+    FE2O3_NO_SUCH_USER = 68,
+    /* A line feed stands in the name, or the iteration count is 0. */
+    FE2O3_NOT_WRITABLE = 69,
+    /* The other side's header is not that of SASL. */
+    FE2O3_OTHER_HEADER = 70,
+    /* The size of a frame is below 8 or above 512. */
+    FE2O3_FRAME_SIZE = 71,
+    /* The frame is not the one that is due. */
+    FE2O3_OUT_OF_TURN = 72,
+    /* The answer fits in no frame of 512 bytes. */
+    FE2O3_REPLY_TOO_LARGE = 73,
+    /* The bytes of the frame are none of its type. */
+    FE2O3_FRAME_UNREAD = 74,
+    /* The frame's type or its data offset is not that of a SASL frame. */
+    FE2O3_NO_SASL_FRAME = 75,
+    /* A size of the frame is more than 32 bits can say. */
+    FE2O3_FRAME_TOO_LARGE = 76,
+    /* The frame is none that the client answers, or the server does not have its mechanism. */
+    FE2O3_NOT_IMPLEMENTED = 77,
+    /* The login is refused: its credentials were. */
+    FE2O3_REFUSED_AUTH = 81,
+    /* The login is refused by a system error. */
+    FE2O3_REFUSED_SYS = 82,
+    /* The login is refused by a system error that stays. */
+    FE2O3_REFUSED_SYS_PERM = 83,
+    /* The login is refused by a system error that may pass. */
+    FE2O3_REFUSED_SYS_TEMP = 84
 };
+
+/* What a side of a connection keeps between its calls. All zeros is a connection of which no byte has come. */
+struct fe2o3_connection {
+    /* 0 while more bytes are wanted, 1 once the client is logged in, and 2 once the connection is to be closed. */
+    uint32_t standing;
+    /* Why it is to be closed: a status. */
+    uint32_t why;
+    /* What is due: 0 the other side's header, 1 the mechanisms, 2 the init, 3 the challenge, or at once the outcome,
+     * 4 the response, and 5 the outcome. */
+    uint32_t due;
+    /* How many bytes of `held` there are. */
+    uint32_t held_len;
+    /* What has come of the header or of the frame that is due. */
+    uint8_t held[512];
+};
+
+/* What the body of a frame says. What it shows are bytes of that body, where they stand. */
+struct fe2o3_sasl_frame_view {
+    /* Which frame it is, by its descriptor: 64 the mechanisms, 65 an init, 66 a challenge, 67 a response, and 68 an
+     * outcome. */
+    uint32_t kind;
+    /* The code of an outcome, from 0 to 4, and else 0. */
+    uint32_t code;
+    /* 1 where there is a message, and else 0. */
+    uint32_t has_message;
+    /* 1 where there is a hostname, and else 0. */
+    uint32_t has_hostname;
+    /* How many mechanisms there are. */
+    size_t count;
+    /* How many bytes of the body the frame takes. Those behind it are left alone. */
+    size_t taken;
+    /* The mechanism of an init. */
+    const uint8_t *mechanism;
+    size_t mechanism_len;
+    /* The initial response, the challenge, the response, or what the mechanism says at its end. */
+    const uint8_t *message;
+    size_t message_len;
+    /* The hostname of an init. */
+    const uint8_t *hostname;
+    size_t hostname_len;
+};
+/* One before its first use. */
+#define FE2O3_SASL_FRAME_VIEW_INIT { 0, 0, 0, 0, 0, 0, (const uint8_t *)"", 0, (const uint8_t *)"", 0, (const uint8_t *)"", 0 }
 
 /* What a client keeps in place of its password: a secret, with which one can log in. */
 struct fe2o3_client_keys {
@@ -251,6 +346,25 @@ struct fe2o3_scram_client {
     struct fe2o3_client_keys keys;
 };
 
+/* Who logs in on a connection, and by which mechanism: lent for each call, and the same for all of them. */
+struct fe2o3_sasl_login {
+    /* 0 for SCRAM of the login's version, 1 for PLAIN, 2 for ANONYMOUS, and 3 for EXTERNAL. */
+    uint32_t mechanism;
+    /* The hostname that the init names. Where it is empty the init names none. */
+    const uint8_t *hostname;
+    size_t hostname_len;
+    /* The user and the secret. PLAIN takes the name and the password of it, ANONYMOUS and EXTERNAL nothing. */
+    struct fe2o3_login login;
+};
+
+/* What a client keeps of a connection between its calls. All zeros is one of which no byte has come. */
+struct fe2o3_sasl_client {
+    /* The connection. */
+    struct fe2o3_connection connection;
+    /* What SCRAM keeps. Once the client is logged in, it hands out the keys (`fe2o3_scram_client_keys`). */
+    struct fe2o3_scram_client scram;
+};
+
 /* Writes the client-first message, which starts an exchange afresh at any time. The nonce is 32 random bytes, fresh
  * for each. */
 uint32_t fe2o3_scram_client_first(
@@ -283,6 +397,14 @@ uint32_t fe2o3_scram_client_verify(
  * and its count takes no password, and two hashes of HMAC. Whoever has them can log in. */
 uint32_t fe2o3_scram_client_keys(const struct fe2o3_scram_client *client, struct fe2o3_client_keys *keys);
 
+/* Reads the body of a frame, which begins with its data offset, behind the four bytes of its size. It takes no memory.
+ */
+uint32_t fe2o3_sasl_view_frame(const uint8_t *body, size_t body_len, struct fe2o3_sasl_frame_view *view);
+
+/* Whether the body of a frame is a server's list of mechanisms with this one in it: 0, or `NOT_IMPLEMENTED` where it is
+ * not in the list, and `OUT_OF_TURN` where the frame is another one. */
+uint32_t fe2o3_sasl_offers(const uint8_t *body, size_t body_len, const uint8_t *mechanism, size_t mechanism_len);
+
 /* Makes the keys that stand in place of a password, for a server that keeps this salt and this count. */
 uint32_t fe2o3_scram_keys_make(
     uint32_t version,
@@ -292,6 +414,29 @@ uint32_t fe2o3_scram_keys_make(
     size_t salt_len,
     uint32_t iterations,
     struct fe2o3_client_keys *keys);
+
+/* Finds the record of this version that a user has in a text of users, a line for each: the name, with each comma as
+ * `=2C` and each equals sign as `=3D`, a space, the text of the record, and a line feed. Of several lines for one name
+ * and version the first counts. Where nothing is found, `line` says which line is not read, counted from 1, or 0 where
+ * each is. */
+uint32_t fe2o3_scram_lines_find(
+    const uint8_t *lines,
+    size_t lines_len,
+    const uint8_t *username,
+    size_t username_len,
+    uint32_t version,
+    size_t *line,
+    struct fe2o3_scram_record *kept);
+
+/* Writes the line of a user and a record, with its line feed, as `fe2o3_scram_lines_find` reads it. `NOT_WRITABLE`
+ * where a line feed stands in the name, or the count is 0. */
+uint32_t fe2o3_scram_line(
+    const uint8_t *username,
+    size_t username_len,
+    const struct fe2o3_scram_record *kept,
+    uint8_t *out,
+    size_t out_room,
+    size_t *len);
 
 /* Makes the record of a password. Where the number is not 0, the struct stays as it was. */
 uint32_t fe2o3_scram_record_make(
@@ -328,6 +473,24 @@ uint32_t fe2o3_scram_record_verify(
     const struct fe2o3_scram_record *kept,
     const uint8_t *password,
     size_t password_len);
+
+/* Writes the header of SASL, with which a client begins a connection. */
+uint32_t fe2o3_sasl_client_open(uint8_t *out, size_t out_room, size_t *len);
+
+/* Takes bytes of the connection as they came, to the end of the header or of the frame that is due, and writes what is
+ * to be sent, of at most 512 bytes, a room that is asked for before any hash is made. What is left of the bytes is to
+ * be handed in again while the connection stands at 0; behind a login it is AMQP's. The nonce is 32 random bytes,
+ * fresh for each call. */
+uint32_t fe2o3_sasl_client_receive(
+    const struct fe2o3_sasl_login *login,
+    struct fe2o3_sasl_client *client,
+    const uint8_t *bytes,
+    size_t bytes_len,
+    const uint8_t nonce[32],
+    size_t *taken,
+    uint8_t *out,
+    size_t out_room,
+    size_t *len);
 
 /* Answers a client-first message with the server-first message, which starts an exchange afresh at any time. The
  * record is that of the user whom the message names (`fe2o3_scram_server_user`), or one that is made up
@@ -376,8 +539,9 @@ void fe2o3_status_text(uint32_t status, struct fe2o3_text *text);
 uint32_t fe2o3_version(void);
 
 /* How many bytes a struct has here: 0 `fe2o3_login`, 1 `fe2o3_scram_client`, 2 `fe2o3_client_keys`, 3
- * `fe2o3_scram_server`, 4 `fe2o3_scram_record`; of other numbers 0. A caller whose own declarations have other sizes
- * has another header. */
+ * `fe2o3_scram_server`, 4 `fe2o3_scram_record`, 5 `fe2o3_connection`, 6 `fe2o3_sasl_login`, 7 `fe2o3_sasl_client`,
+ * 8 `fe2o3_sasl_frame_view`; of other numbers 0. A caller whose own declarations have other sizes has another header.
+ */
 size_t fe2o3_size(uint32_t which);
 
 #ifdef __cplusplus

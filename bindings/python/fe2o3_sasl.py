@@ -1,4 +1,4 @@
-"""SCRAM (RFC 5802, RFC 7677) by the library of `fe2o3_sasl.h`, called by `ctypes`.
+"""SCRAM (RFC 5802, RFC 7677), and the SASL layer of AMQP 1.0 for clients, by the library of `fe2o3_sasl.h`, called by `ctypes`.
 
 The library is the file that the environment variable FE2O3_SASL_LIB names, or else `libfe2o3_sasl.so.0` where the
 system finds it. It is loaded with the module, and refused where its structs have other sizes than those below.
@@ -21,6 +21,16 @@ A server:
 
 where `record_of` answers `Record.of_nobody(..)` for a name that it does not know.
 
+The client's side of a connection of AMQP 1.0, before its first frame of AMQP:
+
+    side = ClientConnection(client, hostname="broker.example")   # or ClientConnection.plain("user", "pencil")
+    socket.sendall(side.open())
+    rest = b""
+    while side.standing == Standing.WANTING:
+        answer, rest = side.receive(socket.recv(4096))
+        socket.sendall(answer)
+    # logged in where side.standing is Standing.LOGGED_IN, and `rest` is AMQP's; else side.why says why not
+
 A call that the library refuses raises `Refused` and leaves the object as it was. A call that does not raise is done.
 An argument that is none (another type, a number outside of its C type) raises TypeError or ValueError before any call.
 Any thread may call: calls on one object wait for each other, and what takes long does not hold the interpreter.
@@ -37,9 +47,25 @@ import operator
 import os
 import secrets
 import threading
-from typing import Any, Callable, Optional, Union
+from typing import Any, Callable, NamedTuple, Optional, Union
 
-__all__ = ["SHA_1", "SHA_256", "SHA_512", "Client", "Keys", "Record", "Refused", "Server", "Status", "library_version"]
+__all__ = [
+    "SHA_1",
+    "SHA_256",
+    "SHA_512",
+    "Client",
+    "ClientConnection",
+    "Frame",
+    "Keys",
+    "Record",
+    "Refused",
+    "Server",
+    "Standing",
+    "Status",
+    "library_version",
+    "offers",
+    "view_frame",
+]
 
 SHA_1 = 1
 SHA_256 = 256
@@ -67,6 +93,9 @@ class Status(enum.IntEnum):
     NO_KEYS = 9
     OTHER_VERSION = 10
     OTHER_PASSWORD = 11
+    NO_SUCH_MECHANISM = 12
+    ENDED = 13
+    NOT_KEPT = 14
     CLIENT_UTF8_ERROR = 20
     CLIENT_INSUFFICIENT_PARTS = 21
     CLIENT_EXTENSION_NOT_SUPPORTED = 22
@@ -103,6 +132,31 @@ class Status(enum.IntEnum):
     RECORD_ITERATION_COUNT_PARSE_ERROR = 62
     RECORD_BASE64_DECODE_ERROR = 63
     RECORD_KEY_LENGTH_MISMATCH = 64
+    LINE_FEED_MISSING = 65
+    SPACE_MISSING = 66
+    INVALID_NAME = 67
+    NO_SUCH_USER = 68
+    NOT_WRITABLE = 69
+    OTHER_HEADER = 70
+    FRAME_SIZE = 71
+    OUT_OF_TURN = 72
+    REPLY_TOO_LARGE = 73
+    FRAME_UNREAD = 74
+    NO_SASL_FRAME = 75
+    FRAME_TOO_LARGE = 76
+    NOT_IMPLEMENTED = 77
+    REFUSED_AUTH = 81
+    REFUSED_SYS = 82
+    REFUSED_SYS_PERM = 83
+    REFUSED_SYS_TEMP = 84
+
+
+class Standing(enum.IntEnum):
+    """How a connection stands: more bytes are wanted, the client is logged in, or the connection is to be closed."""
+
+    WANTING = 0
+    LOGGED_IN = 1
+    CLOSED = 2
 
 
 class Refused(Exception):
@@ -189,8 +243,59 @@ class _ClientStruct(ctypes.Structure):
     ]
 
 
+class _ConnectionStruct(ctypes.Structure):
+    _fields_ = [
+        ("standing", ctypes.c_uint32),
+        ("why", ctypes.c_uint32),
+        ("due", ctypes.c_uint32),
+        ("held_len", ctypes.c_uint32),
+        ("held", ctypes.c_uint8 * 512),
+    ]
+
+
+class _SaslLoginStruct(ctypes.Structure):
+    _fields_ = [
+        ("mechanism", ctypes.c_uint32),
+        ("hostname", ctypes.c_char_p),
+        ("hostname_len", ctypes.c_size_t),
+        ("login", _LoginStruct),
+    ]
+
+
+class _SaslClientStruct(ctypes.Structure):
+    _fields_ = [("connection", _ConnectionStruct), ("scram", _ClientStruct)]
+
+
+class _FrameViewStruct(ctypes.Structure):
+    # (addresses as numbers: a text may hold zeros)
+    _fields_ = [
+        ("kind", ctypes.c_uint32),
+        ("code", ctypes.c_uint32),
+        ("has_message", ctypes.c_uint32),
+        ("has_hostname", ctypes.c_uint32),
+        ("count", ctypes.c_size_t),
+        ("taken", ctypes.c_size_t),
+        ("mechanism", ctypes.c_void_p),
+        ("mechanism_len", ctypes.c_size_t),
+        ("message", ctypes.c_void_p),
+        ("message_len", ctypes.c_size_t),
+        ("hostname", ctypes.c_void_p),
+        ("hostname_len", ctypes.c_size_t),
+    ]
+
+
 # What `fe2o3_size` is asked for, in the order of its numbers.
-_SIZED = (_LoginStruct, _ClientStruct, _KeysStruct, _ServerStruct, _RecordStruct)
+_SIZED = (
+    _LoginStruct,
+    _ClientStruct,
+    _KeysStruct,
+    _ServerStruct,
+    _RecordStruct,
+    _ConnectionStruct,
+    _SaslLoginStruct,
+    _SaslClientStruct,
+    _FrameViewStruct,
+)
 
 
 def _load(name: str) -> ctypes.CDLL:
@@ -203,6 +308,8 @@ def _load(name: str) -> ctypes.CDLL:
     login, client = ctypes.POINTER(_LoginStruct), ctypes.POINTER(_ClientStruct)
     keys, record = ctypes.POINTER(_KeysStruct), ctypes.POINTER(_RecordStruct)
     server, text = ctypes.POINTER(_ServerStruct), ctypes.POINTER(_TextStruct)
+    sasl_login, sasl_client = ctypes.POINTER(_SaslLoginStruct), ctypes.POINTER(_SaslClientStruct)
+    count = ctypes.POINTER(length)
     exports: dict[str, tuple[Any, list[Any]]] = {
         "fe2o3_scram_client_first": (number, [login, client, read, *written]),
         "fe2o3_scram_client_final": (number, [login, client, read, length, *written]),
@@ -214,10 +321,16 @@ def _load(name: str) -> ctypes.CDLL:
         "fe2o3_scram_record_text": (number, [record, *written]),
         "fe2o3_scram_record_of_nobody": (number, [number, read, length, read, length, length, number, record]),
         "fe2o3_scram_record_verify": (number, [record, read, length]),
+        "fe2o3_scram_lines_find": (number, [read, length, read, length, number, count, record]),
+        "fe2o3_scram_line": (number, [read, length, record, *written]),
         "fe2o3_scram_server_first": (number, [record, server, read, read, length, *written]),
         "fe2o3_scram_server_user": (number, [read, length, *written]),
         "fe2o3_scram_server_final": (number, [record, server, read, length, *written]),
         "fe2o3_scram_server_logged_in": (number, [server, *written]),
+        "fe2o3_sasl_client_open": (number, written),
+        "fe2o3_sasl_client_receive": (number, [sasl_login, sasl_client, read, length, read, count, *written]),
+        "fe2o3_sasl_view_frame": (number, [read, length, ctypes.POINTER(_FrameViewStruct)]),
+        "fe2o3_sasl_offers": (number, [read, length, read, length]),
         "fe2o3_status_text": (None, [number, text]),
         "fe2o3_version": (number, []),
         "fe2o3_size": (length, [number]),
@@ -416,6 +529,28 @@ class Record:
         )
         return cls._of(struct)
 
+    @classmethod
+    def find(cls, lines: Text, username: Text, version: int) -> Record:
+        """The record of this version that a user has in a text of users, a line for each, as `line` writes them. Raises
+        `Refused`: NO_SUCH_USER where there is none, and where a line is not read why, the first of them."""
+        struct, text, name, at = _RecordStruct(), _text(lines), _text(username), ctypes.c_size_t()
+        status = _library.fe2o3_scram_lines_find(
+            text, len(text), name, len(name), _number(version), ctypes.byref(at), ctypes.byref(struct)
+        )
+        if status != Status.DONE and at.value:
+            raise Refused(status, f"Line {at.value}: {_status_text(status)}")
+        _done(status)
+        return cls._of(struct)
+
+    def line(self, username: Text) -> str:
+        """The line of a user with this record: the name, its commas and equals signs escaped, a space, the text of the
+        record, and a line feed."""
+        name = _text(username)
+        line = _written(
+            3 * len(name) + 384, lambda *room: _library.fe2o3_scram_line(name, len(name), self._struct, *room)
+        )
+        return line.decode("utf-8")
+
     def text(self) -> str:
         """The text of the record, as PostgreSQL reads it (RFC 5803, section 2). Whoever has it can try passwords."""
         return _written(384, lambda *room: _library.fe2o3_scram_record_text(self._struct, *room)).decode("ascii")
@@ -527,6 +662,145 @@ class Client:
 
     def __repr__(self) -> str:
         return f"Client(version={int(self._login.version)})"
+
+
+class Frame(NamedTuple):
+    """What the body of a frame says (AMQP 1.0, part 5, section 5.3.3)."""
+
+    #: Which frame it is, by its descriptor: 0x40 the mechanisms, 0x41 an init, 0x42 a challenge, 0x43 a response, 0x44
+    #: an outcome.
+    kind: int
+    #: The code of an outcome, and else 0.
+    code: int
+    #: How many mechanisms there are.
+    count: int
+    #: How many bytes of the body the frame takes.
+    taken: int
+    #: The mechanism of an init.
+    mechanism: str
+    #: The initial response, the challenge, the response, or what the mechanism says at its end.
+    message: Optional[bytes]
+    #: The hostname of an init.
+    hostname: Optional[str]
+
+
+def view_frame(body: Bytes) -> Frame:
+    """What the body of a frame says, which begins with its data offset, behind the four bytes of its size."""
+    given, view = _bytes(body), _FrameViewStruct()
+    _done(_library.fe2o3_sasl_view_frame(given, len(given), ctypes.byref(view)))
+    mechanism, message, hostname = (
+        ctypes.string_at(at, size) if size else b""
+        for at, size in (
+            (view.mechanism, view.mechanism_len),
+            (view.message, view.message_len),
+            (view.hostname, view.hostname_len),
+        )
+    )
+    return Frame(
+        int(view.kind),
+        int(view.code),
+        int(view.count),
+        int(view.taken),
+        mechanism.decode("ascii"),
+        message if view.has_message else None,
+        hostname.decode("utf-8") if view.has_hostname else None,
+    )
+
+
+def offers(body: Bytes, mechanism: Text) -> bool:
+    """Whether the body of a frame, which is a server's list of mechanisms, has this one. Raises `Refused` where it is
+    not such a body."""
+    given, name = _bytes(body), _text(mechanism)
+    status = _library.fe2o3_sasl_offers(given, len(given), name, len(name))
+    if status == Status.NOT_IMPLEMENTED:
+        return False
+    _done(status)
+    return True
+
+
+class ClientConnection:
+    """The client's side of one connection of AMQP 1.0, from its first byte to the end of the login. It owns no
+    socket: what came is handed in, in pieces of any size, and what is to be sent is handed out."""
+
+    __slots__ = ("_lock", "_login", "_struct")
+
+    def __init__(self, client: Client, *, hostname: Text = "") -> None:
+        """A connection on which this client logs in by SCRAM, whose init names the hostname, if it is not empty. The
+        client's own calls go on apart from it."""
+        self._begin(0, client._login, hostname)
+
+    def _begin(self, mechanism: int, login: _LoginStruct, hostname: Text) -> None:
+        name = _text(hostname)
+        # (the words of a login that is copied into another struct are kept alive by the one that has them)
+        self._login = _SaslLoginStruct(mechanism=mechanism, hostname=name, hostname_len=len(name), login=login), login
+        self._struct = _SaslClientStruct()
+        self._lock = threading.RLock()
+
+    @classmethod
+    def _by(cls, mechanism: int, username: Text, password: Text, hostname: Text) -> ClientConnection:
+        side = cls.__new__(cls)
+        side._begin(mechanism, Client(SHA_256, username, password)._login, hostname)
+        return side
+
+    @classmethod
+    def plain(cls, username: Text, password: Text, *, hostname: Text = "") -> ClientConnection:
+        """A connection on which a user logs in by PLAIN (RFC 4616), which sends the password as it is."""
+        return cls._by(1, username, password, hostname)
+
+    @classmethod
+    def anonymous(cls, *, hostname: Text = "") -> ClientConnection:
+        """A connection on which a user logs in by ANONYMOUS (RFC 4505)."""
+        return cls._by(2, "", "", hostname)
+
+    @classmethod
+    def external(cls, *, hostname: Text = "") -> ClientConnection:
+        """A connection on which a user logs in by EXTERNAL (RFC 4422, appendix A), as whom the transport knows."""
+        return cls._by(3, "", "", hostname)
+
+    @staticmethod
+    def open() -> bytes:
+        """The header of SASL, which a client sends first."""
+        return _written(8, lambda *room: _library.fe2o3_sasl_client_open(*room))
+
+    def receive(self, data: Bytes) -> tuple[bytes, bytes]:
+        """What is to be sent for bytes that came, and those of them that are left: none while more are wanted, and
+        behind a login what is AMQP's."""
+        rest, answers, taken = _bytes(data), [], ctypes.c_size_t()
+        with self._lock:
+            while rest and self.standing == Standing.WANTING:
+                nonce = secrets.token_bytes(32)
+                answers.append(
+                    _written(
+                        512,
+                        lambda *room: _library.fe2o3_sasl_client_receive(
+                            self._login[0], self._struct, rest, len(rest), nonce, ctypes.byref(taken), *room
+                        ),
+                    )
+                )
+                rest = rest[taken.value :]
+        return b"".join(answers), rest
+
+    @property
+    def standing(self) -> int:
+        """How the connection stands: one of `Standing`."""
+        return int(self._struct.connection.standing)
+
+    @property
+    def why(self) -> Optional[Refused]:
+        """Why the connection is to be closed, and None where it is not."""
+        if self.standing != Standing.CLOSED:
+            return None
+        return Refused(int(self._struct.connection.why), _status_text(int(self._struct.connection.why)))
+
+    def keys(self) -> Keys:
+        """The keys of a login by SCRAM, as `Client.keys` hands them out."""
+        struct = _KeysStruct()
+        with self._lock:
+            _done(_library.fe2o3_scram_client_keys(ctypes.byref(self._struct.scram), ctypes.byref(struct)))
+        return Keys._of(struct)
+
+    def __repr__(self) -> str:
+        return f"ClientConnection(standing={self.standing})"
 
 
 class Server:

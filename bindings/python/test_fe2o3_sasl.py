@@ -9,6 +9,7 @@ import hmac
 import os
 import random
 import re
+import struct
 import threading
 import unittest
 from pathlib import Path
@@ -16,10 +17,27 @@ from typing import Any, Callable, Optional
 from unittest import mock
 
 import fe2o3_sasl
-from fe2o3_sasl import SHA_1, SHA_256, SHA_512, Client, Keys, Record, Refused, Server, Status
+from fe2o3_sasl import SHA_1, SHA_256, SHA_512, Client, ClientConnection, Keys, Record, Refused, Server, Standing, Status
+from peers import (
+    CHALLENGE,
+    MECHANISMS,
+    NULL,
+    OUTCOME,
+    SASL_HEADER,
+    VERSIONS,
+    Broker,
+    Secret,
+    bare_of,
+    base64_of,
+    exclusive_or,
+    fields_of_last,
+    frame_of,
+    framed,
+    mac,
+    mechanisms_frame,
+    short,
+)
 
-VERSIONS = {SHA_1: "sha1", SHA_256: "sha256", SHA_512: "sha512"}
-MECHANISMS = {SHA_1: "SCRAM-SHA-1", SHA_256: "SCRAM-SHA-256", SHA_512: "SCRAM-SHA-512"}
 HEADER = Path(__file__).resolve().parent.parent / "c" / "fe2o3_sasl.h"
 LIBRARY: Any = fe2o3_sasl._library
 
@@ -29,54 +47,18 @@ NAMES = ["user", "", "a=b,c", "=2C", "J\u00fcrgen \U0001f600", "x" * 240]
 PASSWORDS = ["pencil", "", " ~!,=", "p" * 200]
 
 
-# SCRAM again, apart from the library.
-
-
-def base64_of(value: bytes) -> bytes:
-    return base64.b64encode(value)
-
-
-def mac(version: int, key: bytes, *texts: bytes) -> bytes:
-    return hmac.new(key, b"".join(texts), VERSIONS[version]).digest()
-
-
-def exclusive_or(one: bytes, other: bytes) -> bytes:
-    return bytes(a ^ b for a, b in zip(one, other))
-
-
-class Secret:
-    """The keys of a password."""
-
-    def __init__(self, version: int, password: str, salt: bytes, iterations: int) -> None:
-        salted = hashlib.pbkdf2_hmac(VERSIONS[version], password.encode(), salt, iterations)
-        self.version, self.salt, self.iterations = version, salt, iterations
-        self.client_key = mac(version, salted, b"Client Key")
-        self.server_key = mac(version, salted, b"Server Key")
-        self.stored_key = hashlib.new(VERSIONS[version], self.client_key).digest()
-
-    def record_text(self) -> str:
-        salt, stored, server = (base64_of(x).decode() for x in (self.salt, self.stored_key, self.server_key))
-        return f"{MECHANISMS[self.version]}${self.iterations}:{salt}${stored}:{server}"
-
-    def server_first(self, client_nonce: bytes, server_nonce: bytes) -> bytes:
-        return b"r=%s%s,s=%s,i=%d" % (
-            base64_of(client_nonce),
-            base64_of(server_nonce),
-            base64_of(self.salt),
-            self.iterations,
-        )
-
-    def finals(self, bare: bytes, server_first: bytes) -> tuple[bytes, bytes]:
-        """The client-final and the server-final message."""
-        without_proof = b"c=biws," + server_first.split(b",")[0]
-        exchange = b",".join((bare, server_first, without_proof))
-        proof = exclusive_or(self.client_key, mac(self.version, self.stored_key, exchange))
-        client_final = without_proof + b",p=" + base64_of(proof)
-        return client_final, b"v=" + base64_of(mac(self.version, self.server_key, exchange))
-
-
-def bare_of(name: str, client_nonce: bytes) -> bytes:
-    return b"n=" + name.replace("=", "=3D").replace(",", "=2C").encode() + b",r=" + base64_of(client_nonce)
+def connected(side: ClientConnection, broker: Broker, piece: int, behind: bytes = b"") -> bytes:
+    """Joins both sides, each handed what the other sends in pieces. Answers what the client left of the bytes, to
+    which these were put behind the outcome."""
+    to_broker, rest = side.open(), b""
+    while to_broker:
+        answer = b"".join(broker.receive(to_broker[at : at + piece]) for at in range(0, len(to_broker), piece))
+        answer += behind if fields_of_last(answer) == OUTCOME else b""
+        to_broker = b""
+        for at in range(0, len(answer), piece):
+            sent, left = side.receive(answer[at : at + piece])
+            to_broker, rest = to_broker + sent, rest + left
+    return rest
 
 
 def nonces(*values: bytes) -> Any:
@@ -209,6 +191,156 @@ class Logins(Case):
         self.assertEqual(sorted(done), sorted([f"user {number}" for number in range(50)] * 4))
 
 
+class Connections(Case):
+    def closed(self, side: ClientConnection, status: int) -> None:
+        self.assertEqual(side.standing, Standing.CLOSED)
+        assert side.why is not None
+        self.assertEqual(side.why.status, status)
+        self.assertTrue(side.why.text)
+        self.refused(Status.CLIENT_ILLEGAL_CLIENT_STATE, side.keys)
+        # What has ended takes nothing and sends nothing.
+        self.assertEqual(side.receive(b"bytes"), (b"", b"bytes"))
+
+    def test_logins_in_pieces(self) -> None:
+        for version, mechanism in MECHANISMS.items():
+            for number, name in enumerate(NAMES):
+                for piece in (1, 7, 4096):
+                    password = PASSWORDS[number % len(PASSWORDS)]
+                    with self.subTest(version=version, name=name, piece=piece):
+                        known = Secret(version, password, SALT, 4096)
+                        broker = Broker(known, "PLAIN", mechanism)
+                        side = ClientConnection(Client(version, name, password), hostname="broker.example")
+                        self.assertEqual(connected(side, broker, piece, b"AMQP\0\1\0\0"), b"AMQP\0\1\0\0")
+                        self.assertEqual((side.standing, side.why), (Standing.LOGGED_IN, None))
+                        bare = bare_of(name, base64.b64decode((broker.init[1] or b"").split(b",r=")[1]))
+                        self.assertEqual(broker.init, [mechanism.encode(), b"n,," + bare, b"broker.example"])
+                        keys = side.keys()
+                        self.assertEqual((keys.client_key, keys.server_key), (known.client_key, known.server_key))
+                        again = ClientConnection(Client(version, name, keys=keys))
+                        connected(again, Broker(known, mechanism), piece)
+                        self.assertEqual(again.standing, Standing.LOGGED_IN)
+
+    def test_other_mechanisms(self) -> None:
+        known = Secret(SHA_1, "pencil", SALT, 1)
+        for side, init in (
+            (ClientConnection.plain("us\u00e9r", "p\u00e9ncil"), [b"PLAIN", "\0us\u00e9r\0p\u00e9ncil".encode(), None]),
+            (ClientConnection.anonymous(), [b"ANONYMOUS", None, None]),
+            (ClientConnection.external(hostname="b"), [b"EXTERNAL", None, b"b"]),
+        ):
+            for code, standing in ((0, Standing.LOGGED_IN), (1, Standing.CLOSED)):
+                broker, side_again = Broker(known, "PLAIN", "ANONYMOUS", "EXTERNAL", code=code), side
+                side = ClientConnection.__new__(ClientConnection)
+                side._begin(side_again._login[0].mechanism, side_again._login[1], side_again._login[0].hostname)
+                connected(side, broker, 5)
+                self.assertEqual(side.standing, standing)
+                self.assertEqual((broker.init + [None, None])[:3], init)
+
+    def test_refusals(self) -> None:
+        known = Secret(SHA_256, "pencil", SALT, 4096)
+
+        def side() -> ClientConnection:
+            return ClientConnection(Client(SHA_256, "user", "pencil"))
+
+        def run(broker: Broker, status: int) -> None:
+            one = side()
+            connected(one, broker, 4096)
+            self.closed(one, status)
+
+        name = MECHANISMS[SHA_256]
+        run(Broker(known, "PLAIN", "ANONYMOUS"), Status.NOT_IMPLEMENTED)
+        run(Broker(Secret(SHA_256, "pencils", SALT, 4096), name), Status.REFUSED_AUTH)
+        run(Broker(Secret(SHA_256, "pencil", SALT, 4095), name), Status.CLIENT_ITERATION_COUNT_TOO_SMALL)
+        for code in (1, 2, 3, 4):
+            run(Broker(known, name, code=code), Status.REFUSED_AUTH + code - 1)
+        for mar in (lambda m: m[:-4] + b"AAA=", lambda m: b"v=", lambda m: b"e=other-error"):
+            one = side()
+            connected(one, Broker(known, name, mar=mar), 4096)
+            self.assertEqual(one.standing, Standing.CLOSED)
+            assert one.why is not None
+            self.assertIn(one.why.status, (Status.CLIENT_SERVER_SIGNATURE_MISMATCH, Status.CLIENT_BASE64_DECODE_ERROR))
+
+        for data, status in {
+            b"AMQP\0\1\0\0": Status.OTHER_HEADER,
+            SASL_HEADER + b"\0\0\0\7": Status.FRAME_SIZE,
+            SASL_HEADER + b"\0\0\2\1": Status.FRAME_SIZE,
+            SASL_HEADER + frame_of(CHALLENGE, short(0xA0, b"")): Status.OUT_OF_TURN,
+            SASL_HEADER + framed(b"\0\x53\x40"): Status.FRAME_UNREAD,
+            SASL_HEADER + b"\0\0\0\x08\2\0\0\0": Status.NO_SASL_FRAME,
+        }.items():
+            with self.subTest(data=data):
+                one = side()
+                self.assertEqual(one.receive(data)[0], b"")
+                self.closed(one, status)
+
+    def test_a_frame_that_is_too_large(self) -> None:
+        one = ClientConnection(Client(SHA_256, "x" * 500, "pencil"))
+        self.assertEqual(one.receive(SASL_HEADER + mechanisms_frame(MECHANISMS[SHA_256])), (b"", b""))
+        self.closed(one, Status.REPLY_TOO_LARGE)
+
+    def test_logins_that_are_none(self) -> None:
+        self.refused(Status.NOT_UTF8, ClientConnection.anonymous(hostname=b"\xff").receive, b"A")
+        self.refused(Status.NOT_UTF8, ClientConnection.plain("a", b"\xff").receive, b"A")
+        self.refused(Status.NO_SUCH_VERSION, ClientConnection(Client(2, "a", "b")).receive, b"A")
+        one = ClientConnection.anonymous()
+        one._login[0].mechanism = 4
+        self.refused(Status.NO_SUCH_MECHANISM, one.receive, b"A")
+        for field, value in (("due", 6), ("held_len", 513), ("held_len", 8)):
+            one = ClientConnection.anonymous()
+            setattr(one._struct.connection, field, value)
+            self.refused(Status.NOT_KEPT, one.receive, b"A")
+
+    def test_structs_of_random_bytes(self) -> None:
+        """Of whatever bits the structs are, a call is done or refused, and refused it has changed nothing."""
+        bits, seen = random.Random(20261125), set()
+        keys = fe2o3_sasl._KeysStruct()
+        for number in range(100_000):
+            size = ctypes.sizeof(fe2o3_sasl._SaslClientStruct)
+            struct_of = fe2o3_sasl._SaslClientStruct.from_buffer_copy
+            client = struct_of(bits.getrandbits(8 * size).to_bytes(size, "little"))
+            kept = client.connection
+            if bits.random() < 0.9:
+                kept.standing = 0
+                kept.due = bits.randrange(7)
+                kept.held_len = bits.choice((0, bits.randrange(8), bits.randrange(520)))
+                kept.held[:4] = list(bits.choice((12, 300, 513)).to_bytes(4, "big"))
+                client.scram.sent = bits.randrange(4)
+                client.scram.signature_len = bits.randrange(66)
+            login = fe2o3_sasl._SaslLoginStruct(
+                mechanism=bits.choice((0, 0, 0, bits.randrange(5))),
+                hostname=b"",
+                login=fe2o3_sasl._LoginStruct(
+                    version=256, most_iterations=2, username=b"u", username_len=1, password=b"p", password_len=1,
+                    keys=ctypes.pointer(keys),
+                ),
+            )
+            data = bits.choice((
+                SASL_HEADER,
+                mechanisms_frame(MECHANISMS[SHA_256], "PLAIN"),
+                frame_of(CHALLENGE, short(0xA0, b"r=" + base64_of(bytes(client.scram.nonce)) + b"x,s=AAAA,i=1")),
+                frame_of(OUTCOME, b"\x50\0", short(0xA0, b"v=" + base64_of(bytes(client.scram.signature)[:32]))),
+                bytes(bits.randrange(256) for _ in range(bits.randrange(20))),
+            ))
+            before, taken = bytes(client), ctypes.c_size_t(99)
+            length, room = ctypes.c_size_t(7), bits.choice((511, 512, 512, 512))
+            out = ctypes.create_string_buffer(b"\xa5" * 600, 600)
+            status = LIBRARY.fe2o3_sasl_client_receive(
+                login, client, data, len(data), bytes(32), ctypes.byref(taken), out, room, ctypes.byref(length)
+            )
+            self.assertIn(status, set(Status))
+            seen.add((status, int(client.connection.standing) if status == 0 else None))
+            if status == Status.DONE:
+                self.assertLessEqual(taken.value, len(data))
+                self.assertLessEqual(length.value, room)
+                self.assertEqual(out.raw[length.value :], b"\xa5" * (600 - length.value))
+                self.assertLessEqual(client.connection.held_len, 512)
+            else:
+                self.assertEqual((bytes(client), out.raw, taken.value), (before, b"\xa5" * 600, 99))
+        for status in (Status.ROOM_TOO_SMALL, Status.ENDED, Status.NOT_KEPT, Status.NO_SUCH_MECHANISM):
+            self.assertIn((status, None), seen)
+        for standing in Standing:
+            self.assertIn((Status.DONE, standing), seen)
+
+
 class Records(Case):
     def test_text_and_verify(self) -> None:
         for version in VERSIONS:
@@ -272,6 +404,72 @@ class Records(Case):
             self.refused(Status.NOT_PRINTABLE, make, SHA_1, "a\0b", SALT, 1)
             self.refused(Status.ZERO_ITERATIONS, make, SHA_1, "a", SALT, 0)
         self.refused(Status.NOT_UTF8, Record.parse(text).verify, b"\xff")
+
+
+    def test_lines(self) -> None:
+        records = {version: Record.make(version, "pencil", salt=SALT, iterations=2) for version in VERSIONS}
+        name = "a=b,c d"
+        lines = "".join(record.line(name) for record in records.values()) + records[SHA_1].line("user")
+        self.assertEqual(lines.split("\n")[0], "a=3Db=2Cc d " + Secret(SHA_1, "pencil", SALT, 2).record_text())
+        for version, record in records.items():
+            self.assertEqual(bytes(Record.find(lines, name, version)._struct), bytes(record._struct))
+        first = Record.find(lines + Record.make(SHA_1, "other", salt=SALT).line("user"), "user", SHA_1)
+        self.assertEqual(bytes(first._struct), bytes(records[SHA_1]._struct))
+        for text, user, version, status in (
+            (lines, "user", SHA_256, Status.NO_SUCH_USER),
+            ("", "user", SHA_1, Status.NO_SUCH_USER),
+            (lines, "user", 2, Status.NO_SUCH_VERSION),
+            (lines, b"\xff", SHA_1, Status.NOT_UTF8),
+            (b"\xff", "user", SHA_1, Status.NOT_UTF8),
+            (lines[:-1], "user", SHA_1, Status.LINE_FEED_MISSING),
+            (lines + "\n", "user", SHA_1, Status.SPACE_MISSING),
+            (lines.replace("=2C", ","), "user", SHA_1, Status.INVALID_NAME),
+            (lines.replace("SHA-512", "SHA-224"), "user", SHA_1, Status.RECORD_UNKNOWN_MECHANISM),
+            (records[SHA_1].line("user").replace("SCRAM", " SCRAM") + "x\n", "user", SHA_1, Status.SPACE_MISSING),
+        ):
+            with self.subTest(text=text, user=user):
+                self.refused(status, Record.find, text, user, version)
+        with self.assertRaisesRegex(Refused, "Line 3: "):
+            Record.find(lines.replace("SHA-512", "SHA-224"), "user", SHA_1)
+        self.refused(Status.NOT_WRITABLE, records[SHA_1].line, "a\nb")
+        self.refused(Status.NOT_UTF8, records[SHA_1].line, b"\xff")
+
+
+class Frames(Case):
+    def test_each_kind(self) -> None:
+        long = bytes(300)
+        big = struct.pack(">B", 0xB0) + struct.pack(">I", len(long)) + long
+        wide = b"\2\1\0\0\0\x53\x42\xd0" + struct.pack(">II", len(big) + 4, 1) + big
+        for body, shown in (
+            (mechanisms_frame("PLAIN", "ANONYMOUS")[4:], (0x40, 0, 2, "", None, None)),
+            (frame_of(0x41, short(0xA3, b"PLAIN"), short(0xA0, b"\0a\0b"), short(0xA1, b"h"))[4:],
+             (0x41, 0, 0, "PLAIN", b"\0a\0b", "h")),
+            (frame_of(0x41, short(0xA3, b"EXTERNAL"), NULL, NULL)[4:], (0x41, 0, 0, "EXTERNAL", None, None)),
+            (frame_of(0x42, short(0xA0, b""))[4:], (0x42, 0, 0, "", b"", None)),
+            (wide, (0x42, 0, 0, "", long, None)),
+            (frame_of(0x43, short(0xA0, b"c=biws"))[4:], (0x43, 0, 0, "", b"c=biws", None)),
+            (frame_of(0x44, b"\x50\4")[4:], (0x44, 4, 0, "", None, None)),
+            (frame_of(0x44, b"\x50\0", short(0xA0, b"v="))[4:], (0x44, 0, 0, "", b"v=", None)),
+        ):
+            with self.subTest(body=body):
+                view = fe2o3_sasl.view_frame(body + b"behind")
+                self.assertEqual((view[0], view[1], view[2], *view[4:]), shown)
+                self.assertEqual(view.taken, len(body))
+
+    def test_refusals(self) -> None:
+        body = mechanisms_frame("PLAIN")[4:]
+        for other, status in (
+            (b"\2\1\0", Status.FRAME_UNREAD),
+            (body[:-1], Status.FRAME_UNREAD),
+            (b"\2\0" + body[2:], Status.NO_SASL_FRAME),
+            (b"\3" + body[1:], Status.NO_SASL_FRAME),
+        ):
+            self.refused(status, fe2o3_sasl.view_frame, other)
+            self.refused(status, fe2o3_sasl.offers, other, "PLAIN")
+        self.assertTrue(fe2o3_sasl.offers(body, "PLAIN"))
+        self.assertFalse(fe2o3_sasl.offers(body, "PLAI"))
+        self.refused(Status.OUT_OF_TURN, fe2o3_sasl.offers, frame_of(0x42, short(0xA0, b""))[4:], "PLAIN")
+        self.refused(Status.NOT_UTF8, fe2o3_sasl.offers, body, b"\xff")
 
 
 class Arguments(Case):

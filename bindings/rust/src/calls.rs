@@ -30,6 +30,10 @@ pub fn fits() -> bool {
         size_of::<sys::ClientKeys>(),
         size_of::<sys::ScramServer>(),
         size_of::<sys::ScramRecord>(),
+        size_of::<sys::Connection>(),
+        size_of::<sys::SaslLogin>(),
+        size_of::<sys::SaslClient>(),
+        size_of::<sys::SaslFrameView>(),
     ];
     (0..).zip(ours).all(|(which, size)| {
         // SAFETY: the call takes a number alone, and any number has its answer.

@@ -6,7 +6,7 @@ use crate::{generate_nonce, sys, ScramClientKeys, ScramErrorKind, ScramVersion};
 use std::fmt;
 use std::marker::PhantomData;
 
-const NOTHING_SENT: sys::ScramClient =
+pub(crate) const NOTHING_SENT: sys::ScramClient =
     sys::ScramClient { sent: 0, signature_len: 0, nonce: [0; 32], signature: [0; 64], keys: NO_KEYS };
 
 /// Which secrets a login has, by the numbers of the library.
@@ -16,7 +16,7 @@ const PASSWORD_AND_KEYS: u32 = 2;
 
 /// Who logs in, and by what.
 #[derive(Clone)]
-struct Who {
+pub(crate) struct Who {
     username: String,
     password: String,
     keys: sys::ClientKeys,
@@ -27,13 +27,24 @@ struct Who {
 }
 
 /// A login of the library, whose pointers are to what is borrowed for `'a`.
-struct Lent<'a> {
-    login: sys::Login,
+pub(crate) struct Lent<'a> {
+    pub(crate) login: sys::Login,
     who: PhantomData<&'a Who>,
 }
 
 impl Who {
-    fn lend(&self) -> Lent<'_> {
+    /// One without limits of the iteration count but 1.
+    pub(crate) fn new(
+        username: String,
+        password: String,
+        keys: sys::ClientKeys,
+        secret: u32,
+        version: ScramVersion,
+    ) -> Self {
+        Self { username, password, keys, secret, version, least_iterations: 1, most_iterations: u32::MAX }
+    }
+
+    pub(crate) fn lend(&self) -> Lent<'_> {
         let login = sys::Login {
             version: self.version.number(),
             secret: self.secret,
@@ -79,7 +90,7 @@ impl Who {
 /// ```
 #[derive(Clone)]
 pub struct ScramClient {
-    who: Who,
+    pub(crate) who: Who,
     state: sys::ScramClient,
 }
 
@@ -105,8 +116,7 @@ impl ScramClient {
     }
 
     fn by(username: String, password: String, keys: sys::ClientKeys, secret: u32, version: ScramVersion) -> Self {
-        let who = Who { username, password, keys, secret, version, least_iterations: 1, most_iterations: u32::MAX };
-        Self { who, state: NOTHING_SENT }
+        Self { who: Who::new(username, password, keys, secret, version), state: NOTHING_SENT }
     }
 
     /// The same client, which refuses an iteration count above the limit. Without this there is none.
@@ -181,11 +191,7 @@ impl ScramClient {
     /// The keys of a login whose server was believed; `None` before that, and where the server's salt is longer than
     /// the 128 bytes that keys have room for. Whoever has them can log in.
     pub fn keys(&self) -> Option<ScramClientKeys> {
-        let mut keys = NO_KEYS;
-        // SAFETY: the state is borrowed, and the struct is one of this function.
-        let status = unsafe { sys::fe2o3_scram_client_keys(&self.state, &mut keys) };
-        done(status).ok()?;
-        Some(ScramClientKeys(keys))
+        ScramClientKeys::handed_out(&self.state)
     }
 }
 

@@ -190,6 +190,54 @@ kinds! {
     }
 }
 
+kinds! {
+    /// Why a connection is to be closed, or why a call on one is refused. What SCRAM refuses is `Other`, of which
+    /// [`ConnectionError::scram`] tells the kind.
+    ConnectionError {
+        /// The other side's header is not that of SASL.
+        OtherHeader = OTHER_HEADER,
+        /// The size of a frame is below 8 or above 512.
+        FrameSize = FRAME_SIZE,
+        /// The frame is not the one that is due.
+        OutOfTurn = OUT_OF_TURN,
+        /// The answer fits in no frame of 512 bytes.
+        ReplyTooLarge = REPLY_TOO_LARGE,
+        /// The bytes of the frame are none of its type.
+        FrameUnread = FRAME_UNREAD,
+        /// The frame's type or its data offset is not that of a SASL frame.
+        NoSaslFrame = NO_SASL_FRAME,
+        /// A size of the frame is more than 32 bits can say.
+        FrameTooLarge = FRAME_TOO_LARGE,
+        /// The frame is none that the client answers, or the server does not have its mechanism.
+        NotImplemented = NOT_IMPLEMENTED,
+        /// The login is refused: its credentials were.
+        RefusedAuth = REFUSED_AUTH,
+        /// The login is refused by a system error.
+        RefusedSys = REFUSED_SYS,
+        /// The login is refused by a system error that stays.
+        RefusedSysPerm = REFUSED_SYS_PERM,
+        /// The login is refused by a system error that may pass.
+        RefusedSysTemp = REFUSED_SYS_TEMP,
+        /// The connection has ended.
+        Ended = ENDED,
+        /// There was no memory. Nothing has changed, and the call can be made again.
+        OutOfMemory = OUT_OF_MEMORY,
+    }
+}
+
+impl ConnectionError {
+    /// Why SCRAM refuses what the server sent, where that is why.
+    pub fn scram(self) -> Option<ScramErrorKind> {
+        match self {
+            ConnectionError::OutOfMemory => None,
+            why => match ScramErrorKind::of(why.number()) {
+                ScramErrorKind::Other(_) => None,
+                kind => Some(kind),
+            },
+        }
+    }
+}
+
 impl From<RecordError> for ServerScramErrorKind {
     fn from(why: RecordError) -> Self {
         match why {

@@ -74,6 +74,15 @@ impl ScramClientKeys {
         Ok(Self(keys))
     }
 
+    /// The keys of a login whose server was believed, if the library has some.
+    pub(crate) fn handed_out(state: &sys::ScramClient) -> Option<Self> {
+        let mut keys = NO_KEYS;
+        // SAFETY: the state is borrowed, and the struct is one of this function.
+        let status = unsafe { sys::fe2o3_scram_client_keys(state, &mut keys) };
+        done(status).ok()?;
+        Some(Self(keys))
+    }
+
     /// The version that they are of.
     pub fn version(&self) -> ScramVersion {
         ScramVersion::of_keys(&self.0)

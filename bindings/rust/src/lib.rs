@@ -1,4 +1,5 @@
-//! SCRAM (RFC 5802, RFC 7677) for safe Rust, by a proved static library. The names are those of the crate fe2o3-amqp.
+//! SCRAM (RFC 5802, RFC 7677) and the SASL layer of AMQP 1.0 for clients, for safe Rust, by a proved static library. The
+//! names are those of the crate fe2o3-amqp.
 //!
 //! No proof covers this crate. Each of its calls of the library is an `unsafe` block that says why its pointers are
 //! what the library's C header asks for.
@@ -30,6 +31,7 @@
 
 mod calls;
 mod client;
+mod connection;
 mod errors;
 mod keys;
 mod records;
@@ -41,7 +43,8 @@ mod version;
 
 pub use calls::{fits, generate_nonce, library_version};
 pub use client::ScramClient;
-pub use errors::{RecordError, RecordTextError, ScramErrorKind, ServerScramErrorKind, Status};
+pub use connection::{ClientNegotiation, Received, SaslProfile, Standing};
+pub use errors::{ConnectionError, RecordError, RecordTextError, ScramErrorKind, ServerScramErrorKind, Status};
 pub use keys::ScramClientKeys;
 pub use records::{ScramRecord, StoredPassword};
 pub use server::{ScramAuthenticator, ScramCredentialProvider, SingleScramCredential};

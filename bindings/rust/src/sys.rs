@@ -36,6 +36,15 @@ pub const OTHER_VERSION: u32 = 10;
 /// The password is not that of the record.
 pub const OTHER_PASSWORD: u32 = 11;
 
+/// There is no such mechanism: 0 is SCRAM, 1 PLAIN, 2 ANONYMOUS, and 3 EXTERNAL.
+pub const NO_SUCH_MECHANISM: u32 = 12;
+
+/// The connection has ended: its client is logged in, or it is to be closed.
+pub const ENDED: u32 = 13;
+
+/// The struct of the connection is none that a call leaves.
+pub const NOT_KEPT: u32 = 14;
+
 /// The message is not UTF-8.
 pub const CLIENT_UTF8_ERROR: u32 = 20;
 
@@ -146,6 +155,102 @@ pub const RECORD_BASE64_DECODE_ERROR: u32 = 63;
 /// A key is not as long as a digest of the mechanism.
 pub const RECORD_KEY_LENGTH_MISMATCH: u32 = 64;
 
+/// No line feed ends the line, which is the last.
+pub const LINE_FEED_MISSING: u32 = 65;
+
+/// No space stands in the line.
+pub const SPACE_MISSING: u32 = 66;
+
+/// What stands before the last space of the line is no escaped name.
+pub const INVALID_NAME: u32 = 67;
+
+/// No line has a record of this version for this name.
+pub const NO_SUCH_USER: u32 = 68;
+
+/// A line feed stands in the name, or the iteration count is 0.
+pub const NOT_WRITABLE: u32 = 69;
+
+/// The other side's header is not that of SASL.
+pub const OTHER_HEADER: u32 = 70;
+
+/// The size of a frame is below 8 or above 512.
+pub const FRAME_SIZE: u32 = 71;
+
+/// The frame is not the one that is due.
+pub const OUT_OF_TURN: u32 = 72;
+
+/// The answer fits in no frame of 512 bytes.
+pub const REPLY_TOO_LARGE: u32 = 73;
+
+/// The bytes of the frame are none of its type.
+pub const FRAME_UNREAD: u32 = 74;
+
+/// The frame's type or its data offset is not that of a SASL frame.
+pub const NO_SASL_FRAME: u32 = 75;
+
+/// A size of the frame is more than 32 bits can say.
+pub const FRAME_TOO_LARGE: u32 = 76;
+
+/// The frame is none that the client answers, or the server does not have its mechanism.
+pub const NOT_IMPLEMENTED: u32 = 77;
+
+/// The login is refused: its credentials were.
+pub const REFUSED_AUTH: u32 = 81;
+
+/// The login is refused by a system error.
+pub const REFUSED_SYS: u32 = 82;
+
+/// The login is refused by a system error that stays.
+pub const REFUSED_SYS_PERM: u32 = 83;
+
+/// The login is refused by a system error that may pass.
+pub const REFUSED_SYS_TEMP: u32 = 84;
+
+/// What a side of a connection keeps between its calls. All zeros is a connection of which no byte has come.
+#[repr(C)]
+#[derive(Clone, Copy)]
+pub struct Connection {
+    /// 0 while more bytes are wanted, 1 once the client is logged in, and 2 once the connection is to be closed.
+    pub standing: u32,
+    /// Why it is to be closed: a status.
+    pub why: u32,
+    /// What is due: 0 the other side's header, 1 the mechanisms, 2 the init, 3 the challenge, or at once the outcome, 4
+    /// the response, and 5 the outcome.
+    pub due: u32,
+    /// How many bytes of `held` there are.
+    pub held_len: u32,
+    /// What has come of the header or of the frame that is due.
+    pub held: [u8; 512],
+}
+
+/// What the body of a frame says. What it shows are bytes of that body, where they stand.
+#[repr(C)]
+#[derive(Clone, Copy)]
+pub struct SaslFrameView {
+    /// Which frame it is, by its descriptor: 64 the mechanisms, 65 an init, 66 a challenge, 67 a response, and 68 an
+    /// outcome.
+    pub kind: u32,
+    /// The code of an outcome, from 0 to 4, and else 0.
+    pub code: u32,
+    /// 1 where there is a message, and else 0.
+    pub has_message: u32,
+    /// 1 where there is a hostname, and else 0.
+    pub has_hostname: u32,
+    /// How many mechanisms there are.
+    pub count: usize,
+    /// How many bytes of the body the frame takes. Those behind it are left alone.
+    pub taken: usize,
+    /// The mechanism of an init.
+    pub mechanism: *const u8,
+    pub mechanism_len: usize,
+    /// The initial response, the challenge, the response, or what the mechanism says at its end.
+    pub message: *const u8,
+    pub message_len: usize,
+    /// The hostname of an init.
+    pub hostname: *const u8,
+    pub hostname_len: usize,
+}
+
 /// What a client keeps in place of its password: a secret, with which one can log in.
 #[repr(C)]
 #[derive(Clone, Copy)]
@@ -255,6 +360,29 @@ pub struct ScramClient {
     pub keys: ClientKeys,
 }
 
+/// Who logs in on a connection, and by which mechanism: lent for each call, and the same for all of them.
+#[repr(C)]
+#[derive(Clone, Copy)]
+pub struct SaslLogin {
+    /// 0 for SCRAM of the login's version, 1 for PLAIN, 2 for ANONYMOUS, and 3 for EXTERNAL.
+    pub mechanism: u32,
+    /// The hostname that the init names. Where it is empty the init names none.
+    pub hostname: *const u8,
+    pub hostname_len: usize,
+    /// The user and the secret. PLAIN takes the name and the password of it, ANONYMOUS and EXTERNAL nothing.
+    pub login: Login,
+}
+
+/// What a client keeps of a connection between its calls. All zeros is one of which no byte has come.
+#[repr(C)]
+#[derive(Clone, Copy)]
+pub struct SaslClient {
+    /// The connection.
+    pub connection: Connection,
+    /// What SCRAM keeps. Once the client is logged in, it hands out the keys (`fe2o3_scram_client_keys`).
+    pub scram: ScramClient,
+}
+
 extern "C" {
     /// Writes the client-first message, which starts an exchange afresh at any time. The nonce is 32 random bytes,
     /// fresh for each.
@@ -288,6 +416,14 @@ extern "C" {
     /// salt and its count takes no password, and two hashes of HMAC. Whoever has them can log in.
     pub fn fe2o3_scram_client_keys(client: *const ScramClient, keys: *mut ClientKeys) -> u32;
 
+    /// Reads the body of a frame, which begins with its data offset, behind the four bytes of its size. It takes no
+    /// memory.
+    pub fn fe2o3_sasl_view_frame(body: *const u8, body_len: usize, view: *mut SaslFrameView) -> u32;
+
+    /// Whether the body of a frame is a server's list of mechanisms with this one in it: 0, or `NOT_IMPLEMENTED` where
+    /// it is not in the list, and `OUT_OF_TURN` where the frame is another one.
+    pub fn fe2o3_sasl_offers(body: *const u8, body_len: usize, mechanism: *const u8, mechanism_len: usize) -> u32;
+
     /// Makes the keys that stand in place of a password, for a server that keeps this salt and this count.
     pub fn fe2o3_scram_keys_make(
         version: u32,
@@ -297,6 +433,29 @@ extern "C" {
         salt_len: usize,
         iterations: u32,
         keys: *mut ClientKeys) -> u32;
+
+    /// Finds the record of this version that a user has in a text of users, a line for each: the name, with each comma
+    /// as `=2C` and each equals sign as `=3D`, a space, the text of the record, and a line feed. Of several lines for
+    /// one name and version the first counts. Where nothing is found, `line` says which line is not read, counted from
+    /// 1, or 0 where each is.
+    pub fn fe2o3_scram_lines_find(
+        lines: *const u8,
+        lines_len: usize,
+        username: *const u8,
+        username_len: usize,
+        version: u32,
+        line: *mut usize,
+        kept: *mut ScramRecord) -> u32;
+
+    /// Writes the line of a user and a record, with its line feed, as `fe2o3_scram_lines_find` reads it. `NOT_WRITABLE`
+    /// where a line feed stands in the name, or the count is 0.
+    pub fn fe2o3_scram_line(
+        username: *const u8,
+        username_len: usize,
+        kept: *const ScramRecord,
+        out: *mut u8,
+        out_room: usize,
+        len: *mut usize) -> u32;
 
     /// Makes the record of a password. Where the number is not 0, the struct stays as it was.
     pub fn fe2o3_scram_record_make(
@@ -330,6 +489,24 @@ extern "C" {
     /// Whether a password that was told, as by PLAIN, is that of the record: 0 where it is. It hashes as often as the
     /// record's count says, so the record is to be one of the caller's own.
     pub fn fe2o3_scram_record_verify(kept: *const ScramRecord, password: *const u8, password_len: usize) -> u32;
+
+    /// Writes the header of SASL, with which a client begins a connection.
+    pub fn fe2o3_sasl_client_open(out: *mut u8, out_room: usize, len: *mut usize) -> u32;
+
+    /// Takes bytes of the connection as they came, to the end of the header or of the frame that is due, and writes
+    /// what is to be sent, of at most 512 bytes, a room that is asked for before any hash is made. What is left of the
+    /// bytes is to be handed in again while the connection stands at 0; behind a login it is AMQP's. The nonce is 32
+    /// random bytes, fresh for each call.
+    pub fn fe2o3_sasl_client_receive(
+        login: *const SaslLogin,
+        client: *mut SaslClient,
+        bytes: *const u8,
+        bytes_len: usize,
+        nonce: *const [u8; 32],
+        taken: *mut usize,
+        out: *mut u8,
+        out_room: usize,
+        len: *mut usize) -> u32;
 
     /// Answers a client-first message with the server-first message, which starts an exchange afresh at any time. The
     /// record is that of the user whom the message names (`fe2o3_scram_server_user`), or one that is made up
@@ -378,7 +555,8 @@ extern "C" {
     pub fn fe2o3_version() -> u32;
 
     /// How many bytes a struct has here: 0 `fe2o3_login`, 1 `fe2o3_scram_client`, 2 `fe2o3_client_keys`, 3
-    /// `fe2o3_scram_server`, 4 `fe2o3_scram_record`; of other numbers 0. A caller whose own declarations have other
-    /// sizes has another header.
+    /// `fe2o3_scram_server`, 4 `fe2o3_scram_record`, 5 `fe2o3_connection`, 6 `fe2o3_sasl_login`, 7 `fe2o3_sasl_client`,
+    /// 8 `fe2o3_sasl_frame_view`; of other numbers 0. A caller whose own declarations have other sizes has another
+    /// header.
     pub fn fe2o3_size(which: u32) -> usize;
 }

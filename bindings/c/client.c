@@ -1,0 +1,142 @@
+/* Logs in to a server of AMQP 1.0 over TCP:
+ *
+ *     client HOST PORT MECHANISM USER
+ *
+ * with the password on the first line of standard input. It says how the login ended, with the status 0 where the client
+ * is logged in, 1 where it is not, and 2 where the words, the password or the connection are none. */
+#define _POSIX_C_SOURCE 200112L
+#include "fe2o3_sasl.h"
+
+#include <netdb.h>
+#include <stdio.h>
+#include <string.h>
+#include <sys/socket.h>
+#include <unistd.h>
+
+/* The mechanisms, by the numbers of the library. */
+static const struct {
+    const char *name;
+    uint32_t mechanism, version;
+} mechanisms[] = {
+    {"SCRAM-SHA-1", FE2O3_SCRAM, FE2O3_SHA_1}, {"SCRAM-SHA-256", FE2O3_SCRAM, FE2O3_SHA_256},
+    {"SCRAM-SHA-512", FE2O3_SCRAM, FE2O3_SHA_512}, {"PLAIN", FE2O3_PLAIN, 0}, {"ANONYMOUS", FE2O3_ANONYMOUS, 0},
+    {"EXTERNAL", FE2O3_EXTERNAL, 0},
+};
+
+/* The number of a mechanism in that list, or of its end. */
+static size_t known(const char *name)
+{
+    size_t at = 0;
+    while (at < sizeof mechanisms / sizeof *mechanisms && strcmp(mechanisms[at].name, name) != 0)
+        at++;
+    return at;
+}
+
+static int connected(const char *host, const char *port)
+{
+    struct addrinfo hints, *found = NULL, *one;
+    int channel = -1;
+    memset(&hints, 0, sizeof hints);
+    hints.ai_socktype = SOCK_STREAM;
+    if (getaddrinfo(host, port, &hints, &found) != 0)
+        return -1;
+    for (one = found; one != NULL && channel < 0; one = one->ai_next) {
+        channel = socket(one->ai_family, one->ai_socktype, one->ai_protocol);
+        if (channel >= 0 && connect(channel, one->ai_addr, one->ai_addrlen) != 0) {
+            close(channel);
+            channel = -1;
+        }
+    }
+    freeaddrinfo(found);
+    return channel;
+}
+
+static int sent(int channel, const uint8_t *bytes, size_t len)
+{
+    while (len > 0) {
+        ssize_t some = send(channel, bytes, len, 0);
+        if (some <= 0)
+            return 0;
+        bytes += some;
+        len -= (size_t)some;
+    }
+    return 1;
+}
+
+static int random_bytes(uint8_t *bytes, size_t len)
+{
+    FILE *source = fopen("/dev/urandom", "rb");
+    size_t read = source == NULL ? 0 : fread(bytes, 1, len, source);
+    if (source != NULL)
+        fclose(source);
+    return read == len;
+}
+
+/* Reads and answers until the client is logged in or the connection is to be closed. Answers the number of a call that
+ * is refused, and -1 where the connection ends. What is left of the last bytes would be AMQP's. */
+static int64_t negotiate(int channel, const struct fe2o3_sasl_login *login, struct fe2o3_sasl_client *client)
+{
+    uint8_t came[4096], out[512], nonce[32];
+    size_t len = 0, at = 0, taken = 0, out_len = 0;
+    uint32_t status = fe2o3_sasl_client_open(out, sizeof out, &out_len);
+    while (status == FE2O3_DONE && sent(channel, out, out_len) && client->connection.standing == FE2O3_WANTING) {
+        if (at == len) {
+            ssize_t some = recv(channel, came, sizeof came, 0);
+            if (some <= 0)
+                return -1;
+            len = (size_t)some;
+            at = 0;
+        }
+        if (!random_bytes(nonce, sizeof nonce))
+            return -1;
+        status = fe2o3_sasl_client_receive(
+            login, client, came + at, len - at, nonce, &taken, out, sizeof out, &out_len);
+        at += taken;
+    }
+    return status == FE2O3_DONE && client->connection.standing == FE2O3_WANTING ? -1 : (int64_t)status;
+}
+
+static int told(const char *what, uint32_t status, int ends)
+{
+    struct fe2o3_text text = FE2O3_TEXT_INIT;
+    fe2o3_status_text(status, &text);
+    printf("%s: %s\n", what, (const char *)text.bytes);
+    return ends;
+}
+
+int main(int count, char **words)
+{
+    char password[1024];
+    struct fe2o3_client_keys no_keys = {0};
+    struct fe2o3_sasl_client client = {0};
+    struct fe2o3_sasl_login login = {0, NULL, 0, {0, 0, 4096, 1000000, NULL, 0, NULL, 0, NULL}};
+    size_t which = count == 5 ? known(words[3]) : known("");
+    int64_t answer;
+    int channel;
+    if (which == known("") || fgets(password, sizeof password, stdin) == NULL) {
+        fputs("client HOST PORT MECHANISM USER, with the password on standard input\n", stderr);
+        return 2;
+    }
+    password[strcspn(password, "\n")] = '\0';
+    login.mechanism = mechanisms[which].mechanism;
+    login.hostname = (const uint8_t *)words[1];
+    login.hostname_len = strlen(words[1]);
+    login.login.version = mechanisms[which].version;
+    login.login.username = (const uint8_t *)words[4];
+    login.login.username_len = strlen(words[4]);
+    login.login.password = (const uint8_t *)password;
+    login.login.password_len = strlen(password);
+    login.login.keys = &no_keys;
+    channel = connected(words[1], words[2]);
+    answer = channel < 0 ? -1 : negotiate(channel, &login, &client);
+    if (channel >= 0)
+        close(channel);
+    if (answer < 0) {
+        puts("no connection");
+        return 2;
+    }
+    if (answer != FE2O3_DONE)
+        return told("refused", (uint32_t)answer, 2);
+    return client.connection.standing == FE2O3_LOGGED_IN ? told("logged in", FE2O3_DONE, 0)
+                                            : told("not logged in", client.connection.why, 1);
+}

@@ -1,0 +1,158 @@
+"""The other side of a login, apart from the library: SCRAM and SASL's layer of AMQP 1.0 by `hashlib` and `hmac`."""
+
+from __future__ import annotations
+
+import base64
+import hashlib
+import hmac
+import struct
+from typing import Callable, Optional
+
+SHA_1, SHA_256, SHA_512 = 1, 256, 512
+VERSIONS = {SHA_1: "sha1", SHA_256: "sha256", SHA_512: "sha512"}
+MECHANISMS = {SHA_1: "SCRAM-SHA-1", SHA_256: "SCRAM-SHA-256", SHA_512: "SCRAM-SHA-512"}
+
+
+def base64_of(value: bytes) -> bytes:
+    return base64.b64encode(value)
+
+
+def mac(version: int, key: bytes, *texts: bytes) -> bytes:
+    return hmac.new(key, b"".join(texts), VERSIONS[version]).digest()
+
+
+def exclusive_or(one: bytes, other: bytes) -> bytes:
+    return bytes(a ^ b for a, b in zip(one, other))
+
+
+class Secret:
+    """The keys of a password."""
+
+    def __init__(self, version: int, password: str, salt: bytes, iterations: int) -> None:
+        salted = hashlib.pbkdf2_hmac(VERSIONS[version], password.encode(), salt, iterations)
+        self.version, self.salt, self.iterations = version, salt, iterations
+        self.client_key = mac(version, salted, b"Client Key")
+        self.server_key = mac(version, salted, b"Server Key")
+        self.stored_key = hashlib.new(VERSIONS[version], self.client_key).digest()
+
+    def record_text(self) -> str:
+        salt, stored, server = (base64_of(x).decode() for x in (self.salt, self.stored_key, self.server_key))
+        return f"{MECHANISMS[self.version]}${self.iterations}:{salt}${stored}:{server}"
+
+    def server_first(self, client_nonce: bytes, server_nonce: bytes) -> bytes:
+        return b"r=%s%s,s=%s,i=%d" % (
+            base64_of(client_nonce),
+            base64_of(server_nonce),
+            base64_of(self.salt),
+            self.iterations,
+        )
+
+    def finals(self, bare: bytes, server_first: bytes) -> tuple[bytes, bytes]:
+        """The client-final and the server-final message."""
+        without_proof = b"c=biws," + server_first.split(b",")[0]
+        exchange = b",".join((bare, server_first, without_proof))
+        proof = exclusive_or(self.client_key, mac(self.version, self.stored_key, exchange))
+        client_final = without_proof + b",p=" + base64_of(proof)
+        return client_final, b"v=" + base64_of(mac(self.version, self.server_key, exchange))
+
+
+# The SASL frames of AMQP 1.0 again (part 1, section 1.6; part 2, section 2.3.1; part 5, section 5.3.3).
+
+SASL_HEADER = b"AMQP\3\1\0\0"
+MECHANISMS_CODE, INIT, CHALLENGE, RESPONSE, OUTCOME = range(0x40, 0x45)
+NULL = b"\x40"
+
+
+def framed(body: bytes) -> bytes:
+    return struct.pack(">IBBH", len(body) + 8, 2, 1, 0) + body
+
+
+def frame_of(code: int, *fields: bytes) -> bytes:
+    """A frame of a described list with these fields."""
+    data = b"".join(fields)
+    return framed(b"\0\x53" + bytes([code, 0xC0, len(data) + 1, len(fields)]) + data)
+
+
+def short(constructor: int, data: bytes) -> bytes:
+    """A value of variable width, whose size has one byte."""
+    return bytes([constructor, len(data)]) + data
+
+
+def mechanisms_frame(*names: str) -> bytes:
+    data = b"".join(bytes([len(name)]) + name.encode() for name in names)
+    return frame_of(MECHANISMS_CODE, bytes([0xE0, len(data) + 2, len(names), 0xA3]) + data)
+
+
+def fields_of(frame: bytes) -> tuple[int, list[Optional[bytes]]]:
+    """The code of a frame, and its fields: the bytes of those of variable width, and None for null."""
+    size, offset, kind = struct.unpack(">IBB", frame[:6])
+    assert (size, offset, kind, frame[8:10]) == (len(frame), 2, 1, b"\0\x53")
+    at, fields = (14, []) if frame[11] == 0xC0 else (20, [])
+    assert frame[11] in (0xC0, 0xD0)
+    while at < len(frame):
+        constructor = frame[at]
+        if constructor == 0x40:
+            fields.append(None)
+            at += 1
+            continue
+        # (0xa_ has a size of one byte, 0xb_ one of four)
+        width = 1 if constructor < 0xB0 else 4
+        size = int.from_bytes(frame[at + 1 : at + 1 + width], "big")
+        fields.append(frame[at + 1 + width : at + 1 + width + size])
+        at += 1 + width + size
+    return frame[10], fields
+
+
+class Broker:
+    """The server's side of a connection, apart from the library: bytes in, bytes out."""
+
+    def __init__(self, secret: Secret, *names: str, code: int = 0, mar: Optional[Callable[[bytes], bytes]] = None):
+        self.secret, self.names, self.code = secret, names, code
+        self.mar = mar or (lambda message: message)
+        self.held, self.init, self.exchange = b"", [], (b"", b"")
+
+    def receive(self, data: bytes) -> bytes:
+        self.held += data
+        answer = b""
+        while (unit := self.unit()) is not None:
+            answer += self.header(unit) if unit[:4] == b"AMQP" else self.frame(*fields_of(unit))
+        return answer
+
+    def unit(self) -> Optional[bytes]:
+        size = 8 if self.held[:4] == b"AMQP" else int.from_bytes(self.held[:4], "big")
+        if len(self.held) < max(size, 4):
+            return None
+        unit, self.held = self.held[:size], self.held[size:]
+        return unit
+
+    def header(self, unit: bytes) -> bytes:
+        assert unit == SASL_HEADER
+        return SASL_HEADER + mechanisms_frame(*self.names)
+
+    def frame(self, code: int, fields: list[Optional[bytes]]) -> bytes:
+        if code == INIT:
+            self.init = fields
+            if not (fields[0] or b"").startswith(b"SCRAM"):
+                return frame_of(OUTCOME, bytes([0x50, self.code]))
+            bare = (fields[1] or b"")[3:]
+            nonce = bare.split(b",r=")[1]
+            first = b"r=%s%s,s=%s,i=%d" % (nonce, b"server", base64_of(self.secret.salt), self.secret.iterations)
+            self.exchange = bare, first
+            return frame_of(CHALLENGE, short(0xA0, first))
+        client_final, server_final = self.secret.finals(*self.exchange)
+        if self.code or fields[0] != client_final:
+            return frame_of(OUTCOME, bytes([0x50, self.code or 1]))
+        return frame_of(OUTCOME, b"\x50\0", short(0xA0, self.mar(server_final)))
+
+
+def fields_of_last(answer: bytes) -> Optional[int]:
+    """The code of the last frame of an answer."""
+    code = None
+    while len(answer) >= 8:
+        size = 8 if answer[:4] == b"AMQP" else int.from_bytes(answer[:4], "big")
+        code, answer = None if answer[:4] == b"AMQP" else answer[10], answer[size:]
+    return code
+
+
+def bare_of(name: str, client_nonce: bytes) -> bytes:
+    return b"n=" + name.replace("=", "=3D").replace(",", "=2C").encode() + b",r=" + base64_of(client_nonce)

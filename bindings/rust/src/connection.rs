@@ -1,0 +1,196 @@
+//! The client's side of a connection.
+
+use crate::calls::filled;
+use crate::client::{Who, NOTHING_SENT};
+use crate::keys::NO_KEYS;
+use crate::{generate_nonce, sys, ConnectionError, ScramClient, ScramClientKeys, ScramVersion};
+use std::fmt;
+
+const NEW: sys::SaslClient = sys::SaslClient {
+    connection: sys::Connection { standing: 0, why: 0, due: 0, held_len: 0, held: [0; 512] },
+    scram: NOTHING_SENT,
+};
+
+/// The most bytes of a frame (AMQP 1.0, part 5, section 5.3.1), and so of what is sent at once.
+const FRAME_MOST: usize = 512;
+
+/// What a client logs in with.
+#[derive(Clone)]
+pub enum SaslProfile {
+    /// ANONYMOUS (RFC 4505).
+    Anonymous,
+
+    /// PLAIN (RFC 4616), which sends the password as it is.
+    Plain {
+        /// The user name.
+        username: String,
+
+        /// The password.
+        password: String,
+    },
+
+    /// EXTERNAL (RFC 4422, appendix A): as whom the transport knows.
+    External,
+
+    /// SCRAM. What this client has sent by calls of its own does not count.
+    Scram(ScramClient),
+}
+
+impl From<ScramClient> for SaslProfile {
+    fn from(client: ScramClient) -> Self {
+        SaslProfile::Scram(client)
+    }
+}
+
+impl fmt::Debug for SaslProfile {
+    fn fmt(&self, f: &mut fmt::Formatter<'_>) -> fmt::Result {
+        match self {
+            SaslProfile::Anonymous => f.write_str("Anonymous"),
+            SaslProfile::Plain { username, .. } => {
+                f.debug_struct("Plain").field("username", username).finish_non_exhaustive()
+            }
+            SaslProfile::External => f.write_str("External"),
+            SaslProfile::Scram(client) => f.debug_tuple("Scram").field(client).finish(),
+        }
+    }
+}
+
+/// How a connection stands.
+#[derive(Clone, Copy, Debug, PartialEq, Eq)]
+pub enum Standing {
+    /// More bytes are wanted.
+    Wanting,
+
+    /// The client is logged in. What comes next on the connection is AMQP's.
+    LoggedIn,
+
+    /// The connection is to be closed.
+    Closed(ConnectionError),
+}
+
+/// What came of bytes that were handed in.
+#[derive(Clone, Debug, PartialEq, Eq)]
+pub struct Received {
+    /// How many of them were taken. Those behind are AMQP's once the client is logged in.
+    pub taken: usize,
+
+    /// What is to be sent.
+    pub sent: Vec<u8>,
+}
+
+/// The client's side of one connection of AMQP 1.0, without a socket: bytes in, bytes out.
+///
+/// ```no_run
+/// use fe2o3_sasl_proved::*;
+/// use std::io::{Read, Write};
+///
+/// # fn main() -> Result<(), Box<dyn std::error::Error>> {
+/// let client = ScramClient::new("user", "pencil", ScramVersion::Sha256).with_least_iterations(4096);
+/// let mut side = ClientNegotiation::new(client, Some("broker.example"));
+/// let mut socket = std::net::TcpStream::connect("broker.example:5672")?;
+/// socket.write_all(&ClientNegotiation::open())?;
+/// let mut came = [0; 4096];
+/// while side.standing() == Standing::Wanting {
+///     let len = socket.read(&mut came)?;
+///     let received = side.receive(&came[..len])?;
+///     socket.write_all(&received.sent)?;
+/// }
+/// # Ok(())
+/// # }
+/// ```
+#[derive(Clone)]
+pub struct ClientNegotiation {
+    who: Who,
+    mechanism: u32,
+    hostname: String,
+    state: sys::SaslClient,
+}
+
+impl ClientNegotiation {
+    /// A new connection, on which the client logs in by this profile. Its init names the hostname, if it is not empty.
+    pub fn new(profile: impl Into<SaslProfile>, hostname: Option<&str>) -> Self {
+        let words = |username, password| Who::new(username, password, NO_KEYS, 0, ScramVersion::Sha256);
+        let (mechanism, who) = match profile.into() {
+            SaslProfile::Scram(client) => (0, client.who),
+            SaslProfile::Plain { username, password } => (1, words(username, password)),
+            SaslProfile::Anonymous => (2, words(String::new(), String::new())),
+            SaslProfile::External => (3, words(String::new(), String::new())),
+        };
+        Self { who, mechanism, hostname: hostname.unwrap_or_default().to_owned(), state: NEW }
+    }
+
+    /// The header of SASL, which a client sends first.
+    pub fn open() -> Vec<u8> {
+        // SAFETY: the room and its length are borrowed for writing, and so overlap nothing.
+        filled(8, |out, len| unsafe { sys::fe2o3_sasl_client_open(out.as_mut_ptr(), out.len(), len) })
+            .unwrap_or_default()
+    }
+
+    /// Takes bytes as they came, until they are taken or the connection wants no more. An error changes nothing of what
+    /// a frame that was not answered would have.
+    ///
+    /// # Panics
+    ///
+    /// Where the system has no random bytes.
+    pub fn receive(&mut self, bytes: &[u8]) -> Result<Received, ConnectionError> {
+        let mut received = Received { taken: 0, sent: Vec::new() };
+        while received.taken < bytes.len() && self.standing() == Standing::Wanting {
+            let (taken, sent) = self.step(&bytes[received.taken..], &generate_nonce())?;
+            received.taken += taken;
+            received.sent.extend(sent);
+        }
+        Ok(received)
+    }
+
+    /// One call of the library: takes bytes to the end of the header or of the frame that is due. The nonce is 32 random
+    /// bytes, fresh for each call.
+    fn step(&mut self, bytes: &[u8], nonce: &[u8; 32]) -> Result<(usize, Vec<u8>), ConnectionError> {
+        let login = sys::SaslLogin {
+            mechanism: self.mechanism,
+            hostname: self.hostname.as_ptr(),
+            hostname_len: self.hostname.len(),
+            login: self.who.lend().login,
+        };
+        let state = &mut self.state;
+        let mut taken = 0;
+        let sent = filled(FRAME_MOST, |out, len| {
+            // SAFETY: the login's pointers are to what this side owns, and the bytes are a slice that lives through the
+            // call; the state, the room, its length and the count are borrowed for writing, and so overlap nothing.
+            unsafe {
+                sys::fe2o3_sasl_client_receive(
+                    &login,
+                    state,
+                    bytes.as_ptr(),
+                    bytes.len(),
+                    nonce,
+                    &mut taken,
+                    out.as_mut_ptr(),
+                    out.len(),
+                    len,
+                )
+            }
+        })
+        .map_err(ConnectionError::of)?;
+        Ok((taken, sent))
+    }
+
+    /// How the connection stands.
+    pub fn standing(&self) -> Standing {
+        match self.state.connection.standing {
+            0 => Standing::Wanting,
+            1 => Standing::LoggedIn,
+            _ => Standing::Closed(ConnectionError::of(self.state.connection.why)),
+        }
+    }
+
+    /// The keys of a login by SCRAM whose server was believed, as [`ScramClient::keys`] hands them out.
+    pub fn keys(&self) -> Option<ScramClientKeys> {
+        ScramClientKeys::handed_out(&self.state.scram)
+    }
+}
+
+impl fmt::Debug for ClientNegotiation {
+    fn fmt(&self, f: &mut fmt::Formatter<'_>) -> fmt::Result {
+        f.debug_struct("ClientNegotiation").field("standing", &self.standing()).finish_non_exhaustive()
+    }
+}

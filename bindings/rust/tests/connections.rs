@@ -1,0 +1,136 @@
+//! Logins over the bytes of a connection, against frames that are written here (AMQP 1.0, part 5, section 5.3.3).
+
+use fe2o3_sasl_proved::*;
+
+const HEADER: &[u8] = b"AMQP\x03\x01\x00\x00";
+const CHALLENGE: u8 = 0x42;
+const OUTCOME: u8 = 0x44;
+
+/// A frame of a described list with these fields.
+fn frame(code: u8, fields: &[&[u8]]) -> Vec<u8> {
+    let data = fields.concat();
+    let mut body = vec![2, 1, 0, 0, 0, 0x53, code, 0xc0, data.len() as u8 + 1, fields.len() as u8];
+    body.extend(data);
+    let mut whole = (body.len() as u32 + 4).to_be_bytes().to_vec();
+    whole.extend(body);
+    whole
+}
+
+fn binary(bytes: &[u8]) -> Vec<u8> {
+    [&[0xa0, bytes.len() as u8], bytes].concat()
+}
+
+/// The header of a server, and a list of one mechanism.
+fn offer(name: &str) -> Vec<u8> {
+    let names = [&[0xe0, name.len() as u8 + 3, 1, 0xa3, name.len() as u8], name.as_bytes()].concat();
+    [HEADER, &frame(0x40, &[&names])].concat()
+}
+
+/// The fields of a frame that the client sent: the bytes of each, and `None` for null.
+fn fields(frame: &[u8]) -> Vec<Option<Vec<u8>>> {
+    assert_eq!(frame[..4], (frame.len() as u32).to_be_bytes());
+    assert_eq!(frame[11], 0xc0);
+    let (mut rest, mut found) = (&frame[14..], Vec::new());
+    while let [constructor, after @ ..] = rest {
+        if *constructor == 0x40 {
+            found.push(None);
+            rest = after;
+        } else {
+            let len = after[0] as usize;
+            found.push(Some(after[1..=len].to_vec()));
+            rest = &after[1 + len..];
+        }
+    }
+    found
+}
+
+fn server(version: ScramVersion) -> ScramAuthenticator<SingleScramCredential> {
+    ScramAuthenticator::new(SingleScramCredential::new("user", "pencil", version).unwrap())
+}
+
+/// A connection of a client of SCRAM up to its outcome, of which the bytes and some of AMQP's come last.
+fn connected(client: ScramClient, version: ScramVersion, mechanism: &str) -> (ClientNegotiation, Received) {
+    let mut server = server(version);
+    let mut side = ClientNegotiation::new(client, Some("host"));
+    let init = side.receive(&offer(mechanism)).unwrap();
+    let fields_of_init = fields(&init.sent);
+    assert_eq!(fields_of_init[0].as_deref(), Some(mechanism.as_bytes()));
+    assert_eq!(fields_of_init[2].as_deref(), Some(&b"host"[..]));
+    let challenge = server.compute_server_first_message(fields_of_init[1].as_deref().unwrap()).unwrap().unwrap();
+    let response = side.receive(&frame(CHALLENGE, &[&binary(&challenge)])).unwrap();
+    let answer = server.compute_server_final_message(fields(&response.sent)[0].as_deref().unwrap());
+    let outcome = match answer {
+        Ok(Some(message)) => frame(OUTCOME, &[&[0x50, 0], &binary(&message)]),
+        _ => frame(OUTCOME, &[&[0x50, 1]]),
+    };
+    let last = side.receive(&[&outcome[..], b"AMQP"].concat()).unwrap();
+    assert_eq!(last.taken, outcome.len());
+    (side, last)
+}
+
+#[test]
+fn logins_by_scram() {
+    for (version, mechanism) in [
+        (ScramVersion::Sha1, "SCRAM-SHA-1"),
+        (ScramVersion::Sha256, "SCRAM-SHA-256"),
+        (ScramVersion::Sha512, "SCRAM-SHA-512"),
+    ] {
+        let (side, last) = connected(ScramClient::new("user", "pencil", version), version, mechanism);
+        assert_eq!((side.standing(), last.sent.len()), (Standing::LoggedIn, 0));
+        assert!(side.keys().is_some());
+        let (side, _) = connected(ScramClient::new("user", "pencils", version), version, mechanism);
+        assert_eq!(side.standing(), Standing::Closed(ConnectionError::RefusedAuth));
+        assert!(side.keys().is_none());
+    }
+}
+
+#[test]
+fn other_mechanisms() {
+    let plain = SaslProfile::Plain { username: "user".to_owned(), password: "pencil".to_owned() };
+    for (profile, name, says) in [
+        (plain, "PLAIN", Some(b"\0user\0pencil".to_vec())),
+        (SaslProfile::Anonymous, "ANONYMOUS", None),
+        (SaslProfile::External, "EXTERNAL", None),
+    ] {
+        let mut side = ClientNegotiation::new(profile, None);
+        let init = fields(&side.receive(&offer(name)).unwrap().sent);
+        assert_eq!((init[0].as_deref(), init.get(1).cloned().flatten()), (Some(name.as_bytes()), says));
+        side.receive(&frame(OUTCOME, &[&[0x50, 0]])).unwrap();
+        assert_eq!(side.standing(), Standing::LoggedIn);
+    }
+}
+
+#[test]
+fn a_byte_at_a_time() {
+    let mut side = ClientNegotiation::new(SaslProfile::Anonymous, None);
+    let mut sent = Vec::new();
+    for byte in offer("ANONYMOUS") {
+        let received = side.receive(&[byte]).unwrap();
+        assert_eq!(received.taken, 1);
+        sent.extend(received.sent);
+    }
+    assert_eq!(fields(&sent)[0].as_deref(), Some(&b"ANONYMOUS"[..]));
+}
+
+#[test]
+fn refusals() {
+    let side = || ClientNegotiation::new(ScramClient::new("user", "pencil", ScramVersion::Sha256), None);
+    for (bytes, why) in [
+        (b"AMQP\0\x01\0\0".to_vec(), ConnectionError::OtherHeader),
+        ([HEADER, &[0, 0, 2, 1]].concat(), ConnectionError::FrameSize),
+        (offer("PLAIN"), ConnectionError::NotImplemented),
+        ([HEADER, &frame(OUTCOME, &[&[0x50, 0]])].concat(), ConnectionError::OutOfTurn),
+    ] {
+        let mut side = side();
+        assert!(side.receive(&bytes).unwrap().sent.is_empty());
+        assert_eq!(side.standing(), Standing::Closed(why));
+        assert!(!why.to_string().is_empty() && why.scram().is_none());
+        // what has ended takes nothing
+        assert_eq!(side.receive(b"bytes"), Ok(Received { taken: 0, sent: Vec::new() }));
+    }
+    let mut side = side();
+    side.receive(&offer("SCRAM-SHA-256")).unwrap();
+    side.receive(&frame(CHALLENGE, &[&binary(b"r=x,s=AAAA,i=4096")])).unwrap();
+    let Standing::Closed(why) = side.standing() else { panic!("the challenge is refused") };
+    assert_eq!(why.scram(), Some(ScramErrorKind::ClientNonceMismatch));
+}
