@@ -87,6 +87,40 @@ impl<A: HasMechanism, B: HasMechanism> OneOf<A, B> {
         }
     }
 
+    /// A server of both, of which the last init went to this one, as `asked` told it of a server that was set down
+    /// between two calls.
+    pub fn with_asked(first: A, second: B, asked: Option<Part>) -> Self
+        ensures { parts_of A.state B.state result
+            ≡ record { first = A.state first; second = B.state second; asked = asked } }
+    {
+        Self {
+            first,
+            second,
+            asked,
+        }
+    }
+
+    /// The acceptor that was given first.
+    pub fn first(&self) -> &A
+        ensures { A.state result.now ≡ (parts_of A.state B.state self.now).first }
+    {
+        &self.first
+    }
+
+    /// The other acceptor.
+    pub fn second(&self) -> &B
+        ensures { B.state result.now ≡ (parts_of A.state B.state self.now).second }
+    {
+        &self.second
+    }
+
+    /// The one that the last init went to, and `None` where none went to either.
+    pub fn asked(&self) -> Option<Part>
+        ensures { result ≡ (parts_of A.state B.state self.now).asked }
+    {
+        self.asked
+    }
+
     /// The first that has this mechanism.
     fn part_with(&self, mechanism: &str) -> Option<Part>
         ensures { result ≡ part_with (A.names (A.state self.now.first)) (B.names (B.state self.now.second))

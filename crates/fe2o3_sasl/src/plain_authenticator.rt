@@ -116,6 +116,18 @@ fn asked(init: &SaslInit) -> Option<PlainMessage<'_>>
     PlainMessage::read_taken(&response.0)
 }
 
+/// The user of a message of PLAIN that is taken (RFC 4616, section 2), whose record is to be fetched, or `None` where
+/// the bytes are none. Nothing says yet that the password is that of the user.
+pub fn plain_user(message: &[u8]) -> Option<&str>
+    ensures { MatchOption result ((parts : PlainParts) → SpellsPlain parts message.now → ¬ IsTaken parts)
+        (λ user. (parts : PlainParts) × SpellsPlain parts message.now × IsTaken parts × (user.now ≡ parts.user)) }
+{
+    match PlainMessage::read_taken(message) {
+        Some(message) => Some(message.username),
+        None => None,
+    }
+}
+
 /// What stands for the record of an unknown user. It has no keys, so no password is that of it.
 fn nobody(iterations: u32) -> StoredPassword<'static>
     ensures count { result.iterations ≡ iterations }

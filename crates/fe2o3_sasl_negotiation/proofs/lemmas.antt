@@ -15,3 +15,4 @@ pub mod CostLemmas
 pub mod ServerCostLemmas
 pub mod ClientCostLemmas
 pub mod BoundLemmas
+pub mod CompletedLemmas

@@ -17,3 +17,7 @@ side_of kept state = record {
   held = kept.held.now;
   state = state;
 }
+
+-- the side of these values, whatever its machine is
+abbrev pub side_kept : SetDown → Side (Unit {0})
+side_kept kept = side_of kept tt

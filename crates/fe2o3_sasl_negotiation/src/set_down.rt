@@ -1,13 +1,15 @@
 //! A side of a connection that is set down as plain values between two calls.
 
-ghost use Rattle.std.specs.Prelude.{◌≡◌, ◌↔◌, IsTrue};
+ghost use Rattle.std.specs.Prelude.{◌≡◌, ◌≢◌, ◌↔◌, ℕ, List, IsTrue, IfOk, IfErr, MatchOption};
 ghost use Rattle.fe2o3_sasl_negotiation.specs.Framing.{IsPart};
-ghost use Rattle.fe2o3_sasl_negotiation.specs.SetDown.{IsKept};
+ghost use Rattle.fe2o3_sasl_negotiation.specs.Negotiations.{Completes};
+ghost use Rattle.fe2o3_sasl_negotiation.specs.SetDown.{IsKept, side_kept};
+ghost use Rattle.fe2o3_sasl_negotiation.specs.declared.standing.Turn.{Turn as TurnKind};
 ghost use Rattle.fe2o3_sasl_negotiation.specs.declared.set_down.TakeUpError.TheVariants.{OutOfMemory as TakeUpOutOfMemory};
 
-use crate::framing::{MAX_FRAME, size};
+use crate::framing::{Arrived, MAX_FRAME, size, take_unit};
 use crate::standing::{Due, Standing};
-use std::alloc::AllocError;
+use std::alloc::{AllocError, Global};
 use thiserror::Error;
 
 /// What a side keeps between two calls, beside its acceptor or its profile.
@@ -48,6 +50,37 @@ impl From<AllocError> for TakeUpError {
 }
 
 impl SetDown<'_> {
+    /// The body of the frame that these bytes complete, without the four bytes of its size, or `None` where they
+    /// complete none: so a server can tell whom a frame names before it takes it up. The side stays set down.
+    ///
+    /// Refused are, in this order: `NotKept` where no side keeps such values, and `OutOfMemory`.
+    #[tactic(auto, using(crate::proofs::lemmas::CompletedLemmas::completed))]
+    pub fn completed(&self, alloc: Global, bytes: &[u8]) -> Result<Option<Vec<u8>>, TakeUpError>
+        ensures kept { IfOk result (λ _. IsKept self.now) }
+        ensures body { IfOk result (λ body. MatchOption body
+            ((turn : TurnKind) (body : List ℕ) → ¬ Completes (side_kept self.now) bytes.now turn body)
+            (λ body. (turn : TurnKind) × Completes (side_kept self.now) bytes.now turn body.items)) }
+        ensures refused { IfErr result (λ error. error ≢ TakeUpError.OutOfMemory → ¬ IsKept self.now) }
+    {
+        if !self.is_kept() {
+            return Err(TakeUpError::NotKept);
+        }
+        let Standing::Wanting = self.standing else {
+            return Ok(None);
+        };
+        let Due::Frame(_) = self.due else {
+            return Ok(None);
+        };
+        let mut held = self.held.to_vec(alloc)?;
+        match take_unit(&mut held, self.due, self.limit, bytes)? {
+            Arrived::Whole => match held.get(4..) {
+                Some(body) => Ok(Some(body.to_vec(alloc)?)),
+                None => Ok(None),
+            },
+            Arrived::Part | Arrived::Refused => Ok(None),
+        }
+    }
+
     /// Whether a side can have kept these values.
     pub(crate) fn is_kept(&self) -> bool
         ensures { IsTrue result ↔ IsKept self.now }
