@@ -7,4 +7,7 @@ pub mod ServerLemmas
 pub mod StateLemmas
 pub mod SaslClientLemmas
 pub mod LineLemmas
+pub mod SaslServerLemmas
+pub mod ServerCallLemmas
+pub mod ServerUserLemmas
 pub mod LoginLemmas

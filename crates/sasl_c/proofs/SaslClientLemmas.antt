@@ -371,7 +371,7 @@ named_back (Frame turns.Challenge) = refl
 named_back (Frame turns.Response) = refl
 named_back (Frame turns.Outcome) = refl
 
-one_due : (due other : Due) → due_number due ≡ due_number other → due ≡ other
+pub one_due : (due other : Due) → due_number due ≡ due_number other → due ≡ other
 one_due due other same = sym (named_back due) ∙ (ap due_named same ∙ named_back other)
 
 keeps_no_part : (client : Struct) (kept : SetDown)

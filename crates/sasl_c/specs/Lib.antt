@@ -7,3 +7,4 @@ pub mod Connection
 pub mod SaslClient
 pub mod Frames
 pub mod Lines
+pub mod SaslServer

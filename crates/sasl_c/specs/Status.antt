@@ -82,6 +82,7 @@ status_number statuses.OtherPassword = 11
 status_number statuses.NoSuchMechanism = 12
 status_number statuses.Ended = 13
 status_number statuses.NotKept = 14
+status_number statuses.NamesNobody = 15
 status_number (statuses.Client why) = client_number why
 status_number (statuses.Server why) = server_number why
 status_number (statuses.NoRecord why) = record_text_number why

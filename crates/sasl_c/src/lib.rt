@@ -17,6 +17,7 @@ mod keys;
 mod lines;
 mod records;
 mod sasl_client;
+mod sasl_server;
 mod server;
 mod status;
 mod texts;

@@ -1,9 +1,9 @@
 //! A SCRAM server, which stands in a struct between its calls.
 
-ghost use Rattle.std.specs.Prelude.{◌≡◌, ◌≢◌, ◌≤◌, ◌^◌, List, ℕ, length, Err, IfOk, IfErr, OnErr, MatchOption};
+ghost use Rattle.std.specs.Prelude.{◌≡◌, ◌≢◌, ◌<◌, ◌≤◌, ◌^◌, List, ℕ, length, Err, IfOk, IfErr, OnErr, MatchOption};
 ghost use Rattle.fe2o3_scram.specs.ServerFirst.{Challenge};
 ghost use Rattle.fe2o3_scram.specs.ScramServer.{ServerFirstSent, challenge_kept, state_in};
-ghost use Rattle.sasl_c.specs.Server.{Challenged, Challenges, Concluded, Concludes, HasRoom, IsOpen, NamesUser, NotChallenged, Opens, TellsUser};
+ghost use Rattle.sasl_c.specs.Server.{Challenged, Challenges, Concluded, Concludes, HasLoggedIn, HasRoom, IsOpen, NamesUser, NotChallenged, Opens, TellsUser};
 ghost use Rattle.sasl_c.specs.Status.{Answers, Fills, FillsWithin};
 ghost use Rattle.sasl_c.specs.declared.status.Status.TheVariants.{OutOfMemory as StatusOutOfMemory, RoomTooSmall};
 
@@ -52,8 +52,43 @@ pub struct ScramServer {
 type Machine = ScramAuthenticator<StoredScramCredential>;
 
 impl ScramServer {
+    /// The struct of a server that has nobody's challenge open, and has logged nobody in.
+    pub fn fresh() -> ScramServer
+        ensures { result.stands ≡ 0 }
+    {
+        ScramServer {
+            stands: 0,
+            user_len: 0,
+            bare_len: 0,
+            nonce_len: 0,
+            first_len: 0,
+            user: [0; 256],
+            bare: [0; 1024],
+            nonce: [0; 512],
+            first: [0; 1024],
+        }
+    }
+
+    /// The struct of a server that has logged this user in, or `None` where the name has no room.
+    pub fn logged_in(user: &str) -> Option<ScramServer>
+        ensures { MatchOption result (256 < length user.now) (λ server. HasLoggedIn server user.now) }
+    {
+        let name = padded(user.as_bytes())?;
+        Some(ScramServer {
+            stands: 2,
+            user_len: user.len() as u32,
+            bare_len: 0,
+            nonce_len: 0,
+            first_len: 0,
+            user: name,
+            bare: [0; 1024],
+            nonce: [0; 512],
+            first: [0; 1024],
+        })
+    }
+
     /// The struct of a server whose challenge is open, or `None` where a text of it has no room.
-    fn of(challenge: &OpenChallenge<'_>) -> Option<ScramServer>
+    pub fn of(challenge: &OpenChallenge<'_>) -> Option<ScramServer>
         ensures { MatchOption result (¬ HasRoom (challenge_kept challenge.now))
             (λ server. HasRoom (challenge_kept challenge.now) × IsOpen server (challenge_kept challenge.now)) }
     {
@@ -73,7 +108,7 @@ impl ScramServer {
 
 impl ScramServer {
     /// The challenge that is open, where the struct shows one.
-    fn challenge(&self) -> Option<OpenChallenge<'_>>
+    pub fn challenge(&self) -> Option<OpenChallenge<'_>>
         ensures { MatchOption result ((challenge : Challenge) → ¬ IsOpen self.now challenge)
             (λ challenge. IsOpen self.now (challenge_kept challenge)) }
     {

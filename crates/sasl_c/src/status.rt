@@ -46,7 +46,8 @@ pub enum Status {
     /// The password is not that of the record.
     OtherPassword,
 
-    /// There is no such mechanism: 0 is SCRAM, 1 PLAIN, 2 ANONYMOUS, and 3 EXTERNAL.
+    /// There is no such mechanism: of a client 0 is SCRAM, 1 PLAIN, 2 ANONYMOUS, and 3 EXTERNAL; a server's are the
+    /// sum of 1, 2, 4 and 8, and not 0.
     NoSuchMechanism,
 
     /// The connection has ended: its client is logged in, or it is to be closed.
@@ -54,6 +55,9 @@ pub enum Status {
 
     /// The struct of the connection is none that a call leaves.
     NotKept,
+
+    /// The bytes complete no frame that names a user.
+    NamesNobody,
 
     /// A client refuses what a server sent.
     Client(ScramErrorKind),
@@ -166,6 +170,7 @@ impl Status {
             Status::NoSuchMechanism => 12,
             Status::Ended => 13,
             Status::NotKept => 14,
+            Status::NamesNobody => 15,
             Status::Client(why) => client_number(why),
             Status::Server(why) => server_number(why),
             Status::NoRecord(why) => record_text_number(why),

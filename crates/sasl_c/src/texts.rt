@@ -8,6 +8,7 @@ use crate::frames::SaslFrameView;
 use crate::keys::ClientKeys;
 use crate::records::ScramRecord;
 use crate::sasl_client::{SaslClient, SaslLogin};
+use crate::sasl_server::{SaslHost, SaslServer};
 use crate::server::ScramServer;
 use std::mem::size_of;
 
@@ -37,6 +38,7 @@ fn text_of(status: u32) -> &'static [u8] {
         12 => b"No such mechanism\0",
         13 => b"The connection has ended\0",
         14 => b"No connection is kept so\0",
+        15 => b"No user is named\0",
         20 => b"Client: Invalid UTF-8\0",
         21 => b"Client: InsufficientParts\0",
         22 => b"Client: Extensions are not supported\0",
@@ -110,7 +112,8 @@ pub extern "C" fn fe2o3_version() -> u32
 
 /// How many bytes a struct has here: 0 `fe2o3_login`, 1 `fe2o3_scram_client`, 2 `fe2o3_client_keys`, 3
 /// `fe2o3_scram_server`, 4 `fe2o3_scram_record`, 5 `fe2o3_connection`, 6 `fe2o3_sasl_login`, 7 `fe2o3_sasl_client`,
-/// 8 `fe2o3_sasl_frame_view`; of other numbers 0. A caller whose own declarations have other sizes has another header.
+/// 8 `fe2o3_sasl_frame_view`, 9 `fe2o3_sasl_host`, 10 `fe2o3_sasl_server`; of other numbers 0. A caller whose own
+/// declarations have other sizes has another header.
 #[unsafe(no_mangle)]
 pub extern "C" fn fe2o3_size(which: u32) -> usize {
     match which {
@@ -123,6 +126,8 @@ pub extern "C" fn fe2o3_size(which: u32) -> usize {
         6 => size_of::<SaslLogin<'static>>(),
         7 => size_of::<SaslClient>(),
         8 => size_of::<SaslFrameView<'static>>(),
+        9 => size_of::<SaslHost<'static>>(),
+        10 => size_of::<SaslServer>(),
         _ => 0,
     }
 }

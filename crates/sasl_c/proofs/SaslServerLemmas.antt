@@ -1,0 +1,338 @@
+-- What structs show of a server of a connection, and of which server they are (AMQP 1.0, part 5, section 5.3.2).
+use Rattle.std.proofs.Common.{rules, arith, refl, sym, ap, inl, inr, ◌∙◌, ◌≡◌, ◌≢◌, ◌≤◌, ◌<◌, ◌⊎◌, ◌∷◌, ℕ, List, [], length}
+use Rattle.std.specs.Prelude.{Bool, true, false, Option, Some, None, Err, take}
+use Rattle.std.specs.Str.{IsUtf8}
+use Rattle.std.proofs.lemmas.List.{length-take-le, length-take}
+use Rattle.fe2o3_scram.specs.declared.hmac.ScramVersion.{ScramVersion}
+use Rattle.fe2o3_scram.specs.declared.hmac.ScramVersion.TheVariants as versions
+use Rattle.fe2o3_scram.specs.Credentials.{Record, Records, VersionedRecord, versioned}
+use Rattle.fe2o3_scram.specs.Readings.{IsFirst, NoneHolds}
+use Rattle.fe2o3_scram.specs.ScramServer.{ServerState, Initial, ServerFirstSent, open_challenge}
+use Rattle.fe2o3_scram.specs.ServerFirst.{Challenge}
+use Rattle.fe2o3_sasl.specs.declared.one_of.Part.{Part}
+use Rattle.fe2o3_sasl.specs.declared.one_of.Part.TheVariants.{First}
+use Rattle.fe2o3_sasl_negotiation.specs.declared.set_down.SetDown.{SetDown}
+use Rattle.fe2o3_sasl_negotiation.specs.declared.standing.ClosedBecause.{ClosedBecause}
+use Rattle.fe2o3_sasl_negotiation.specs.declared.standing.Standing.{Standing}
+use Rattle.fe2o3_sasl_negotiation.specs.declared.standing.Standing.TheVariants.{Wanting, LoggedIn, Closed}
+use Rattle.fe2o3_sasl_negotiation.specs.Negotiations.{Side}
+use Rattle.fe2o3_sasl_negotiation.specs.SetDown.{side_of}
+use Rattle.sasl_c.specs.declared.connection.Connection.{Connection}
+use Rattle.sasl_c.specs.declared.records.ScramRecord.{ScramRecord as Kept}
+use Rattle.sasl_c.specs.declared.sasl_server.Choice.{Choice}
+use Rattle.sasl_c.specs.declared.sasl_server.SaslHost.{SaslHost as Host}
+use Rattle.sasl_c.specs.declared.sasl_server.SaslServer.{SaslServer as Struct}
+use Rattle.sasl_c.specs.declared.server.ScramServer.{ScramServer as ScramStruct}
+use Rattle.sasl_c.specs.declared.status.Status.{Status}
+use Rattle.sasl_c.specs.declared.status.Status.TheVariants as statuses
+use Rattle.sasl_c.specs.Connection.{Keeps}
+use Rattle.sasl_c.specs.Records.{IsVersion, Shows, SpellsStruct}
+use Rattle.sasl_c.specs.SaslServer.{All, Comes, HasNoWords, HasNoStruct, HasRecords, IsAll, IsNoHost, IsOf, IsServer, ShowsOpen, ShowsSide, ShowsState, ShowsUser, Stands, State, allowed_of, all_of, host_tests, one_where, open_in, server_of, state_names, sum_of, user_in}
+use Rattle.sasl_c.specs.Server.{HasLoggedIn, HasRoom, IsOpen}
+use Rattle.sasl_c.specs.Status.{version_number}
+use Rattle.sasl_c.proofs.StatusLemmas.{carried}
+
+-- ---- which mechanisms are offered
+
+within : (is : Bool) (n : ℕ) → one_where is n ≤ n
+within true n = omega arith
+within false n = omega arith
+
+-- a sum has 15 at most
+pub sum_small : (choice : Choice) → sum_of choice ≤ 15
+sum_small choice = omega (
+  arith,
+  within choice.scram 1,
+  within choice.plain 2,
+  within choice.anonymous 4,
+  within choice.external 8,
+)
+
+-- ---- the record of a host's user
+
+-- a struct that shows no record for this reason shows none
+shows_none : (kept : Kept) (status : Status) (shown : VersionedRecord) → SpellsStruct kept (Err status)
+    → Shows kept shown → ⊥
+shows_none kept statuses.OutOfMemory shown wrong is = absurd wrong
+shows_none kept statuses.RoomTooSmall shown wrong is = absurd wrong
+shows_none kept statuses.NotUtf8 shown wrong is = absurd wrong
+shows_none kept statuses.NoSuchVersion shown wrong is = wrong shown.version is.0
+shows_none kept statuses.TooLong shown wrong is = absurd (omega (arith, wrong, is.1))
+shows_none kept statuses.NotPrintable shown wrong is = absurd wrong
+shows_none kept statuses.ZeroIterations shown wrong is = absurd wrong
+shows_none kept statuses.NoSuchSecret shown wrong is = absurd wrong
+shows_none kept statuses.NoKeys shown wrong is = absurd wrong
+shows_none kept statuses.OtherVersion shown wrong is = absurd wrong
+shows_none kept statuses.OtherPassword shown wrong is = absurd wrong
+shows_none kept statuses.NoSuchMechanism shown wrong is = absurd wrong
+shows_none kept statuses.Ended shown wrong is = absurd wrong
+shows_none kept statuses.NotKept shown wrong is = absurd wrong
+shows_none kept statuses.NamesNobody shown wrong is = absurd wrong
+shows_none kept (statuses.Client why) shown wrong is = absurd wrong
+shows_none kept (statuses.Server why) shown wrong is = absurd wrong
+shows_none kept (statuses.NoRecord why) shown wrong is = absurd wrong
+shows_none kept statuses.LineFeedMissing shown wrong is = absurd wrong
+shows_none kept statuses.SpaceMissing shown wrong is = absurd wrong
+shows_none kept statuses.InvalidName shown wrong is = absurd wrong
+shows_none kept statuses.NoSuchUser shown wrong is = absurd wrong
+shows_none kept statuses.NotWritable shown wrong is = absurd wrong
+shows_none kept statuses.OtherHeader shown wrong is = absurd wrong
+shows_none kept statuses.FrameSize shown wrong is = absurd wrong
+shows_none kept statuses.OutOfTurn shown wrong is = absurd wrong
+shows_none kept statuses.ReplyTooLarge shown wrong is = absurd wrong
+shows_none kept statuses.FrameUnread shown wrong is = absurd wrong
+shows_none kept statuses.NoSaslFrame shown wrong is = absurd wrong
+shows_none kept statuses.FrameTooLarge shown wrong is = absurd wrong
+shows_none kept statuses.NotImplemented shown wrong is = absurd wrong
+shows_none kept statuses.RefusedAuth shown wrong is = absurd wrong
+shows_none kept statuses.RefusedSys shown wrong is = absurd wrong
+shows_none kept statuses.RefusedSysPerm shown wrong is = absurd wrong
+shows_none kept statuses.RefusedSysTemp shown wrong is = absurd wrong
+
+-- a number is that of one version
+one_number : (version other : ScramVersion) → version_number version ≡ version_number other → version ≡ other
+one_number versions.Sha1 versions.Sha1 same = refl
+one_number versions.Sha1 versions.Sha256 same = absurd (omega (arith, same))
+one_number versions.Sha1 versions.Sha512 same = absurd (omega (arith, same))
+one_number versions.Sha256 versions.Sha1 same = absurd (omega (arith, same))
+one_number versions.Sha256 versions.Sha256 same = refl
+one_number versions.Sha256 versions.Sha512 same = absurd (omega (arith, same))
+one_number versions.Sha512 versions.Sha1 same = absurd (omega (arith, same))
+one_number versions.Sha512 versions.Sha256 same = absurd (omega (arith, same))
+one_number versions.Sha512 versions.Sha512 same = refl
+
+pub no_record : (host : Host) (version : ScramVersion) (status : Status) → SpellsStruct host.record.now (Err status)
+    → HasRecords host version []
+no_record host version status wrong =
+    inr (λ stored is. shows_none host.record.now status (versioned version stored) wrong is, refl)
+
+pub other_version : (host : Host) (version : ScramVersion) (shown : VersionedRecord) → Shows host.record.now shown
+    → shown.version ≢ version → HasRecords host version []
+other_version host version shown is other =
+    inr (λ stored held. other (one_number shown.version version (is.0 ∙ sym held.0)), refl)
+
+pub one_record : (host : Host) (version : ScramVersion) (shown : VersionedRecord) (name : List ℕ)
+    → Shows host.record.now shown → shown.version ≡ version → name ≡ host.username.now
+    → HasRecords host version ((name, shown.stored) ∷ [])
+one_record host version shown name is same named = inl (
+  shown.stored,
+  carried (λ (v : ScramVersion). Shows host.record.now (versioned v shown.stored)) shown.version version same is,
+  ap (λ (n : List ℕ). (n, shown.stored) ∷ []) named,
+)
+
+pub ruleset store = (no_record, other_version, one_record)
+
+-- ---- the server of a host
+
+-- the server that is offered of all four
+whole : (host : Host) (version : ScramVersion) (choice : Choice) (all other : All) (names : List (List ℕ))
+    (server : State) → names ≡ allowed_of version choice → server ≡ record { inner = all; allowed = names }
+    → all ≡ other → server ≡ record { inner = other; allowed = allowed_of version choice }
+whole host version choice all other names server named is same = is
+    ∙ (ap (λ (n : List (List ℕ)). offering all n) named ∙ ap (λ a. offering a (allowed_of version choice)) same)
+  where
+    offering : All → List (List ℕ) → State
+    offering inner allowed = record { inner = inner; allowed = allowed }
+
+is_of : (host : Host) (version : ScramVersion) (choice : Choice) (records : Records) (state other : ServerState)
+    (asked last : Option Part) (server : State) → IsVersion host.version version → sum_of choice ≡ host.mechanisms
+    → HasRecords host version records → server ≡ server_of host version choice records state asked → state ≡ other
+    → asked ≡ last → IsOf host other last server
+unfolding IsOf
+is_of host version choice records state other asked last server known sum has is same too = (
+  version,
+  choice,
+  records,
+  known,
+  sum,
+  has,
+  is
+      ∙ (ap (λ (s : ServerState). server_of host version choice records s asked) same
+      ∙ ap (λ (a : Option Part). server_of host version choice records other a) too),
+)
+
+shows_it : (scram : ScramStruct) (server : State) (challenge : Option Challenge) → open_in server ≡ challenge
+    → ShowsOpen scram challenge → ShowsOpen scram (open_in server)
+shows_it scram server challenge same shows =
+    carried (ShowsOpen scram) challenge (open_in server) (sym same) shows
+
+-- the server that was made of a host and of what a struct shows
+pub made : (host : Host) (version : ScramVersion) (choice : Choice) (scram : ScramStruct) (all : All)
+    (names : List (List ℕ)) (server : State) → IsVersion host.version version → sum_of choice ≡ host.mechanisms
+    → names ≡ allowed_of version choice → server ≡ record { inner = all; allowed = names }
+    → IsAll host version scram all → Comes host Wanting server × ShowsState scram Wanting server
+made host version choice scram all names server known sum named is (records, state, asked, has, stands, same) =
+    go stands
+  where
+    all_is : server ≡ server_of host version choice records state asked
+    all_is = whole host version choice all _ names server named is same
+
+    go : Stands scram state asked → Comes host Wanting server × ShowsState scram Wanting server
+    go (inl (challenge, opened, stood, last)) = (
+      inr (challenge, is_of host version choice records state _ asked _ server known sum has all_is stood last),
+      shows_it scram server (Some challenge) (ap open_in all_is ∙ ap open_challenge stood) opened,
+    )
+    go (inr (none, stood, last)) = (
+      inl (is_of host version choice records state _ asked _ server known sum has all_is stood last),
+      shows_it scram server None (ap open_in all_is ∙ ap open_challenge stood) none,
+    )
+
+-- why there is none
+pub no_version : (host : Host) → ((known : ScramVersion) → ¬ IsVersion host.version known)
+    → IsNoHost host statuses.NoSuchVersion
+unfolding IsNoHost
+no_version host none = inl (inl (none, refl))
+
+pub no_choice : (host : Host) (version : ScramVersion) → IsVersion host.version version
+    → ((choice : Choice) → sum_of choice ≢ host.mechanisms) → IsNoHost host statuses.NoSuchMechanism
+unfolding IsNoHost
+no_choice host version known none = inl (inr ((λ wrong. wrong version known), inl (none, refl)))
+
+pub no_words : (host : Host) (version : ScramVersion) (choice : Choice) (status : Status)
+    → IsVersion host.version version → sum_of choice ≡ host.mechanisms → HasNoWords host status
+    → IsNoHost host status
+unfolding IsNoHost
+no_words host version choice status known sum (is, inl wrong) =
+    inl (inr ((λ none. none version known), inr ((λ none. none choice sum), inl (wrong, is))))
+no_words host version choice status known sum (is, inr (name, wrong)) = inl (inr (
+  (λ none. none version known),
+  inr ((λ none. none choice sum), inr ((λ other. other name), inl (wrong, is))),
+))
+
+pub no_offer : (host : Host) (version : ScramVersion) (choice : Choice) (scram : ScramStruct) (all : All)
+    (names : List (List ℕ)) (server : State) → IsVersion host.version version → sum_of choice ≡ host.mechanisms
+    → names ≡ allowed_of version choice → server ≡ record { inner = all; allowed = names }
+    → IsAll host version scram all → IsUtf8 host.username.now → IsUtf8 host.peer.now → state_names server ≡ []
+    → IsNoHost host statuses.NoSuchMechanism
+unfolding IsNoHost
+no_offer host version choice scram all names server known sum named is (records, state, asked, has, stands, same)
+    name peer nothing = inr (
+      (
+        (λ none. none version known),
+        ((λ none. none choice sum), ((λ wrong. wrong name), ((λ wrong. wrong peer), tt))),
+      ),
+      refl,
+      (
+        state,
+        asked,
+        server,
+        is_of host version choice records state state asked asked server known sum has
+            (whole host version choice all _ names server named is same) refl refl,
+        nothing,
+      ),
+    )
+
+pub ruleset acceptor = (no_version, no_choice, no_words)
+
+-- ---- what the struct of SCRAM shows
+
+-- a challenge that a struct shows has room in it
+open_room : (scram : ScramStruct) (challenge : Challenge) → IsOpen scram challenge → HasRoom challenge
+open_room scram challenge is = let lengths = is.1 in (
+  short scram.user_len 256 scram.user challenge.user (ap (λ (c : Challenge). c.user) is.2) lengths.0,
+  short scram.bare_len 1024 scram.bare challenge.bare (ap (λ (c : Challenge). c.bare) is.2) lengths.1,
+  short scram.nonce_len 512 scram.nonce challenge.nonce (ap (λ (c : Challenge). c.nonce) is.2) lengths.2,
+  short scram.first_len 1024 scram.first challenge.first (ap (λ (c : Challenge). c.first) is.2) lengths.3,
+)
+  where
+    short : (n most : ℕ) (array text : List ℕ) → text ≡ take n array → n ≤ most → length text ≤ most
+    short n most array text same few =
+        let long : length (take n array) ≤ n = omega (arith, length-take n array) in
+        omega (arith, ap length same, long, few)
+
+-- a user whom it shows too
+user_room : (scram : ScramStruct) (user : List ℕ) → HasLoggedIn scram user → length user ≤ 256
+user_room scram user is =
+    let long : length (take scram.user_len scram.user) ≤ scram.user_len =
+    omega (arith, length-take scram.user_len scram.user) in
+    omega (arith, ap length is.2, long, is.1)
+
+-- what is shown of a side that stands so
+stands_so : (scram : ScramStruct) (standing other : Standing) (server : State) → standing ≡ other
+    → ShowsState scram other server → ShowsState scram standing server
+stands_so scram standing other server same shows =
+    carried (λ s. ShowsState scram s server) other standing (sym same) shows
+
+pub shows_challenge : (scram : ScramStruct) (standing : Standing) (server : State) (shown : Option Challenge)
+    (challenge : Challenge) → standing ≡ Wanting → shown ≡ open_in server → shown ≡ Some challenge
+    → IsOpen scram challenge → ShowsState scram standing server
+shows_challenge scram standing server shown challenge wants same some is =
+    stands_so scram standing Wanting server wants (shows_it scram server (Some challenge) (sym same ∙ some) is)
+
+pub shows_no_challenge : (scram : ScramStruct) (standing : Standing) (server : State) (shown : Option Challenge)
+    → standing ≡ Wanting → shown ≡ open_in server → shown ≡ None → scram.stands ≡ 0
+    → ShowsState scram standing server
+shows_no_challenge scram standing server shown wants same none fresh =
+    stands_so scram standing Wanting server wants (shows_it scram server None (sym same ∙ none)
+    (λ challenge is. let one : ◌≡◌ {A = ℕ} 0 1 = sym fresh ∙ is.0 in absurd (omega (arith, one))))
+
+pub no_challenge_room : (standing : Standing) (server : State) (shown : Option Challenge) (challenge : Challenge)
+    → standing ≡ Wanting → shown ≡ open_in server → shown ≡ Some challenge → ¬ HasRoom challenge
+    → (scram : ScramStruct) → ¬ ShowsState scram standing server
+no_challenge_room standing server shown challenge wants same some wide scram shows =
+    let wanting = carried (λ s. ShowsState scram s server) standing Wanting wants shows in
+    let is = carried (ShowsOpen scram) (open_in server) (Some challenge) (sym same ∙ some) wanting in
+    wide (open_room scram challenge is)
+
+pub shows_user : (scram : ScramStruct) (standing : Standing) (server : State) (shown : Option (List ℕ))
+    (user : List ℕ) → standing ≡ LoggedIn → shown ≡ user_in server → shown ≡ Some user → HasLoggedIn scram user
+    → ShowsState scram standing server
+shows_user scram standing server shown user in_is same some is = stands_so scram standing LoggedIn server in_is
+    (carried (ShowsUser scram) (Some user) (user_in server) (sym some ∙ same) is)
+
+pub shows_nobody : (scram : ScramStruct) (standing : Standing) (server : State) (shown : Option (List ℕ))
+    → standing ≡ LoggedIn → shown ≡ user_in server → shown ≡ None → scram.stands ≡ 0
+    → ShowsState scram standing server
+shows_nobody scram standing server shown in_is same none fresh = stands_so scram standing LoggedIn server in_is
+    (carried (ShowsUser scram) None (user_in server) (sym none ∙ same) fresh)
+
+pub no_user_room : (standing : Standing) (server : State) (shown : Option (List ℕ)) (user : List ℕ)
+    → standing ≡ LoggedIn → shown ≡ user_in server → shown ≡ Some user → 256 < length user
+    → (scram : ScramStruct) → ¬ ShowsState scram standing server
+no_user_room standing server shown user in_is same some long scram shows =
+    let logged = carried (λ s. ShowsState scram s server) standing LoggedIn in_is shows in
+    let is = carried (ShowsUser scram) (user_in server) (Some user) (sym same ∙ some) logged in
+    absurd (omega (arith, user_room scram user is, long))
+
+pub shows_closed : (scram : ScramStruct) (standing : Standing) (server : State) (why : ClosedBecause)
+    → standing ≡ Closed why → scram.stands ≡ 0 → ShowsState scram standing server
+shows_closed scram standing server why closed fresh =
+    stands_so scram standing (Closed why) server closed fresh
+
+pub ruleset shown = (
+  shows_challenge,
+  shows_no_challenge,
+  no_challenge_room,
+  shows_user,
+  shows_nobody,
+  no_user_room,
+  shows_closed,
+)
+
+-- ---- the structs of a side
+
+pub shows_side : (connection : Connection) (scram : ScramStruct) (side : Side State)
+    → Keeps connection side.standing side.due side.held → ShowsState scram side.standing side.state
+    → ShowsSide (record { connection = connection; scram = scram }) side
+unfolding ShowsSide
+shows_side connection scram side keeps shows = (keeps, shows)
+
+pub holds_more : (side : Side State) → 512 < length side.held → HasNoStruct side
+unfolding HasNoStruct
+holds_more side many = inl many
+
+pub shows_nothing : (side : Side State) → ((scram : ScramStruct) → ¬ ShowsState scram side.standing side.state)
+    → HasNoStruct side
+unfolding HasNoStruct
+shows_nothing side none = inr none
+
+pub is_server : (host : Host) (server : Struct) (side : Side State) → ShowsSide server side
+    → Comes host side.standing side.state → side.limit ≡ 512 → IsServer host server side
+unfolding IsServer
+is_server host server side shows comes limit = (shows, limit, comes)
+
+pub no_server : (host : Host) (side : Side State) → HasNoStruct side → length side.held ≤ 512
+    → (server : Struct) → ¬ IsServer host server side
+unfolding IsServer HasNoStruct ShowsSide
+no_server host side (inl many) few server is = absurd (omega (arith, few, many))
+no_server host side (inr none) few server is = none server.scram is.0.1

@@ -1,0 +1,517 @@
+-- What a call makes of a server's side of a connection (AMQP 1.0, part 5, section 5.3.2).
+use Rattle.std.proofs.Common.{rules, arith, refl, sym, ap, inl, inr, ◌∙◌, ◌≡◌, ◌≢◌, ◌≤◌, ◌<◌, ◌⊎◌, ◌++◌, ℕ, List, [], length}
+use Rattle.std.specs.Prelude.{Bool, true, false, Option, Some, None, Result, Ok, Err, drop}
+use Rattle.std.proofs.lemmas.List.{length-append}
+use Rattle.fe2o3_sasl_wire.specs.declared.amqp_types.SaslCode.{SaslCode}
+use Rattle.fe2o3_sasl_wire.specs.declared.amqp_types.SaslCode.TheVariants as outcomes
+use Rattle.fe2o3_sasl_wire.specs.declared.sasl_frames.error.Error.{Error}
+use Rattle.fe2o3_sasl_wire.specs.declared.sasl_frames.error.Error.TheVariants as faults
+use Rattle.fe2o3_sasl_wire.specs.SaslFrames as frames
+use Rattle.fe2o3_sasl_wire.specs.SaslFrames.{SaslFrame, canonical}
+use Rattle.fe2o3_scram.specs.declared.hmac.ScramVersion.{ScramVersion}
+use Rattle.fe2o3_scram.specs.declared.scram_messages.error.ServerScramErrorKind.{ServerScramErrorKind}
+use Rattle.fe2o3_scram.specs.Credentials.{Provider, Records}
+use Rattle.fe2o3_scram.specs.Readings.{IsFirst, NoneHolds}
+use Rattle.fe2o3_scram.specs.ScramServer.{ChallengesFrom, ServerState, Initial, ServerFirstSent}
+use Rattle.fe2o3_scram.specs.ServerFirst.{Challenge}
+use Rattle.fe2o3_sasl.specs.declared.one_of.Part.{Part}
+use Rattle.fe2o3_sasl.specs.declared.one_of.Part.TheVariants.{First, Second}
+use Rattle.fe2o3_sasl.specs.Bodies.{carried as sent_or_not}
+use Rattle.fe2o3_sasl.specs.Events.{Given, ServerSays, Challenged, Concluded, Failed}
+use Rattle.fe2o3_sasl.specs.ExternalAcceptor.{External, external_machine}
+use Rattle.fe2o3_sasl.specs.OffersOnly.{Offering, OfferingReplies, is_passed_on}
+use Rattle.fe2o3_sasl.specs.OneOf.{Parts, PartReplies, part_for}
+use Rattle.fe2o3_sasl.specs.PlainAuthenticator.{PlainServer, plain_machine}
+use Rattle.fe2o3_sasl.specs.Runs.{AcceptorGives, server_says}
+use Rattle.fe2o3_sasl.specs.SaslAcceptor.{Acceptor, ScramAcceptor, AnonymousAcceptor, acceptor_machine, acceptor_names, ends_with, server_frame}
+use Rattle.fe2o3_sasl_negotiation.specs.declared.set_down.SetDown.{SetDown}
+use Rattle.fe2o3_sasl_negotiation.specs.declared.standing.ClosedBecause.{ClosedBecause}
+use Rattle.fe2o3_sasl_negotiation.specs.declared.standing.ClosedBecause.TheVariants.{FrameSize, OtherHeader, ReplyTooLarge}
+use Rattle.fe2o3_sasl_negotiation.specs.declared.standing.Due.{Due}
+use Rattle.fe2o3_sasl_negotiation.specs.declared.standing.Due.TheVariants.{Header, Frame}
+use Rattle.fe2o3_sasl_negotiation.specs.declared.standing.Standing.{Standing}
+use Rattle.fe2o3_sasl_negotiation.specs.declared.standing.Standing.TheVariants.{Wanting, LoggedIn, Closed}
+use Rattle.fe2o3_sasl_negotiation.specs.declared.standing.Turn.{Turn}
+use Rattle.fe2o3_sasl_negotiation.specs.declared.standing.Turn.TheVariants as turns
+use Rattle.fe2o3_sasl_negotiation.specs.Framing.{IsPart, framed, sasl_header}
+use Rattle.fe2o3_sasl_negotiation.specs.Negotiations.{Side, Answer, IsInTurn, Sends, ReceivesAt, closes}
+use Rattle.fe2o3_sasl_negotiation.specs.ServerNegotiation.{Offers, Says, ServerAnswers, ServerReceives, behind_header, offer_body}
+use Rattle.fe2o3_sasl_negotiation.specs.SetDown.{IsKept, side_of}
+use Rattle.fe2o3_sasl_negotiation.proofs.lemmas.UnitLemmas.{length-framed}
+use Rattle.sasl_c.specs.declared.connection.Connection.{Connection}
+use Rattle.sasl_c.specs.declared.sasl_server.Choice.{Choice}
+use Rattle.sasl_c.specs.declared.sasl_server.SaslHost.{SaslHost as Host}
+use Rattle.sasl_c.specs.declared.sasl_server.SaslServer.{SaslServer as Struct}
+use Rattle.sasl_c.specs.declared.status.Status.{Status}
+use Rattle.sasl_c.specs.declared.status.Status.TheVariants as statuses
+use Rattle.sasl_c.specs.Connection.{Keeps, KeepsNoPart, side_tests}
+use Rattle.sasl_c.specs.SaslServer.{All, Comes, HasNoStruct, IsNoHost, IsNoServer, IsOf, IsServer, Last, NotReceived, Others, Received, ShowsSide, ShowsState, State, all_machine, all_names, external_names, last_machine, last_names, other_machine, other_names, plain_names, server_of, state_machine, state_names}
+use Rattle.sasl_c.proofs.SaslClientLemmas.{one_due, part_short}
+use Rattle.sasl_c.proofs.SaslServerLemmas.{is_server, no_server}
+use Rattle.sasl_c.proofs.StatusLemmas.{carried}
+
+-- ---- a reply ends the login, or is a challenge of SCRAM
+
+-- the reply is an outcome
+abbrev Ends : SaslFrame → Type 0
+Ends reply = (code : SaslCode) × (more : Option (List ℕ)) × (reply ≡ frames.Outcome code more)
+
+ends_so : (reply : SaslFrame) (code : SaslCode) → reply ≡ ends_with code → Ends reply
+ends_so reply code same = (code, None, same)
+
+plain_ends : (plain next : PlainServer) (nonce : List ℕ) (frame reply : SaslFrame)
+    → plain_machine plain nonce frame reply next → Ends reply
+plain_ends plain next nonce frame reply (inl (user, logs, same, then)) = ends_so reply outcomes.Ok same
+plain_ends plain next nonce frame reply (inr (nobody, same, then)) = ends_so reply outcomes.Auth same
+
+external_ends : (external next : External) (nonce : List ℕ) (frame reply : SaslFrame)
+    → external_machine external nonce frame reply next → Ends reply
+external_ends external next nonce (frames.Init mechanism response hostname) reply (inl (is, same, then)) =
+    ends_so reply outcomes.Ok same
+external_ends external next nonce (frames.Init mechanism response hostname) reply (inr (other, same, then)) =
+    ends_so reply outcomes.Auth same
+external_ends external next nonce (frames.Response text) reply (same, then) = ends_so reply outcomes.Auth same
+external_ends external next nonce (frames.Mechanisms names) reply is = absurd is
+external_ends external next nonce (frames.Challenge text) reply is = absurd is
+external_ends external next nonce (frames.Outcome code more) reply is = absurd is
+
+anonymous_ends : (next : Acceptor) (nonce : List ℕ) (frame reply : SaslFrame)
+    → acceptor_machine AnonymousAcceptor nonce frame reply next → Ends reply
+anonymous_ends next nonce (frames.Init mechanism response hostname) reply is = ends_so reply outcomes.Ok is.0
+anonymous_ends next nonce (frames.Response text) reply is = ends_so reply outcomes.Ok is.0
+anonymous_ends next nonce (frames.Mechanisms names) reply is = absurd is
+anonymous_ends next nonce (frames.Challenge text) reply is = absurd is
+anonymous_ends next nonce (frames.Outcome code more) reply is = absurd is
+
+-- ANONYMOUS and EXTERNAL end it
+last_ends : (last next : Last) (part : Option Part) (nonce : List ℕ) (frame reply : SaslFrame)
+    → last.first ≡ AnonymousAcceptor → PartReplies acceptor_machine external_machine last part nonce frame reply next
+    → Ends reply
+last_ends last next None nonce frame reply is (same, then) = ends_so reply outcomes.Auth same
+last_ends last next (Some First) nonce frame reply is (moved, held, then) = anonymous_ends moved nonce frame reply
+    (carried (λ (a : Acceptor). acceptor_machine a nonce frame reply moved) last.first AnonymousAcceptor is held)
+last_ends last next (Some Second) nonce frame reply is (moved, held, then) =
+    external_ends last.second moved nonce frame reply held
+
+-- and so does PLAIN
+others_end : (others next : Others) (part : Option Part) (nonce : List ℕ) (frame reply : SaslFrame)
+    → others.second.first ≡ AnonymousAcceptor
+    → PartReplies plain_machine last_machine others part nonce frame reply next → Ends reply
+others_end others next None nonce frame reply is (same, then) = ends_so reply outcomes.Auth same
+others_end others next (Some First) nonce frame reply is (moved, held, then) =
+    plain_ends others.first moved nonce frame reply held
+others_end others next (Some Second) nonce frame reply is (moved, held, then) = last_ends others.second moved
+    (part_for acceptor_names external_names others.second frame) nonce frame reply is held
+
+-- SCRAM opens a challenge, or ends it
+abbrev Opens : Provider → Acceptor → Type 0
+Opens provider next = (challenge : Challenge) × (next ≡ ScramAcceptor provider (ServerFirstSent challenge))
+
+opens_or_ends : (provider : Provider) (state after : ServerState) (nonce text : List ℕ)
+    (answer : Result (Option (List ℕ)) ServerScramErrorKind) (reply : SaslFrame) (next : Acceptor)
+    → ChallengesFrom state provider nonce text answer after
+    → reply ≡ server_frame (λ message. frames.Challenge message) answer → next ≡ ScramAcceptor provider after
+    → Ends reply ⊎ Opens provider next
+opens_or_ends provider state after nonce text (Ok (Some message)) reply next held same is =
+    inr (held.0, is ∙ ap (λ (s : ServerState). ScramAcceptor provider s) held.3)
+opens_or_ends provider state after nonce text (Ok None) reply next held same is =
+    inl (ends_so reply outcomes.Auth same)
+opens_or_ends provider state after nonce text (Err fault) reply next held same is =
+    inl (ends_so reply outcomes.Auth same)
+
+concludes : (answer : Result (Option (List ℕ)) ServerScramErrorKind) (reply : SaslFrame)
+    → reply ≡ server_frame (λ message. frames.Outcome outcomes.Ok (Some message)) answer → Ends reply
+concludes (Ok (Some message)) reply same = (outcomes.Ok, Some message, same)
+concludes (Ok None) reply same = ends_so reply outcomes.Auth same
+concludes (Err fault) reply same = ends_so reply outcomes.Auth same
+
+scram_opens : (provider : Provider) (state : ServerState) (nonce : List ℕ) (frame reply : SaslFrame)
+    (next : Acceptor) → acceptor_machine (ScramAcceptor provider state) nonce frame reply next
+    → Ends reply ⊎ Opens provider next
+scram_opens provider state nonce (frames.Init mechanism None hostname) reply next is =
+    inl (ends_so reply outcomes.Auth is.0)
+scram_opens provider state nonce (frames.Init mechanism (Some text) hostname) reply next (inl (other, same, then)) =
+    inl (ends_so reply outcomes.Auth same)
+scram_opens provider state nonce (frames.Init mechanism (Some text) hostname) reply next
+    (inr (is, (answer, after, held, same, then))) =
+    opens_or_ends provider state after nonce text answer reply next held same then
+scram_opens provider state nonce (frames.Response text) reply next (answer, after, held, same, then) =
+    inl (concludes answer reply same)
+scram_opens provider state nonce (frames.Mechanisms names) reply next is = absurd is
+scram_opens provider state nonce (frames.Challenge text) reply next is = absurd is
+scram_opens provider state nonce (frames.Outcome code more) reply next is = absurd is
+
+-- what the machine makes of the server of a host
+abbrev Goes : Host → SaslFrame → State → Type 0
+Goes host reply next = Ends reply ⊎ Comes host Wanting next
+
+module _ (host : Host) (version : ScramVersion) (choice : Choice) (records : Records) where
+  abbrev one : ServerState → Option Part → State
+  one state asked = server_of host version choice records state asked
+
+  abbrev Then : SaslFrame → State → Type 0
+  Then reply next = Ends reply ⊎ ((challenge : Challenge) × (next ≡ one (ServerFirstSent challenge) (Some First)))
+
+  opened : (state : ServerState) (asked : Option Part) (all : All) (acceptor : Acceptor) (next : State)
+      (reply : SaslFrame) → Ends reply ⊎ Opens (record { version = version; records = records }) acceptor
+      → all ≡ record { first = acceptor; second = (one state asked).inner.second; asked = Some First }
+      → next ≡ record (one state asked) { inner = all } → Then reply next
+  opened state asked all acceptor next reply (inl ends) is same = inl ends
+  opened state asked all acceptor next reply (inr (challenge, opens)) is same = inr (
+    challenge,
+    same ∙ ap (λ (a : All). with_all a) (is ∙ ap with_first opens),
+  )
+    where
+      with_all : All → State
+      with_all a = record (one state asked) { inner = a }
+
+      with_first : Acceptor → All
+      with_first a = record { first = a; second = (one state asked).inner.second; asked = Some First }
+
+  part_goes : (state : ServerState) (asked part : Option Part) (nonce : List ℕ) (frame reply : SaslFrame) (all : All)
+      (next : State)
+      → PartReplies acceptor_machine other_machine (one state asked).inner part nonce frame reply all
+      → next ≡ record (one state asked) { inner = all } → Then reply next
+  part_goes state asked None nonce frame reply all next (same, then) is = inl (ends_so reply outcomes.Auth same)
+  part_goes state asked (Some First) nonce frame reply all next (moved, held, then) is =
+      opened state asked all moved next reply (scram_opens _ state nonce frame reply moved held) then is
+  part_goes state asked (Some Second) nonce frame reply all next (moved, held, then) is =
+      inl (others_end (one state asked).inner.second moved
+      (part_for plain_names last_names (one state asked).inner.second frame) nonce frame reply refl held)
+
+  offered_goes : (state : ServerState) (asked : Option Part) (passed : Bool) (nonce : List ℕ)
+      (frame reply : SaslFrame) (next : State)
+      → OfferingReplies all_machine (one state asked) passed nonce frame reply next → Then reply next
+  offered_goes state asked false nonce frame reply next (same, then) = inl (ends_so reply outcomes.Auth same)
+  offered_goes state asked true nonce frame reply next (moved, held, then) =
+      part_goes state asked (part_for acceptor_names other_names (one state asked).inner frame) nonce frame reply moved
+      next held then
+
+of_goes : (host : Host) (state : ServerState) (asked : Option Part) (server next : State) (nonce : List ℕ)
+    (frame reply : SaslFrame) → IsOf host state asked server → state_machine server nonce frame reply next
+    → Goes host reply next
+unfolding IsOf
+of_goes host state asked server next nonce frame reply (version, choice, records, known, sum, has, is) held =
+    go (offered_goes host version choice records state asked
+    (is_passed_on all_names (server_of host version choice records state asked) frame) nonce frame reply next
+    (carried (λ (s : State). state_machine s nonce frame reply next) server _ is held))
+  where
+    go : Then host version choice records reply next → Goes host reply next
+    go (inl ends) = inl ends
+    go (inr (challenge, same)) = inr (inr (challenge, (version, choice, records, known, sum, has, same)))
+
+comes_goes : (host : Host) (server next : State) (nonce : List ℕ) (frame reply : SaslFrame)
+    → Comes host Wanting server → state_machine server nonce frame reply next → Goes host reply next
+comes_goes host server next nonce frame reply (inl fresh) held =
+    of_goes host Initial None server next nonce frame reply fresh held
+comes_goes host server next nonce frame reply (inr (challenge, waits)) held =
+    of_goes host (ServerFirstSent challenge) (Some First) server next nonce frame reply waits held
+
+-- ---- so a server that sends a challenge is one that the host comes to
+
+not_failed : (body : List ℕ) (fault : Error) → Challenged body ≢ Failed fault
+not_failed body fault same = absurd (cc)
+
+ends_concluded : (body : List ℕ) (reply : SaslFrame) (sent : List ℕ) → Ends reply
+    → Challenged body ≢ server_says reply sent
+ends_concluded body reply sent (code, more, is) same =
+    let one : Challenged body ≡ Concluded code sent = same ∙ ap (λ (r : SaslFrame). server_says r sent) is in
+    absurd (cc)
+
+carried_comes : (host : Host) (server moved next : State) (body : List ℕ) (reply : SaslFrame)
+    (sent : Option (List ℕ)) → Goes host reply moved
+    → Challenged body ≡ sent_or_not (Failed faults.TooLarge) (server_says reply) sent
+    → next ≡ sent_or_not server (λ _. moved) sent → Comes host Wanting next
+carried_comes host server moved next body reply None goes says is = absurd (not_failed body faults.TooLarge says)
+carried_comes host server moved next body reply (Some sent) (inl ends) says is =
+    absurd (ends_concluded body reply sent ends says)
+carried_comes host server moved next body reply (Some sent) (inr comes) says is =
+    carried (Comes host Wanting) moved next (sym is) comes
+
+gives_comes : (host : Host) (server next : State) (event : Given) (spelled : Result SaslFrame Error)
+    (body : List ℕ) → Comes host Wanting server
+    → AcceptorGives state_machine server event spelled (Challenged body) next → Comes host Wanting next
+gives_comes host server next event (Err fault) body comes is = absurd (not_failed body fault is.0)
+gives_comes host server next event (Ok (frames.Mechanisms names)) body comes is =
+    absurd (not_failed body faults.NotImplemented is.0)
+gives_comes host server next event (Ok (frames.Challenge text)) body comes is =
+    absurd (not_failed body faults.NotImplemented is.0)
+gives_comes host server next event (Ok (frames.Outcome code more)) body comes is =
+    absurd (not_failed body faults.NotImplemented is.0)
+gives_comes host server next event (Ok (frames.Init mechanism response hostname)) body comes (inl failed) =
+    absurd (not_failed body faults.OutOfMemory failed.0)
+gives_comes host server next event (Ok (frames.Init mechanism response hostname)) body comes
+    (inr (reply, moved, held, sends)) =
+    carried_comes host server moved next body reply (canonical reply)
+    (comes_goes host server moved event.nonce (frames.Init mechanism response hostname) reply comes held) sends.0
+    sends.1
+gives_comes host server next event (Ok (frames.Response text)) body comes (inl failed) =
+    absurd (not_failed body faults.OutOfMemory failed.0)
+gives_comes host server next event (Ok (frames.Response text)) body comes (inr (reply, moved, held, sends)) =
+    carried_comes host server moved next body reply (canonical reply)
+    (comes_goes host server moved event.nonce (frames.Response text) reply comes held) sends.0 sends.1
+
+-- ---- what is behind an answer: a server that the host comes to, and at most 520 bytes sent (part 5, section 5.3.1)
+
+record Fine (host : Host) (answer : Answer) (next : State) : Type 0 where
+  comes : Comes host answer.standing next
+  short : length answer.sent ≤ 520
+
+fine_so : (host : Host) (answer other : Answer) (next : State) → answer ≡ other → Comes host other.standing next
+    → length other.sent ≤ 520 → Fine host answer next
+fine_so host answer other next same comes short =
+    carried (λ (a : Answer). Fine host a next) other answer (sym same) (record { comes = comes; short = short })
+
+closes_fine : (host : Host) (answer : Answer) (next : State) (why : ClosedBecause) (due : Due)
+    → answer ≡ closes why due → Fine host answer next
+closes_fine host answer next why due same = fine_so host answer (closes why due) next same tt (omega arith)
+
+sends_fine : (host : Host) (answer : Answer) (next : State) (body : List ℕ) (standing : Standing) (due : Due)
+    → Comes host standing next → Sends body standing due answer → Fine host answer next
+sends_fine host answer next body standing due comes (inl (fits, same)) =
+    fine_so host answer (record { sent = framed body; standing = standing; due = due }) next same comes
+    (omega (arith, fits, length-framed body))
+sends_fine host answer next body standing due comes (inr (long, same)) =
+    closes_fine host answer next ReplyTooLarge due same
+
+-- behind a header
+first_fine : (host : Host) (first : Answer) (server : State) (offer : Option (List ℕ)) → Comes host Wanting server
+    → Offers offer first → Comes host first.standing server × (length first.sent ≤ 512)
+first_fine host first server None comes same = (
+  carried (λ (a : Answer). Comes host a.standing server) (closes ReplyTooLarge Header) first (sym same) tt,
+  carried (λ (a : Answer). length a.sent ≤ 512) (closes ReplyTooLarge Header) first (sym same) (omega arith),
+)
+first_fine host first server (Some body) comes (inl (fits, same)) = (
+  carried (λ (a : Answer). Comes host a.standing server)
+      (record { sent = framed body; standing = Wanting; due = Frame turns.Init }) first (sym same) comes,
+  carried (λ (a : Answer). length a.sent ≤ 512)
+      (record { sent = framed body; standing = Wanting; due = Frame turns.Init }) first (sym same)
+      (omega (arith, fits, length-framed body)),
+)
+first_fine host first server (Some body) comes (inr (long, same)) = (
+  carried (λ (a : Answer). Comes host a.standing server) (closes ReplyTooLarge (Frame turns.Init)) first (sym same) tt,
+  carried (λ (a : Answer). length a.sent ≤ 512) (closes ReplyTooLarge (Frame turns.Init)) first (sym same)
+      (omega arith),
+)
+
+header_fine : (host : Host) (answer first : Answer) (next : State) → answer ≡ behind_header first
+    → Comes host first.standing next → length first.sent ≤ 512 → Fine host answer next
+header_fine host answer first next same comes short =
+    let eight : length sasl_header ≡ 8 = refl in
+    fine_so host answer (behind_header first) next same comes
+    (omega (arith, short, eight, length-append sasl_header first.sent))
+
+says_fine : (host : Host) (says : ServerSays) (turn : Turn) (answer : Answer) (next : State)
+    → ((body : List ℕ) → says ≡ Challenged body → Comes host Wanting next) → Says says turn answer
+    → Fine host answer next
+says_fine host (Challenged body) turns.Init answer next comes sends =
+    sends_fine host answer next body Wanting (Frame turns.Response) (comes body refl) sends
+says_fine host (Challenged body) turns.Mechanisms answer next comes same = closes_fine host answer next _ _ same
+says_fine host (Challenged body) turns.Challenge answer next comes same = closes_fine host answer next _ _ same
+says_fine host (Challenged body) turns.Response answer next comes same = closes_fine host answer next _ _ same
+says_fine host (Challenged body) turns.Outcome answer next comes same = closes_fine host answer next _ _ same
+says_fine host (Concluded outcomes.Ok body) turn answer next comes sends =
+    sends_fine host answer next body LoggedIn (Frame turn) tt sends
+says_fine host (Concluded outcomes.Auth body) turn answer next comes sends =
+    sends_fine host answer next body _ (Frame turn) tt sends
+says_fine host (Concluded outcomes.Sys body) turn answer next comes sends =
+    sends_fine host answer next body _ (Frame turn) tt sends
+says_fine host (Concluded outcomes.SysPerm body) turn answer next comes sends =
+    sends_fine host answer next body _ (Frame turn) tt sends
+says_fine host (Concluded outcomes.SysTemp body) turn answer next comes sends =
+    sends_fine host answer next body _ (Frame turn) tt sends
+says_fine host (Failed faults.OutOfMemory) turn answer next comes never = absurd never
+says_fine host (Failed faults.DecodeError) turn answer next comes same = closes_fine host answer next _ _ same
+says_fine host (Failed faults.NotImplemented) turn answer next comes same = closes_fine host answer next _ _ same
+says_fine host (Failed faults.TooLarge) turn answer next comes same = closes_fine host answer next _ _ same
+
+answers_fine : (host : Host) (due : Due) (server next : State) (nonce unit : List ℕ) (answer : Answer)
+    → Comes host Wanting server → ServerAnswers state_names state_machine due server nonce unit answer next
+    → Fine host answer next
+answers_fine host Header server next nonce unit answer comes (inl (other, same), kept) =
+    header_fine host answer (closes OtherHeader Header) next same tt (omega arith)
+answers_fine host Header server next nonce unit answer comes (inr (is, (first, offers, same)), kept) =
+    let both = first_fine host first server (offer_body (state_names server)) comes offers in
+    header_fine host answer first next same
+    (carried (λ (s : State). Comes host first.standing s) server next (sym kept) both.0) both.1
+answers_fine host (Frame turn) server next nonce unit answer comes (Err fault, spells, unread) =
+    closes_fine host answer next _ _ unread.0
+answers_fine host (Frame turn) server next nonce unit answer comes (Ok frame, spells, inl out) =
+    closes_fine host answer next _ _ out.1
+answers_fine host (Frame turn) server next nonce unit answer comes
+    (Ok frame, spells, inr (in_turn, (says, (spelled, is, gives), said))) =
+    let event : Given = record { body = drop 4 unit; nonce = nonce } in
+    says_fine host says turn answer next
+    (λ body same. gives_comes host server next event spelled body comes
+    (carried (λ (s : ServerSays). AcceptorGives state_machine server event spelled s next) says (Challenged body) same
+    gives)) said
+
+-- ---- a call
+
+-- what is behind it
+record Behind (host : Host) (next : Side State) (sent : List ℕ) : Type 0 where
+  comes : Comes host next.standing next.state
+  limit : next.limit ≡ 512
+  held : length next.held ≤ 512
+  short : length sent ≤ 520
+
+behind : (host : Host) (next other : Side State) (sent more : List ℕ) → next ≡ other → sent ≡ more
+    → Comes host other.standing other.state → other.limit ≡ 512 → length other.held ≤ 512 → length more ≤ 520
+    → Behind host next sent
+behind host next other sent more same is comes limit held short =
+    carried (λ given. Behind host given sent) other next (sym same) (record {
+      comes = comes;
+      limit = limit;
+      held = held;
+      short = carried (λ (s : List ℕ). length s ≤ 520) more sent (sym is) short;
+    })
+
+wanting_behind : (host : Host) (side next : Side State) (bytes nonce : List ℕ) (taken : ℕ) (sent : List ℕ)
+    → ReceivesAt Wanting (ServerAnswers state_names state_machine) side bytes nonce taken sent next
+    → side.standing ≡ Wanting → side.limit ≡ 512 → Comes host Wanting side.state → Behind host next sent
+wanting_behind host side next bytes nonce taken sent (inl (part, waits)) wants limit comes =
+    behind host next _ sent [] waits.2 waits.1
+    (carried (λ (s : Standing). Comes host s side.state) Wanting side.standing (sym wants) comes) limit
+    (part_short side.due (side.held ++ bytes)
+    (carried (λ n. IsPart side.due n (side.held ++ bytes)) side.limit 512 limit part)) (omega arith)
+wanting_behind host side next bytes nonce taken sent (inr (inl (refused, ends))) wants limit comes =
+    behind host next _ sent [] ends.2 ends.1 tt limit (omega arith) (omega arith)
+wanting_behind host side next bytes nonce taken sent (inr (inr (answer, state, whole, answers, ends))) wants limit
+    comes =
+    let fine = answers_fine host side.due side.state state nonce _ answer comes answers in
+    behind host next _ sent answer.sent ends.2 ends.1 fine.comes limit (omega arith) fine.short
+
+receives_behind : (host : Host) (before : Struct) (side next : Side State) (bytes nonce : List ℕ) (taken : ℕ)
+    (sent : List ℕ) → IsServer host before side → side.standing ≡ Wanting
+    → ServerReceives state_names state_machine side bytes nonce taken sent next → Behind host next sent
+unfolding IsServer
+receives_behind host before side next bytes nonce taken sent is wants held =
+    wanting_behind host side next bytes nonce taken sent
+    (carried (λ s. ReceivesAt s (ServerAnswers state_names state_machine) side bytes nonce taken sent next)
+    side.standing Wanting wants held) wants is.1
+    (carried (λ (s : Standing). Comes host s side.state) side.standing Wanting wants is.2)
+
+pub behind_comes : (host : Host) (before : Struct) (side next : Side State) (bytes nonce : List ℕ) (taken : ℕ)
+    (sent : List ℕ) → IsServer host before side → side.standing ≡ Wanting
+    → ServerReceives state_names state_machine side bytes nonce taken sent next
+    → Comes host next.standing next.state
+behind_comes host before side next bytes nonce taken sent is wants held =
+    (receives_behind host before side next bytes nonce taken sent is wants held).comes
+
+pub behind_limit : (host : Host) (before : Struct) (side next : Side State) (bytes nonce : List ℕ) (taken : ℕ)
+    (sent : List ℕ) → IsServer host before side → side.standing ≡ Wanting
+    → ServerReceives state_names state_machine side bytes nonce taken sent next → next.limit ≡ 512
+behind_limit host before side next bytes nonce taken sent is wants held =
+    (receives_behind host before side next bytes nonce taken sent is wants held).limit
+
+pub behind_held : (host : Host) (before : Struct) (side next : Side State) (bytes nonce : List ℕ) (taken : ℕ)
+    (sent : List ℕ) → IsServer host before side → side.standing ≡ Wanting
+    → ServerReceives state_names state_machine side bytes nonce taken sent next → length next.held ≤ 512
+behind_held host before side next bytes nonce taken sent is wants held =
+    (receives_behind host before side next bytes nonce taken sent is wants held).held
+
+pub behind_short : (host : Host) (before : Struct) (side next : Side State) (bytes nonce : List ℕ) (taken : ℕ)
+    (sent : List ℕ) → IsServer host before side → side.standing ≡ Wanting
+    → ServerReceives state_names state_machine side bytes nonce taken sent next → length sent ≤ 520
+behind_short host before side next bytes nonce taken sent is wants held =
+    (receives_behind host before side next bytes nonce taken sent is wants held).short
+
+-- ---- the structs of a call
+
+-- the side that was taken up
+pub taken_up : (host : Host) (before : Struct) (kept : SetDown) (state : State)
+    → Keeps before.connection kept.standing kept.due kept.held.now → kept.standing ≡ Wanting → kept.limit ≡ 512
+    → Comes host Wanting state → ShowsState before.scram Wanting state
+    → IsServer host before (side_of kept state)
+unfolding IsServer ShowsSide
+taken_up host before kept state keeps wants limit comes shows = (
+  (keeps, carried (λ (s : Standing). ShowsState before.scram s state) Wanting kept.standing (sym wants) shows),
+  limit,
+  carried (λ (s : Standing). Comes host s state) Wanting kept.standing (sym wants) comes,
+)
+
+pub received : (host : Host) (bytes nonce : List ℕ) (before after : Struct) (side next : Side State) (taken : ℕ)
+    (sent : List ℕ) → IsServer host before side → side.standing ≡ Wanting
+    → ServerReceives state_names state_machine side bytes nonce taken sent next → IsServer host after next
+    → Received host bytes nonce before after taken sent
+unfolding Received
+received host bytes nonce before after side next taken sent is wants held then =
+    (side, next, is, wants, held, then)
+
+pub too_long : (host : Host) (bytes nonce : List ℕ) (before : Struct) (side next : Side State) (taken : ℕ)
+    (sent : List ℕ) → IsServer host before side → side.standing ≡ Wanting
+    → ServerReceives state_names state_machine side bytes nonce taken sent next
+    → ((other : Struct) → ¬ IsServer host other next)
+    → NotReceived host bytes nonce before statuses.TooLong
+unfolding NotReceived
+too_long host bytes nonce before side next taken sent is wants held none =
+    inr (refl, (side, next, taken, sent, is, wants, held, none))
+
+-- none of the tests of the struct holds
+pub none_holds : (connection : Connection) (kept : SetDown) → Keeps connection kept.standing kept.due kept.held.now
+    → kept.standing ≡ Wanting → NoneHolds (side_tests connection)
+none_holds connection kept keeps wants =
+    let stands = carried (λ s. Keeps connection s kept.due kept.held.now) kept.standing Wanting wants keeps in
+    ((λ ended. ended stands.standing), ((λ nothing. nothing kept.due kept.held.now stands), tt))
+
+pub keeps_no_part : (connection : Connection) (kept : SetDown) → Keeps connection kept.standing kept.due kept.held.now
+    → kept.limit ≡ 512 → ¬ IsKept kept → KeepsNoPart connection
+keeps_no_part connection kept keeps limit wrong = λ due held other part.
+    let one = one_due due kept.due (other.due ∙ sym keeps.due) in
+    let same : held ≡ kept.held.now = other.held ∙ sym keeps.held in
+    let less : IsPart kept.due 512 held = carried (λ d. IsPart d 512 held) due kept.due one part in
+    let come : IsPart kept.due 512 kept.held.now = carried (λ h. IsPart kept.due 512 h) held kept.held.now same less in
+    wrong (
+      omega (arith, limit),
+      carried (λ n. IsPart kept.due n kept.held.now) 512 kept.limit (sym limit) come,
+    )
+
+pub no_connection : (host : Host) (bytes nonce : List ℕ) (before : Struct) (status : Status)
+    → IsFirst (side_tests before.connection) status → NotReceived host bytes nonce before status
+unfolding NotReceived IsNoServer
+no_connection host bytes nonce before status wrong = inl (inl wrong)
+
+pub no_host : (host : Host) (bytes nonce : List ℕ) (before : Struct) (kept : SetDown) (status : Status)
+    → Keeps before.connection kept.standing kept.due kept.held.now → kept.standing ≡ Wanting → IsNoHost host status
+    → NotReceived host bytes nonce before status
+unfolding NotReceived IsNoServer
+no_host host bytes nonce before kept status keeps wants wrong =
+    inl (inr (none_holds before.connection kept keeps wants, inl wrong))
+
+pub not_kept : (host : Host) (bytes nonce : List ℕ) (before : Struct) (kept : SetDown) (state : State)
+    (status : Status) → Keeps before.connection kept.standing kept.due kept.held.now → kept.standing ≡ Wanting
+    → kept.limit ≡ 512 → Comes host Wanting state → (status ≡ statuses.NotKept) × ¬ IsKept kept
+    → NotReceived host bytes nonce before status
+unfolding NotReceived IsNoServer
+not_kept host bytes nonce before kept state status keeps wants limit comes (is, wrong) = inl (inr (
+  none_holds before.connection kept keeps wants,
+  inr (is, keeps_no_part before.connection kept keeps limit wrong, host_has comes),
+))
+  where
+    host_has : Comes host Wanting state → (at : ServerState) × (asked : Option Part) × (server : State)
+        × IsOf host at asked server
+    host_has (inl fresh) = (Initial, None, state, fresh)
+    host_has (inr (challenge, waits)) = (ServerFirstSent challenge, Some First, state, waits)
+
+-- what comes of a side that was taken up
+module _ (host : Host) (bytes nonce : List ℕ) (before : Struct) (kept : SetDown) (state : State) (next : Side State)
+    (taken : ℕ) (sent : List ℕ) (keeps : Keeps before.connection kept.standing kept.due kept.held.now)
+    (wants : kept.standing ≡ Wanting) (limit : kept.limit ≡ 512)
+    (known : Comes host Wanting state × ShowsState before.scram Wanting state)
+    (held : ServerReceives state_names state_machine (side_of kept state) bytes nonce taken sent next) where
+  is : IsServer host before (side_of kept state)
+  is = taken_up host before kept state keeps wants limit known.0 known.1
+
+  pub answered : (after : Struct) → ShowsSide after next → Received host bytes nonce before after taken sent
+  answered after shows = received host bytes nonce before after (side_of kept state) next taken sent is wants held
+      (is_server host after next shows
+      (behind_comes host before (side_of kept state) next bytes nonce taken sent is wants held)
+      (behind_limit host before (side_of kept state) next bytes nonce taken sent is wants held))
+
+  pub unanswered : HasNoStruct next → NotReceived host bytes nonce before statuses.TooLong
+  unanswered none = too_long host bytes nonce before (side_of kept state) next taken sent is wants held
+      (no_server host next none
+      (behind_held host before (side_of kept state) next bytes nonce taken sent is wants held))
+
+  pub short_answer : length sent ≤ 520
+  short_answer = behind_short host before (side_of kept state) next bytes nonce taken sent is wants held

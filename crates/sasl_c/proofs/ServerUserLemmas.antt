@@ -1,0 +1,166 @@
+-- Whom a frame names that comes to a server (RFC 5802, section 7; RFC 4616, section 2).
+use Rattle.std.proofs.Common.{rules, arith, refl, sym, ap, inl, inr, ◌∙◌, ◌≡◌, ◌≢◌, ◌≤◌, ◌⊎◌, ℕ, List, length}
+use Rattle.std.specs.Prelude.{Option, Some, None, Ok, Err, codes}
+use Rattle.fe2o3_sasl_wire.specs.declared.sasl_frames.error.Error.{Error}
+use Rattle.fe2o3_sasl_wire.specs.SaslFrames.{SaslFrame, ReadsBody}
+use Rattle.fe2o3_scram.specs.declared.hmac.ScramVersion.{ScramVersion}
+use Rattle.fe2o3_scram.specs.declared.hmac.ScramVersion.TheVariants as versions
+use Rattle.fe2o3_scram.specs.declared.scram_messages.error.ServerScramErrorKind.{ServerScramErrorKind}
+use Rattle.fe2o3_scram.specs.ClientFirst.{ClientFirst, ReadsClientFirst}
+use Rattle.fe2o3_scram.specs.Hmac.{mechanism_name}
+use Rattle.fe2o3_scram.specs.Readings.{IsFirst}
+use Rattle.fe2o3_scram.proofs.lemmas.messages.ClientFirstLemmas.{one_client_first}
+use Rattle.fe2o3_sasl.specs.PlainAuthenticator.{IsTaken, PlainParts, SpellsPlain}
+use Rattle.fe2o3_sasl_negotiation.specs.declared.set_down.SetDown.{SetDown}
+use Rattle.fe2o3_sasl_negotiation.specs.declared.standing.Due.{Due}
+use Rattle.fe2o3_sasl_negotiation.specs.declared.standing.Due.TheVariants.{Frame}
+use Rattle.fe2o3_sasl_negotiation.specs.declared.standing.Standing.TheVariants.{Wanting}
+use Rattle.fe2o3_sasl_negotiation.specs.declared.standing.Turn.{Turn}
+use Rattle.fe2o3_sasl_negotiation.specs.Negotiations.{Completes}
+use Rattle.fe2o3_sasl_negotiation.specs.SetDown.{IsKept, side_kept}
+use Rattle.sasl_c.specs.declared.sasl_server.SaslServer.{SaslServer as Struct}
+use Rattle.sasl_c.specs.declared.server.ScramServer.{ScramServer as ScramStruct}
+use Rattle.sasl_c.specs.declared.status.Status.{Status}
+use Rattle.sasl_c.specs.declared.status.Status.TheVariants as statuses
+use Rattle.sasl_c.specs.Connection.{Keeps, side_tests}
+use Rattle.sasl_c.specs.SaslServer.{BodyNames, BodyNamesNobody, FrameNames, InitNames, Named, NotNamed}
+use Rattle.sasl_c.proofs.ServerCallLemmas.{keeps_no_part, none_holds}
+use Rattle.sasl_c.proofs.StatusLemmas.{carried}
+
+-- a message that is refused names nobody
+pub refused : (text : List ℕ) (why : ServerScramErrorKind) (first : ClientFirst) → ReadsClientFirst text (Err why)
+    → ReadsClientFirst text (Ok first) → ⊥
+refused text why first wrong reads = let same = one_client_first text (Err why) (Ok first) wrong reads in absurd (cc)
+
+pub ruleset scram_user = (refused)
+
+-- no name of SCRAM is PLAIN
+not_plain : (version : ScramVersion) → mechanism_name version ≢ codes "PLAIN"
+not_plain versions.Sha1 same = let long : ◌≡◌ {A = ℕ} 11 5 = ap length same in absurd (omega (arith, long))
+not_plain versions.Sha256 same = let long : ◌≡◌ {A = ℕ} 13 5 = ap length same in absurd (omega (arith, long))
+not_plain versions.Sha512 same = let long : ◌≡◌ {A = ℕ} 13 5 = ap length same in absurd (omega (arith, long))
+
+-- an init of SCRAM
+pub scram_names : (mechanism text name : List ℕ) (version : ScramVersion) (first : ClientFirst)
+    → mechanism_name version ≡ mechanism → ReadsClientFirst text (Ok first) → name ≡ first.user
+    → InitNames mechanism text name
+scram_names mechanism text name version first is reads same = inl (version, first, sym is, reads, same)
+
+pub scram_names_nobody : (mechanism text : List ℕ) (version : ScramVersion) → mechanism_name version ≡ mechanism
+    → ((first : ClientFirst) → ¬ ReadsClientFirst text (Ok first)) → (name : List ℕ)
+    → ¬ InitNames mechanism text name
+scram_names_nobody mechanism text version is none name (inl (other, first, same, reads, user)) = none first reads
+scram_names_nobody mechanism text version is none name (inr (plain, rest)) = not_plain version (is ∙ plain)
+
+-- one of PLAIN
+pub plain_names : (mechanism text name : List ℕ) (parts : PlainParts) → mechanism ≡ codes "PLAIN"
+    → SpellsPlain parts text → IsTaken parts → name ≡ parts.user → InitNames mechanism text name
+plain_names mechanism text name parts is spells taken same = inr (is, (parts, spells, taken, same))
+
+pub plain_names_nobody : (mechanism text : List ℕ) → ((version : ScramVersion) → mechanism_name version ≢ mechanism)
+    → ((parts : PlainParts) → SpellsPlain parts text → ¬ IsTaken parts) → (name : List ℕ)
+    → ¬ InitNames mechanism text name
+plain_names_nobody mechanism text other none name (inl (version, first, same, reads, user)) =
+    other version (sym same)
+plain_names_nobody mechanism text other none name (inr (plain, (parts, spells, taken, user))) =
+    none parts spells taken
+
+-- one of another mechanism
+pub other_names_nobody : (mechanism text : List ℕ) → ((version : ScramVersion) → mechanism_name version ≢ mechanism)
+    → mechanism ≢ codes "PLAIN" → (name : List ℕ) → ¬ InitNames mechanism text name
+other_names_nobody mechanism text other none name (inl (version, first, same, reads, user)) =
+    other version (sym same)
+other_names_nobody mechanism text other none name (inr (plain, rest)) = none plain
+
+pub ruleset init_user = (scram_names, scram_names_nobody, plain_names, plain_names_nobody, other_names_nobody)
+
+-- a body
+pub body_names : (scram : ScramStruct) (turn : Turn) (body name : List ℕ) (frame : SaslFrame) (taken : ℕ)
+    → ReadsBody body (Ok (frame, taken)) → FrameNames scram turn frame name → BodyNames scram turn body name
+body_names scram turn body name frame taken reads names = (frame, (taken, reads), names)
+
+pub body_names_nobody : (scram : ScramStruct) (turn : Turn) (body : List ℕ) (frame : SaslFrame) (taken : ℕ)
+    → ReadsBody body (Ok (frame, taken)) → ((name : List ℕ) → ¬ FrameNames scram turn frame name)
+    → BodyNamesNobody scram turn body
+body_names_nobody scram turn body frame taken reads none = inr (frame, (taken, reads), none)
+
+pub body_unread : (scram : ScramStruct) (turn : Turn) (body : List ℕ) (fault : Error) → ReadsBody body (Err fault)
+    → BodyNamesNobody scram turn body
+body_unread scram turn body fault reads = inl (fault, reads)
+
+pub ruleset body_user = (body_names, body_names_nobody, body_unread)
+
+-- ---- whom bytes name
+
+one_turn : (due : Due) (turn other : Turn) → due ≡ Frame turn → due ≡ Frame other → turn ≡ other
+one_turn due turn other is too = let same : Frame turn ≡ Frame other = sym is ∙ too in cc
+
+pub bytes_name : (server : Struct) (kept : SetDown) (bytes body name : List ℕ) (turn other : Turn)
+    → Keeps server.connection kept.standing kept.due kept.held.now → kept.limit ≡ 512 → kept.due ≡ Frame turn
+    → Completes (side_kept kept) bytes other body → BodyNames server.scram turn body name
+    → Named server bytes name
+unfolding Named
+bytes_name server kept bytes body name turn other keeps limit due done names = (
+  side_kept kept,
+  other,
+  body,
+  (keeps, limit),
+  done,
+  carried (λ (t : Turn). BodyNames server.scram t body name) turn other (one_turn kept.due turn other due done.1) names,
+)
+
+pub no_connection : (server : Struct) (bytes : List ℕ) (status : Status)
+    → IsFirst (side_tests server.connection) status → NotNamed server bytes status
+unfolding NotNamed
+no_connection server bytes status wrong = inl wrong
+
+pub not_kept : (server : Struct) (kept : SetDown) (bytes : List ℕ)
+    → Keeps server.connection kept.standing kept.due kept.held.now → kept.standing ≡ Wanting → kept.limit ≡ 512
+    → ¬ IsKept kept → NotNamed server bytes statuses.NotKept
+unfolding NotNamed
+not_kept server kept bytes keeps wants limit wrong = inr (
+  none_holds server.connection kept keeps wants,
+  inl (refl, keeps_no_part server.connection kept keeps limit wrong),
+)
+
+pub completes_none : (server : Struct) (kept : SetDown) (bytes : List ℕ)
+    → Keeps server.connection kept.standing kept.due kept.held.now → kept.standing ≡ Wanting → kept.limit ≡ 512
+    → ((turn : Turn) (body : List ℕ) → ¬ Completes (side_kept kept) bytes turn body)
+    → NotNamed server bytes statuses.NamesNobody
+unfolding NotNamed
+completes_none server kept bytes keeps wants limit none = inr (
+  none_holds server.connection kept keeps wants,
+  inr (refl, (side_kept kept, (keeps, limit), wants, inl none)),
+)
+
+pub names_nobody : (server : Struct) (kept : SetDown) (bytes body : List ℕ) (turn other : Turn)
+    → Keeps server.connection kept.standing kept.due kept.held.now → kept.standing ≡ Wanting → kept.limit ≡ 512
+    → kept.due ≡ Frame turn → Completes (side_kept kept) bytes other body
+    → BodyNamesNobody server.scram turn body → NotNamed server bytes statuses.NamesNobody
+unfolding NotNamed
+names_nobody server kept bytes body turn other keeps wants limit due done nobody = inr (
+  none_holds server.connection kept keeps wants,
+  inr (
+    refl,
+    (
+      side_kept kept,
+      (keeps, limit),
+      wants,
+      inr (
+        other,
+        body,
+        done,
+        carried (λ (t : Turn). BodyNamesNobody server.scram t body) turn other (one_turn kept.due turn other due done.1)
+            nobody,
+      ),
+    ),
+  ),
+)
+
+-- only a frame is completed
+pub never_header : (server : Struct) (kept : SetDown) (bytes body : List ℕ) (turn : Turn) (status : Status)
+    → ((other : Turn) → kept.due ≢ Frame other) → Completes (side_kept kept) bytes turn body
+    → NotNamed server bytes status
+never_header server kept bytes body turn status header done = absurd (header turn done.1)
+
+pub ruleset named = (bytes_name, no_connection, not_kept, completes_none, names_nobody, never_header)

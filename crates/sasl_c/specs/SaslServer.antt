@@ -1,0 +1,345 @@
+-- The server's side of a connection that stands in structs of C between its calls (AMQP 1.0, part 5, section 5.3.2).
+use Rattle.std.specs.Prelude.{◌≡◌, ◌≢◌, ◌<◌, ◌⊎◌, ◌+◌, ℕ, Bool, true, false, Option, Some, None, List, [], ◌∷◌, codes, length, Result, Ok, Err}
+use Rattle.std.specs.Str.{IsUtf8}
+use Rattle.fe2o3_sasl_wire.specs.declared.sasl_frames.error.Error.{Error}
+use Rattle.fe2o3_sasl_wire.specs.SaslFrames.{SaslFrame}
+use Rattle.fe2o3_sasl_wire.specs.SaslFrames as frames
+use Rattle.fe2o3_scram.specs.declared.hmac.ScramVersion.{ScramVersion}
+use Rattle.fe2o3_scram.specs.declared.scram_server.ScramAuthenticator.{ScramAuthenticator}
+use Rattle.fe2o3_scram.specs.ClientFirst.{ClientFirst, ReadsClientFirst}
+use Rattle.fe2o3_scram.specs.Credentials.{Provider, Record, Records, versioned}
+use Rattle.fe2o3_scram.specs.Hmac.{mechanism_name}
+use Rattle.fe2o3_scram.specs.Readings.{IsFirst, NoneHolds}
+use Rattle.fe2o3_scram.specs.ScramServer.{ServerState, Initial, ServerFirstSent, open_challenge, provider_in, state_in}
+use Rattle.fe2o3_scram.specs.ServerFirst.{Challenge}
+use Rattle.fe2o3_sasl.specs.declared.external_acceptor.ExternalAcceptor.{ExternalAcceptor}
+use Rattle.fe2o3_sasl.specs.declared.offers_only.OffersOnly.{OffersOnly}
+use Rattle.fe2o3_sasl.specs.declared.one_of.OneOf.{OneOf}
+use Rattle.fe2o3_sasl.specs.declared.one_of.Part.{Part}
+use Rattle.fe2o3_sasl.specs.declared.one_of.Part.TheVariants.{First}
+use Rattle.fe2o3_sasl.specs.declared.plain_authenticator.PlainAuthenticator.{PlainAuthenticator}
+use Rattle.fe2o3_sasl.specs.declared.sasl_acceptor.SaslAnonymousMechanism.{SaslAnonymousMechanism}
+use Rattle.fe2o3_sasl.specs.Bodies.{SpellsBody}
+use Rattle.fe2o3_sasl.specs.ExternalAcceptor.{External, external_machine, external_of, external_user}
+use Rattle.fe2o3_sasl.specs.OffersOnly.{Offering, offering_machine, offering_names, offering_of}
+use Rattle.fe2o3_sasl.specs.OneOf.{Parts, both_names, one_of_machine, part_names}
+use Rattle.fe2o3_sasl.specs.OneOfSides.{parts_of}
+use Rattle.fe2o3_sasl.specs.PlainAuthenticator.{IsTaken, PlainParts, PlainServer, SpellsPlain, plain_machine, plain_server}
+use Rattle.fe2o3_sasl.specs.SaslAcceptor.{Acceptor, ScramAcceptor, AnonymousAcceptor, acceptor_machine, acceptor_names, acceptor_user}
+use Rattle.fe2o3_sasl_negotiation.specs.declared.server.ServerNegotiation.{ServerNegotiation}
+use Rattle.fe2o3_sasl_negotiation.specs.declared.standing.Standing.{Standing}
+use Rattle.fe2o3_sasl_negotiation.specs.declared.standing.Standing.TheVariants.{Wanting, LoggedIn, Closed}
+use Rattle.fe2o3_sasl_negotiation.specs.declared.standing.Turn.{Turn}
+use Rattle.fe2o3_sasl_negotiation.specs.declared.standing.Turn.TheVariants as turns
+use Rattle.fe2o3_sasl_negotiation.specs.Negotiations.{Completes, Side}
+use Rattle.fe2o3_sasl_negotiation.specs.ServerNegotiation.{ServerReceives}
+use Rattle.fe2o3_sasl_negotiation.specs.Sides.{server_side}
+use Rattle.sasl_c.specs.declared.sasl_server.Choice.{Choice}
+use Rattle.sasl_c.specs.declared.sasl_server.SaslHost.{SaslHost as Host}
+use Rattle.sasl_c.specs.declared.sasl_server.SaslServer.{SaslServer as Struct}
+use Rattle.sasl_c.specs.declared.server.ScramServer.{ScramServer as ScramStruct}
+use Rattle.sasl_c.specs.declared.status.Status.{Status}
+use Rattle.sasl_c.specs.declared.status.Status.TheVariants as statuses
+use Rattle.sasl_c.specs.Connection.{IsSideOf, Keeps, KeepsNoPart, side_tests}
+use Rattle.sasl_c.specs.Records.{IsVersion, Shows}
+use Rattle.sasl_c.specs.Server.{HasLoggedIn, IsOpen}
+
+-- ---- the library's acceptor: one server of SCRAM, PLAIN, ANONYMOUS and EXTERNAL, of which some are offered
+
+-- ANONYMOUS and EXTERNAL; with PLAIN; and with SCRAM
+abbrev pub Last : Type 0
+Last = Parts Acceptor External
+
+abbrev pub Others : Type 0
+Others = Parts PlainServer Last
+
+abbrev pub All : Type 0
+All = Parts Acceptor Others
+
+-- its state
+abbrev pub State : Type 0
+State = Offering All
+
+-- the names of its mechanisms (RFC 4505, RFC 4422, RFC 4616, RFC 5802)
+abbrev pub external_names : External → List (List ℕ)
+external_names external = codes "EXTERNAL" ∷ []
+
+abbrev pub last_names : Last → List (List ℕ)
+last_names parts = both_names (acceptor_names parts.first) (external_names parts.second)
+
+abbrev pub plain_names : PlainServer → List (List ℕ)
+plain_names plain = codes "PLAIN" ∷ []
+
+abbrev pub other_names : Others → List (List ℕ)
+other_names parts = both_names (plain_names parts.first) (last_names parts.second)
+
+abbrev pub all_names : All → List (List ℕ)
+all_names parts = both_names (acceptor_names parts.first) (other_names parts.second)
+
+-- those that it offers
+abbrev pub state_names : State → List (List ℕ)
+state_names state = offering_names all_names state
+
+-- its machine: what it replies to an init and to a response
+abbrev pub last_machine : Last → List ℕ → SaslFrame → SaslFrame → Last → Type 0
+last_machine parts nonce frame reply next =
+    one_of_machine acceptor_names external_names acceptor_machine external_machine parts nonce frame reply next
+
+abbrev pub other_machine : Others → List ℕ → SaslFrame → SaslFrame → Others → Type 0
+other_machine parts nonce frame reply next =
+    one_of_machine plain_names last_names plain_machine last_machine parts nonce frame reply next
+
+abbrev pub all_machine : All → List ℕ → SaslFrame → SaslFrame → All → Type 0
+all_machine parts nonce frame reply next =
+    one_of_machine acceptor_names other_names acceptor_machine other_machine parts nonce frame reply next
+
+abbrev pub state_machine : State → List ℕ → SaslFrame → SaslFrame → State → Type 0
+state_machine state nonce frame reply next = offering_machine all_names all_machine state nonce frame reply next
+
+-- who has logged in: whom the mechanism of the last init names
+abbrev pub user_in : State → Option (List ℕ)
+user_in state = let all = state.inner in let others = all.second in let last = others.second in
+    part_names all.asked (acceptor_user all.first) (part_names others.asked others.first.user
+    (part_names last.asked None (external_user last.second)))
+
+-- the challenge of SCRAM that is open
+abbrev pub open_of : Acceptor → Option Challenge
+open_of (ScramAcceptor provider state) = open_challenge state
+open_of acceptor = None
+
+abbrev pub open_in : State → Option Challenge
+open_in state = open_of state.inner.first
+
+-- ---- the server of a host
+
+-- a number where it is so, and else 0
+abbrev pub one_where : Bool → ℕ → ℕ
+one_where true n = n
+one_where false n = 0
+
+-- the sum of the mechanisms' numbers: 1 SCRAM, 2 PLAIN, 4 ANONYMOUS, 8 EXTERNAL
+abbrev pub sum_of : Choice → ℕ
+sum_of choice = one_where choice.scram 1 + one_where choice.plain 2 + one_where choice.anonymous 4
+    + one_where choice.external 8
+
+-- a name where it is so, and else the empty one, which no mechanism has
+abbrev pub name_where : Bool → List ℕ → List ℕ
+name_where true name = name
+name_where false name = []
+
+-- the names that may be offered
+abbrev pub allowed_of : ScramVersion → Choice → List (List ℕ)
+allowed_of version choice = name_where choice.scram (mechanism_name version)
+    ∷ name_where choice.plain (codes "PLAIN")
+    ∷ name_where choice.anonymous (codes "ANONYMOUS")
+    ∷ name_where choice.external (codes "EXTERNAL")
+    ∷ []
+
+-- the records of a host (RFC 5802, section 3): that of its user, where the struct shows one of the host's version, and
+-- else none, so that nobody is known
+abbrev pub HasRecords : Host → ScramVersion → Records → Type 0
+HasRecords host version records =
+    ((stored : Record) × Shows host.record.now (versioned version stored)
+    × (records ≡ (host.username.now, stored) ∷ []))
+    ⊎ (((stored : Record) → ¬ Shows host.record.now (versioned version stored)) × (records ≡ []))
+
+-- all four mechanisms over a provider, SCRAM in this state, and the one that the last init went to; EXTERNAL lets in
+-- this name
+abbrev pub all_of : Provider → ℕ → List ℕ → ServerState → Option Part → All
+all_of provider count peer state asked = record {
+  first = ScramAcceptor provider state;
+  second = record {
+    first = record { provider = provider; count = count; user = None };
+    second = record { first = AnonymousAcceptor; second = record { user = peer; accepted = false }; asked = None };
+    asked = None;
+  };
+  asked = asked;
+}
+
+-- the server of these
+abbrev pub server_of : Host → ScramVersion → Choice → Records → ServerState → Option Part → State
+server_of host version choice records state asked = record {
+  inner = all_of (record { version = version; records = records }) host.iterations host.peer.now state asked;
+  allowed = allowed_of version choice;
+}
+
+-- the server is that of a host, with SCRAM in this state, and the mechanism that was asked last
+unfoldable pub IsOf : Host → ServerState → Option Part → State → Type 0
+IsOf host state asked server = (version : ScramVersion) × (choice : Choice) × (records : Records)
+    × IsVersion host.version version × (sum_of choice ≡ host.mechanisms) × HasRecords host version records
+    × (server ≡ server_of host version choice records state asked)
+
+-- the servers that a host comes to while more bytes are wanted: before the init, and with a challenge of SCRAM open
+abbrev pub Comes : Host → Standing → State → Type 0
+Comes host Wanting server = IsOf host Initial None server
+    ⊎ ((challenge : Challenge) × IsOf host (ServerFirstSent challenge) (Some First) server)
+Comes host LoggedIn server = Unit {0}
+Comes host (Closed why) server = Unit {0}
+
+-- the struct shows this challenge as open, or that none is
+abbrev pub ShowsOpen : ScramStruct → Option Challenge → Type 0
+ShowsOpen scram None = (challenge : Challenge) → ¬ IsOpen scram challenge
+ShowsOpen scram (Some challenge) = IsOpen scram challenge
+
+-- so is the server of SCRAM of a struct, and what was asked last
+abbrev pub Stands : ScramStruct → ServerState → Option Part → Type 0
+Stands scram state asked = ((challenge : Challenge) × IsOpen scram challenge × (state ≡ ServerFirstSent challenge)
+    × (asked ≡ Some First))
+    ⊎ (((challenge : Challenge) → ¬ IsOpen scram challenge) × (state ≡ Initial) × (asked ≡ None))
+
+-- and so all four mechanisms of a host in the exchange that a struct shows
+abbrev pub IsAll : Host → ScramVersion → ScramStruct → All → Type 0
+IsAll host version scram all = (records : Records) × (state : ServerState) × (asked : Option Part)
+    × HasRecords host version records × Stands scram state asked
+    × (all ≡ all_of (record { version = version; records = records }) host.iterations host.peer.now state asked)
+
+-- the struct shows that this user has logged in, or nothing of whom no name is known
+abbrev pub ShowsUser : ScramStruct → Option (List ℕ) → Type 0
+ShowsUser scram None = scram.stands ≡ 0
+ShowsUser scram (Some user) = HasLoggedIn scram user
+
+-- the struct of SCRAM shows how far the server is: its challenge, who has logged in, or nothing once it is closed
+abbrev pub ShowsState : ScramStruct → Standing → State → Type 0
+ShowsState scram Wanting server = ShowsOpen scram (open_in server)
+ShowsState scram LoggedIn server = ShowsUser scram (user_in server)
+ShowsState scram (Closed why) server = scram.stands ≡ 0
+
+-- the structs show a side
+unfoldable pub ShowsSide : Struct → Side State → Type 0
+ShowsSide server side = Keeps server.connection side.standing side.due side.held
+    × ShowsState server.scram side.standing side.state
+
+-- no structs do: more is held than has room in one, or none shows how far the server is
+unfoldable pub HasNoStruct : Side State → Type 0
+HasNoStruct side = (512 < length side.held) ⊎ ((scram : ScramStruct) → ¬ ShowsState scram side.standing side.state)
+
+-- the structs are those of this side, whose frames have 512 bytes at most (part 5, section 5.3.1)
+unfoldable pub IsServer : Host → Struct → Side State → Type 0
+IsServer host server side = ShowsSide server side × (side.limit ≡ 512) × Comes host side.standing side.state
+
+-- the words of a host are not UTF-8: the user's name, or else the peer's
+abbrev pub HasNoWords : Host → Status → Type 0
+HasNoWords host status = (status ≡ statuses.NotUtf8)
+    × (¬ IsUtf8 host.username.now ⊎ (IsUtf8 host.username.now × ¬ IsUtf8 host.peer.now))
+
+-- the tests of a host, in their order
+abbrev pub host_tests : Host → List (Status × Type 0)
+host_tests host = (statuses.NoSuchVersion, (known : ScramVersion) → ¬ IsVersion host.version known)
+    ∷ (statuses.NoSuchMechanism, (choice : Choice) → sum_of choice ≢ host.mechanisms)
+    ∷ (statuses.NotUtf8, ¬ IsUtf8 host.username.now) ∷ (statuses.NotUtf8, ¬ IsUtf8 host.peer.now) ∷ []
+
+-- why a host has no server: a test that holds, or a server that would offer nothing, in place of which ANONYMOUS were
+-- offered (part 5, section 5.3.3.1)
+unfoldable pub IsNoHost : Host → Status → Type 0
+IsNoHost host status = IsFirst (host_tests host) status
+    ⊎ (NoneHolds (host_tests host) × (status ≡ statuses.NoSuchMechanism)
+    × ((state : ServerState) × (asked : Option Part) × (server : State) × IsOf host state asked server
+    × (state_names server ≡ [])))
+
+-- why the structs are those of no side that wants more bytes: the tests of the connection, those of the host, and last
+-- that what was kept is a part of what is due
+unfoldable pub IsNoServer : Host → Struct → Status → Type 0
+IsNoServer host server status = IsFirst (side_tests server.connection) status
+    ⊎ (NoneHolds (side_tests server.connection) × (IsNoHost host status
+    ⊎ ((status ≡ statuses.NotKept) × KeepsNoPart server.connection
+    × ((state : ServerState) × (asked : Option Part) × (kept : State) × IsOf host state asked kept))))
+
+-- a call answers bytes: between two structs, what the library's side of the connection makes of them
+unfoldable pub Received : Host → List ℕ → List ℕ → Struct → Struct → ℕ → List ℕ → Type 0
+Received host bytes nonce before after taken sent = (side next : Side State) × IsServer host before side
+    × (side.standing ≡ Wanting) × ServerReceives state_names state_machine side bytes nonce taken sent next
+    × IsServer host after next
+
+-- or it does not, because the structs are those of no side, or no struct is that of the side behind the call
+unfoldable pub NotReceived : Host → List ℕ → List ℕ → Struct → Status → Type 0
+NotReceived host bytes nonce before status = IsNoServer host before status
+    ⊎ ((status ≡ statuses.TooLong) × ((side next : Side State) × (taken : ℕ) × (sent : List ℕ)
+    × IsServer host before side × (side.standing ≡ Wanting)
+    × ServerReceives state_names state_machine side bytes nonce taken sent next
+    × ((other : Struct) → ¬ IsServer host other next)))
+
+-- what a call makes of bytes
+abbrev pub Receives : Host → List ℕ → List ℕ → Struct → Struct → ℕ → Result (List ℕ) Status → Type 0
+Receives host bytes nonce before after taken (Ok sent) = Received host bytes nonce before after taken sent
+Receives host bytes nonce before after taken (Err status) = NotReceived host bytes nonce before status
+
+-- ---- whom a frame names
+
+-- an init names this user: in a client-first message (RFC 5802, section 7), or in a message of PLAIN that is taken (RFC
+-- 4616, section 2)
+abbrev pub InitNames : List ℕ → List ℕ → List ℕ → Type 0
+InitNames mechanism text name =
+    ((version : ScramVersion) × (first : ClientFirst) × (mechanism ≡ mechanism_name version)
+    × ReadsClientFirst text (Ok first) × (name ≡ first.user))
+    ⊎ ((mechanism ≡ codes "PLAIN") × ((parts : PlainParts) × SpellsPlain parts text × IsTaken parts
+    × (name ≡ parts.user)))
+
+-- so does the response of an init; where there is none, nobody is named
+abbrev pub ResponseNames : List ℕ → Option (List ℕ) → List ℕ → Type 0
+ResponseNames mechanism (Some text) name = InitNames mechanism text name
+ResponseNames mechanism None name = ⊥
+
+-- a frame in turn names this user: an init, and a response the user of the challenge that is open
+abbrev pub FrameNames : ScramStruct → Turn → SaslFrame → List ℕ → Type 0
+FrameNames scram turns.Init (frames.Init mechanism response hostname) name = ResponseNames mechanism response name
+FrameNames scram turns.Response (frames.Response text) name = (challenge : Challenge) × IsOpen scram challenge
+    × (name ≡ challenge.user)
+FrameNames scram turn frame name = ⊥
+
+-- a body names this user
+abbrev pub BodyNames : ScramStruct → Turn → List ℕ → List ℕ → Type 0
+BodyNames scram turn body name = (frame : SaslFrame) × SpellsBody body (Ok frame) × FrameNames scram turn frame name
+
+-- or nobody: it is not read, or what it spells names nobody
+abbrev pub BodyNamesNobody : ScramStruct → Turn → List ℕ → Type 0
+BodyNamesNobody scram turn body = ((fault : Error) × SpellsBody body (Err fault))
+    ⊎ ((frame : SaslFrame) × SpellsBody body (Ok frame) × ((name : List ℕ) → ¬ FrameNames scram turn frame name))
+
+-- a side with no machine
+abbrev pub Kept : Type 0
+Kept = Side (Unit {0})
+
+-- the user whom the frame names that these bytes complete
+unfoldable pub Named : Struct → List ℕ → List ℕ → Type 0
+Named server bytes name = (side : Kept) × (turn : Turn) × (body : List ℕ) × IsSideOf server.connection side
+    × Completes side bytes turn body × BodyNames server.scram turn body name
+
+-- or why there is none: the structs are of no side that wants more bytes, or these complete no frame, or one that names
+-- nobody
+unfoldable pub NotNamed : Struct → List ℕ → Status → Type 0
+NotNamed server bytes status = IsFirst (side_tests server.connection) status
+    ⊎ (NoneHolds (side_tests server.connection) × (((status ≡ statuses.NotKept) × KeepsNoPart server.connection)
+    ⊎ ((status ≡ statuses.NamesNobody) × ((side : Kept) × IsSideOf server.connection side
+    × (side.standing ≡ Wanting) × (((turn : Turn) (body : List ℕ) → ¬ Completes side bytes turn body)
+    ⊎ ((turn : Turn) × (body : List ℕ) × Completes side bytes turn body
+    × BodyNamesNobody server.scram turn body))))))
+
+-- what a call tells
+abbrev pub Names : Struct → List ℕ → Result (List ℕ) Status → Type 0
+Names server bytes (Ok name) = Named server bytes name
+Names server bytes (Err status) = NotNamed server bytes status
+
+-- ---- the code's values
+
+-- the acceptor's type
+abbrev pub Code : Type 0
+Code = OffersOnly (OneOf (ScramAuthenticator Provider) (OneOf (PlainAuthenticator Provider)
+    (OneOf SaslAnonymousMechanism ExternalAcceptor)))
+
+-- the acceptor of SCRAM that a value is
+abbrev pub scram_state : ScramAuthenticator Provider → Acceptor
+scram_state machine = ScramAcceptor (provider_in machine) (state_in machine)
+
+-- the four that a value is
+abbrev pub all_in : OneOf (ScramAuthenticator Provider) (OneOf (PlainAuthenticator Provider)
+    (OneOf SaslAnonymousMechanism ExternalAcceptor)) → All
+all_in all = parts_of scram_state (parts_of (plain_server (λ provider. provider))
+    (parts_of (λ _. AnonymousAcceptor) external_of)) all
+
+-- its state
+abbrev pub state_of : Code → State
+state_of acceptor = offering_of all_in acceptor
+
+-- the side that a value is
+abbrev pub side_in : ServerNegotiation Code → Side State
+side_in server = server_side state_of server

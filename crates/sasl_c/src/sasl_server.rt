@@ -1,0 +1,611 @@
+//! The server's side of a connection, which stands in a struct between its calls.
+
+ghost use Rattle.std.specs.Prelude.{◌≡◌, ◌≢◌, ◌<◌, ◌≤◌, ◌+◌, ◌^◌, ℕ, List, Ok, Err, length, map, string_bytes, IfOk, IfErr, OnErr, MatchOption};
+ghost use Rattle.std.specs.Str.{IsUtf8};
+ghost use Rattle.fe2o3_scram.specs.ScramServer.{provider_in, state_in};
+ghost use Rattle.fe2o3_sasl_negotiation.specs.declared.standing.Standing.TheVariants.{Wanting};
+ghost use Rattle.fe2o3_sasl_negotiation.specs.ServerNegotiation.{ServerReceives};
+ghost use Rattle.fe2o3_sasl_negotiation.specs.SetDown.{IsKept, side_of};
+ghost use Rattle.fe2o3_sasl_negotiation.specs.Sides.{server_side};
+ghost use Rattle.sasl_c.specs.Connection.{Keeps};
+ghost use Rattle.sasl_c.specs.SaslServer.{BodyNames, BodyNamesNobody, Comes, FrameNames, InitNames, Named, Names, NotNamed, HasNoWords, HasNoStruct, HasRecords, IsAll, IsNoHost, NotReceived, Received, Receives, ResponseNames, ShowsSide, ShowsState, Stands, all_in, all_of, allowed_of, name_where, one_where, side_in, state_of, sum_of};
+ghost use Rattle.sasl_c.specs.declared.sasl_server.Choice.{Choice as Choices};
+ghost use Rattle.sasl_c.specs.declared.server.ScramServer.{ScramServer as ScramStruct};
+ghost use Rattle.fe2o3_sasl_wire.specs.FrameView.{shown, viewed_frame};
+ghost use Rattle.fe2o3_scram.specs.ClientFirst.{ClientFirst as FirstValues, ReadsClientFirst};
+ghost use Rattle.fe2o3_scram.specs.ServerFirst.{Challenge};
+ghost use Rattle.sasl_c.specs.Server.{IsOpen};
+ghost use Rattle.sasl_c.specs.Status.{Answers, Fills, FillsWithin};
+ghost use Rattle.sasl_c.specs.declared.status.Status.TheVariants.{OutOfMemory as StatusOutOfMemory, NotKept as StatusNotKept, NotUtf8 as StatusNotUtf8, RoomTooSmall};
+
+use crate::arrays::put;
+use crate::connection::Connection;
+use crate::records::ScramRecord;
+use crate::server::ScramServer;
+use crate::status::{Status, number, text, version_of};
+use bytes::BytesMut;
+use fe2o3_sasl::plain_authenticator::plain_user;
+use fe2o3_sasl::{
+    ExternalAcceptor, NamesUser, OfferError, OffersOnly, OneOf, Part, PlainAuthenticator,
+    SaslAnonymousMechanism, ScramCredentials,
+};
+use fe2o3_sasl_negotiation::{Due, ServerNegotiation, SetDown, Standing, TakeUpError, Turn};
+use fe2o3_sasl_wire::{FrameView, view_frame};
+use fe2o3_scram::{ClientFirst, Meter, ScramAuthenticator, ScramVersion, ServerScramErrorKind};
+use std::alloc::Global;
+
+/// What a server offers, and whose record it has: lent for each call.
+#[repr(C)]
+#[derive(Drop)]
+pub struct SaslHost<'a> {
+    /// Which mechanisms are offered: the sum of 1 for SCRAM of the version, 2 for PLAIN, 4 for ANONYMOUS, and 8 for
+    /// EXTERNAL. PLAIN shows the password to whoever reads the connection, and is for TLS alone.
+    pub mechanisms: u32,
+
+    /// 1, 256 or 512, for the hash of SCRAM and of the record.
+    pub version: u32,
+
+    /// The iteration count with which PLAIN hashes the password of an unknown user.
+    pub iterations: u32,
+
+    /// The plain name of the user whose record is handed in.
+    pub username: &'a [u8],
+
+    /// The record of the user. Where the struct shows none of the version, nobody is known.
+    pub record: &'a ScramRecord,
+
+    /// Whom the transport has authenticated: EXTERNAL lets in this name.
+    pub peer: &'a [u8],
+}
+
+/// What a server keeps of a connection between its calls. All zeros is one of which no byte has come.
+#[repr(C)]
+#[derive(Drop)]
+pub struct SaslServer {
+    /// The connection.
+    pub connection: Connection,
+
+    /// What SCRAM keeps. Once a client is logged in, it names the user of any mechanism
+    /// (`fe2o3_scram_server_logged_in`); ANONYMOUS names nobody.
+    pub scram: ScramServer,
+}
+
+/// SCRAM over the host's user.
+type Scram = ScramAuthenticator<ScramCredentials>;
+
+/// All four mechanisms.
+type All = OneOf<
+    Scram,
+    OneOf<PlainAuthenticator<ScramCredentials>, OneOf<SaslAnonymousMechanism, ExternalAcceptor>>,
+>;
+
+/// Those that are offered.
+type Acceptor = OffersOnly<All>;
+
+/// Which mechanisms are offered.
+#[derive(Clone, Copy)]
+struct Choice {
+    scram: bool,
+    plain: bool,
+    anonymous: bool,
+    external: bool,
+}
+
+/// Whether a number is in a sum below its double, and the rest.
+fn split(sum: u32, n: u32) -> (bool, u32)
+    requires { sum < n + n }
+    ensures sum { sum ≡ one_where result.0 n + result.1 }
+    ensures rest { result.1 < n }
+{
+    if sum < n {
+        (false, sum)
+    } else {
+        (true, sum - n)
+    }
+}
+
+impl Choice {
+    /// The choice of a sum.
+    #[tactic(auto, using(crate::proofs::SaslServerLemmas::sum_small))]
+    fn of(sum: u32) -> Option<Choice>
+        ensures { MatchOption result ((choice : Choices) → sum_of choice ≢ sum) (λ choice. sum_of choice ≡ sum) }
+    {
+        if sum > 15 {
+            return None;
+        }
+        let (external, rest) = split(sum, 8);
+        let (anonymous, rest) = split(rest, 4);
+        let (plain, rest) = split(rest, 2);
+        let (scram, _) = split(rest, 1);
+        Some(Choice {
+            scram,
+            plain,
+            anonymous,
+            external,
+        })
+    }
+
+    /// The names that may be offered.
+    fn names(self, version: ScramVersion) -> [&'static str; 4]
+        ensures { map (λ name. name.now) result ≡ allowed_of version self }
+    {
+        [
+            name_where(self.scram, version.mechanism()),
+            name_where(self.plain, "PLAIN"),
+            name_where(self.anonymous, "ANONYMOUS"),
+            name_where(self.external, "EXTERNAL"),
+        ]
+    }
+}
+
+/// The name where it is so, and else the empty one.
+fn name_where(offered: bool, name: &'static str) -> &'static str
+    ensures { result.now ≡ name_where offered name.now }
+{
+    if offered { name } else { "" }
+}
+
+/// All four mechanisms over a store, of which the last init went to this one.
+fn joined(
+    scram: Scram,
+    store: ScramCredentials,
+    iterations: u32,
+    peer: String,
+    asked: Option<Part>,
+) -> All
+    ensures { provider_in scram ≡ store
+        → all_in result ≡ all_of store iterations (string_bytes peer) (state_in scram) asked }
+{
+    let last = OneOf::new(SaslAnonymousMechanism::new(), ExternalAcceptor::new(peer));
+    let others = OneOf::new(PlainAuthenticator::new(store, iterations), last);
+    OneOf::with_asked(scram, others, asked)
+}
+
+/// The server of SCRAM that a struct is, over a store, and what was asked last. `OutOfMemory` is the only refusal.
+fn stands(
+    alloc: Global,
+    store: ScramCredentials,
+    scram: &ScramServer,
+) -> Result<(Scram, Option<Part>), Status>
+    ensures provider { IfOk result (λ made. provider_in made.0 ≡ store) }
+    ensures state { IfOk result (λ made. Stands scram.now (state_in made.0) made.1) }
+    ensures err { IfErr result (λ status. status ≡ StatusOutOfMemory) }
+{
+    let fresh = ScramAuthenticator::new(store);
+    match scram.challenge() {
+        Some(challenge) => Ok((fresh.waiting_for(alloc, &challenge)?, Some(Part::First))),
+        None => Ok((fresh, None)),
+    }
+}
+
+impl SaslHost<'_> {
+    /// The store of the host's one user, or of nobody. `NotUtf8`, and else `OutOfMemory`.
+    #[tactic(auto, using(crate::proofs::SaslServerLemmas::store))]
+    fn store(&self, alloc: Global, version: ScramVersion) -> Result<ScramCredentials, Status>
+        ensures version { IfOk result (λ store. store.version ≡ version) }
+        ensures records { IfOk result (λ store. HasRecords self.now version store.records) }
+        ensures utf8 { IfOk result (λ _. IsUtf8 self.now.username.now) }
+        ensures err { IfErr result (λ status. status ≢ StatusOutOfMemory
+            → (status ≡ StatusNotUtf8) × ¬ IsUtf8 self.now.username.now) }
+        ensures room { IfErr result (λ status. status ≢ RoomTooSmall) }
+    {
+        let username = text(self.username)?.to_string(alloc)?;
+        let mut store = ScramCredentials::new(alloc, version);
+        let kept = match self.record.read(alloc) {
+            Ok(kept) => kept,
+            Err(Status::OutOfMemory) => return Err(Status::OutOfMemory),
+            Err(_) => return Ok(store),
+        };
+        if *kept.scram_version() != version {
+            return Ok(store);
+        }
+        match store.add(username, kept) {
+            Ok(()) => Ok(store),
+            Err(_) => Err(Status::OutOfMemory),
+        }
+    }
+
+    /// All four mechanisms, in the exchange that the struct of SCRAM shows.
+    fn all(&self, alloc: Global, version: ScramVersion, scram: &ScramServer) -> Result<All, Status>
+        ensures ok { IfOk result (λ all. IsAll self.now version scram.now (all_in all)) }
+        ensures utf8 { IfOk result (λ _. IsUtf8 self.now.username.now × IsUtf8 self.now.peer.now) }
+        ensures err { IfErr result (λ status. status ≢ StatusOutOfMemory → HasNoWords self.now status) }
+        ensures room { IfErr result (λ status. status ≢ RoomTooSmall) }
+    {
+        let store = self.store(alloc, version)?;
+        let peer = text(self.peer)?.to_string(alloc)?;
+        let (machine, asked) = stands(alloc, store.clone()?, scram)?;
+        Ok(joined(machine, store, self.iterations, peer, asked))
+    }
+
+    /// The acceptor, in the exchange that the struct of SCRAM shows.
+    #[tactic(auto, using(crate::proofs::SaslServerLemmas::acceptor))]
+    fn acceptor(&self, alloc: Global, scram: &ScramServer) -> Result<Acceptor, Status>
+        ensures ok { IfOk result (λ acceptor. Comes self.now Wanting (state_of acceptor)
+            × ShowsState scram.now Wanting (state_of acceptor)) }
+        ensures err { IfErr result (λ status. status ≢ StatusOutOfMemory → IsNoHost self.now status) }
+        ensures room { IfErr result (λ status. status ≢ RoomTooSmall) }
+    {
+        let Some(version) = version_of(self.version) else {
+            return Err(Status::NoSuchVersion);
+        };
+        let Some(choice) = Choice::of(self.mechanisms) else {
+            return Err(Status::NoSuchMechanism);
+        };
+        let all = match self.all(alloc, version, scram) {
+            Ok(all) => all,
+            Err(status) => return Err(status),
+        };
+        match OffersOnly::new(alloc, all, &choice.names(version)) {
+            Ok(acceptor) => Ok(acceptor),
+            Err(OfferError::NothingOffered) => Err(Status::NoSuchMechanism),
+            Err(OfferError::OutOfMemory) => Err(Status::OutOfMemory),
+        }
+    }
+}
+
+/// What a side of a connection makes of bytes.
+#[derive(Drop)]
+struct TakenUp<A> {
+    /// How many it takes.
+    taken: usize,
+
+    /// What is to be sent.
+    sent: BytesMut,
+
+    /// The side then.
+    side: ServerNegotiation<A>,
+}
+
+/// Takes up a side, which takes bytes.
+fn take_up<A: NamesUser + Drop>(
+    alloc: Global,
+    acceptor: A,
+    kept: &SetDown<'_>,
+    bytes: &[u8],
+    nonce: &[u8; 32],
+    meter: &mut Meter,
+) -> Result<TakenUp<A>, Status>
+    requires { meter.old ≤ 2 ^ 63 }
+    ensures ok { IfOk result (λ call. IsKept kept.now
+        × ServerReceives A.names A.machine (side_of kept.now (A.state acceptor)) bytes.now nonce.now call.taken
+        call.sent.items (server_side A.state call.side)) }
+    ensures err { IfErr result (λ status. status ≢ StatusOutOfMemory → (status ≡ StatusNotKept) × ¬ IsKept kept.now) }
+    ensures room { IfErr result (λ status. status ≢ RoomTooSmall) }
+{
+    let mut side = match ServerNegotiation::take_up(alloc, acceptor, kept) {
+        Ok(side) => side,
+        Err(TakeUpError::NotKept) => return Err(Status::NotKept),
+        Err(TakeUpError::OutOfMemory) => return Err(Status::OutOfMemory),
+    };
+    let mut sent = BytesMut::new(alloc);
+    let received = side.receive(alloc, bytes, nonce, meter, &mut sent)?;
+    Ok(TakenUp {
+        taken: received.taken,
+        sent,
+        side,
+    })
+}
+
+/// The struct of SCRAM that shows how far a side is, or `None` where a text has no room in it.
+#[tactic(auto, using(crate::proofs::SaslServerLemmas::shown))]
+fn shown(side: &ServerNegotiation<Acceptor>) -> Option<ScramServer>
+    ensures { MatchOption result
+        ((scram : ScramStruct) → ¬ ShowsState scram (side_in side.now).standing (side_in side.now).state)
+        (λ scram. ShowsState scram (side_in side.now).standing (side_in side.now).state) }
+{
+    match side.standing() {
+        Standing::Wanting => match side.acceptor().acceptor().first().open_challenge() {
+            Some(challenge) => ScramServer::of(&challenge),
+            None => Some(ScramServer::fresh()),
+        },
+        Standing::LoggedIn => match side.user() {
+            Some(user) => ScramServer::logged_in(user),
+            None => Some(ScramServer::fresh()),
+        },
+        Standing::Closed(_) => Some(ScramServer::fresh()),
+    }
+}
+
+/// The struct of a connection's side, or `None` where more is held than has room in it.
+fn kept_in<A: NamesUser>(side: &ServerNegotiation<A>) -> Option<Connection>
+    ensures { MatchOption result (512 < length (server_side A.state side.now).held)
+        (λ kept. Keeps kept (server_side A.state side.now).standing (server_side A.state side.now).due
+        (server_side A.state side.now).held) }
+{
+    Connection::of(&side.set_down())
+}
+
+impl SaslServer {
+    /// The structs of a side, or `None` where a text has no room in them.
+    fn of(side: &ServerNegotiation<Acceptor>) -> Option<SaslServer>
+        ensures { MatchOption result (HasNoStruct (side_in side.now)) (λ server. ShowsSide server (side_in side.now)) }
+    {
+        let Some(connection) = kept_in(side) else {
+            return None;
+        };
+        let Some(scram) = shown(side) else {
+            return None;
+        };
+        Some(SaslServer { connection, scram })
+    }
+}
+
+/// What a call makes of bytes.
+#[derive(Drop)]
+struct Made {
+    /// How many it takes.
+    taken: usize,
+
+    /// What is to be sent.
+    sent: BytesMut,
+
+    /// The structs then.
+    next: SaslServer,
+}
+
+/// What a server makes of bytes.
+fn received(
+    alloc: Global,
+    host: &SaslHost<'_>,
+    server: &SaslServer,
+    bytes: &[u8],
+    nonce: &[u8; 32],
+    meter: &mut Meter,
+) -> Result<Made, Status>
+    requires { meter.old ≤ 2 ^ 63 }
+    ensures ok { IfOk result (λ made. Received host.now bytes.now nonce.now server.now made.next made.taken
+        made.sent.items) }
+    ensures fits { IfOk result (λ made. length made.sent.items ≤ 520) }
+    ensures err { IfErr result (λ status. status ≢ StatusOutOfMemory
+        → NotReceived host.now bytes.now nonce.now server.now status) }
+    ensures room { IfErr result (λ status. status ≢ RoomTooSmall) }
+{
+    let kept = match server.connection.read() {
+        Ok(kept) => kept,
+        Err(status) => return Err(status),
+    };
+    let acceptor = match host.acceptor(alloc, &server.scram) {
+        Ok(acceptor) => acceptor,
+        Err(status) => return Err(status),
+    };
+    let call = match take_up(alloc, acceptor, &kept, bytes, nonce, meter) {
+        Ok(call) => call,
+        Err(status) => return Err(status),
+    };
+    let Some(next) = SaslServer::of(&call.side) else {
+        return Err(Status::TooLong);
+    };
+    Ok(Made {
+        taken: call.taken,
+        sent: call.sent,
+        next,
+    })
+}
+
+/// The most bytes that a server sends at once: its header, and behind it a frame.
+const SENT_MOST: usize = 520;
+
+/// Takes bytes, and writes what is to be sent.
+fn receive(
+    alloc: Global,
+    host: &SaslHost<'_>,
+    server: &mut SaslServer,
+    bytes: &[u8],
+    nonce: &[u8; 32],
+    meter: &mut Meter,
+    taken: &mut usize,
+    out: &mut [u8],
+    len: &mut usize,
+) -> Result<(), Status>
+    requires { meter.old ≤ 2 ^ 63 }
+    ensures text { FillsWithin 520 (Receives host.now bytes.now nonce.now server.old server.new taken.new)
+        (record { bytes = out.old; len = len.old }) (record { bytes = out.new; len = len.new }) result }
+    ensures stays { OnErr result ((server.new ≡ server.old) × (taken.new ≡ taken.old)) }
+    ensures first { IfErr result (λ status. status ≡ RoomTooSmall → meter.new ≡ meter.old) }
+{
+    if out.len() < SENT_MOST {
+        *len = SENT_MOST;
+        return Err(Status::RoomTooSmall);
+    }
+    let made = match received(alloc, host, server, bytes, nonce, meter) {
+        Ok(made) => made,
+        Err(status) => return Err(status),
+    };
+    put(&made.sent, out, len)?;
+    *taken = made.taken;
+    *server = made.next;
+    Ok(())
+}
+
+/// Takes bytes of the connection as they came, to the end of the header or of the frame that is due, and writes what is
+/// to be sent, of at most 520 bytes, a room that is asked for before any hash is made. What is left of the bytes is to
+/// be handed in again while the connection stands at 0; behind a login it is AMQP's. Before it the caller fetches the
+/// record of the user whom the bytes name (`fe2o3_sasl_server_user`), if they name one. The nonce is 32 random bytes,
+/// fresh for each call. Where a name or a message has no room in the struct, the call is refused by `TOO_LONG`, and the
+/// connection is to be closed.
+#[unsafe(no_mangle)]
+pub extern "C" fn fe2o3_sasl_server_receive(
+    alloc: Global,
+    host: &SaslHost<'_>,
+    server: &mut SaslServer,
+    bytes: &[u8],
+    nonce: &[u8; 32],
+    taken: &mut usize,
+    out: &mut [u8],
+    len: &mut usize,
+) -> u32
+    ensures { Answers result (λ answer. FillsWithin 520
+        (Receives host.now bytes.now nonce.now server.old server.new taken.new)
+        (record { bytes = out.old; len = len.old }) (record { bytes = out.new; len = len.new }) answer
+        × OnErr answer ((server.new ≡ server.old) × (taken.new ≡ taken.old))) }
+{
+    let mut meter = Meter::new();
+    number(receive(
+        alloc, host, server, bytes, nonce, &mut meter, taken, out, len,
+    ))
+}
+
+/// The user whom a client-first message names, or `None` where it is none. `OutOfMemory` is the only refusal.
+#[tactic(auto, using(crate::proofs::ServerUserLemmas::scram_user))]
+fn scram_user(alloc: Global, text: &[u8]) -> Result<Option<Vec<u8>>, Status>
+    ensures ok { IfOk result (λ user. MatchOption user
+        ((first : FirstValues) → ¬ ReadsClientFirst text.now (Ok first))
+        (λ user. (first : FirstValues) × ReadsClientFirst text.now (Ok first) × (user.items ≡ first.user))) }
+    ensures err { IfErr result (λ status. status ≡ StatusOutOfMemory) }
+{
+    match ClientFirst::parse(alloc, text) {
+        Ok(first) => Ok(Some(first.username.as_bytes().to_vec(alloc)?)),
+        Err(ServerScramErrorKind::OutOfMemory) => Err(Status::OutOfMemory),
+        Err(_) => Ok(None),
+    }
+}
+
+/// The user whom an init names, or `None` where it names nobody. `OutOfMemory` is the only refusal.
+#[tactic(auto, using(crate::proofs::ServerUserLemmas::init_user))]
+fn init_user(alloc: Global, mechanism: &str, text: &[u8]) -> Result<Option<Vec<u8>>, Status>
+    ensures ok { IfOk result (λ user. MatchOption user
+        ((name : List ℕ) → ¬ InitNames mechanism.now text.now name)
+        (λ user. InitNames mechanism.now text.now user.items)) }
+    ensures err { IfErr result (λ status. status ≡ StatusOutOfMemory) }
+{
+    if ScramVersion::from_mechanism(mechanism).is_some() {
+        return scram_user(alloc, text);
+    }
+    if mechanism != "PLAIN" {
+        return Ok(None);
+    }
+    match plain_user(text) {
+        Some(user) => Ok(Some(user.as_bytes().to_vec(alloc)?)),
+        None => Ok(None),
+    }
+}
+
+/// The same of the initial response of an init, if it has one.
+fn response_user(
+    alloc: Global,
+    mechanism: &str,
+    response: Option<&[u8]>,
+) -> Result<Option<Vec<u8>>, Status>
+    ensures ok { IfOk result (λ user. MatchOption user
+        ((name : List ℕ) → ¬ ResponseNames mechanism.now (shown response.entry) name)
+        (λ user. ResponseNames mechanism.now (shown response.entry) user.items)) }
+    ensures err { IfErr result (λ status. status ≡ StatusOutOfMemory) }
+{
+    match response {
+        Some(text) => init_user(alloc, mechanism, text),
+        None => Ok(None),
+    }
+}
+
+/// The user of the open challenge, or `None` where none is open. `OutOfMemory` is the only refusal.
+fn open_user(alloc: Global, scram: &ScramServer) -> Result<Option<Vec<u8>>, Status>
+    ensures ok { IfOk result (λ user. MatchOption user ((challenge : Challenge) → ¬ IsOpen scram.now challenge)
+        (λ user. (challenge : Challenge) × IsOpen scram.now challenge × (user.items ≡ challenge.user))) }
+    ensures err { IfErr result (λ status. status ≡ StatusOutOfMemory) }
+{
+    match scram.challenge() {
+        Some(challenge) => Ok(Some(challenge.username.as_bytes().to_vec(alloc)?)),
+        None => Ok(None),
+    }
+}
+
+/// The user whom a frame in turn names, or `None` where it names nobody. `OutOfMemory` is the only refusal.
+fn frame_user(
+    alloc: Global,
+    scram: &ScramServer,
+    turn: Turn,
+    frame: &FrameView<'_>,
+) -> Result<Option<Vec<u8>>, Status>
+    ensures ok { IfOk result (λ user. MatchOption user
+        ((name : List ℕ) → ¬ FrameNames scram.now turn (viewed_frame frame.now) name)
+        (λ user. FrameNames scram.now turn (viewed_frame frame.now) user.items)) }
+    ensures err { IfErr result (λ status. status ≡ StatusOutOfMemory) }
+{
+    match (turn, frame) {
+        (
+            Turn::Init,
+            FrameView::Init {
+                mechanism,
+                initial_response,
+                ..
+            },
+        ) => response_user(alloc, mechanism, *initial_response),
+        (Turn::Response, FrameView::Response(_)) => open_user(alloc, scram),
+        _ => Ok(None),
+    }
+}
+
+/// The user whom a body in turn names, or `None` where it names nobody. `OutOfMemory` is the only refusal.
+#[tactic(auto, using(crate::proofs::ServerUserLemmas::body_user))]
+fn body_user(
+    alloc: Global,
+    scram: &ScramServer,
+    turn: Turn,
+    body: &[u8],
+) -> Result<Option<Vec<u8>>, Status>
+    ensures ok { IfOk result (λ user. MatchOption user (BodyNamesNobody scram.now turn body.now)
+        (λ user. BodyNames scram.now turn body.now user.items)) }
+    ensures err { IfErr result (λ status. status ≡ StatusOutOfMemory) }
+{
+    match view_frame(body) {
+        Ok((frame, _)) => frame_user(alloc, scram, turn, &frame),
+        Err(_) => Ok(None),
+    }
+}
+
+/// The name of the user whom the frame names that these bytes complete.
+#[tactic(auto, using(crate::proofs::ServerUserLemmas::named))]
+fn named(alloc: Global, server: &SaslServer, bytes: &[u8]) -> Result<Vec<u8>, Status>
+    ensures ok { IfOk result (λ name. Named server.now bytes.now name.items) }
+    ensures err { IfErr result (λ status. status ≢ StatusOutOfMemory → NotNamed server.now bytes.now status) }
+    ensures room { IfErr result (λ status. status ≢ RoomTooSmall) }
+{
+    let kept = server.connection.read()?;
+    let body = match kept.completed(alloc, bytes) {
+        Ok(Some(body)) => body,
+        Ok(None) => return Err(Status::NamesNobody),
+        Err(TakeUpError::NotKept) => return Err(Status::NotKept),
+        Err(TakeUpError::OutOfMemory) => return Err(Status::OutOfMemory),
+    };
+    let Due::Frame(turn) = kept.due else {
+        return Err(Status::NamesNobody);
+    };
+    match body_user(alloc, &server.scram, turn, &body) {
+        Ok(Some(name)) => Ok(name),
+        Ok(None) => Err(Status::NamesNobody),
+        Err(status) => Err(status),
+    }
+}
+
+/// Writes the name of the user whom the frame names that these bytes complete.
+fn user(
+    alloc: Global,
+    server: &SaslServer,
+    bytes: &[u8],
+    out: &mut [u8],
+    len: &mut usize,
+) -> Result<(), Status>
+    ensures { Fills (Names server.now bytes.now) (record { bytes = out.old; len = len.old })
+        (record { bytes = out.new; len = len.new }) result }
+{
+    let name = named(alloc, server, bytes)?;
+    put(&name, out, len)
+}
+
+/// Writes the plain name of the user whom the frame names that these bytes complete, and whose record is to be fetched
+/// before they are taken: that of an init of SCRAM or PLAIN, and for a response that of the open challenge. Where they
+/// complete no frame, or one that names nobody, the number is that of `NAMES_NOBODY`, and no record is needed.
+#[unsafe(no_mangle)]
+pub extern "C" fn fe2o3_sasl_server_user(
+    alloc: Global,
+    server: &SaslServer,
+    bytes: &[u8],
+    out: &mut [u8],
+    len: &mut usize,
+) -> u32
+    ensures { Answers result (Fills (Names server.now bytes.now) (record { bytes = out.old; len = len.old })
+        (record { bytes = out.new; len = len.new })) }
+{
+    number(user(alloc, server, bytes, out, len))
+}
