@@ -83,9 +83,10 @@ build/callers/%_sanitized: bindings/c/%.c $(HEADER) build/libfe2o3_sasl.a
 # (the requests for memory of the library go to functions of the program)
 build/callers/memory_plain build/callers/memory_sanitized: LDLIBS += $(foreach name,malloc realloc free,-Wl,--wrap=$(name))
 
-# The header by itself, that the library exports what it declares and nothing else, and the programs, that of client.c
-# against a server in Python.
-callers: header-check $(foreach kind,$(KINDS),$(PROGRAMS:%=build/callers/%_$(kind)) build/callers/client_$(kind)) \
+# The header by itself, that the library exports what it declares and nothing else, and the programs, those of client.c
+# and server.c against each other and against peers in Python.
+callers: header-check $(foreach kind,$(KINDS),$(PROGRAMS:%=build/callers/%_$(kind)) build/callers/client_$(kind) \
+    build/callers/server_$(kind)) \
     build/callers/memory_plain build/callers/memory_sanitized
 	$(CC) -std=c99 $(WARNINGS) -fsyntax-only -x c $(HEADER)
 	$(CXX) $(WARNINGS) -fsyntax-only -x c++ $(HEADER)
@@ -98,7 +99,7 @@ callers: header-check $(foreach kind,$(KINDS),$(PROGRAMS:%=build/callers/%_$(kin
 	@for kind in plain sanitized; do echo "memory $$kind"; build/callers/memory_$$kind || exit 1; done
 	@for kind in $(KINDS); do \
 	    echo "client $$kind"; \
-	    LD_LIBRARY_PATH=build python3 bindings/c/tcp.py build/callers/client_$$kind || exit 1; \
+	    LD_LIBRARY_PATH=build python3 bindings/c/tcp.py build/callers/client_$$kind build/callers/server_$$kind || exit 1; \
 	done
 
 rust: build/libfe2o3_sasl.a

@@ -52,6 +52,12 @@ extern "C" {
 #define FE2O3_ANONYMOUS 2u
 #define FE2O3_EXTERNAL 3u
 
+/* What a server offers: a sum of these. */
+#define FE2O3_OFFER_SCRAM 1u
+#define FE2O3_OFFER_PLAIN 2u
+#define FE2O3_OFFER_ANONYMOUS 4u
+#define FE2O3_OFFER_EXTERNAL 8u
+
 /* How a connection stands. */
 #define FE2O3_WANTING 0u
 #define FE2O3_LOGGED_IN 1u

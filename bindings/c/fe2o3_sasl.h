@@ -52,6 +52,12 @@ extern "C" {
 #define FE2O3_ANONYMOUS 2u
 #define FE2O3_EXTERNAL 3u
 
+/* What a server offers: a sum of these. */
+#define FE2O3_OFFER_SCRAM 1u
+#define FE2O3_OFFER_PLAIN 2u
+#define FE2O3_OFFER_ANONYMOUS 4u
+#define FE2O3_OFFER_EXTERNAL 8u
+
 /* How a connection stands. */
 #define FE2O3_WANTING 0u
 #define FE2O3_LOGGED_IN 1u
@@ -86,12 +92,15 @@ enum fe2o3_status {
     FE2O3_OTHER_VERSION = 10,
     /* The password is not that of the record. */
     FE2O3_OTHER_PASSWORD = 11,
-    /* There is no such mechanism: 0 is SCRAM, 1 PLAIN, 2 ANONYMOUS, and 3 EXTERNAL. */
+    /* There is no such mechanism: of a client 0 is SCRAM, 1 PLAIN, 2 ANONYMOUS, and 3 EXTERNAL; a server's are the
+     * sum of 1, 2, 4 and 8, and not 0. */
     FE2O3_NO_SUCH_MECHANISM = 12,
     /* The connection has ended: its client is logged in, or it is to be closed. */
     FE2O3_ENDED = 13,
     /* The struct of the connection is none that a call leaves. */
     FE2O3_NOT_KEPT = 14,
+    /* The bytes complete no frame that names a user. */
+    FE2O3_NAMES_NOBODY = 15,
     /* The message is not UTF-8. */
     FE2O3_CLIENT_UTF8_ERROR = 20,
     /* The server-first message has fewer than three parts. */
@@ -346,6 +355,34 @@ struct fe2o3_scram_client {
     struct fe2o3_client_keys keys;
 };
 
+/* What a server offers, and whose record it has: lent for each call. */
+struct fe2o3_sasl_host {
+    /* Which mechanisms are offered: the sum of 1 for SCRAM of the version, 2 for PLAIN, 4 for ANONYMOUS, and 8 for
+     * EXTERNAL. PLAIN shows the password to whoever reads the connection, and is for TLS alone. */
+    uint32_t mechanisms;
+    /* 1, 256 or 512, for the hash of SCRAM and of the record. */
+    uint32_t version;
+    /* The iteration count with which PLAIN hashes the password of an unknown user. */
+    uint32_t iterations;
+    /* The plain name of the user whose record is handed in. */
+    const uint8_t *username;
+    size_t username_len;
+    /* The record of the user. Where the struct shows none of the version, nobody is known. */
+    const struct fe2o3_scram_record *record;
+    /* Whom the transport has authenticated: EXTERNAL lets in this name. */
+    const uint8_t *peer;
+    size_t peer_len;
+};
+
+/* What a server keeps of a connection between its calls. All zeros is one of which no byte has come. */
+struct fe2o3_sasl_server {
+    /* The connection. */
+    struct fe2o3_connection connection;
+    /* What SCRAM keeps. Once a client is logged in, it names the user of any mechanism
+     * (`fe2o3_scram_server_logged_in`); ANONYMOUS names nobody. */
+    struct fe2o3_scram_server scram;
+};
+
 /* Who logs in on a connection, and by which mechanism: lent for each call, and the same for all of them. */
 struct fe2o3_sasl_login {
     /* 0 for SCRAM of the login's version, 1 for PLAIN, 2 for ANONYMOUS, and 3 for EXTERNAL. */
@@ -492,6 +529,34 @@ uint32_t fe2o3_sasl_client_receive(
     size_t out_room,
     size_t *len);
 
+/* Takes bytes of the connection as they came, to the end of the header or of the frame that is due, and writes what is
+ * to be sent, of at most 520 bytes, a room that is asked for before any hash is made. What is left of the bytes is to
+ * be handed in again while the connection stands at 0; behind a login it is AMQP's. Before it the caller fetches the
+ * record of the user whom the bytes name (`fe2o3_sasl_server_user`), if they name one. The nonce is 32 random bytes,
+ * fresh for each call. Where a name or a message has no room in the struct, the call is refused by `TOO_LONG`, and the
+ * connection is to be closed. */
+uint32_t fe2o3_sasl_server_receive(
+    const struct fe2o3_sasl_host *host,
+    struct fe2o3_sasl_server *server,
+    const uint8_t *bytes,
+    size_t bytes_len,
+    const uint8_t nonce[32],
+    size_t *taken,
+    uint8_t *out,
+    size_t out_room,
+    size_t *len);
+
+/* Writes the plain name of the user whom the frame names that these bytes complete, and whose record is to be fetched
+ * before they are taken: that of an init of SCRAM or PLAIN, and for a response that of the open challenge. Where they
+ * complete no frame, or one that names nobody, the number is that of `NAMES_NOBODY`, and no record is needed. */
+uint32_t fe2o3_sasl_server_user(
+    const struct fe2o3_sasl_server *server,
+    const uint8_t *bytes,
+    size_t bytes_len,
+    uint8_t *out,
+    size_t out_room,
+    size_t *len);
+
 /* Answers a client-first message with the server-first message, which starts an exchange afresh at any time. The
  * record is that of the user whom the message names (`fe2o3_scram_server_user`), or one that is made up
  * (`fe2o3_scram_record_of_nobody`). The nonce is 32 random bytes, fresh for each. */
@@ -540,8 +605,8 @@ uint32_t fe2o3_version(void);
 
 /* How many bytes a struct has here: 0 `fe2o3_login`, 1 `fe2o3_scram_client`, 2 `fe2o3_client_keys`, 3
  * `fe2o3_scram_server`, 4 `fe2o3_scram_record`, 5 `fe2o3_connection`, 6 `fe2o3_sasl_login`, 7 `fe2o3_sasl_client`,
- * 8 `fe2o3_sasl_frame_view`; of other numbers 0. A caller whose own declarations have other sizes has another header.
- */
+ * 8 `fe2o3_sasl_frame_view`, 9 `fe2o3_sasl_host`, 10 `fe2o3_sasl_server`; of other numbers 0. A caller whose own
+ * declarations have other sizes has another header. */
 size_t fe2o3_size(uint32_t which);
 
 #ifdef __cplusplus

@@ -1,17 +1,19 @@
 #!/usr/bin/env python3
-"""Logs in by a program over TCP on the loopback, to a server that is made here: `tcp.py CLIENT`, the program of client.c.
+"""Logs in over TCP on the loopback: by the program of client.c to a server that is made here, and to the program of
+server.c by that and by a client that is made here: `tcp.py CLIENT SERVER`.
 
 Prints a line for each login, and ends with 1 where one of them does not end as it should.
 """
 import socket
 import subprocess
 import sys
+import tempfile
 import threading
 from pathlib import Path
 
 sys.dont_write_bytecode = True
 sys.path.insert(0, str(Path(__file__).resolve().parent.parent / "python"))
-from peers import MECHANISMS, Broker, Secret  # noqa: E402
+from peers import MECHANISMS, SHA_256, Broker, Login, Plain, Secret  # noqa: E402
 
 OTHERS = ("PLAIN", "ANONYMOUS", "EXTERNAL")
 
@@ -60,6 +62,56 @@ def cases():
         yield name, "pencil", busy, (1, late)
 
 
+USERS = {"user": "pencil", "a,b=c": "pen,cil"}
+
+
+def by_peer(port, by, piece):
+    """Whether a client that is made here is logged in."""
+    by.begin()
+    with socket.create_connection(("127.0.0.1", port), timeout=20) as channel:
+        channel.setsockopt(socket.IPPROTO_TCP, socket.TCP_NODELAY, 1)
+        to_server = by.open()
+        while to_server:
+            for at in range(0, len(to_server), piece):
+                channel.sendall(to_server[at : at + piece])
+            to_server = b""
+            while not to_server and by.code is None:
+                if not (came := channel.recv(4096)):
+                    return by.logged_in
+                to_server = by.receive(came)
+    return by.logged_in
+
+
+def to_the_server(client, server):
+    """Logins to the program of server.c, each with what the server should say of it."""
+    lines = [
+        name.replace("=", "=3D").replace(",", "=2C") + " " + Secret(SHA_256, word, b"a salt of bytes!", 4096).record_text()
+        for name, word in USERS.items()
+    ]
+    refused = "not logged in: Connection: The login is refused"
+    words = [(name, word, f"logged in: {name}") for name, word in USERS.items()]
+    words += [("user", "pencils", refused), ("nobody", "pencil", refused)]
+    with tempfile.NamedTemporaryFile("w", suffix=".users") as file:
+        file.write("".join(line + "\n" for line in lines))
+        file.flush()
+        count = len(words) * 6
+        with subprocess.Popen([server, file.name, str(count)], stdout=subprocess.PIPE, text=True) as program:
+            port = int(program.stdout.readline())
+            for name, word, wanted in words:
+                for mechanism in ("SCRAM-SHA-256", "PLAIN"):
+                    done = subprocess.run(
+                        [client, "127.0.0.1", str(port), mechanism, name],
+                        input=word + "\n", capture_output=True, text=True, timeout=60, check=False,
+                    )
+                    said = program.stdout.readline().strip()
+                    yield f"{mechanism}, {name}", (done.returncode, said), (int(wanted == refused), wanted)
+                    by = Login(SHA_256, name, word) if mechanism != "PLAIN" else Plain(name, word)
+                    for piece in (1, 4096):
+                        logged_in = by_peer(port, by, piece)
+                        said = program.stdout.readline().strip()
+                        yield f"{mechanism} of a peer, {name}", (logged_in, said), (wanted != refused, wanted)
+
+
 def main():
     differ = 0
     for mechanism, password, broker, wanted in cases():
@@ -68,6 +120,9 @@ def main():
             found = logged_in(sys.argv[1], mechanism, password, broker_again, piece)
             differ += found != wanted
             print(mechanism, f"in pieces of {piece}:", *found, "" if found == wanted else f"DIFFERS: {wanted}")
+    for what, found, wanted in to_the_server(*sys.argv[1:3]):
+        differ += found != wanted
+        print(what, *found, "" if found == wanted else f"DIFFERS: {wanted}")
     return 1 if differ else 0
 
 

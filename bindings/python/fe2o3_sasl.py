@@ -1,4 +1,4 @@
-"""SCRAM (RFC 5802, RFC 7677), and the SASL layer of AMQP 1.0 for clients, by the library of `fe2o3_sasl.h`, called by `ctypes`.
+"""SCRAM (RFC 5802, RFC 7677), and the SASL layer of AMQP 1.0, by the library of `fe2o3_sasl.h`, called by `ctypes`.
 
 The library is the file that the environment variable FE2O3_SASL_LIB names, or else `libfe2o3_sasl.so.0` where the
 system finds it. It is loaded with the module, and refused where its structs have other sizes than those below.
@@ -57,9 +57,11 @@ __all__ = [
     "ClientConnection",
     "Frame",
     "Keys",
+    "Offer",
     "Record",
     "Refused",
     "Server",
+    "ServerConnection",
     "Standing",
     "Status",
     "library_version",
@@ -96,6 +98,7 @@ class Status(enum.IntEnum):
     NO_SUCH_MECHANISM = 12
     ENDED = 13
     NOT_KEPT = 14
+    NAMES_NOBODY = 15
     CLIENT_UTF8_ERROR = 20
     CLIENT_INSUFFICIENT_PARTS = 21
     CLIENT_EXTENSION_NOT_SUPPORTED = 22
@@ -266,6 +269,23 @@ class _SaslClientStruct(ctypes.Structure):
     _fields_ = [("connection", _ConnectionStruct), ("scram", _ClientStruct)]
 
 
+class _SaslHostStruct(ctypes.Structure):
+    _fields_ = [
+        ("mechanisms", ctypes.c_uint32),
+        ("version", ctypes.c_uint32),
+        ("iterations", ctypes.c_uint32),
+        ("username", ctypes.c_char_p),
+        ("username_len", ctypes.c_size_t),
+        ("record", ctypes.POINTER(_RecordStruct)),
+        ("peer", ctypes.c_char_p),
+        ("peer_len", ctypes.c_size_t),
+    ]
+
+
+class _SaslServerStruct(ctypes.Structure):
+    _fields_ = [("connection", _ConnectionStruct), ("scram", _ServerStruct)]
+
+
 class _FrameViewStruct(ctypes.Structure):
     # (addresses as numbers: a text may hold zeros)
     _fields_ = [
@@ -295,6 +315,8 @@ _SIZED = (
     _SaslLoginStruct,
     _SaslClientStruct,
     _FrameViewStruct,
+    _SaslHostStruct,
+    _SaslServerStruct,
 )
 
 
@@ -309,6 +331,7 @@ def _load(name: str) -> ctypes.CDLL:
     keys, record = ctypes.POINTER(_KeysStruct), ctypes.POINTER(_RecordStruct)
     server, text = ctypes.POINTER(_ServerStruct), ctypes.POINTER(_TextStruct)
     sasl_login, sasl_client = ctypes.POINTER(_SaslLoginStruct), ctypes.POINTER(_SaslClientStruct)
+    host, sasl_server = ctypes.POINTER(_SaslHostStruct), ctypes.POINTER(_SaslServerStruct)
     count = ctypes.POINTER(length)
     exports: dict[str, tuple[Any, list[Any]]] = {
         "fe2o3_scram_client_first": (number, [login, client, read, *written]),
@@ -329,6 +352,8 @@ def _load(name: str) -> ctypes.CDLL:
         "fe2o3_scram_server_logged_in": (number, [server, *written]),
         "fe2o3_sasl_client_open": (number, written),
         "fe2o3_sasl_client_receive": (number, [sasl_login, sasl_client, read, length, read, count, *written]),
+        "fe2o3_sasl_server_receive": (number, [host, sasl_server, read, length, read, count, *written]),
+        "fe2o3_sasl_server_user": (number, [sasl_server, read, length, *written]),
         "fe2o3_sasl_view_frame": (number, [read, length, ctypes.POINTER(_FrameViewStruct)]),
         "fe2o3_sasl_offers": (number, [read, length, read, length]),
         "fe2o3_status_text": (None, [number, text]),
@@ -801,6 +826,109 @@ class ClientConnection:
 
     def __repr__(self) -> str:
         return f"ClientConnection(standing={self.standing})"
+
+
+class Offer(enum.IntFlag):
+    """The mechanisms of a server. PLAIN shows the password to whoever reads the connection, and is for TLS alone."""
+
+    SCRAM = 1
+    PLAIN = 2
+    ANONYMOUS = 4
+    EXTERNAL = 8
+
+
+class ServerConnection:
+    """The server's side of one connection of AMQP 1.0, from its first byte to the end of the login. It owns no socket,
+    as `ClientConnection`."""
+
+    __slots__ = ("_iterations", "_lock", "_mechanisms", "_peer", "_record_of", "_struct", "_version")
+
+    def __init__(
+        self,
+        record_of: Callable[[str], Optional[Record]],
+        *,
+        mechanisms: int = Offer.SCRAM,
+        version: int = SHA_256,
+        iterations: int = 4096,
+        peer: Text = "",
+    ) -> None:
+        """A connection on which a client logs in by one of the mechanisms. `record_of` is asked for the record of a
+        name: for one that it does not know it answers `Record.of_nobody(..)`, so that nobody learns that, or None. The
+        count is what PLAIN takes for an unknown user. EXTERNAL lets in the peer: whom the transport has authenticated."""
+        self._record_of, self._mechanisms, self._version = record_of, _number(mechanisms), _number(version)
+        self._iterations, self._peer, self._struct = _number(iterations), _text(peer), _SaslServerStruct()
+        self._lock = threading.RLock()
+
+    def receive(self, data: Bytes) -> tuple[bytes, bytes]:
+        """What is to be sent for bytes that came, and those of them that are left, as `ClientConnection.receive`."""
+        rest, answers = _bytes(data), []
+        with self._lock:
+            while rest and self.standing == Standing.WANTING:
+                answer, taken = self._step(rest)
+                answers.append(answer)
+                rest = rest[taken:]
+        return b"".join(answers), rest
+
+    def _step(self, data: bytes) -> tuple[bytes, int]:
+        name, record = self._named(data), None
+        if name is not None:
+            record = self._record_of(name)
+        known = b"" if name is None else _text(name)
+        host = _SaslHostStruct(
+            mechanisms=self._mechanisms,
+            version=self._version,
+            iterations=self._iterations,
+            username=known,
+            username_len=len(known),
+            record=ctypes.pointer(_RecordStruct() if record is None else record._struct),
+            peer=self._peer,
+            peer_len=len(self._peer),
+        )
+        nonce, taken = secrets.token_bytes(32), ctypes.c_size_t()
+        answer = _written(
+            520,
+            lambda *room: _library.fe2o3_sasl_server_receive(
+                host, self._struct, data, len(data), nonce, ctypes.byref(taken), *room
+            ),
+        )
+        return answer, taken.value
+
+    def _named(self, data: bytes) -> Optional[str]:
+        """The user whom the frame names that these bytes complete, if it names one."""
+        try:
+            name = _written(
+                512, lambda *room: _library.fe2o3_sasl_server_user(self._struct, data, len(data), *room)
+            )
+        except Refused as why:
+            if why.status == Status.NAMES_NOBODY:
+                return None
+            raise
+        return name.decode("utf-8")
+
+    @property
+    def standing(self) -> int:
+        """How the connection stands: one of `Standing`."""
+        return int(self._struct.connection.standing)
+
+    @property
+    def why(self) -> Optional[Refused]:
+        """Why the connection is to be closed, and None where it is not."""
+        if self.standing != Standing.CLOSED:
+            return None
+        return Refused(int(self._struct.connection.why), _status_text(int(self._struct.connection.why)))
+
+    def logged_in(self) -> Optional[str]:
+        """The plain name of the user who has logged in; None by ANONYMOUS. Raises `Refused` before."""
+        if self.standing == Standing.LOGGED_IN and not self._struct.scram.stands:
+            return None
+        with self._lock:
+            name = _written(
+                256, lambda *room: _library.fe2o3_scram_server_logged_in(ctypes.byref(self._struct.scram), *room)
+            )
+        return name.decode("utf-8")
+
+    def __repr__(self) -> str:
+        return f"ServerConnection(standing={self.standing})"
 
 
 class Server:

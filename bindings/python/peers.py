@@ -156,3 +156,96 @@ def fields_of_last(answer: bytes) -> Optional[int]:
 
 def bare_of(name: str, client_nonce: bytes) -> bytes:
     return b"n=" + name.replace("=", "=3D").replace(",", "=2C").encode() + b",r=" + base64_of(client_nonce)
+
+
+class Side:
+    """The client's side of a connection, apart from the library: bytes in, bytes out."""
+
+    mechanism = ""
+
+    def begin(self, ask: bool = False) -> None:
+        """Starts afresh; `ask` asks for the mechanism also where the server does not offer it."""
+        self.held, self.ask, self.logged_in, self.code = b"", ask, False, None
+
+    def open(self) -> bytes:
+        return SASL_HEADER
+
+    def receive(self, data: bytes) -> bytes:
+        self.held += data
+        answer = b""
+        while (unit := self.unit()) is not None:
+            if unit[:4] != b"AMQP":
+                answer += self.frame(unit[10], unit)
+        return answer
+
+    def unit(self) -> Optional[bytes]:
+        size = 8 if self.held[:4] == b"AMQP" else int.from_bytes(self.held[:4], "big")
+        if len(self.held) < max(size, 4):
+            return None
+        unit, self.held = self.held[:size], self.held[size:]
+        return unit
+
+    def frame(self, code: int, unit: bytes) -> bytes:
+        if code == MECHANISMS_CODE:
+            if self.mechanism.encode() not in unit and not self.ask:
+                return b""
+            return frame_of(INIT, short(0xA3, self.mechanism.encode()), self.first(), NULL)
+        if code == CHALLENGE:
+            return frame_of(RESPONSE, short(0xA0, self.answer(fields_of(unit)[1][0] or b"")))
+        # (the code is a byte behind its constructor)
+        self.code = unit[15] if unit[11] == 0xC0 else unit[21]
+        self.logged_in = self.code == 0 and self.believes(unit)
+        return b""
+
+    def first(self) -> bytes:
+        return NULL
+
+    def answer(self, challenge: bytes) -> bytes:
+        raise AssertionError("a challenge for a mechanism without one")
+
+    def believes(self, unit: bytes) -> bool:
+        return True
+
+
+class Other(Side):
+    """ANONYMOUS or EXTERNAL, with an initial response or without."""
+
+    def __init__(self, mechanism: str, response: Optional[bytes] = None) -> None:
+        self.mechanism, self.response = mechanism, response
+
+    def first(self) -> bytes:
+        return NULL if self.response is None else short(0xA0, self.response)
+
+
+class Plain(Side):
+    """PLAIN (RFC 4616)."""
+
+    mechanism = "PLAIN"
+
+    def __init__(self, name: str, password: str) -> None:
+        self.message = b"\0" + name.encode() + b"\0" + password.encode()
+
+    def first(self) -> bytes:
+        # (in a list whose size has one byte)
+        return short(0xA0, self.message) if len(self.message) < 200 else NULL
+
+
+class Login(Side):
+    """SCRAM (RFC 5802)."""
+
+    def __init__(self, version: int, name: str, password: str) -> None:
+        self.version, self.name, self.password, self.mechanism = version, name, password, MECHANISMS[version]
+
+    def first(self) -> bytes:
+        self.bare = bare_of(self.name, bytes(32))
+        message = b"n,," + self.bare
+        return short(0xA0, message) if len(message) < 200 else NULL
+
+    def answer(self, challenge: bytes) -> bytes:
+        _, salt, count = challenge.split(b",")
+        secret = Secret(self.version, self.password, base64.b64decode(salt[2:]), int(count[2:]))
+        client_final, self.server_final = secret.finals(self.bare, challenge)
+        return client_final
+
+    def believes(self, unit: bytes) -> bool:
+        return unit.endswith(short(0xA0, self.server_final))

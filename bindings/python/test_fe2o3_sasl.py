@@ -18,6 +18,7 @@ from unittest import mock
 
 import fe2o3_sasl
 from fe2o3_sasl import SHA_1, SHA_256, SHA_512, Client, ClientConnection, Keys, Record, Refused, Server, Standing, Status
+from fe2o3_sasl import Offer, ServerConnection
 from peers import (
     CHALLENGE,
     MECHANISMS,
@@ -26,6 +27,9 @@ from peers import (
     SASL_HEADER,
     VERSIONS,
     Broker,
+    Login,
+    Other,
+    Plain,
     Secret,
     bare_of,
     base64_of,
@@ -68,6 +72,17 @@ def nonces(*values: bytes) -> Any:
 def login(client: Client, server: Server, record: Record) -> None:
     server_first = server.first(record, client.first())
     client.verify(server.final(client.final(server_first)))
+
+
+def served(side: ServerConnection, by: Any, piece: int) -> None:
+    """Joins a server and a client that is made here, each handed what the other sends in pieces."""
+    to_server = by.open()
+    while to_server:
+        answer = b""
+        for at in range(0, len(to_server), piece):
+            sent, _ = side.receive(to_server[at : at + piece])
+            answer += sent
+        to_server = b"".join(by.receive(answer[at : at + piece]) for at in range(0, len(answer), piece))
 
 
 class Case(unittest.TestCase):
@@ -288,6 +303,66 @@ class Connections(Case):
             one = ClientConnection.anonymous()
             setattr(one._struct.connection, field, value)
             self.refused(Status.NOT_KEPT, one.receive, b"A")
+
+    def test_servers(self) -> None:
+        for version in VERSIONS:
+            for name in NAMES:
+                record = Record.make(version, "pencil", salt=SALT, iterations=4096)
+                known = {name: record}
+                for password, standing in (("pencil", Standing.LOGGED_IN), ("pencils", Standing.CLOSED)):
+                    for by in (Login(version, name, password), Plain(name, password)):
+                        for piece in (1, 7, 4096):
+                            side = ServerConnection(
+                                known.get, mechanisms=Offer.SCRAM | Offer.PLAIN | Offer.EXTERNAL, version=version
+                            )
+                            by.begin()
+                            served(side, by, piece)
+                            # (PLAIN has no empty name, and the frames that are made here have 255 bytes at most)
+                            if (name == "" and isinstance(by, Plain)) or len(name) > 200:
+                                continue
+                            self.assertEqual(side.standing, standing, (name, password, piece))
+                            self.assertEqual(by.logged_in, standing == Standing.LOGGED_IN)
+                            if standing == Standing.LOGGED_IN:
+                                self.assertEqual(side.logged_in(), name)
+                            else:
+                                assert side.why is not None
+                                self.assertEqual(side.why.status, Status.REFUSED_AUTH)
+                                self.refused(Status.SERVER_ILLEGAL_AUTHENTICATOR_STATE, side.logged_in)
+
+    def test_servers_of_other_mechanisms(self) -> None:
+        def server(mechanisms: int) -> ServerConnection:
+            return ServerConnection(lambda name: None, mechanisms=mechanisms, peer="peer")
+
+        for by, mechanisms, name in (
+            (Other("ANONYMOUS"), Offer.ANONYMOUS, None),
+            (Other("EXTERNAL"), Offer.EXTERNAL | Offer.PLAIN, "peer"),
+            (Other("EXTERNAL", b"peer"), Offer.EXTERNAL | Offer.SCRAM, "peer"),
+        ):
+            side = server(mechanisms)
+            by.begin()
+            served(side, by, 5)
+            self.assertEqual((side.standing, side.logged_in()), (Standing.LOGGED_IN, name))
+        for by, mechanisms in ((Other("EXTERNAL", b"other"), Offer.EXTERNAL), (Other("ANONYMOUS"), Offer.EXTERNAL)):
+            side = server(mechanisms)
+            by.begin(ask=True)
+            served(side, by, 5)
+            self.assertEqual(side.standing, Standing.CLOSED)
+        self.refused(Status.NO_SUCH_MECHANISM, server(0).receive, b"A")
+        self.refused(Status.NO_SUCH_MECHANISM, server(16).receive, b"A")
+        self.refused(Status.NO_SUCH_VERSION, ServerConnection(lambda name: None, version=2).receive, b"A")
+        self.refused(Status.NOT_UTF8, ServerConnection(lambda name: None, peer=b"\xff").receive, b"A")
+
+    def test_both_sides(self) -> None:
+        for version in VERSIONS:
+            record = Record.make(version, "pencil")
+            side = ClientConnection(Client(version, "user", "pencil"))
+            server = ServerConnection({"user": record}.get, version=version)
+            to_server, to_client = side.open(), b""
+            for _ in range(4):
+                to_client, _ = server.receive(to_server)
+                to_server, _ = side.receive(to_client)
+            self.assertEqual((side.standing, server.standing), (Standing.LOGGED_IN, Standing.LOGGED_IN))
+            self.assertEqual(server.logged_in(), "user")
 
     def test_structs_of_random_bytes(self) -> None:
         """Of whatever bits the structs are, a call is done or refused, and refused it has changed nothing."""

@@ -34,6 +34,8 @@ pub fn fits() -> bool {
         size_of::<sys::SaslLogin>(),
         size_of::<sys::SaslClient>(),
         size_of::<sys::SaslFrameView>(),
+        size_of::<sys::SaslHost>(),
+        size_of::<sys::SaslServer>(),
     ];
     (0..).zip(ours).all(|(which, size)| {
         // SAFETY: the call takes a number alone, and any number has its answer.

@@ -6,10 +6,10 @@ use crate::keys::NO_KEYS;
 use crate::{generate_nonce, sys, ConnectionError, ScramClient, ScramClientKeys, ScramVersion};
 use std::fmt;
 
-const NEW: sys::SaslClient = sys::SaslClient {
-    connection: sys::Connection { standing: 0, why: 0, due: 0, held_len: 0, held: [0; 512] },
-    scram: NOTHING_SENT,
-};
+/// A connection of which no byte has come.
+pub(crate) const FRESH: sys::Connection = sys::Connection { standing: 0, why: 0, due: 0, held_len: 0, held: [0; 512] };
+
+const NEW: sys::SaslClient = sys::SaslClient { connection: FRESH, scram: NOTHING_SENT };
 
 /// The most bytes of a frame (AMQP 1.0, part 5, section 5.3.1), and so of what is sent at once.
 const FRAME_MOST: usize = 512;
@@ -66,6 +66,15 @@ pub enum Standing {
 
     /// The connection is to be closed.
     Closed(ConnectionError),
+}
+
+/// How the connection of a struct stands.
+pub(crate) fn standing_of(connection: &sys::Connection) -> Standing {
+    match connection.standing {
+        0 => Standing::Wanting,
+        1 => Standing::LoggedIn,
+        _ => Standing::Closed(ConnectionError::of(connection.why)),
+    }
 }
 
 /// What came of bytes that were handed in.
@@ -176,11 +185,7 @@ impl ClientNegotiation {
 
     /// How the connection stands.
     pub fn standing(&self) -> Standing {
-        match self.state.connection.standing {
-            0 => Standing::Wanting,
-            1 => Standing::LoggedIn,
-            _ => Standing::Closed(ConnectionError::of(self.state.connection.why)),
-        }
+        standing_of(&self.state.connection)
     }
 
     /// The keys of a login by SCRAM whose server was believed, as [`ScramClient::keys`] hands them out.

@@ -218,6 +218,10 @@ kinds! {
         RefusedSysPerm = REFUSED_SYS_PERM,
         /// The login is refused by a system error that may pass.
         RefusedSysTemp = REFUSED_SYS_TEMP,
+        /// Nothing is offered that the server could answer by.
+        NoSuchMechanism = NO_SUCH_MECHANISM,
+        /// A name or a message is longer than the library has room for. The connection is to be closed.
+        TooLong = TOO_LONG,
         /// The connection has ended.
         Ended = ENDED,
         /// There was no memory. Nothing has changed, and the call can be made again.

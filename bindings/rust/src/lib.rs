@@ -1,4 +1,4 @@
-//! SCRAM (RFC 5802, RFC 7677) and the SASL layer of AMQP 1.0 for clients, for safe Rust, by a proved static library. The
+//! SCRAM (RFC 5802, RFC 7677) and the SASL layer of AMQP 1.0 for safe Rust, by a proved static library. The
 //! names are those of the crate fe2o3-amqp.
 //!
 //! No proof covers this crate. Each of its calls of the library is an `unsafe` block that says why its pointers are
@@ -36,6 +36,7 @@ mod errors;
 mod keys;
 mod records;
 mod server;
+mod serving;
 #[allow(dead_code, missing_docs)]
 #[rustfmt::skip]
 mod sys;
@@ -48,6 +49,7 @@ pub use errors::{ConnectionError, RecordError, RecordTextError, ScramErrorKind, 
 pub use keys::ScramClientKeys;
 pub use records::{ScramRecord, StoredPassword};
 pub use server::{ScramAuthenticator, ScramCredentialProvider, SingleScramCredential};
+pub use serving::{Offers, ServerNegotiation};
 pub use version::ScramVersion;
 
 /// The iteration count of a credential that names none.

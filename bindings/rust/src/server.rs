@@ -7,7 +7,7 @@ use crate::{
 use std::fmt;
 use std::sync::Arc;
 
-const NO_CHALLENGE: sys::ScramServer = sys::ScramServer {
+pub(crate) const NO_CHALLENGE: sys::ScramServer = sys::ScramServer {
     stands: 0,
     user_len: 0,
     bare_len: 0,
@@ -238,7 +238,7 @@ impl<C: ScramCredentialProvider + Clone> ScramAuthenticator<C> {
     }
 
     /// The record of a user, or one that is made up; `None` where there is none and none is made up.
-    fn record(&self, username: &str) -> Result<Option<ScramRecord>, ServerScramErrorKind> {
+    pub(crate) fn record(&self, username: &str) -> Result<Option<ScramRecord>, ServerScramErrorKind> {
         let version = *self.credentials.scram_version();
         if let Some(stored) = self.credentials.get_stored_password(username) {
             return Ok(Some(ScramRecord::from_parts(version, &stored)?));

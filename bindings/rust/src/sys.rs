@@ -36,7 +36,8 @@ pub const OTHER_VERSION: u32 = 10;
 /// The password is not that of the record.
 pub const OTHER_PASSWORD: u32 = 11;
 
-/// There is no such mechanism: 0 is SCRAM, 1 PLAIN, 2 ANONYMOUS, and 3 EXTERNAL.
+/// There is no such mechanism: of a client 0 is SCRAM, 1 PLAIN, 2 ANONYMOUS, and 3 EXTERNAL; a server's are the sum of
+/// 1, 2, 4 and 8, and not 0.
 pub const NO_SUCH_MECHANISM: u32 = 12;
 
 /// The connection has ended: its client is logged in, or it is to be closed.
@@ -44,6 +45,9 @@ pub const ENDED: u32 = 13;
 
 /// The struct of the connection is none that a call leaves.
 pub const NOT_KEPT: u32 = 14;
+
+/// The bytes complete no frame that names a user.
+pub const NAMES_NOBODY: u32 = 15;
 
 /// The message is not UTF-8.
 pub const CLIENT_UTF8_ERROR: u32 = 20;
@@ -360,6 +364,38 @@ pub struct ScramClient {
     pub keys: ClientKeys,
 }
 
+/// What a server offers, and whose record it has: lent for each call.
+#[repr(C)]
+#[derive(Clone, Copy)]
+pub struct SaslHost {
+    /// Which mechanisms are offered: the sum of 1 for SCRAM of the version, 2 for PLAIN, 4 for ANONYMOUS, and 8 for
+    /// EXTERNAL. PLAIN shows the password to whoever reads the connection, and is for TLS alone.
+    pub mechanisms: u32,
+    /// 1, 256 or 512, for the hash of SCRAM and of the record.
+    pub version: u32,
+    /// The iteration count with which PLAIN hashes the password of an unknown user.
+    pub iterations: u32,
+    /// The plain name of the user whose record is handed in.
+    pub username: *const u8,
+    pub username_len: usize,
+    /// The record of the user. Where the struct shows none of the version, nobody is known.
+    pub record: *const ScramRecord,
+    /// Whom the transport has authenticated: EXTERNAL lets in this name.
+    pub peer: *const u8,
+    pub peer_len: usize,
+}
+
+/// What a server keeps of a connection between its calls. All zeros is one of which no byte has come.
+#[repr(C)]
+#[derive(Clone, Copy)]
+pub struct SaslServer {
+    /// The connection.
+    pub connection: Connection,
+    /// What SCRAM keeps. Once a client is logged in, it names the user of any mechanism
+    /// (`fe2o3_scram_server_logged_in`); ANONYMOUS names nobody.
+    pub scram: ScramServer,
+}
+
 /// Who logs in on a connection, and by which mechanism: lent for each call, and the same for all of them.
 #[repr(C)]
 #[derive(Clone, Copy)]
@@ -508,6 +544,35 @@ extern "C" {
         out_room: usize,
         len: *mut usize) -> u32;
 
+    /// Takes bytes of the connection as they came, to the end of the header or of the frame that is due, and writes
+    /// what is to be sent, of at most 520 bytes, a room that is asked for before any hash is made. What is left of the
+    /// bytes is to be handed in again while the connection stands at 0; behind a login it is AMQP's. Before it the
+    /// caller fetches the record of the user whom the bytes name (`fe2o3_sasl_server_user`), if they name one. The
+    /// nonce is 32 random bytes, fresh for each call. Where a name or a message has no room in the struct, the call is
+    /// refused by `TOO_LONG`, and the connection is to be closed.
+    pub fn fe2o3_sasl_server_receive(
+        host: *const SaslHost,
+        server: *mut SaslServer,
+        bytes: *const u8,
+        bytes_len: usize,
+        nonce: *const [u8; 32],
+        taken: *mut usize,
+        out: *mut u8,
+        out_room: usize,
+        len: *mut usize) -> u32;
+
+    /// Writes the plain name of the user whom the frame names that these bytes complete, and whose record is to be
+    /// fetched before they are taken: that of an init of SCRAM or PLAIN, and for a response that of the open challenge.
+    /// Where they complete no frame, or one that names nobody, the number is that of `NAMES_NOBODY`, and no record is
+    /// needed.
+    pub fn fe2o3_sasl_server_user(
+        server: *const SaslServer,
+        bytes: *const u8,
+        bytes_len: usize,
+        out: *mut u8,
+        out_room: usize,
+        len: *mut usize) -> u32;
+
     /// Answers a client-first message with the server-first message, which starts an exchange afresh at any time. The
     /// record is that of the user whom the message names (`fe2o3_scram_server_user`), or one that is made up
     /// (`fe2o3_scram_record_of_nobody`). The nonce is 32 random bytes, fresh for each.
@@ -556,7 +621,7 @@ extern "C" {
 
     /// How many bytes a struct has here: 0 `fe2o3_login`, 1 `fe2o3_scram_client`, 2 `fe2o3_client_keys`, 3
     /// `fe2o3_scram_server`, 4 `fe2o3_scram_record`, 5 `fe2o3_connection`, 6 `fe2o3_sasl_login`, 7 `fe2o3_sasl_client`,
-    /// 8 `fe2o3_sasl_frame_view`; of other numbers 0. A caller whose own declarations have other sizes has another
-    /// header.
+    /// 8 `fe2o3_sasl_frame_view`, 9 `fe2o3_sasl_host`, 10 `fe2o3_sasl_server`; of other numbers 0. A caller whose own
+    /// declarations have other sizes has another header.
     pub fn fe2o3_size(which: u32) -> usize;
 }

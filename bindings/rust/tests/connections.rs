@@ -134,3 +134,42 @@ fn refusals() {
     let Standing::Closed(why) = side.standing() else { panic!("the challenge is refused") };
     assert_eq!(why.scram(), Some(ScramErrorKind::ClientNonceMismatch));
 }
+
+fn joined(client: &mut ClientNegotiation, server: &mut ServerNegotiation<SingleScramCredential>) {
+    let mut to_server = ClientNegotiation::open();
+    while !to_server.is_empty() {
+        let answer = server.receive(&to_server).unwrap().sent;
+        to_server = client.receive(&answer).unwrap().sent;
+    }
+}
+
+#[test]
+fn both_sides() {
+    let plain = |password: &str| SaslProfile::Plain { username: "user".to_owned(), password: password.to_owned() };
+    let scram = |password: &str| ScramClient::new("user", password, ScramVersion::Sha256).into();
+    let all = Offers { scram: true, plain: true, anonymous: true, external: true };
+    let refused = Standing::Closed(ConnectionError::RefusedAuth);
+    for (profile, standing, user) in [
+        (scram("pencil"), Standing::LoggedIn, Some("user")),
+        (plain("pencil"), Standing::LoggedIn, Some("user")),
+        (SaslProfile::External, Standing::LoggedIn, Some("peer")),
+        (SaslProfile::Anonymous, Standing::LoggedIn, None),
+        (scram("pencils"), refused, None),
+        (plain("pencils"), refused, None),
+    ] {
+        let mut client = ClientNegotiation::new(profile, None);
+        let mut side = ServerNegotiation::new(server(ScramVersion::Sha256), all).with_peer("peer");
+        joined(&mut client, &mut side);
+        assert_eq!((client.standing(), side.standing()), (standing, standing));
+        assert_eq!(side.user().as_deref(), user);
+    }
+}
+
+#[test]
+fn a_server_that_offers_nothing() {
+    let mut side = ServerNegotiation::new(server(ScramVersion::Sha1), Offers::default());
+    assert_eq!(side.receive(HEADER), Err(ConnectionError::NoSuchMechanism));
+    let mut side = ServerNegotiation::new(server(ScramVersion::Sha1), Offers::scram());
+    assert!(side.receive(b"AMQP\0\x01\0\0").unwrap().sent.starts_with(HEADER));
+    assert_eq!(side.standing(), Standing::Closed(ConnectionError::OtherHeader));
+}

@@ -1,0 +1,135 @@
+/* Serves logins of AMQP 1.0 over TCP on the loopback, by SCRAM-SHA-256 and, as if under TLS, by PLAIN:
+ *
+ *     server USERS LOGINS
+ *
+ * USERS is a file of users, a line for each (fe2o3_scram_line writes one). It prints the port that it listens on, serves
+ * so many connections, one after another, and says of each who has logged in, or why nobody. */
+#define _POSIX_C_SOURCE 200112L
+#include "fe2o3_sasl.h"
+
+#include <arpa/inet.h>
+#include <netinet/in.h>
+#include <stdio.h>
+#include <stdlib.h>
+#include <string.h>
+#include <sys/socket.h>
+#include <unistd.h>
+
+static uint8_t users[65536], secret[32];
+static size_t users_len;
+
+static int random_bytes(uint8_t *bytes, size_t len)
+{
+    FILE *source = fopen("/dev/urandom", "rb");
+    size_t read = source == NULL ? 0 : fread(bytes, 1, len, source);
+    if (source != NULL)
+        fclose(source);
+    return read == len;
+}
+
+static int sent(int channel, const uint8_t *bytes, size_t len)
+{
+    while (len > 0) {
+        ssize_t some = send(channel, bytes, len, 0);
+        if (some <= 0)
+            return 0;
+        bytes += some;
+        len -= (size_t)some;
+    }
+    return 1;
+}
+
+/* The record of a name: that of its line, or one that is made up, so that nobody learns which names there are. */
+static void fetch(const uint8_t *name, size_t len, struct fe2o3_scram_record *record)
+{
+    size_t line = 0;
+    if (fe2o3_scram_lines_find(users, users_len, name, len, FE2O3_SHA_256, &line, record) != FE2O3_DONE)
+        fe2o3_scram_record_of_nobody(FE2O3_SHA_256, secret, sizeof secret, name, len, 16, 4096, record);
+}
+
+/* Reads and answers until a client is logged in or the connection is to be closed. Answers the number of a call that is
+ * refused, and -1 where the connection ends. */
+static int64_t serve(int channel, struct fe2o3_sasl_server *server)
+{
+    uint8_t came[4096], out[520], nonce[32], name[256];
+    size_t len = 0, at = 0, taken = 0, out_len = 0, name_len = 0;
+    while (server->connection.standing == FE2O3_WANTING) {
+        struct fe2o3_scram_record record = {0};
+        struct fe2o3_sasl_host host = {FE2O3_OFFER_SCRAM | FE2O3_OFFER_PLAIN, FE2O3_SHA_256, 4096, name, 0, &record,
+            FE2O3_NONE};
+        uint32_t status;
+        if (at == len) {
+            ssize_t some = recv(channel, came, sizeof came, 0);
+            if (some <= 0)
+                return -1;
+            len = (size_t)some;
+            at = 0;
+        }
+        status = fe2o3_sasl_server_user(server, came + at, len - at, name, sizeof name, &name_len);
+        if (status == FE2O3_DONE) {
+            fetch(name, name_len, &record);
+            host.username_len = name_len;
+        }
+        if (!random_bytes(nonce, sizeof nonce))
+            return -1;
+        status = fe2o3_sasl_server_receive(
+            &host, server, came + at, len - at, nonce, &taken, out, sizeof out, &out_len);
+        if (status != FE2O3_DONE)
+            return status;
+        at += taken;
+        if (!sent(channel, out, out_len))
+            return -1;
+    }
+    return FE2O3_DONE;
+}
+
+static void told(int64_t answer, const struct fe2o3_sasl_server *server)
+{
+    struct fe2o3_text text = FE2O3_TEXT_INIT;
+    uint8_t user[256];
+    size_t len = 0;
+    if (answer == FE2O3_DONE && fe2o3_scram_server_logged_in(&server->scram, user, sizeof user, &len) == FE2O3_DONE) {
+        printf("logged in: %.*s\n", (int)len, (const char *)user);
+        return;
+    }
+    if (answer < 0) {
+        puts("no connection");
+        return;
+    }
+    fe2o3_status_text(answer == FE2O3_DONE ? server->connection.why : (uint32_t)answer, &text);
+    printf("not logged in: %s\n", (const char *)text.bytes);
+}
+
+int main(int count, char **words)
+{
+    struct sockaddr_in address;
+    socklen_t size = sizeof address;
+    int listener, logins = count == 3 ? atoi(words[2]) : 0;
+    FILE *file = count == 3 ? fopen(words[1], "rb") : NULL;
+    if (file == NULL || logins <= 0 || !random_bytes(secret, sizeof secret)) {
+        fputs("server USERS LOGINS\n", stderr);
+        return 2;
+    }
+    users_len = fread(users, 1, sizeof users, file);
+    fclose(file);
+    memset(&address, 0, sizeof address);
+    address.sin_family = AF_INET;
+    address.sin_addr.s_addr = htonl(INADDR_LOOPBACK);
+    listener = socket(AF_INET, SOCK_STREAM, 0);
+    if (listener < 0 || bind(listener, (struct sockaddr *)&address, size) != 0 || listen(listener, 8) != 0
+        || getsockname(listener, (struct sockaddr *)&address, &size) != 0)
+        return 2;
+    printf("%u\n", (unsigned)ntohs(address.sin_port));
+    fflush(stdout);
+    while (logins-- > 0) {
+        struct fe2o3_sasl_server server = {0};
+        int channel = accept(listener, NULL, NULL);
+        int64_t answer = channel < 0 ? -1 : serve(channel, &server);
+        told(answer, &server);
+        fflush(stdout);
+        if (channel >= 0)
+            close(channel);
+    }
+    close(listener);
+    return 0;
+}
