@@ -46,3 +46,6 @@ quiet:
 
 # The library for callers in C and in Rust: lib, header, callers, install, dist.
 include bindings/callers.mk
+
+# Plugins of other libraries over it: plugin, plugin-test, plugin-logins.
+include plugins/plugins.mk

@@ -1,0 +1,399 @@
+/* SCRAM-SHA-1, SCRAM-SHA-256 and SCRAM-SHA-512 for Cyrus SASL (libsasl2), client and server, over the library of
+ * crates/sasl_c. README.md says how it is installed, and where it differs from the plugin of Cyrus SASL. */
+#define _DEFAULT_SOURCE
+#include "fe2o3_sasl.h"
+
+#include <sasl/sasl.h>
+#include <sasl/saslplug.h>
+#include <stdlib.h>
+#include <string.h>
+#include <unistd.h>
+
+/* The least count that RFC 7677, section 4, allows, which a record made at login has; and the most that is hashed. */
+#define LEAST_ITERATIONS 4096
+#define MOST_ITERATIONS 1000000
+#define SALT_LEN 16
+
+/* Those of Cyrus SASL's own plugin. Of its features HTTP alone is here: no channel is bound, no one acts for others. */
+#define SECURITY(bits) (SASL_SET_HASH_STRENGTH_BITS(bits) | SASL_SEC_NOPLAINTEXT | SASL_SEC_NOACTIVE \
+    | SASL_SEC_NOANONYMOUS | SASL_SEC_MUTUAL_AUTH)
+#define EXPORTED __attribute__((visibility("default")))
+#define UNUSED __attribute__((unused))
+
+#define BYTES(text, len) (const uint8_t *)(text), (len)
+#define ROOM(one) (one)->out, sizeof((one)->out), &(one)->out_len
+
+struct mechanism {
+    const char *name;
+    uint32_t version;
+    unsigned security;
+};
+
+enum { MECHANISMS = 3 };
+static const struct mechanism mechanisms[MECHANISMS] = {
+    {"SCRAM-SHA-512", FE2O3_SHA_512, SECURITY(512)},
+    {"SCRAM-SHA-256", FE2O3_SHA_256, SECURITY(256)},
+    {"SCRAM-SHA-1", FE2O3_SHA_1, SECURITY(160)},
+};
+
+/* Which message is due of this side. An exchange that was refused has ended. */
+enum due { FIRST, SECOND, THIRD, ENDED };
+
+/* Either side of an exchange, and the message that it wrote last. */
+struct exchange {
+    const struct mechanism *mechanism;
+    enum due due;
+    int asked;
+    struct fe2o3_scram_client client;
+    struct fe2o3_scram_server server;
+    struct fe2o3_scram_record record;
+    size_t password_len, out_len;
+    char password[1024];
+    uint8_t out[4096];
+};
+
+/* The salts that go with passwords are made of it, so that a name keeps its salt as long as the process lives. */
+static uint8_t secret[32];
+
+static int code_of(uint32_t status)
+{
+    switch (status) {
+    case FE2O3_OUT_OF_MEMORY: return SASL_NOMEM;
+    case FE2O3_ROOM_TOO_SMALL: case FE2O3_TOO_LONG: return SASL_BUFOVER;
+    case FE2O3_NOT_PRINTABLE: return SASL_NOVERIFY;
+    case FE2O3_CLIENT_NORMALIZE_ERROR: return SASL_BADPARAM;
+    case FE2O3_CLIENT_SERVER_SIGNATURE_MISMATCH: return SASL_BADSERV;
+    case FE2O3_SERVER_AUTHENTICATION_FAILED: return SASL_BADAUTH;
+    default: return SASL_BADPROT;
+    }
+}
+
+static int refused(const struct exchange *one, const sasl_utils_t *utils, int code, const char *why)
+{
+    utils->seterror(utils->conn, 0, "%s: %s", one->mechanism->name, why);
+    return code;
+}
+
+/* The code of a status. The text of a refusal is told. */
+static int told(const struct exchange *one, const sasl_utils_t *utils, uint32_t status)
+{
+    struct fe2o3_text text = FE2O3_TEXT_INIT;
+    fe2o3_status_text(status, &text);
+    return status == FE2O3_DONE ? SASL_OK : refused(one, utils, code_of(status), (const char *)text.bytes);
+}
+
+static int begin(const void *mechanism, const sasl_utils_t *utils, void **context)
+{
+    struct exchange *one = utils->calloc(1, sizeof *one);
+    if (one)
+        one->mechanism = mechanism;
+    *context = one;
+    return one ? SASL_OK : SASL_NOMEM;
+}
+
+static void dispose(void *context, const sasl_utils_t *utils)
+{
+    if (!context)
+        return;
+    utils->erasebuffer(context, sizeof(struct exchange));
+    utils->free(context);
+}
+
+static int complete(sasl_out_params_t *result)
+{
+    result->doneflag = 1;
+    result->mech_ssf = result->maxoutbuf = 0;
+    result->encode = NULL;
+    result->decode = NULL;
+    result->cbindingdisp = SASL_CB_DISP_NONE;
+    return SASL_OK;
+}
+
+/* The client. What the application is asked, and its answer. */
+struct question {
+    unsigned long id;
+    const char *prompt, *text;
+    unsigned len;
+};
+
+static int answered(struct question *one, const char *text, unsigned long len)
+{
+    one->text = text;
+    one->len = text ? (unsigned)len : 0;
+    return text || one->id == SASL_CB_USER ? SASL_OK : SASL_BADPARAM;
+}
+
+/* Takes the answer to a prompt, or else that of a callback. */
+static int ask(const sasl_utils_t *utils, const sasl_interact_t *prompts, struct question *one)
+{
+    sasl_callback_ft callback = NULL;
+    sasl_secret_t *word = NULL;
+    const char *text = NULL;
+    void *context = NULL;
+    int code;
+    for (; prompts && prompts->id != SASL_CB_LIST_END; prompts++)
+        if (prompts->id == one->id)
+            return answered(one, prompts->result, prompts->len);
+    code = utils->getcallback(utils->conn, one->id, &callback, &context);
+    if (code != SASL_OK)
+        return code == SASL_FAIL && one->id == SASL_CB_USER ? SASL_OK : code;
+    if (one->id == SASL_CB_PASS)
+        code = ((sasl_getsecret_t *)(void (*)(void))callback)(utils->conn, context, SASL_CB_PASS, &word);
+    else
+        code = ((sasl_getsimple_t *)(void (*)(void))callback)(context, (int)one->id, &text, NULL);
+    if (code != SASL_OK)
+        return code;
+    return word ? answered(one, (const char *)word->data, word->len) : answered(one, text, text ? strlen(text) : 0);
+}
+
+/* Asks everything. Prompts that are still to be answered take the place of those that were. */
+static int ask_all(const sasl_utils_t *utils, sasl_interact_t **prompts, struct question asked[3])
+{
+    sasl_interact_t open[4] = {{.id = SASL_CB_LIST_END}};
+    unsigned count = 0;
+    int code = SASL_OK;
+    for (int i = 0; code == SASL_OK && i < 3; i++) {
+        code = ask(utils, prompts ? *prompts : NULL, &asked[i]);
+        if (code == SASL_INTERACT && prompts) {
+            open[count++] = (sasl_interact_t){.id = asked[i].id, .prompt = asked[i].prompt};
+            code = SASL_OK;
+        }
+    }
+    if (prompts && *prompts) {
+        utils->free(*prompts);
+        *prompts = NULL;
+    }
+    if (code != SASL_OK || count == 0)
+        return code;
+    *prompts = utils->malloc(sizeof open);
+    if (*prompts)
+        memcpy(*prompts, open, sizeof open);
+    return *prompts ? SASL_INTERACT : SASL_NOMEM;
+}
+
+/* Learns who logs in, and keeps the password until it is used. */
+static int identify(struct exchange *one, sasl_client_params_t *params, sasl_interact_t **prompts,
+    sasl_out_params_t *result)
+{
+    const sasl_utils_t *utils = params->utils;
+    struct question asked[3] = {{SASL_CB_AUTHNAME, "Please enter your authentication name", NULL, 0},
+        {SASL_CB_USER, "Please enter your authorization name", NULL, 0},
+        {SASL_CB_PASS, "Please enter your password", NULL, 0}};
+    const struct question *name = &asked[0], *user = &asked[1], *word = &asked[2];
+    int code = ask_all(utils, prompts, asked);
+    if (code != SASL_OK)
+        return code;
+    if (name->len == 0 || memchr(name->text, 0, name->len))
+        return refused(one, utils, SASL_BADPARAM, "the name of the user is empty, or has a zero byte");
+    if (user->len > 0 && (user->len != name->len || memcmp(user->text, name->text, name->len) != 0))
+        return refused(one, utils, SASL_NOAUTHZ, "an authorization identity is not supported");
+    if (word->len > sizeof one->password)
+        return refused(one, utils, SASL_BUFOVER, "the password is too long");
+    memcpy(one->password, word->text, word->len);
+    one->password_len = word->len;
+    return params->canon_user(utils->conn, name->text, name->len, SASL_CU_AUTHID | SASL_CU_AUTHZID, result);
+}
+
+/* Writes the message that is due, or believes the server. */
+static int client_answer(struct exchange *one, enum due due, const sasl_utils_t *utils, const sasl_out_params_t *who,
+    const char *in, unsigned in_len)
+{
+    static const struct fe2o3_client_keys no_keys;
+    const struct fe2o3_login login = {one->mechanism->version, 0, LEAST_ITERATIONS, MOST_ITERATIONS,
+        BYTES(who->authid, who->alen), BYTES(one->password, one->password_len), &no_keys};
+    uint8_t nonce[32];
+    switch (due) {
+    case FIRST:
+        if (getentropy(nonce, sizeof nonce) != 0)
+            return refused(one, utils, SASL_FAIL, "there are no random bytes");
+        return told(one, utils, fe2o3_scram_client_first(&login, &one->client, nonce, ROOM(one)));
+    case SECOND:
+        return told(one, utils, fe2o3_scram_client_final(&login, &one->client, BYTES(in, in_len), ROOM(one)));
+    case THIRD:
+        if (in_len >= 2 && memcmp(in, "e=", 2) == 0)
+            return refused(one, utils, SASL_BADAUTH, "the server has refused the login");
+        return told(one, utils, fe2o3_scram_client_verify(&login, &one->client, BYTES(in, in_len)));
+    default:
+        return refused(one, utils, SASL_FAIL, "the exchange has ended");
+    }
+}
+
+static int client_step(void *context, sasl_client_params_t *params, const char *in, unsigned in_len,
+    sasl_interact_t **prompts, const char **out, unsigned *out_len, sasl_out_params_t *result)
+{
+    struct exchange *one = context;
+    enum due due = one->due;
+    int code = due == FIRST ? identify(one, params, prompts, result) : SASL_OK;
+    if (code == SASL_INTERACT)
+        return code;
+    one->due = ENDED;
+    if (code == SASL_OK)
+        code = client_answer(one, due, params->utils, result, in ? in : "", in_len);
+    if (code != SASL_OK || due == SECOND)
+        params->utils->erasebuffer(one->password, sizeof one->password);
+    if (code != SASL_OK || due == THIRD)
+        return code == SASL_OK ? complete(result) : code;
+    one->due = due + 1;
+    *out = (const char *)one->out;
+    *out_len = (unsigned)one->out_len;
+    return SASL_CONTINUE;
+}
+
+static int client_new(void *mechanism, sasl_client_params_t *params, void **context)
+{
+    return begin(mechanism, params->utils, context);
+}
+
+EXPORTED int sasl_client_plug_init(const sasl_utils_t *utils UNUSED, int most, int *version,
+    sasl_client_plug_t **list, int *count)
+{
+    static sasl_client_plug_t plugs[MECHANISMS];
+    for (int i = 0; i < MECHANISMS; i++)
+        plugs[i] = (sasl_client_plug_t){.mech_name = mechanisms[i].name, .security_flags = mechanisms[i].security,
+            .features = SASL_FEAT_SUPPORTS_HTTP, .glob_context = (void *)&mechanisms[i], .mech_new = client_new,
+            .mech_step = client_step, .mech_dispose = dispose};
+    *version = SASL_CLIENT_PLUG_VERSION;
+    *list = plugs;
+    *count = MECHANISMS;
+    return most < SASL_CLIENT_PLUG_VERSION ? SASL_BADVERS : SASL_OK;
+}
+
+/* The server. The option scram_iteration_counter, where it is a count that a client of this plugin takes. */
+static uint32_t iterations(const sasl_utils_t *utils, const char *mechanism)
+{
+    const char *text = NULL;
+    char *end = NULL;
+    unsigned long count;
+    utils->getopt(utils->getopt_context, mechanism, "scram_iteration_counter", &text, NULL);
+    count = text ? strtoul(text, &end, 10) : LEAST_ITERATIONS;
+    if (!text || (*end == 0 && count >= LEAST_ITERATIONS && count <= MOST_ITERATIONS))
+        return (uint32_t)count;
+    utils->log(utils->conn, SASL_LOG_WARN, "%s: scram_iteration_counter is not from %d to %d, and %d is taken",
+        mechanism, LEAST_ITERATIONS, MOST_ITERATIONS, LEAST_ITERATIONS);
+    return LEAST_ITERATIONS;
+}
+
+/* Makes the record of a password, with the salt that a made-up record has for the name. */
+static int from_password(struct exchange *one, const sasl_utils_t *utils, const char *password,
+    const sasl_out_params_t *who)
+{
+    uint32_t version = one->mechanism->version, count = iterations(utils, one->mechanism->name), status;
+    uint8_t salt[SALT_LEN];
+    if (*password == 0)
+        return refused(one, utils, SASL_NOVERIFY, "the password of the user is empty");
+    status = fe2o3_scram_record_of_nobody(
+        version, secret, sizeof secret, BYTES(who->authid, who->alen), SALT_LEN, count, &one->record);
+    memcpy(salt, one->record.salt, SALT_LEN);
+    if (status == FE2O3_DONE)
+        status = fe2o3_scram_record_make(
+            version, BYTES(password, strlen(password)), salt, SALT_LEN, count, &one->record);
+    return told(one, utils, status);
+}
+
+/* Fetches what the server knows of a user: the password, or else the record of it for this mechanism. */
+static int look_up(struct exchange *one, sasl_server_params_t *params, const char *name, size_t name_len,
+    sasl_out_params_t *result)
+{
+    static const char *wanted[] = {SASL_AUX_PASSWORD, "*authPassword", NULL};
+    const sasl_utils_t *utils = params->utils;
+    struct propval found[3] = {{0}};
+    const char **stored;
+    int code = utils->prop_request(params->propctx, wanted);
+    if (code == SASL_OK)
+        code = params->canon_user(utils->conn, name, (unsigned)name_len, SASL_CU_AUTHID | SASL_CU_AUTHZID, result);
+    if (code != SASL_OK)
+        return code;
+    if (utils->prop_getnames(params->propctx, wanted, found) < 0)
+        return refused(one, utils, SASL_FAIL, "the properties of the user cannot be read");
+    if (found[0].values && found[0].values[0]) {
+        code = from_password(one, utils, found[0].values[0], result);
+        utils->prop_erase(params->propctx, SASL_AUX_PASSWORD);
+        return code;
+    }
+    for (stored = found[1].values; stored && *stored; stored++)
+        if (fe2o3_scram_record_parse(BYTES(*stored, strlen(*stored)), &one->record) == FE2O3_DONE
+            && one->record.version == one->mechanism->version)
+            return SASL_OK;
+    return refused(one, utils, params->transition ? SASL_TRANS : stored ? SASL_NOVERIFY : SASL_NOUSER, "no secret");
+}
+
+/* Why a client-first message is refused that does not begin with "n,,". */
+static const char *why_header(const char *in, unsigned in_len)
+{
+    if (in_len >= 2 && (memcmp(in, "p=", 2) == 0 || memcmp(in, "y,", 2) == 0))
+        return "channel binding is not supported";
+    if (in_len >= 4 && memcmp(in, "n,a=", 4) == 0)
+        return "an authorization identity is not supported";
+    return "the message does not begin with n,,";
+}
+
+static int server_first(struct exchange *one, sasl_server_params_t *params, const char *in, unsigned in_len,
+    sasl_out_params_t *result)
+{
+    const sasl_utils_t *utils = params->utils;
+    uint8_t name[sizeof one->server.user + 1], nonce[32];
+    size_t len = 0;
+    uint32_t status = fe2o3_scram_server_user(BYTES(in, in_len), name, sizeof name - 1, &len);
+    int code;
+    if (status == FE2O3_SERVER_CANNOT_PARSE_GS2_HEADER)
+        return refused(one, utils, SASL_BADPROT, why_header(in, in_len));
+    if (status != FE2O3_DONE)
+        return told(one, utils, status);
+    if (len == 0 || memchr(name, 0, len))
+        return refused(one, utils, SASL_BADPROT, "the name of the user is empty, or has a zero byte");
+    name[len] = 0;
+    code = look_up(one, params, (const char *)name, len, result);
+    if (code == SASL_OK && getentropy(nonce, sizeof nonce) != 0)
+        code = refused(one, utils, SASL_FAIL, "there are no random bytes");
+    if (code != SASL_OK)
+        return code;
+    return told(one, utils, fe2o3_scram_server_first(&one->record, &one->server, nonce, BYTES(in, in_len), ROOM(one)));
+}
+
+static int server_step(void *context, sasl_server_params_t *params, const char *in, unsigned in_len,
+    const char **out, unsigned *out_len, sasl_out_params_t *result)
+{
+    struct exchange *one = context;
+    enum due due = one ? one->due : ENDED;
+    int code = SASL_FAIL;
+    if (!one)
+        return SASL_BADPROT;
+    if (due == FIRST && in_len == 0 && one->asked++ == 0)
+        return SASL_CONTINUE;
+    one->due = ENDED;
+    if (due == FIRST)
+        code = server_first(one, params, in ? in : "", in_len, result);
+    else if (due == SECOND)
+        code = told(one, params->utils,
+            fe2o3_scram_server_final(&one->record, &one->server, BYTES(in ? in : "", in_len), ROOM(one)));
+    if (code != SASL_OK)
+        return code;
+    *out = (const char *)one->out;
+    *out_len = (unsigned)one->out_len;
+    if (due == SECOND)
+        return complete(result);
+    one->due = SECOND;
+    return SASL_CONTINUE;
+}
+
+static int server_new(void *mechanism, sasl_server_params_t *params, const char *challenge UNUSED,
+    unsigned challenge_len UNUSED, void **context)
+{
+    return begin(mechanism, params->utils, context);
+}
+
+EXPORTED int sasl_server_plug_init(const sasl_utils_t *utils UNUSED, int most, int *version,
+    sasl_server_plug_t **list, int *count)
+{
+    static sasl_server_plug_t plugs[MECHANISMS];
+    for (int i = 0; i < MECHANISMS; i++)
+        plugs[i] = (sasl_server_plug_t){.mech_name = mechanisms[i].name, .security_flags = mechanisms[i].security,
+            .features = SASL_FEAT_SUPPORTS_HTTP, .glob_context = (void *)&mechanisms[i], .mech_new = server_new,
+            .mech_step = server_step, .mech_dispose = dispose};
+    *version = SASL_SERVER_PLUG_VERSION;
+    *list = plugs;
+    *count = MECHANISMS;
+    if (most < SASL_SERVER_PLUG_VERSION)
+        return SASL_BADVERS;
+    return getentropy(secret, sizeof secret) == 0 ? SASL_OK : SASL_FAIL;
+}

@@ -1,0 +1,540 @@
+/* Logins through libsasl2, client and server in one program, each side by the plugins of a folder of its own:
+ *
+ *   test_fe2o3_scram CLIENT-FOLDER ours|theirs SERVER-FOLDER ours|theirs
+ *
+ * Theirs is the SCRAM of Cyrus SASL. Prints what is not as it should be, and a count; ends with 1 where something is
+ * not. What theirs answers was read in its source, and is tested along. */
+#include <sasl/sasl.h>
+#include <sasl/saslplug.h>
+#include <sasl/saslutil.h>
+#include <stdio.h>
+#include <stdlib.h>
+#include <string.h>
+
+#define CALL(function) (int (*)(void))(void (*)(void))(function)
+
+enum side { NEITHER, CLIENT, SERVER };
+
+/* What a login has that others do not. */
+enum {
+    PROMPTS = 1, /* the client is asked by prompts */
+    MAY_BIND = 2, /* the client could bind the channel */
+    MUST_BIND = 4, /* the client has to */
+    SERVER_BINDS = 8, /* the server asks for it */
+    TWO_NAMES = 16, /* the client chooses between two mechanisms */
+    LATE = 32, /* the client's first message does not come with the mechanism */
+    SEPARATE = 64, /* the server's last message does not come with the outcome */
+    HTTP = 128,
+    PROXY = 256,
+    LAYER = 512, /* the client asks for a security layer */
+    TRANSITION = 1024, /* the server has auto_transition */
+    THEIR_CLIENT = 2048, THEIR_SERVER = 4096, OUR_SERVER = 8192 /* only where that side is so */
+};
+
+/* No code of libsasl2: the login is not tried where that side is so. */
+#define SKIP 1000
+
+struct login {
+    const char *what, *name, *user, *password;
+    /* Who refuses it, by which code where it is ours and where it is theirs, and a text of ours. */
+    enum side side;
+    int ours, theirs;
+    const char *says;
+    unsigned flags;
+    /* One of the four messages is altered: the text at its place, or where `with` is null the letter behind it. */
+    int message;
+    const char *at, *with;
+    /* The option scram_iteration_counter, and the count that an own server sends. */
+    const char *counter, *count;
+};
+
+/* The text of another sort than a name, 300 bytes long; and a password past ASCII. */
+#define TEN "0123456789"
+#define HUNDRED TEN TEN TEN TEN TEN TEN TEN TEN TEN TEN
+#define LONG HUNDRED HUNDRED HUNDRED
+#define PAST "p\xc3\xa4ssword"
+
+static const struct login logins[] = {
+    {.what = "a login", .name = "user", .password = "pencil"},
+    {.what = "by prompts", .name = "user", .password = "pencil", .flags = PROMPTS},
+    {.what = "a comma and an equals sign", .name = "a,b=c,", .password = "pen,cil="},
+    {.what = "a name that is made canonical", .name = "  user ", .password = "pencil"},
+    {.what = "past ASCII, the name", .name = "us\xc3\xa9r", .password = "pencil"},
+    {.what = "a stored record", .name = "recorded", .password = "pencil"},
+    {.what = "a stored record, by another password", .name = "recorded", .password = "pencils", .side = SERVER,
+        .ours = SASL_BADAUTH, .theirs = SASL_BADAUTH, .says = "Authentication failed"},
+    {.what = "a password beside a record", .name = "both", .password = "pen"},
+    {.what = "the record beside a password", .name = "both", .password = "pencil", .side = SERVER,
+        .ours = SASL_BADAUTH, .theirs = SASL_BADAUTH, .says = "Authentication failed"},
+    {.what = "the first message comes late", .name = "user", .password = "pencil", .flags = LATE},
+    {.what = "the last message comes apart", .name = "user", .password = "pencil", .flags = SEPARATE},
+    {.what = "for HTTP", .name = "user", .password = "pencil", .flags = HTTP},
+    {.what = "a wrong password", .name = "user", .password = "pencils", .side = SERVER,
+        .ours = SASL_BADAUTH, .theirs = SASL_BADAUTH, .says = "Authentication failed"},
+    {.what = "an empty password", .name = "user", .password = "", .side = SERVER,
+        .ours = SASL_BADAUTH, .theirs = SASL_BADAUTH, .says = "Authentication failed"},
+    {.what = "an unknown user", .name = "nobody", .password = "pencil", .side = SERVER,
+        .ours = SASL_NOUSER, .theirs = SASL_NOUSER},
+    {.what = "a user without a secret", .name = "bare", .password = "pencil", .side = SERVER,
+        .ours = SASL_NOUSER, .theirs = SASL_NOUSER, .says = "no secret"},
+    {.what = "a user without a secret, and auto_transition", .name = "bare", .password = "pencil", .side = SERVER,
+        .ours = SASL_TRANS, .theirs = SASL_TRANS, .says = "no secret", .flags = TRANSITION},
+    {.what = "records of other mechanisms", .name = "other", .password = "pencil", .side = SERVER,
+        .ours = SASL_NOVERIFY, .theirs = SASL_NOMEM, .says = "no secret"},
+    {.what = "an empty stored password", .name = "empty", .password = "", .side = SERVER,
+        .ours = SASL_NOVERIFY, .theirs = SASL_FAIL, .says = "the password of the user is empty"},
+    {.what = "past ASCII, the typed password", .name = "user", .password = PAST, .side = CLIENT,
+        .ours = SASL_BADPARAM, .theirs = SKIP, .says = "not printable ASCII"},
+    {.what = "past ASCII, the stored password", .name = "past", .password = "pencil", .side = SERVER,
+        .ours = SASL_NOVERIFY, .theirs = SASL_BADAUTH, .says = "not printable ASCII"},
+    {.what = "an empty name", .name = "", .password = "pencil", .side = CLIENT,
+        .ours = SASL_BADPARAM, .theirs = SASL_FAIL, .says = "the name of the user is empty"},
+    {.what = "a name of 300 bytes", .name = LONG, .password = "pencil", .side = SERVER,
+        .ours = SASL_BUFOVER, .theirs = SASL_NOUSER, .says = "too small"},
+    {.what = "acting as oneself", .name = "user", .user = "user", .password = "pencil", .side = SERVER,
+        .ours = SASL_BADPROT, .theirs = SASL_OK, .says = "an authorization identity", .flags = THEIR_CLIENT},
+    {.what = "acting as oneself, which needs no message", .name = "user", .user = "user", .password = "pencil",
+        .side = CLIENT, .ours = SASL_OK, .theirs = SKIP},
+    {.what = "acting as another", .name = "user", .user = "other", .password = "pencil", .side = CLIENT,
+        .ours = SASL_NOAUTHZ, .theirs = SKIP, .says = "an authorization identity"},
+    {.what = "acting as another", .name = "user", .user = "other", .password = "pencil", .side = SERVER,
+        .ours = SASL_BADPROT, .theirs = SKIP, .says = "an authorization identity", .flags = THEIR_CLIENT},
+    {.what = "a mechanism for those who act for others", .name = "user", .password = "pencil", .side = CLIENT,
+        .ours = SASL_NOMECH, .theirs = SKIP, .flags = PROXY},
+    {.what = "a security layer", .name = "user", .password = "pencil", .side = CLIENT,
+        .ours = SASL_NOMECH, .theirs = SASL_NOMECH, .flags = LAYER},
+    {.what = "a binding that may be", .name = "user", .password = "pencil", .flags = MAY_BIND},
+    {.what = "a binding that may be, and a choice", .name = "user", .password = "pencil", .side = CLIENT,
+        .ours = SASL_OK, .theirs = SKIP, .flags = MAY_BIND | TWO_NAMES},
+    {.what = "a binding that may be, and a choice", .name = "user", .password = "pencil", .side = SERVER,
+        .ours = SASL_BADPROT, .theirs = SASL_OK, .says = "channel binding",
+        .flags = MAY_BIND | TWO_NAMES | THEIR_CLIENT},
+    {.what = "a binding that has to be", .name = "user", .password = "pencil", .side = CLIENT,
+        .ours = SASL_NOMECH, .theirs = SKIP, .flags = MUST_BIND},
+    {.what = "a binding that has to be", .name = "user", .password = "pencil", .side = SERVER,
+        .ours = SASL_BADPROT, .theirs = SASL_BADPROT, .says = "channel binding", .flags = MUST_BIND | THEIR_CLIENT},
+    {.what = "a binding that the server asks for", .name = "user", .password = "pencil", .side = SERVER,
+        .ours = SASL_BADBINDING, .theirs = SASL_BADBINDING, .flags = SERVER_BINDS},
+    {.what = "another proof", .name = "user", .password = "pencil", .side = SERVER, .ours = SASL_BADAUTH,
+        .theirs = SASL_BADAUTH, .says = "Authentication failed", .message = 3, .at = ",p="},
+    {.what = "a longer proof", .name = "user", .password = "pencil", .side = SERVER, .ours = SASL_BADPROT,
+        .theirs = SASL_BADPROT, .says = "SCRAM-SHA-", .message = 3, .at = ",p=", .with = ",p=AAAA"},
+    {.what = "another nonce", .name = "user", .password = "pencil", .side = SERVER, .ours = SASL_BADPROT,
+        .theirs = SASL_BADPROT, .says = "nonce", .message = 3, .at = ",r="},
+    {.what = "another header behind the first", .name = "user", .password = "pencil", .side = SERVER,
+        .ours = SASL_BADPROT, .theirs = SASL_BADPROT, .says = "binding", .message = 3, .at = "c=biws",
+        .with = "c=eSws"},
+    {.what = "no name in the message", .name = "user", .password = "pencil", .side = SERVER, .ours = SASL_BADPROT,
+        .theirs = SASL_FAIL, .says = "the name of the user is empty", .message = 1, .at = "n=user", .with = "n="},
+    {.what = "no header", .name = "user", .password = "pencil", .side = SERVER, .ours = SASL_BADPROT,
+        .theirs = SASL_BADPROT, .says = "does not begin with n,,", .message = 1, .at = "n,,", .with = "x,,"},
+    {.what = "a mandatory extension", .name = "user", .password = "pencil", .side = SERVER, .ours = SASL_BADPROT,
+        .theirs = SASL_BADPROT, .says = "SCRAM-SHA-", .message = 1, .at = "n,,", .with = "n,,m=x,"},
+    {.what = "another nonce of the server", .name = "user", .password = "pencil", .side = CLIENT,
+        .ours = SASL_BADPROT, .theirs = SASL_BADPROT, .says = "nonce", .message = 2, .at = "r="},
+    {.what = "too few iterations", .name = "user", .password = "pencil", .side = CLIENT, .ours = SASL_BADPROT,
+        .theirs = SKIP, .says = "count too small", .message = 2, .at = "i=4096", .with = "i=4095"},
+    {.what = "too many iterations", .name = "user", .password = "pencil", .side = CLIENT, .ours = SASL_BADPROT,
+        .theirs = SASL_BADPROT, .says = "count too large", .message = 2, .at = "i=4096", .with = "i=1000001"},
+    {.what = "another signature", .name = "user", .password = "pencil", .side = CLIENT, .ours = SASL_BADSERV,
+        .theirs = SASL_BADAUTH, .says = "signature mismatch", .message = 4, .at = "v="},
+    {.what = "an error in place of a signature", .name = "user", .password = "pencil", .side = CLIENT,
+        .ours = SASL_BADAUTH, .theirs = SASL_BADPROT, .says = "the server has refused", .message = 4, .at = "v=",
+        .with = "e="},
+    {.what = "a count of the server's own", .name = "user", .password = "pencil", .counter = "10000",
+        .count = ",i=10000"},
+    {.what = "a count that is none", .name = "user", .password = "pencil", .counter = "10k", .count = ",i=4096"},
+    {.what = "a count that is too low", .name = "user", .password = "pencil", .counter = "4095", .count = ",i=4096",
+        .flags = OUR_SERVER},
+    {.what = "a count that is too high", .name = "user", .password = "pencil", .counter = "1000001",
+        .count = ",i=4096", .flags = OUR_SERVER},
+};
+
+static const struct login *now;
+static int ours_client, ours_server, differences, told;
+static const char *mechanism;
+
+/* The users of the server, in a plugin of properties that is part of this program. The records are of the password
+ * "pencil"; the salts are those of RFC 5802, section 5, and RFC 7677, section 3, and the keys are of Python's hashlib and
+ * hmac. */
+#define SHA_1 "SCRAM-SHA-1$4096:QSXCR+Q6sek8bf92$6dlGYMOdZcOPutkcNY8U2g7vK9Y=:D+CSWLOshSulAsxiupA+qs2/fTE="
+#define SHA_256 "SCRAM-SHA-256$4096:W22ZaJ0SNY7soEsUEjb6gQ==$WG5d8oPm3OtcPnkdi4Uo7BkeZkBFzpcXkuLmtbsT4qY=:" \
+    "wfPLwcE6nTWhTAmQ7tl2KeoiWGPlZqQxSrmfPwDl2dU="
+#define SHA_512 "SCRAM-SHA-512$4096:W22ZaJ0SNY7soEsUEjb6gQ==$" \
+    "6AAub3065EYRmyFpM2RNwqK+eGnrkYuEWbXn19LsEmBqzu8QaCXNc1FwpnX9NhH2hK/60dzj9DoO5DvVkOHbvg==:" \
+    "jZHbYjC1aHh0/hKbxyBuGFjDrgjgKTT1esA7awWiKcRZ0o/0b1yWEebBeSVkkCFewf91nLDfKF24mvD5nmE6rA=="
+
+static const struct user {
+    const char *name, *password, *records[4];
+} users[] = {
+    {"user", "pencil", {NULL}},
+    {"a,b=c,", "pen,cil=", {NULL}},
+    {"us\xc3\xa9r", "pencil", {NULL}},
+    {"recorded", NULL, {SHA_1, SHA_256, SHA_512}},
+    {"both", "pen", {SHA_1, SHA_256, SHA_512}},
+    {"other", NULL, {"SCRAM-SHA-224$4096:QQ==$QQ==:QQ==", "SCRAM-SHA-256$", "of another sort"}},
+    {"past", PAST, {NULL}},
+    {"empty", "", {NULL}},
+    {"bare", NULL, {NULL}},
+};
+
+static int fetch(void *context, sasl_server_params_t *params, unsigned flags, const char *name, unsigned len)
+{
+    const struct user *user = NULL;
+    struct propctx *properties = params->propctx;
+    (void)context;
+    for (size_t i = 0; i < sizeof users / sizeof users[0]; i++)
+        if (strlen(users[i].name) == len && memcmp(users[i].name, name, len) == 0)
+            user = &users[i];
+    if (!user || flags & SASL_AUXPROP_AUTHZID)
+        return user ? SASL_OK : SASL_NOUSER;
+    for (const struct propval *wanted = params->utils->prop_get(properties); wanted->name; wanted++) {
+        if (strcmp(wanted->name, SASL_AUX_PASSWORD) == 0 && user->password)
+            params->utils->prop_set(properties, wanted->name, user->password, -1);
+        if (strcmp(wanted->name, "*authPassword") == 0 && user->records[0]) {
+            params->utils->prop_set(properties, wanted->name, user->records[0], -1);
+            for (int i = 1; user->records[i]; i++)
+                params->utils->prop_set(properties, NULL, user->records[i], -1);
+        }
+    }
+    return SASL_OK;
+}
+
+static int store(void *context, sasl_server_params_t *params, struct propctx *properties, const char *name,
+    unsigned len)
+{
+    (void)context;
+    (void)params;
+    (void)name;
+    (void)len;
+    return properties ? SASL_FAIL : SASL_OK;
+}
+
+static int properties_init(const sasl_utils_t *utils, int most, int *version, sasl_auxprop_plug_t **plug,
+    const char *name)
+{
+    static char own_name[] = "in_memory";
+    static sasl_auxprop_plug_t own = {.name = own_name, .auxprop_lookup = fetch, .auxprop_store = store};
+    (void)utils;
+    (void)name;
+    *version = SASL_AUXPROP_PLUG_VERSION;
+    *plug = &own;
+    return most < SASL_AUXPROP_PLUG_VERSION ? SASL_BADVERS : SASL_OK;
+}
+
+/* What the two sides ask of their application. */
+static int get_path(void *folder, const char **path)
+{
+    *path = folder;
+    return SASL_OK;
+}
+
+static int quiet(void *context, int level, const char *message)
+{
+    (void)context;
+    if (getenv("LOUD"))
+        fprintf(stderr, "[%d] %s\n", level, message);
+    return SASL_OK;
+}
+
+static int get_option(void *context, const char *plugin, const char *option, const char **value, unsigned *len)
+{
+    (void)context;
+    *value = NULL;
+    if (strcmp(option, "auxprop_plugin") == 0)
+        *value = "in_memory";
+    else if (strcmp(option, "auto_transition") == 0 && now && now->flags & TRANSITION)
+        *value = "yes";
+    else if (strcmp(option, "scram_iteration_counter") == 0 && now && plugin && strcmp(plugin, mechanism) == 0)
+        *value = now->counter;
+    if (len && *value)
+        *len = (unsigned)strlen(*value);
+    return *value ? SASL_OK : SASL_FAIL;
+}
+
+static int get_name(void *context, int id, const char **name, unsigned *len)
+{
+    (void)context;
+    *name = id == SASL_CB_AUTHNAME ? now->name : now->user ? now->user : "";
+    if (len)
+        *len = (unsigned)strlen(*name);
+    return SASL_OK;
+}
+
+static int get_password(sasl_conn_t *conn, void *context, int id, sasl_secret_t **password)
+{
+    static sasl_secret_t *kept;
+    size_t len = strlen(now->password);
+    (void)conn;
+    (void)context;
+    (void)id;
+    free(kept);
+    kept = malloc(sizeof *kept + len);
+    if (!kept)
+        return SASL_NOMEM;
+    kept->len = len;
+    memcpy(kept->data, now->password, len + 1);
+    *password = kept;
+    return SASL_OK;
+}
+
+static sasl_callback_t client_calls[] = {{SASL_CB_GETPATH, CALL(get_path), NULL}, {SASL_CB_LOG, CALL(quiet), NULL},
+    {SASL_CB_USER, CALL(get_name), NULL}, {SASL_CB_AUTHNAME, CALL(get_name), NULL},
+    {SASL_CB_PASS, CALL(get_password), NULL}, {SASL_CB_LIST_END, NULL, NULL}};
+static sasl_callback_t prompting[] = {{SASL_CB_LOG, CALL(quiet), NULL}, {SASL_CB_USER, NULL, NULL},
+    {SASL_CB_AUTHNAME, NULL, NULL}, {SASL_CB_PASS, NULL, NULL}, {SASL_CB_LIST_END, NULL, NULL}};
+static sasl_callback_t server_calls[] = {{SASL_CB_GETPATH, CALL(get_path), NULL}, {SASL_CB_LOG, CALL(quiet), NULL},
+    {SASL_CB_GETOPT, CALL(get_option), NULL}, {SASL_CB_LIST_END, NULL, NULL}};
+
+/* A message on its way, in a block of its own. Clients of libsasl2 may read a zero behind it, which ours does not. */
+struct message {
+    char *text;
+    unsigned len;
+};
+
+static void carry(struct message *message, int which, const char *text, unsigned len, int zero)
+{
+    static char line[8192];
+    const char *at;
+    free(message->text);
+    message->text = NULL;
+    message->len = 0;
+    if (!text)
+        return;
+    memcpy(line, text, len);
+    line[len] = 0;
+    if (now->message == which && (at = strstr(line, now->at))) {
+        size_t before = (size_t)(at - line), cut = strlen(now->at), more = now->with ? strlen(now->with) : 0;
+        if (now->with) {
+            memmove(line + before + more, line + before + cut, len - before - cut + 1);
+            memcpy(line + before, now->with, more);
+            len = (unsigned)(len + more - cut);
+        } else
+            line[before + cut] = line[before + cut] == 'A' ? 'B' : 'A';
+    }
+    message->text = malloc(len + (zero ? 1 : 0));
+    if (message->text)
+        memcpy(message->text, line, len + (zero ? 1 : 0));
+    message->len = len;
+}
+
+/* How a login went: the last code of each side, what was sent, and who it was. */
+struct run {
+    int client, server;
+    char server_first[512], said[512], name[512];
+};
+
+static int start_client(sasl_conn_t *conn, const char **out, unsigned *len, const char **chosen)
+{
+    char names[64];
+    sasl_interact_t *prompts = NULL;
+    int code;
+    snprintf(names, sizeof names, "%s%s", mechanism, now->flags & TWO_NAMES ? " SCRAM-SHA-0" : "");
+    code = sasl_client_start(conn, names, &prompts, out, len, chosen);
+    if (code != SASL_INTERACT)
+        return code;
+    for (sasl_interact_t *prompt = prompts; prompt->id != SASL_CB_LIST_END; prompt++) {
+        prompt->result = prompt->id == SASL_CB_PASS ? now->password : prompt->id == SASL_CB_AUTHNAME ? now->name : "";
+        prompt->len = (unsigned)strlen(prompt->result);
+    }
+    return sasl_client_start(conn, names, &prompts, out, len, chosen);
+}
+
+static void demand(sasl_conn_t *client, sasl_conn_t *server)
+{
+    static const unsigned char data[] = "0123";
+    static sasl_channel_binding_t binding = {.name = "tls-unique", .critical = 0, .len = 4, .data = data};
+    static sasl_channel_binding_t must = {.name = "tls-unique", .critical = 1, .len = 4, .data = data};
+    static sasl_http_request_t request = {.method = "GET", .uri = "/", .entity = (const unsigned char *)"", .elen = 0,
+        .non_persist = 0};
+    sasl_security_properties_t properties = {0, 0, 0, 0, NULL, NULL};
+    if (now->flags & (MAY_BIND | MUST_BIND))
+        sasl_setprop(client, SASL_CHANNEL_BINDING, now->flags & MUST_BIND ? &must : &binding);
+    if (now->flags & SERVER_BINDS)
+        sasl_setprop(server, SASL_CHANNEL_BINDING, &must);
+    if (now->flags & HTTP) {
+        sasl_setprop(client, SASL_HTTP_REQUEST, &request);
+        sasl_setprop(server, SASL_HTTP_REQUEST, &request);
+    }
+    if (now->flags & LAYER) {
+        properties.min_ssf = 56;
+        properties.max_ssf = 256;
+        properties.maxbufsize = 4096;
+        sasl_setprop(client, SASL_SEC_PROPS, &properties);
+    }
+}
+
+static void converse(sasl_conn_t *client, sasl_conn_t *server, struct run *run)
+{
+    struct message to_server = {NULL, 0}, to_client = {NULL, 0};
+    const char *out = NULL, *chosen = NULL, *who = NULL, *authid = NULL;
+    unsigned len = 0;
+    int turn = 1, late = (now->flags & LATE) != 0;
+    run->server = SASL_CONTINUE;
+    run->client = start_client(client, &out, &len, &chosen);
+    if (run->client == SASL_CONTINUE && late) {
+        run->server = sasl_server_start(server, chosen, NULL, 0, &who, &len);
+        if (run->server != SASL_CONTINUE || len != 0)
+            run->server = SASL_FAIL;
+        len = (unsigned)strlen(out);
+    }
+    while (run->client == SASL_CONTINUE && run->server == SASL_CONTINUE) {
+        carry(&to_server, turn, out, len, 0);
+        run->server = turn == 1 && !late
+            ? sasl_server_start(server, chosen, to_server.text, to_server.len, &out, &len)
+            : sasl_server_step(server, to_server.text, to_server.len, &out, &len);
+        if (turn == 1 && run->server == SASL_CONTINUE)
+            snprintf(run->server_first, sizeof run->server_first, "%.*s", (int)len, out);
+        if (run->server != SASL_CONTINUE && run->server != SASL_OK)
+            break;
+        carry(&to_client, turn + 1, out, len, !ours_client);
+        run->client = sasl_client_step(client, to_client.text, to_client.len, NULL, &out, &len);
+        turn += 2;
+        if (run->client == SASL_OK && run->server == SASL_CONTINUE && now->flags & SEPARATE)
+            run->server = sasl_server_step(server, out, len, &who, &len);
+    }
+    free(to_server.text);
+    free(to_client.text);
+    if (sasl_getprop(server, SASL_USERNAME, (const void **)&who) == SASL_OK
+        && sasl_getprop(server, SASL_AUTHUSER, (const void **)&authid) == SASL_OK && strcmp(who, authid) == 0)
+        snprintf(run->name, sizeof run->name, "%s", who);
+}
+
+/* A login from its first message. Behind a refusal of ours that side answers no more. */
+static int log_in(struct run *run)
+{
+    sasl_conn_t *client = NULL, *server = NULL;
+    unsigned flags = (now->flags & SEPARATE ? 0 : SASL_SUCCESS_DATA) | (now->flags & HTTP ? SASL_NEED_HTTP : 0)
+        | (now->flags & PROXY ? SASL_NEED_PROXY : 0), len;
+    const char *out;
+    int ended = 1;
+    memset(run, 0, sizeof *run);
+    const sasl_callback_t *calls = now->flags & PROMPTS ? prompting : client_calls;
+    if (sasl_client_new("test", "localhost", NULL, NULL, calls, flags, &client) != SASL_OK
+        || sasl_server_new("test", "localhost", NULL, NULL, NULL, server_calls, flags, &server) != SASL_OK)
+        return 0;
+    demand(client, server);
+    converse(client, server, run);
+    if (run->client != SASL_OK && run->client != SASL_CONTINUE && run->client != SASL_NOMECH) {
+        snprintf(run->said, sizeof run->said, "%s", sasl_errdetail(client));
+        ended = !ours_client || sasl_client_step(client, "v=", 2, NULL, &out, &len) == SASL_FAIL;
+    } else if (run->server != SASL_OK && run->server != SASL_CONTINUE) {
+        snprintf(run->said, sizeof run->said, "%s", sasl_errdetail(server));
+        ended = !ours_server || run->server == SASL_BADBINDING
+            || sasl_server_step(server, "n,,n=user,r=abc", 15, &out, &len) == SASL_BADPROT;
+    }
+    sasl_dispose(&client);
+    sasl_dispose(&server);
+    return ended;
+}
+
+static void is_so(int so, const char *what, const struct run *run)
+{
+    told++;
+    if (so)
+        return;
+    differences++;
+    printf("DIFFERS: %s, %s: client %d, server %d, \"%s\", %s\n", mechanism, what, run->client, run->server, run->name,
+        run->said);
+}
+
+/* Whether a login went as it should. */
+static int as_said(const struct login *login, const struct run *run)
+{
+    int ours = login->side == CLIENT ? ours_client : ours_server, due = ours ? login->ours : login->theirs;
+    const char *name = login->name + strspn(login->name, " ");
+    size_t len = strcspn(name, " ");
+    if (login->side == NEITHER || due == SASL_OK)
+        return run->client == SASL_OK && run->server == SASL_OK && strlen(run->name) == len
+            && memcmp(run->name, name, len) == 0;
+    return (login->side == CLIENT ? run->client : run->server) == due
+        && (!ours || !login->says || strstr(run->said, login->says));
+}
+
+static int to_be_tried(const struct login *login)
+{
+    if ((login->flags & THEIR_CLIENT && ours_client) || (login->flags & THEIR_SERVER && ours_server)
+        || (login->flags & OUR_SERVER && !ours_server))
+        return 0;
+    return login->side == NEITHER || (login->side == CLIENT ? ours_client : ours_server) || login->theirs != SKIP;
+}
+
+static size_t salt_of(const struct run *run, const char **salt)
+{
+    *salt = strstr(run->server_first, ",s=");
+    return *salt ? strcspn(*salt + 3, ",") : 0;
+}
+
+/* A name keeps its salt, has another one than another name, and gets a nonce for each login. */
+static void salts(void)
+{
+    struct run first, second, third;
+    const char *one, *two = NULL, *three = NULL;
+    size_t len;
+    now = &logins[0];
+    log_in(&first);
+    log_in(&second);
+    now = &logins[2];
+    log_in(&third);
+    len = salt_of(&first, &one);
+    is_so(len > 0 && salt_of(&second, &two) == len && memcmp(one, two, len + 3) == 0, "a name keeps its salt", &second);
+    is_so(salt_of(&third, &three) == len && memcmp(one, three, len + 3) != 0, "another name, another salt", &third);
+    is_so(strlen(first.server_first) > 90 && strncmp(first.server_first, second.server_first, 46) != 0
+        && memcmp(one - 40, two - 40, 40) != 0, "each login has its nonces", &second);
+}
+
+/* What both plugins state of a mechanism. */
+static unsigned client_flags, server_flags, client_layer, server_layer;
+
+static void of_client(client_sasl_mechanism_t *of, sasl_info_callback_stage_t stage, void *context)
+{
+    (void)context;
+    if (stage == SASL_INFO_LIST_MECH && strcmp(of->plug->mech_name, mechanism) == 0) {
+        client_flags = of->plug->security_flags;
+        client_layer = of->plug->max_ssf;
+    }
+}
+
+static void of_server(server_sasl_mechanism_t *of, sasl_info_callback_stage_t stage, void *context)
+{
+    (void)context;
+    if (stage == SASL_INFO_LIST_MECH && strcmp(of->plug->mech_name, mechanism) == 0) {
+        server_flags = of->plug->security_flags;
+        server_layer = of->plug->max_ssf;
+    }
+}
+
+int main(int count, char **words)
+{
+    static const char *mechanisms[] = {"SCRAM-SHA-1", "SCRAM-SHA-256", "SCRAM-SHA-512"};
+    const struct run none = {0};
+    struct run run;
+    if (count != 5)
+        return 2;
+    client_calls[0].context = words[1];
+    server_calls[0].context = words[3];
+    ours_client = strcmp(words[2], "ours") == 0;
+    ours_server = strcmp(words[4], "ours") == 0;
+    if (sasl_client_init(client_calls) != SASL_OK || sasl_server_init(server_calls, "test") != SASL_OK
+        || sasl_auxprop_add_plugin("in_memory", properties_init) != SASL_OK)
+        return 3;
+    for (int which = 0; which < 3; which++) {
+        mechanism = mechanisms[which];
+        sasl_client_plugin_info(mechanism, of_client, NULL);
+        sasl_server_plugin_info(mechanism, of_server, NULL);
+        is_so(client_flags != 0 && client_flags == server_flags && client_layer == server_layer, "one strength", &none);
+        for (size_t i = 0; i < sizeof logins / sizeof logins[0]; i++) {
+            now = &logins[i];
+            if (!to_be_tried(now))
+                continue;
+            is_so(log_in(&run), "a refused exchange goes on", &run);
+            is_so(as_said(now, &run) && (!now->count || !ours_server || strstr(run.server_first, now->count)), now->what,
+                &run);
+        }
+        salts();
+    }
+    sasl_client_done();
+    sasl_server_done();
+    printf("%s to %s: %d of %d as they should be\n", words[2], words[4], told - differences, told);
+    return differences != 0;
+}
