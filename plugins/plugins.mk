@@ -32,8 +32,8 @@ build/plugins/theirs/libscram.so:
 	if [ -e $(SASL_PLUGINS)/libscram.so ]; then ln -sf $(SASL_PLUGINS)/libscram.so $@; fi
 
 plugin-test: $(PLUGINS) $(PLUGINS:%/libfe2o3_scram.so=%/test) build/plugins/theirs/libscram.so
-	nm -D --defined-only build/plugins/plain/libfe2o3_scram.so | sed 's/.* //' | LC_ALL=C sort | \
-	    { printf '%s\n' sasl_client_plug_init sasl_server_plug_init | diff - /dev/fd/3; } 3<&0
+	test "$$(nm -D --defined-only build/plugins/plain/libfe2o3_scram.so | sed 's/.* //' | LC_ALL=C sort | xargs)" = \
+	    'sasl_client_plug_init sasl_server_plug_init'
 	@for kind in plain sanitized; do \
 	    at=build/plugins; test=$$at/$$kind/test; ours="$$at/$$kind ours"; theirs="$$at/theirs theirs"; \
 	    echo "$$kind"; \

@@ -155,8 +155,8 @@ static int ours_client, ours_server, differences, told;
 static const char *mechanism;
 
 /* The users of the server, in a plugin of properties that is part of this program. The records are of the password
- * "pencil"; the salts are those of RFC 5802, section 5, and RFC 7677, section 3, and the keys are of Python's hashlib and
- * hmac. */
+ * "pencil"; the salts are those of RFC 5802, section 5, and RFC 7677, section 3, and the keys come from Python's hashlib
+ * and hmac. */
 #define SHA_1 "SCRAM-SHA-1$4096:QSXCR+Q6sek8bf92$6dlGYMOdZcOPutkcNY8U2g7vK9Y=:D+CSWLOshSulAsxiupA+qs2/fTE="
 #define SHA_256 "SCRAM-SHA-256$4096:W22ZaJ0SNY7soEsUEjb6gQ==$WG5d8oPm3OtcPnkdi4Uo7BkeZkBFzpcXkuLmtbsT4qY=:" \
     "wfPLwcE6nTWhTAmQ7tl2KeoiWGPlZqQxSrmfPwDl2dU="
@@ -528,8 +528,8 @@ int main(int count, char **words)
             if (!to_be_tried(now))
                 continue;
             is_so(log_in(&run), "a refused exchange goes on", &run);
-            is_so(as_said(now, &run) && (!now->count || !ours_server || strstr(run.server_first, now->count)), now->what,
-                &run);
+            is_so(as_said(now, &run), now->what, &run);
+            is_so(!now->count || !ours_server || strstr(run.server_first, now->count), "the server's count", &run);
         }
         salts();
     }

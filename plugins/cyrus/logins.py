@@ -1,0 +1,384 @@
+#!/usr/bin/env python3
+"""Logins of programs that use Cyrus SASL, each side by the plugin or by Cyrus SASL's own: `make plugin-logins`.
+
+Prints a table, a line for each program, pair of sides and mechanism: how many logins succeeded, and how many with a
+wrong password or an unknown name were refused. What is missing is told, and is no failure. Ends with 1 where a line is
+not as it should be. All files are in a folder of its own, all ports are free ones of 127.0.0.1, and what it starts it
+ends.
+"""
+import argparse
+import base64
+import contextlib
+import os
+import pty
+import shutil
+import signal
+import socket
+import subprocess
+import sys
+import tempfile
+import termios
+import time
+from pathlib import Path
+
+MECHANISMS = ("SCRAM-SHA-1", "SCRAM-SHA-256", "SCRAM-SHA-512")
+USERS = {"user": "pencil", "a,b=c": "pen,cil="}
+STRANGERS = (("user", "pencils"), ("a,b=c", "pencil"), ("nobody", "pencil"))
+LOGGED_IN, REFUSED = "logged in", "refused"
+TIMES = 10
+SECONDS = 60
+
+
+def program(name):
+    """The path of a program of the system, or None."""
+    return shutil.which(name, path=os.environ.get("PATH", "") + ":/usr/sbin:/sbin")
+
+
+def free_port():
+    with socket.create_server(("127.0.0.1", 0)) as listener:
+        return listener.getsockname()[1]
+
+
+def run(words, env, typed=""):
+    return subprocess.run(words, env=env, input=typed, capture_output=True, text=True, timeout=SECONDS, check=False)
+
+
+def told(done):
+    """How a program has ended."""
+    return f"status {done.returncode}: {' '.join((done.stdout + done.stderr).split())[-200:]}"
+
+
+@contextlib.contextmanager
+def started(words, env, **more):
+    """A process that is ended, and waited for, in each case."""
+    with subprocess.Popen(words, env=env, text=True, **more) as process:
+        try:
+            yield process
+        finally:
+            if process.poll() is None:
+                process.terminate()
+            try:
+                process.wait(SECONDS)
+            except subprocess.TimeoutExpired:
+                process.kill()
+
+
+class Sides:
+    """The folders of plugins, and the environment of a process with either."""
+
+    def __init__(self, at, plugins, ours, kind, proton):
+        self.at, self.kind, self.proton = at, kind, proton
+        self.configuration = at / "configuration"
+        self.configuration.mkdir()
+        for side, scram in (("ours", ours), ("theirs", plugins / "libscram.so")):
+            (at / side).mkdir()
+            for file in (scram, plugins / "libsasldb.so"):
+                if file.exists():
+                    (at / side / file.name).symlink_to(file.resolve())
+        self.has_theirs = (at / "theirs" / "libscram.so").exists()
+        self.has_sasldb = (at / "ours" / "libsasldb.so").exists()
+
+    def pairs(self):
+        return (("ours", "ours"), ("ours", "theirs"), ("theirs", "ours")) if self.has_theirs else (("ours", "ours"),)
+
+    def env(self, side):
+        env = dict(os.environ, SASL_PATH=str(self.at / side), SASL_CONF_PATH=str(self.configuration), LC_ALL="C.UTF-8")
+        env.update(LDAPNOINIT="1")
+        if self.proton:
+            env.update(LD_LIBRARY_PATH=str(self.proton.resolve()))
+        if self.kind == "sanitized":
+            compiler, report = os.environ.get("CC", "cc"), f"log_path={self.at}/report"
+            env.update(LD_PRELOAD=run([compiler, "-print-file-name=libasan.so"], env).stdout.strip())
+            env.update(ASAN_OPTIONS=f"detect_leaks=0:{report}", UBSAN_OPTIONS=report)
+        return env
+
+    def reports(self):
+        """What the sanitizers have found."""
+        return "".join(file.read_text() for file in self.at.glob("report*"))
+
+    def users(self, application, file):
+        """Writes the users into a database of Cyrus SASL, and a configuration for a program of this name."""
+        lines = f"auxprop_plugin: sasldb\nsasldb_path: {file}\nlog_level: 1\n"
+        (self.configuration / f"{application}.conf").write_text(lines)
+        for name, password in USERS.items():
+            words = [program("saslpasswd2"), "-c", "-p", "-f", str(file), name]
+            if run(words, self.env("ours"), password).returncode != 0:
+                raise OSError(f"saslpasswd2 has not made the user {name}")
+
+
+class Sample:
+    """The sample programs of Cyrus SASL, which print what they send and read what comes; this carries it over."""
+
+    name = "sasl-sample-client and -server"
+
+    def __init__(self, sides):
+        self.sides = sides
+        sides.users("sample", sides.at / "sample.db")
+
+    @staticmethod
+    def missing(sides):
+        names = ("sasl-sample-client", "sasl-sample-server", "saslpasswd2")
+        return [name for name in names if not program(name)] + ([] if sides.has_sasldb else ["libsasldb.so"])
+
+    @contextlib.contextmanager
+    def server(self, side, mechanism):
+        """There is a server for each login."""
+        yield side, mechanism
+
+    @contextlib.contextmanager
+    def talker(self, words, side):
+        """A program whose output is a terminal, so that it comes line by line; its input is none, for the password."""
+        ours, its = pty.openpty()
+        # (no carriage return before a line feed)
+        modes = termios.tcgetattr(its)
+        modes[1] &= ~termios.OPOST
+        termios.tcsetattr(its, termios.TCSANOW, modes)
+        with started(words, self.sides.env(side), stdin=subprocess.PIPE, stdout=its, stderr=subprocess.STDOUT,
+                     start_new_session=True) as process:
+            os.close(its)
+            with open(ours, "r", encoding="utf-8", errors="replace") as lines:
+                yield process, lines
+
+    @staticmethod
+    def said(lines, letter, heard):
+        """The next line that is a message, or None where there is none any more."""
+        with contextlib.suppress(OSError):
+            for line in lines:
+                heard.append(line.strip())
+                if line.startswith(letter + ": "):
+                    return line[3:].strip()
+        return None
+
+    def login(self, side, server, name, password):
+        server_side, mechanism = server
+        client = [program("sasl-sample-client"), "-m", mechanism, "-s", "sample", "-n", "localhost", "-a", name]
+        client += ["-u", ""]
+        serving = [program("sasl-sample-server"), "-s", "sample"]
+        heard = [], []
+        with self.talker(serving, server_side) as (s, from_server), self.talker(client, side) as (c, from_client):
+            typed = password + "\n"
+            with contextlib.suppress(BrokenPipeError):
+                while (message := self.said(from_server, "S", heard[1])) is not None:
+                    c.stdin.write(f"S: {message}\n{typed}")
+                    c.stdin.flush()
+                    typed = ""
+                    if (message := self.said(from_client, "C", heard[0])) is None:
+                        break
+                    s.stdin.write(f"C: {message}\n")
+                    s.stdin.flush()
+            c.stdin.close()
+            s.stdin.close()
+            self.said(from_server, "-", heard[1])
+            self.said(from_client, "-", heard[0])
+            codes = c.wait(SECONDS), s.wait(SECONDS)
+        if codes == (0, 0) and all(f"Username: {name}" in one for one in heard):
+            return LOGGED_IN
+        said = "\n".join(heard[1])
+        return REFUSED if "authentication failure" in said or "user not found" in said else f"{codes}: {heard}"
+
+
+class Proton:
+    """Qpid Proton over AMQP 1.0: a server and a client of its module for Python, and a message."""
+
+    name = "Qpid Proton (AMQP 1.0)"
+
+    def __init__(self, sides):
+        self.sides = sides
+        sides.users("proton-server", sides.at / "proton.db")
+
+    @staticmethod
+    def missing(sides):
+        if not (python := Proton.python()):
+            return ["python3-qpid-proton"]
+        words = [python, "-c", "import proton; assert proton.SASL.extended()"]
+        names = [] if run(words, sides.env("ours")).returncode == 0 else ["Proton that was built with Cyrus SASL"]
+        names += [] if program("saslpasswd2") else ["saslpasswd2"]
+        return names + ([] if sides.has_sasldb else ["libsasldb.so"])
+
+    @staticmethod
+    def python():
+        """A Python that has the module."""
+        for python in (sys.executable, "/usr/bin/python3"):
+            with contextlib.suppress(OSError):
+                if run([python, "-c", "import proton"], dict(os.environ)).returncode == 0:
+                    return python
+        return None
+
+    @contextlib.contextmanager
+    def server(self, side, mechanism):
+        port = free_port()
+        words = [self.python(), "-B", __file__, "proton-server", str(port), mechanism]
+        with started(words, self.sides.env(side), stdout=subprocess.PIPE, stderr=subprocess.PIPE) as process:
+            if process.stdout.readline() != "ready\n":
+                raise OSError(f"the server of Proton is not ready: {process.stderr.read()}")
+            yield process, port, mechanism
+
+    def login(self, side, server, name, password):
+        process, port, mechanism = server
+        words = [self.python(), "-B", __file__, "proton-client", str(port), mechanism, name]
+        done = run(words, self.sides.env(side), password + "\n")
+        if done.returncode != 0 or done.stdout != "sent\n":
+            return REFUSED if "Authentication failed" in done.stderr else told(done)
+        who = process.stdout.readline()
+        return LOGGED_IN if who == f"{mechanism} {name}\n" else f"the server has named {who}"
+
+
+class OpenLdap:
+    """slapd and ldapwhoami, over users of slapd's own."""
+
+    name = "OpenLDAP"
+
+    def __init__(self, sides):
+        self.sides = sides
+        self.file = sides.at / "slapd.conf"
+        data = sides.at / "slapd"
+        data.mkdir()
+        self.file.write_text(
+            "include /etc/ldap/schema/core.schema\ninclude /etc/ldap/schema/cosine.schema\n"
+            "modulepath /usr/lib/ldap\nmoduleload back_mdb\n"
+            f"pidfile {sides.at}/slapd.pid\nsasl-host localhost\nsasl-secprops none\n"
+            "authz-regexp uid=([^,]*),cn=[^,]*,cn=auth uid=$1,dc=example\n"
+            f'database mdb\nsuffix "dc=example"\ndirectory {data}\n'
+        )
+        entries = ["dn: dc=example\nobjectClass: dcObject\nobjectClass: organization\ndc: example\no: example\n"]
+        for name, password in USERS.items():
+            word = base64.b64encode(password.encode()).decode()
+            spelled = name.replace(",", "\\2C").replace("=", "\\3D")
+            entries.append(
+                f"dn: uid={spelled},dc=example\nobjectClass: account\nobjectClass: simpleSecurityObject\n"
+                f"uid: {name}\nuserPassword:: {word}\n"
+            )
+        done = run([program("slapadd"), "-f", str(self.file)], sides.env("ours"), "\n".join(entries))
+        if done.returncode != 0:
+            raise OSError(f"slapadd: {done.stderr}")
+
+    @staticmethod
+    def missing(_):
+        return [name for name in ("slapd", "slapadd", "ldapwhoami") if not program(name)]
+
+    @contextlib.contextmanager
+    def server(self, side, mechanism):
+        port = free_port()
+        words = [program("slapd"), "-f", str(self.file), "-h", f"ldap://127.0.0.1:{port}", "-d", "0"]
+        with started(words, self.sides.env(side), stdout=subprocess.DEVNULL, stderr=subprocess.DEVNULL) as process:
+            for _ in range(200):
+                with contextlib.suppress(OSError), socket.create_connection(("127.0.0.1", port), 1):
+                    break
+                if process.poll() is not None:
+                    raise OSError("slapd has ended")
+                time.sleep(0.05)
+            yield port, mechanism
+
+    def login(self, side, server, name, password):
+        port, mechanism = server
+        words = [program("ldapwhoami"), "-H", f"ldap://127.0.0.1:{port}", "-Q", "-Y", mechanism, "-U", name]
+        done = run([*words, "-w", password], self.sides.env(side))
+        spelled = name.replace(",", "\\2C").replace("=", "\\3D")
+        if done.returncode == 0 and done.stdout.lower() == f"dn:uid={spelled},dc=example\n".lower():
+            return LOGGED_IN
+        # (LDAP_INVALID_CREDENTIALS, and LDAP_OTHER, which slapd answers to a name that it does not have)
+        return REFUSED if done.returncode in (49, 80) else told(done)
+
+
+def cell(one, client, server, mechanism):
+    """How many logins succeed, how many of strangers are refused, and what else there was."""
+    logged_in, refused, others = 0, 0, []
+    with one.server(server, mechanism) as serving:
+        for name, password in [user for user in USERS.items() for _ in range(TIMES)]:
+            how = one.login(client, serving, name, password)
+            logged_in += how == LOGGED_IN
+            others += [] if how == LOGGED_IN else [how]
+        for name, password in STRANGERS:
+            how = one.login(client, serving, name, password)
+            refused += how == REFUSED
+            others += [] if how == REFUSED else [how]
+    return logged_in, refused, others
+
+
+def table(sides):
+    """Prints the table, and answers how many lines are not as they should be."""
+    differ = 0
+    for kind in (Sample, Proton, OpenLdap):
+        if missing := kind.missing(sides):
+            print(f"{kind.name}: not tried, since there is no {', '.join(missing)}")
+            continue
+        one = kind(sides)
+        for client, server, mechanism in [(*pair, mechanism) for pair in sides.pairs() for mechanism in MECHANISMS]:
+            logged_in, refused, others = cell(one, client, server, mechanism)
+            differ += bool(others)
+            print(f"{kind.name:31}{client:>7} to {server:7}{mechanism:14}{logged_in} of {TIMES * len(USERS)} logins, "
+                  f"{refused} of {len(STRANGERS)} refused", flush=True)
+            for other in dict.fromkeys(others):
+                print(f"DIFFERS, {others.count(other)} times: {other}", flush=True)
+    if reports := sides.reports():
+        print(reports)
+    return differ + bool(reports)
+
+
+def proton_server(port, mechanism):
+    from proton.handlers import MessagingHandler
+    from proton.reactor import Container
+
+    class Server(MessagingHandler):
+        def on_start(self, event):
+            event.container.listen(f"127.0.0.1:{port}")
+            print("ready", flush=True)
+
+        def on_connection_bound(self, event):
+            event.transport.require_auth(True)
+            sasl = event.transport.sasl()
+            sasl.config_name("proton-server")
+            sasl.allowed_mechs(mechanism)
+
+        def on_link_opening(self, event):
+            event.link.target.address = event.link.remote_target.address
+
+        def on_message(self, event):
+            sasl = event.transport.sasl()
+            if event.message.body == "a message":
+                print(sasl.mech, sasl.user, flush=True)
+
+    signal.signal(signal.SIGTERM, lambda *_: os._exit(0))
+    Container(Server()).run()
+
+
+def proton_client(port, mechanism, name):
+    from proton import Message
+    from proton.utils import BlockingConnection
+
+    password = sys.stdin.readline().rstrip("\n")
+    connection = BlockingConnection(
+        f"127.0.0.1:{port}", timeout=20, user=name, password=password, allowed_mechs=mechanism, reconnect=False)
+    connection.create_sender("here").send(Message(body="a message"))
+    print("sent", flush=True)
+    connection.close()
+
+
+def main():
+    if sys.argv[1:2] == ["proton-server"]:
+        return proton_server(sys.argv[2], sys.argv[3])
+    if sys.argv[1:2] == ["proton-client"]:
+        return proton_client(*sys.argv[2:5])
+    asked = argparse.ArgumentParser(description=__doc__, formatter_class=argparse.RawDescriptionHelpFormatter)
+    asked.add_argument("--plugins", type=Path, required=True, help="the folder of the system's plugins")
+    asked.add_argument("--ours", type=Path, default=Path("build/plugins"), help="the folder of plain/ and sanitized/")
+    asked.add_argument("--proton", type=Path, help="the folder of a library of Proton with Cyrus SASL")
+    asked = asked.parse_args()
+    differ = 0
+    for kind in ("plain", "sanitized"):
+        if not (asked.ours / kind / "libfe2o3_scram.so").exists():
+            print(f"There is no {kind} plugin in {asked.ours}.")
+            differ += 1
+            continue
+        print(f"The plugin, {kind}:")
+        with tempfile.TemporaryDirectory() as folder:
+            ours = asked.ours / kind / "libfe2o3_scram.so"
+            sides = Sides(Path(folder), asked.plugins, ours, kind, asked.proton)
+            if not sides.has_theirs:
+                print(f"There is no libscram.so in {asked.plugins}: both sides are ours.")
+            differ += table(sides)
+    return 1 if differ else 0
+
+
+if __name__ == "__main__":
+    sys.exit(main())
