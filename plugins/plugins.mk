@@ -2,9 +2,11 @@
 # libsasl2-dev, and the tests what is named at each; the gate needs none of it.
 #
 #   make plugin         SCRAM for Cyrus SASL, build/plugins/plain/libfe2o3_scram.so
-#   make plugin-test    logins through libsasl2 in one program, plain and under the sanitizers, either side also by Cyrus
-#                       SASL's own SCRAM, where Debian's libsasl2-modules has it
-#   make plugin-logins  logins of programs that use Cyrus SASL, each side ours and theirs; it tells what is missing
+#   make plugin-test    logins through libsasl2 in one program, plain and under the sanitizers, either side also by
+#                       Cyrus SASL's own SCRAM, where Debian's libsasl2-modules has it
+#   make plugin-logins  logins of programs that use Cyrus SASL, each side ours and theirs, of Debian's sasl2-bin,
+#                       python3-qpid-proton, slapd and ldap-utils; it tells what is missing. PROTON is a folder with a
+#                       library of Proton that was built with Cyrus SASL, which Debian's own is not
 SASL_PLUGINS ?= $(shell pkg-config --variable=libdir libsasl2)/sasl2
 PLUGIN = plugins/cyrus/fe2o3_scram.c
 PLUGIN_TEST = plugins/cyrus/test_fe2o3_scram.c
@@ -46,4 +48,4 @@ plugin-test: $(PLUGINS) $(PLUGINS:%/libfe2o3_scram.so=%/test) build/plugins/thei
 	done
 
 plugin-logins: $(PLUGINS)
-	python3 -B plugins/cyrus/logins.py --plugins $(SASL_PLUGINS)
+	python3 -B plugins/cyrus/logins.py --plugins $(SASL_PLUGINS) $(if $(PROTON),--proton $(PROTON))

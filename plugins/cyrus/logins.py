@@ -9,6 +9,7 @@ ends.
 import argparse
 import base64
 import contextlib
+import functools
 import os
 import pty
 import shutil
@@ -24,6 +25,7 @@ from pathlib import Path
 MECHANISMS = ("SCRAM-SHA-1", "SCRAM-SHA-256", "SCRAM-SHA-512")
 USERS = {"user": "pencil", "a,b=c": "pen,cil="}
 STRANGERS = (("user", "pencils"), ("a,b=c", "pencil"), ("nobody", "pencil"))
+RECORDED = "pen of lead"
 LOGGED_IN, REFUSED = "logged in", "refused"
 TIMES = 10
 SECONDS = 60
@@ -32,6 +34,11 @@ SECONDS = 60
 def program(name):
     """The path of a program of the system, or None."""
     return shutil.which(name, path=os.environ.get("PATH", "") + ":/usr/sbin:/sbin")
+
+
+def recorded(mechanism):
+    """The user of whom there is a record for this mechanism alone, and no password."""
+    return f"recorded-{mechanism}"
 
 
 def free_port():
@@ -97,13 +104,23 @@ class Sides:
         return "".join(file.read_text() for file in self.at.glob("report*"))
 
     def users(self, application, file):
-        """Writes the users into a database of Cyrus SASL, and a configuration for a program of this name."""
+        """Writes the users into a database of Cyrus SASL, and a configuration for a program of this name.
+
+        Cyrus SASL's own plugin writes a record for each mechanism, of a user who has no password there.
+        """
         lines = f"auxprop_plugin: sasldb\nsasldb_path: {file}\nlog_level: 1\n"
         (self.configuration / f"{application}.conf").write_text(lines)
         for name, password in USERS.items():
-            words = [program("saslpasswd2"), "-c", "-p", "-f", str(file), name]
-            if run(words, self.env("ours"), password).returncode != 0:
-                raise OSError(f"saslpasswd2 has not made the user {name}")
+            self.user(file, name, password, "ours")
+        for mechanism in MECHANISMS if self.has_theirs else ():
+            making = f"{lines}mech_list: {mechanism}\nscram_secret_generate: yes\n"
+            (self.configuration / "records.conf").write_text(making)
+            self.user(file, recorded(mechanism), RECORDED, "theirs", "-a", "records", "-n")
+
+    def user(self, file, name, password, side, *more):
+        words = [program("saslpasswd2"), "-c", "-p", "-f", str(file), *more, name]
+        if run(words, self.env(side), password).returncode != 0:
+            raise OSError(f"saslpasswd2 has not made the user {name}")
 
 
 class Sample:
@@ -112,7 +129,7 @@ class Sample:
     name = "sasl-sample-client and -server"
 
     def __init__(self, sides):
-        self.sides = sides
+        self.sides, self.has_records = sides, sides.has_theirs
         sides.users("sample", sides.at / "sample.db")
 
     @staticmethod
@@ -183,7 +200,7 @@ class Proton:
     name = "Qpid Proton (AMQP 1.0)"
 
     def __init__(self, sides):
-        self.sides = sides
+        self.sides, self.has_records = sides, sides.has_theirs
         sides.users("proton-server", sides.at / "proton.db")
 
     @staticmethod
@@ -206,21 +223,29 @@ class Proton:
 
     @contextlib.contextmanager
     def server(self, side, mechanism):
-        port = free_port()
-        words = [self.python(), "-B", __file__, "proton-server", str(port), mechanism]
-        with started(words, self.sides.env(side), stdout=subprocess.PIPE, stderr=subprocess.PIPE) as process:
+        """A server, and a client of the other side once there is a login."""
+        port, python, pipe = free_port(), self.python(), subprocess.PIPE
+        words = [python, "-B", __file__, "proton-server", str(port), mechanism]
+        with started(words, self.sides.env(side), stdout=pipe) as process, contextlib.ExitStack() as clients:
             if process.stdout.readline() != "ready\n":
-                raise OSError(f"the server of Proton is not ready: {process.stderr.read()}")
-            yield process, port, mechanism
+                raise OSError("the server of Proton is not ready")
+            words = [python, "-B", __file__, "proton-client", str(port), mechanism]
+
+            @functools.cache
+            def client(side):
+                return clients.enter_context(started(words, self.sides.env(side), stdin=pipe, stdout=pipe))
+
+            yield process, client, mechanism
 
     def login(self, side, server, name, password):
-        process, port, mechanism = server
-        words = [self.python(), "-B", __file__, "proton-client", str(port), mechanism, name]
-        done = run(words, self.sides.env(side), password + "\n")
-        if done.returncode != 0 or done.stdout != "sent\n":
-            return REFUSED if "Authentication failed" in done.stderr else told(done)
-        who = process.stdout.readline()
-        return LOGGED_IN if who == f"{mechanism} {name}\n" else f"the server has named {who}"
+        process, client, mechanism = server
+        client(side).stdin.write(f"{name}\t{password}\n")
+        client(side).stdin.flush()
+        how = client(side).stdout.readline().strip()
+        if how != "sent":
+            return REFUSED if "'Authentication failed [" in how else f"the client says {how}"
+        who = process.stdout.readline().strip()
+        return LOGGED_IN if who == f"{mechanism} {name}" else f"the server says {who}"
 
 
 class OpenLdap:
@@ -229,7 +254,7 @@ class OpenLdap:
     name = "OpenLDAP"
 
     def __init__(self, sides):
-        self.sides = sides
+        self.sides, self.has_records = sides, False
         self.file = sides.at / "slapd.conf"
         data = sides.at / "slapd"
         data.mkdir()
@@ -281,18 +306,17 @@ class OpenLdap:
 
 
 def cell(one, client, server, mechanism):
-    """How many logins succeed, how many of strangers are refused, and what else there was."""
-    logged_in, refused, others = 0, 0, []
+    """How many of how many logins succeed, how many of those of strangers are refused, and what else there was."""
+    users, strangers, counts, others = dict(USERS), list(STRANGERS), [], []
+    if one.has_records:
+        users[recorded(mechanism)] = RECORDED
+        strangers.append((recorded(mechanism), "pencil"))
     with one.server(server, mechanism) as serving:
-        for name, password in [user for user in USERS.items() for _ in range(TIMES)]:
-            how = one.login(client, serving, name, password)
-            logged_in += how == LOGGED_IN
-            others += [] if how == LOGGED_IN else [how]
-        for name, password in STRANGERS:
-            how = one.login(client, serving, name, password)
-            refused += how == REFUSED
-            others += [] if how == REFUSED else [how]
-    return logged_in, refused, others
+        for tried, due in (([user for user in users.items() for _ in range(TIMES)], LOGGED_IN), (strangers, REFUSED)):
+            hows = [one.login(client, serving, name, password) for name, password in tried]
+            others += [how for how in hows if how != due]
+            counts.append((hows.count(due), len(hows)))
+    return *counts, others
 
 
 def table(sides):
@@ -306,8 +330,8 @@ def table(sides):
         for client, server, mechanism in [(*pair, mechanism) for pair in sides.pairs() for mechanism in MECHANISMS]:
             logged_in, refused, others = cell(one, client, server, mechanism)
             differ += bool(others)
-            print(f"{kind.name:31}{client:>7} to {server:7}{mechanism:14}{logged_in} of {TIMES * len(USERS)} logins, "
-                  f"{refused} of {len(STRANGERS)} refused", flush=True)
+            counts = "{} of {} logins, {} of {} refused".format(*logged_in, *refused)
+            print(f"{kind.name:31}{client:>7} to {server:7}{mechanism:14}{counts}", flush=True)
             for other in dict.fromkeys(others):
                 print(f"DIFFERS, {others.count(other)} times: {other}", flush=True)
     if reports := sides.reports():
@@ -342,23 +366,27 @@ def proton_server(port, mechanism):
     Container(Server()).run()
 
 
-def proton_client(port, mechanism, name):
-    from proton import Message
+def proton_client(port, mechanism):
+    """A login, and a message, for each line of a name and a password."""
+    from proton import ConnectionException, Message
     from proton.utils import BlockingConnection
 
-    password = sys.stdin.readline().rstrip("\n")
-    connection = BlockingConnection(
-        f"127.0.0.1:{port}", timeout=20, user=name, password=password, allowed_mechs=mechanism, reconnect=False)
-    connection.create_sender("here").send(Message(body="a message"))
-    print("sent", flush=True)
-    connection.close()
+    for name, password in (line.rstrip("\n").split("\t") for line in sys.stdin):
+        try:
+            connection = BlockingConnection(
+                f"127.0.0.1:{port}", timeout=20, user=name, password=password, allowed_mechs=mechanism, reconnect=False)
+            connection.create_sender("here").send(Message(body="a message"))
+            connection.close()
+            print("sent", flush=True)
+        except ConnectionException as fault:
+            print(" ".join(str(fault).split()), flush=True)
 
 
 def main():
     if sys.argv[1:2] == ["proton-server"]:
         return proton_server(sys.argv[2], sys.argv[3])
     if sys.argv[1:2] == ["proton-client"]:
-        return proton_client(*sys.argv[2:5])
+        return proton_client(sys.argv[2], sys.argv[3])
     asked = argparse.ArgumentParser(description=__doc__, formatter_class=argparse.RawDescriptionHelpFormatter)
     asked.add_argument("--plugins", type=Path, required=True, help="the folder of the system's plugins")
     asked.add_argument("--ours", type=Path, default=Path("build/plugins"), help="the folder of plain/ and sanitized/")
