@@ -61,7 +61,7 @@ static int code_of(uint32_t status)
     case FE2O3_OUT_OF_MEMORY: return SASL_NOMEM;
     case FE2O3_ROOM_TOO_SMALL: case FE2O3_TOO_LONG: return SASL_BUFOVER;
     case FE2O3_NOT_PRINTABLE: return SASL_NOVERIFY;
-    case FE2O3_CLIENT_NORMALIZE_ERROR: return SASL_BADPARAM;
+    case FE2O3_NOT_UTF8: case FE2O3_CLIENT_NORMALIZE_ERROR: return SASL_BADPARAM;
     case FE2O3_CLIENT_SERVER_SIGNATURE_MISMATCH: return SASL_BADSERV;
     case FE2O3_SERVER_AUTHENTICATION_FAILED: return SASL_BADAUTH;
     default: return SASL_BADPROT;
@@ -74,11 +74,11 @@ static int refused(const struct exchange *one, const sasl_utils_t *utils, int co
     return code;
 }
 
-/* The code of a status. The text of a refusal is told. */
+/* The code of a status. The text of a refusal is told, and that of a typed password is plainer. */
 static int told(const struct exchange *one, const sasl_utils_t *utils, uint32_t status)
 {
     struct fe2o3_text text = FE2O3_TEXT_INIT;
-    fe2o3_status_text(status, &text);
+    fe2o3_status_text(code_of(status) == SASL_BADPARAM ? FE2O3_NOT_PRINTABLE : status, &text);
     return status == FE2O3_DONE ? SASL_OK : refused(one, utils, code_of(status), (const char *)text.bytes);
 }
 

@@ -28,7 +28,8 @@ enum {
     PROXY = 256,
     LAYER = 512, /* the client asks for a security layer */
     TRANSITION = 1024, /* the server has auto_transition */
-    THEIR_CLIENT = 2048, THEIR_SERVER = 4096, OUR_SERVER = 8192 /* only where that side is so */
+    NO_PASSWORD = 2048, /* the client's application has none to tell */
+    THEIR_CLIENT = 4096, OUR_SERVER = 8192 /* only where that side is so */
 };
 
 /* No code of libsasl2: the login is not tried where that side is so. */
@@ -48,7 +49,7 @@ struct login {
     const char *counter, *count;
 };
 
-/* The text of another sort than a name, 300 bytes long; and a password past ASCII. */
+/* Texts of 10, 100 and 300 bytes, and a password past ASCII. */
 #define TEN "0123456789"
 #define HUNDRED TEN TEN TEN TEN TEN TEN TEN TEN TEN TEN
 #define LONG HUNDRED HUNDRED HUNDRED
@@ -85,8 +86,18 @@ static const struct login logins[] = {
         .ours = SASL_NOVERIFY, .theirs = SASL_FAIL, .says = "the password of the user is empty"},
     {.what = "past ASCII, the typed password", .name = "user", .password = PAST, .side = CLIENT,
         .ours = SASL_BADPARAM, .theirs = SKIP, .says = "not printable ASCII"},
+    {.what = "past UTF-8, the typed password", .name = "user", .password = "p\xff", .side = CLIENT,
+        .ours = SASL_BADPARAM, .theirs = SKIP, .says = "not printable ASCII"},
+    {.what = "past UTF-8, the stored password", .name = "bytes", .password = "pencil", .side = SERVER,
+        .ours = SASL_NOVERIFY, .theirs = SASL_BADAUTH, .says = "not printable ASCII"},
+    {.what = "past UTF-8, the name", .name = "us\xff" "er", .password = "pencil", .side = SERVER,
+        .ours = SASL_BADPROT, .theirs = SASL_NOUSER, .says = "Invalid UTF-8"},
     {.what = "past ASCII, the stored password", .name = "past", .password = "pencil", .side = SERVER,
         .ours = SASL_NOVERIFY, .theirs = SASL_BADAUTH, .says = "not printable ASCII"},
+    {.what = "a password of 1100 bytes", .name = "user", .password = LONG LONG LONG HUNDRED HUNDRED, .side = CLIENT,
+        .ours = SASL_BUFOVER, .theirs = SKIP, .says = "the password is too long"},
+    {.what = "no password", .name = "user", .password = "", .side = CLIENT, .ours = SASL_BADPARAM,
+        .theirs = SASL_BADPARAM, .flags = NO_PASSWORD},
     {.what = "an empty name", .name = "", .password = "pencil", .side = CLIENT,
         .ours = SASL_BADPARAM, .theirs = SASL_FAIL, .says = "the name of the user is empty"},
     {.what = "a name of 300 bytes", .name = LONG, .password = "pencil", .side = SERVER,
@@ -131,7 +142,7 @@ static const struct login logins[] = {
     {.what = "a mandatory extension", .name = "user", .password = "pencil", .side = SERVER, .ours = SASL_BADPROT,
         .theirs = SASL_BADPROT, .says = "SCRAM-SHA-", .message = 1, .at = "n,,", .with = "n,,m=x,"},
     {.what = "another nonce of the server", .name = "user", .password = "pencil", .side = CLIENT,
-        .ours = SASL_BADPROT, .theirs = SASL_BADPROT, .says = "nonce", .message = 2, .at = "r="},
+        .ours = SASL_BADPROT, .theirs = SASL_BADPROT, .says = "Nonce", .message = 2, .at = "r="},
     {.what = "too few iterations", .name = "user", .password = "pencil", .side = CLIENT, .ours = SASL_BADPROT,
         .theirs = SKIP, .says = "count too small", .message = 2, .at = "i=4096", .with = "i=4095"},
     {.what = "too many iterations", .name = "user", .password = "pencil", .side = CLIENT, .ours = SASL_BADPROT,
@@ -155,8 +166,8 @@ static int ours_client, ours_server, differences, told;
 static const char *mechanism;
 
 /* The users of the server, in a plugin of properties that is part of this program. The records are of the password
- * "pencil"; the salts are those of RFC 5802, section 5, and RFC 7677, section 3, and the keys come from Python's hashlib
- * and hmac. */
+ * "pencil"; the salts are those of RFC 5802, section 5, and RFC 7677, section 3, and the keys are made by Python's
+ * hashlib and hmac. */
 #define SHA_1 "SCRAM-SHA-1$4096:QSXCR+Q6sek8bf92$6dlGYMOdZcOPutkcNY8U2g7vK9Y=:D+CSWLOshSulAsxiupA+qs2/fTE="
 #define SHA_256 "SCRAM-SHA-256$4096:W22ZaJ0SNY7soEsUEjb6gQ==$WG5d8oPm3OtcPnkdi4Uo7BkeZkBFzpcXkuLmtbsT4qY=:" \
     "wfPLwcE6nTWhTAmQ7tl2KeoiWGPlZqQxSrmfPwDl2dU="
@@ -174,6 +185,7 @@ static const struct user {
     {"both", "pen", {SHA_1, SHA_256, SHA_512}},
     {"other", NULL, {"SCRAM-SHA-224$4096:QQ==$QQ==:QQ==", "SCRAM-SHA-256$", "of another sort"}},
     {"past", PAST, {NULL}},
+    {"bytes", "p\xff", {NULL}},
     {"empty", "", {NULL}},
     {"bare", NULL, {NULL}},
 };
@@ -268,6 +280,10 @@ static int get_password(sasl_conn_t *conn, void *context, int id, sasl_secret_t 
     (void)conn;
     (void)context;
     (void)id;
+    if (now->flags & NO_PASSWORD) {
+        *password = NULL;
+        return SASL_OK;
+    }
     free(kept);
     kept = malloc(sizeof *kept + len);
     if (!kept)
@@ -453,8 +469,7 @@ static int as_said(const struct login *login, const struct run *run)
 
 static int to_be_tried(const struct login *login)
 {
-    if ((login->flags & THEIR_CLIENT && ours_client) || (login->flags & THEIR_SERVER && ours_server)
-        || (login->flags & OUR_SERVER && !ours_server))
+    if ((login->flags & THEIR_CLIENT && ours_client) || (login->flags & OUR_SERVER && !ours_server))
         return 0;
     return login->side == NEITHER || (login->side == CLIENT ? ours_client : ours_server) || login->theirs != SKIP;
 }
