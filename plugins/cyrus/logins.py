@@ -57,7 +57,7 @@ def told(done):
 
 @contextlib.contextmanager
 def started(words, env, **more):
-    """A process that is ended, and waited for, in each case."""
+    """A process that is ended, and waited for, in each case: slapd under a sanitizer does not end by itself."""
     with subprocess.Popen(words, env=env, text=True, **more) as process:
         try:
             yield process
@@ -65,7 +65,7 @@ def started(words, env, **more):
             if process.poll() is None:
                 process.terminate()
             try:
-                process.wait(SECONDS)
+                process.wait(3)
             except subprocess.TimeoutExpired:
                 process.kill()
 
@@ -273,7 +273,7 @@ class OpenLdap:
                 f"dn: uid={spelled},dc=example\nobjectClass: account\nobjectClass: simpleSecurityObject\n"
                 f"uid: {name}\nuserPassword:: {word}\n"
             )
-        done = run([program("slapadd"), "-f", str(self.file)], sides.env("ours"), "\n".join(entries))
+        done = run([program("slapadd"), "-f", str(self.file)], dict(os.environ), "\n".join(entries))
         if done.returncode != 0:
             raise OSError(f"slapadd: {done.stderr}")
 

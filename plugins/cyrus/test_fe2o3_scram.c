@@ -411,7 +411,7 @@ static void converse(sasl_conn_t *client, sasl_conn_t *server, struct run *run)
     }
     free(to_server.text);
     free(to_client.text);
-    if (sasl_getprop(server, SASL_USERNAME, (const void **)&who) == SASL_OK
+    if (run->server == SASL_OK && sasl_getprop(server, SASL_USERNAME, (const void **)&who) == SASL_OK
         && sasl_getprop(server, SASL_AUTHUSER, (const void **)&authid) == SASL_OK && strcmp(who, authid) == 0)
         snprintf(run->name, sizeof run->name, "%s", who);
 }
