@@ -29,7 +29,8 @@ enum {
     LAYER = 512, /* the client asks for a security layer */
     TRANSITION = 1024, /* the server has auto_transition */
     NO_PASSWORD = 2048, /* the client's application has none to tell */
-    THEIR_CLIENT = 4096, OUR_SERVER = 8192 /* only where that side is so */
+    NO_MEMORY = 4096, /* that side gets none for the exchange */
+    THEIR_CLIENT = 8192, OUR_SERVER = 16384 /* only where that side is so */
 };
 
 /* No code of libsasl2: the login is not tried where that side is so. */
@@ -98,6 +99,10 @@ static const struct login logins[] = {
         .ours = SASL_BUFOVER, .theirs = SKIP, .says = "the password is too long"},
     {.what = "no password", .name = "user", .password = "", .side = CLIENT, .ours = SASL_BADPARAM,
         .theirs = SASL_BADPARAM, .flags = NO_PASSWORD},
+    {.what = "no memory for the client", .name = "user", .password = "pencil", .side = CLIENT, .ours = SASL_NOMEM,
+        .theirs = SKIP, .flags = NO_MEMORY},
+    {.what = "no memory for the server", .name = "user", .password = "pencil", .side = SERVER, .ours = SASL_NOMEM,
+        .theirs = SKIP, .flags = NO_MEMORY},
     {.what = "an empty name", .name = "", .password = "pencil", .side = CLIENT,
         .ours = SASL_BADPARAM, .theirs = SASL_FAIL, .says = "the name of the user is empty"},
     {.what = "a name of 300 bytes", .name = LONG, .password = "pencil", .side = SERVER,
@@ -164,6 +169,7 @@ static const struct login logins[] = {
 static const struct login *now;
 static int ours_client, ours_server, differences, told;
 static const char *mechanism;
+static enum side refuse_memory;
 
 /* The users of the server, in a plugin of properties that is part of this program. The records are of the password
  * "pencil"; the salts are those of RFC 5802, section 5, and RFC 7677, section 3, and the keys are made by Python's
@@ -232,6 +238,12 @@ static int properties_init(const sasl_utils_t *utils, int most, int *version, sa
     *version = SASL_AUXPROP_PLUG_VERSION;
     *plug = &own;
     return most < SASL_AUXPROP_PLUG_VERSION ? SASL_BADVERS : SASL_OK;
+}
+
+/* Memory for libsasl2. The exchange is the one large block that a plugin asks for as it begins. */
+static void *zeros(size_t count, size_t size)
+{
+    return refuse_memory != NEITHER && count * size > 4096 ? NULL : calloc(count, size);
 }
 
 /* What the two sides ask of their application. */
@@ -387,7 +399,9 @@ static void converse(sasl_conn_t *client, sasl_conn_t *server, struct run *run)
     unsigned len = 0;
     int turn = 1, late = (now->flags & LATE) != 0;
     run->server = SASL_CONTINUE;
+    refuse_memory = now->flags & NO_MEMORY && now->side == CLIENT ? CLIENT : NEITHER;
     run->client = start_client(client, &out, &len, &chosen);
+    refuse_memory = now->flags & NO_MEMORY && now->side == SERVER ? SERVER : NEITHER;
     if (run->client == SASL_CONTINUE && late) {
         run->server = sasl_server_start(server, chosen, NULL, 0, &who, &len);
         if (run->server != SASL_CONTINUE || len != 0)
@@ -399,6 +413,7 @@ static void converse(sasl_conn_t *client, sasl_conn_t *server, struct run *run)
         run->server = turn == 1 && !late
             ? sasl_server_start(server, chosen, to_server.text, to_server.len, &out, &len)
             : sasl_server_step(server, to_server.text, to_server.len, &out, &len);
+        refuse_memory = NEITHER;
         if (turn == 1 && run->server == SASL_CONTINUE)
             snprintf(run->server_first, sizeof run->server_first, "%.*s", (int)len, out);
         if (run->server != SASL_CONTINUE && run->server != SASL_OK)
@@ -431,7 +446,9 @@ static int log_in(struct run *run)
         return 0;
     demand(client, server);
     converse(client, server, run);
-    if (run->client != SASL_OK && run->client != SASL_CONTINUE && run->client != SASL_NOMECH) {
+    if (now->flags & NO_MEMORY)
+        ended = 1;
+    else if (run->client != SASL_OK && run->client != SASL_CONTINUE && run->client != SASL_NOMECH) {
         snprintf(run->said, sizeof run->said, "%s", sasl_errdetail(client));
         ended = !ours_client || sasl_client_step(client, "v=", 2, NULL, &out, &len) == SASL_FAIL;
     } else if (run->server != SASL_OK && run->server != SASL_CONTINUE) {
@@ -530,6 +547,7 @@ int main(int count, char **words)
     server_calls[0].context = words[3];
     ours_client = strcmp(words[2], "ours") == 0;
     ours_server = strcmp(words[4], "ours") == 0;
+    sasl_set_alloc((sasl_malloc_t *)malloc, (sasl_calloc_t *)zeros, (sasl_realloc_t *)realloc, free);
     if (sasl_client_init(client_calls) != SASL_OK || sasl_server_init(server_calls, "test") != SASL_OK
         || sasl_auxprop_add_plugin("in_memory", properties_init) != SASL_OK)
         return 3;
