@@ -78,7 +78,7 @@ static int refused(const struct exchange *one, const sasl_utils_t *utils, int co
 static int told(const struct exchange *one, const sasl_utils_t *utils, uint32_t status)
 {
     struct fe2o3_text text = FE2O3_TEXT_INIT;
-    fe2o3_status_text(code_of(status) == SASL_BADPARAM ? FE2O3_NOT_PRINTABLE : status, &text);
+    fe2o3_status_text(status == FE2O3_CLIENT_NORMALIZE_ERROR ? FE2O3_NOT_PRINTABLE : status, &text);
     return status == FE2O3_DONE ? SASL_OK : refused(one, utils, code_of(status), (const char *)text.bytes);
 }
 
@@ -287,7 +287,7 @@ static int from_password(struct exchange *one, const sasl_utils_t *utils, const 
     if (status == FE2O3_DONE)
         status = fe2o3_scram_record_make(
             version, BYTES(password, strlen(password)), salt, SALT_LEN, count, &one->record);
-    return told(one, utils, status);
+    return told(one, utils, status == FE2O3_NOT_UTF8 ? FE2O3_NOT_PRINTABLE : status);
 }
 
 /* Fetches what the server knows of a user: the password, or else the record of it for this mechanism. */

@@ -2,7 +2,7 @@
  *
  *   test_fe2o3_scram CLIENT-FOLDER ours|theirs SERVER-FOLDER ours|theirs
  *
- * Theirs is the SCRAM of Cyrus SASL. Prints what is not as it should be, and a count; ends with 1 where something is
+ * Theirs is the SCRAM of Cyrus SASL. Prints what is not as it should be, and counts; ends with 1 where something is
  * not. What theirs answers was read in its source, and is tested along. */
 #include <sasl/sasl.h>
 #include <sasl/saslplug.h>
@@ -88,11 +88,13 @@ static const struct login logins[] = {
     {.what = "past ASCII, the typed password", .name = "user", .password = PAST, .side = CLIENT,
         .ours = SASL_BADPARAM, .theirs = SKIP, .says = "not printable ASCII"},
     {.what = "past UTF-8, the typed password", .name = "user", .password = "p\xff", .side = CLIENT,
-        .ours = SASL_BADPARAM, .theirs = SKIP, .says = "not printable ASCII"},
+        .ours = SASL_BADPARAM, .theirs = SKIP, .says = "Not UTF-8"},
     {.what = "past UTF-8, the stored password", .name = "bytes", .password = "pencil", .side = SERVER,
         .ours = SASL_NOVERIFY, .theirs = SASL_BADAUTH, .says = "not printable ASCII"},
+    {.what = "past UTF-8, the name", .name = "us\xff" "er", .password = "pencil", .side = CLIENT,
+        .ours = SASL_BADPARAM, .theirs = SKIP, .says = "Not UTF-8"},
     {.what = "past UTF-8, the name", .name = "us\xff" "er", .password = "pencil", .side = SERVER,
-        .ours = SASL_BADPROT, .theirs = SASL_NOUSER, .says = "Invalid UTF-8"},
+        .ours = SASL_BADPROT, .theirs = SASL_NOUSER, .says = "Invalid UTF-8", .flags = THEIR_CLIENT},
     {.what = "past ASCII, the stored password", .name = "past", .password = "pencil", .side = SERVER,
         .ours = SASL_NOVERIFY, .theirs = SASL_BADAUTH, .says = "not printable ASCII"},
     {.what = "a password of 1100 bytes", .name = "user", .password = LONG LONG LONG HUNDRED HUNDRED, .side = CLIENT,
@@ -167,7 +169,7 @@ static const struct login logins[] = {
 };
 
 static const struct login *now;
-static int ours_client, ours_server, differences, told;
+static int ours_client, ours_server, differences, told, exchanges;
 static const char *mechanism;
 static enum side refuse_memory;
 
@@ -439,6 +441,7 @@ static int log_in(struct run *run)
         | (now->flags & PROXY ? SASL_NEED_PROXY : 0), len;
     const char *out;
     int ended = 1;
+    exchanges++;
     memset(run, 0, sizeof *run);
     const sasl_callback_t *calls = now->flags & PROMPTS ? prompting : client_calls;
     if (sasl_client_new("test", "localhost", NULL, NULL, calls, flags, &client) != SASL_OK
@@ -568,6 +571,7 @@ int main(int count, char **words)
     }
     sasl_client_done();
     sasl_server_done();
-    printf("%s to %s: %d of %d as they should be\n", words[2], words[4], told - differences, told);
+    printf("%s to %s: %d exchanges, %d of %d things as they should be\n", words[2], words[4], exchanges,
+        told - differences, told);
     return differences != 0;
 }
