@@ -228,7 +228,7 @@ carried_comes host server moved next body reply (Some sent) (inl ends) says is =
 carried_comes host server moved next body reply (Some sent) (inr comes) says is =
     carried (Comes host Wanting) moved next (sym is) comes
 
-gives_comes : (host : Host) (server next : State) (event : Given) (spelled : Result SaslFrame Error)
+pub gives_comes : (host : Host) (server next : State) (event : Given) (spelled : Result SaslFrame Error)
     (body : List ℕ) → Comes host Wanting server
     → AcceptorGives state_machine server event spelled (Challenged body) next → Comes host Wanting next
 gives_comes host server next event (Err fault) body comes is = absurd (not_failed body fault is.0)

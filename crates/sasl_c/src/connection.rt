@@ -89,7 +89,7 @@ fn of_code(code: SaslCode) -> Status
 }
 
 /// Why a profile refuses what the server sent, as a status.
-fn of_profile(fault: ProfileError) -> Status
+pub fn of_profile(fault: ProfileError) -> Status
     ensures { result ≡ profile_status fault }
 {
     match fault {
@@ -102,7 +102,7 @@ fn of_profile(fault: ProfileError) -> Status
 }
 
 /// Why a connection is to be closed, as a status.
-fn of_closed(why: ClosedBecause) -> Status
+pub fn of_closed(why: ClosedBecause) -> Status
     ensures { result ≡ closed_status why }
 {
     match why {

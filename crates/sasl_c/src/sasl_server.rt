@@ -71,16 +71,16 @@ pub struct SaslServer {
 }
 
 /// SCRAM over the host's user.
-type Scram = ScramAuthenticator<ScramCredentials>;
+pub type Scram = ScramAuthenticator<ScramCredentials>;
 
 /// All four mechanisms.
-type All = OneOf<
+pub type All = OneOf<
     Scram,
     OneOf<PlainAuthenticator<ScramCredentials>, OneOf<SaslAnonymousMechanism, ExternalAcceptor>>,
 >;
 
 /// Those that are offered.
-type Acceptor = OffersOnly<All>;
+pub type Acceptor = OffersOnly<All>;
 
 /// Which mechanisms are offered.
 #[derive(Clone, Copy)]
@@ -220,7 +220,7 @@ impl SaslHost<'_> {
 
     /// The acceptor, in the exchange that the struct of SCRAM shows.
     #[tactic(auto, using(crate::proofs::SaslServerLemmas::acceptor))]
-    fn acceptor(&self, alloc: Global, scram: &ScramServer) -> Result<Acceptor, Status>
+    pub fn acceptor(&self, alloc: Global, scram: &ScramServer) -> Result<Acceptor, Status>
         ensures ok { IfOk result (λ acceptor. Comes self.now Wanting (state_of acceptor)
             × ShowsState scram.now Wanting (state_of acceptor)) }
         ensures err { IfErr result (λ status. status ≢ StatusOutOfMemory → IsNoHost self.now status) }
@@ -287,19 +287,18 @@ fn take_up<A: NamesUser + Drop>(
     })
 }
 
-/// The struct of SCRAM that shows how far a side is, or `None` where a text has no room in it.
+/// The struct of SCRAM that shows how far an acceptor is whose login stands so, or `None` where a text has no room in it.
 #[tactic(auto, using(crate::proofs::SaslServerLemmas::shown))]
-fn shown(side: &ServerNegotiation<Acceptor>) -> Option<ScramServer>
-    ensures { MatchOption result
-        ((scram : ScramStruct) → ¬ ShowsState scram (side_in side.now).standing (side_in side.now).state)
-        (λ scram. ShowsState scram (side_in side.now).standing (side_in side.now).state) }
+pub fn shown(standing: Standing, acceptor: &Acceptor) -> Option<ScramServer>
+    ensures { MatchOption result ((scram : ScramStruct) → ¬ ShowsState scram standing (state_of acceptor.now))
+        (λ scram. ShowsState scram standing (state_of acceptor.now)) }
 {
-    match side.standing() {
-        Standing::Wanting => match side.acceptor().acceptor().first().open_challenge() {
+    match standing {
+        Standing::Wanting => match acceptor.acceptor().first().open_challenge() {
             Some(challenge) => ScramServer::of(&challenge),
             None => Some(ScramServer::fresh()),
         },
-        Standing::LoggedIn => match side.user() {
+        Standing::LoggedIn => match acceptor.user() {
             Some(user) => ScramServer::logged_in(user),
             None => Some(ScramServer::fresh()),
         },
@@ -324,7 +323,7 @@ impl SaslServer {
         let Some(connection) = kept_in(side) else {
             return None;
         };
-        let Some(scram) = shown(side) else {
+        let Some(scram) = shown(side.standing(), side.acceptor()) else {
             return None;
         };
         Some(SaslServer { connection, scram })
@@ -538,7 +537,7 @@ fn frame_user(
 
 /// The user whom a body in turn names, or `None` where it names nobody. `OutOfMemory` is the only refusal.
 #[tactic(auto, using(crate::proofs::ServerUserLemmas::body_user))]
-fn body_user(
+pub fn body_user(
     alloc: Global,
     scram: &ScramServer,
     turn: Turn,
