@@ -20,7 +20,7 @@ use Rattle.sasl_c.specs.declared.status.Status.TheVariants as statuses
 use Rattle.sasl_c.specs.Connection.{profile_status}
 use Rattle.sasl_c.specs.SaslClient.{Comes as LoginComes, HasNoHostname, IsHostname, IsNoProfile, IsProfile}
 use Rattle.sasl_c.specs.SaslServer.{Comes, IsNoHost, ShowsState, State, state_machine}
-use Rattle.sasl_c.specs.Steps.{ClientHides, ClientNotStepped, ClientStepped, ClientTells, ServerHides, ServerNotStepped, ServerStepped, ServerTells, Serves, behind_code, standing_number}
+use Rattle.sasl_c.specs.Steps.{ClientHides, ClientNotStepped, ClientStepped, ClientTells, IsStepped, NotStepped, ServerNotStepped, ServerStepped, ServerTells, Serves, behind_code, standing_number}
 use Rattle.sasl_c.proofs.SaslClientLemmas.{gives_comes as profile_gives, profile_comes}
 use Rattle.sasl_c.proofs.ServerCallLemmas.{gives_comes as acceptor_gives}
 use Rattle.sasl_c.proofs.StatusLemmas.{carried}
@@ -78,7 +78,7 @@ client_hides fault status same = (fault, refl, same)
 
 -- ---- a server
 
-pub server_short : (says : ServerSays) (sent : List ℕ) (stands : Standing) → ServerTells says sent stands
+server_short : (says : ServerSays) (sent : List ℕ) (stands : Standing) → ServerTells says sent stands
     → length sent ≤ 508
 server_short (Challenged body) sent stands is = no_longer body sent is.0.0 is.0.1
 server_short (Concluded code body) sent stands is = no_longer body sent is.0.0 is.0.1
@@ -102,46 +102,38 @@ server_comes host event server next (Concluded code body) sent stands comes step
     carried (λ (s : Standing). Comes host s next) (behind_code code) stands (sym tells.1) (code_comes host code next)
 server_comes host event server next (Failed fault) sent stands comes steps tells = absurd tells
 
-pub server_stepped : (host : Host) (event : Given) (before after : ServerStruct) (server next : State)
-    (says : ServerSays) (sent : List ℕ) (stands : Standing) → Serves host before Wanting server
-    → AcceptorSteps state_machine server event says next → ServerTells says sent stands
-    → ShowsState after stands next → ServerStepped host event before after (standing_number stands) sent
+pub server_stepped : (host : Host) (event : Given) (before after : ServerStruct) (server : State)
+    (stands : Standing) (sent : List ℕ) → Serves host before Wanting server
+    → IsStepped state_machine ShowsState server event after stands sent
+    → ServerStepped host event before after (standing_number stands) sent
 unfolding ServerStepped
-server_stepped host event before after server next says sent stands serves steps tells shows = (
+server_stepped host event before after server stands sent serves (next, says, steps, tells, shows) = (
   server,
-  next,
-  says,
   stands,
   serves,
-  steps,
-  tells,
+  (next, says, steps, tells, (server_comes host event server next says sent stands serves.0 steps tells, shows)),
   refl,
-  (server_comes host event server next says sent stands serves.0 steps tells, shows),
 )
+
+pub server_steps_short : (server : State) (event : Given) (after : ServerStruct) (stands : Standing) (sent : List ℕ)
+    → IsStepped state_machine ShowsState server event after stands sent → length sent ≤ 508
+server_steps_short server event after stands sent (next, says, steps, tells, shows) =
+    server_short says sent stands tells
 
 pub server_no_host : (host : Host) (event : Given) (before : ServerStruct) (status : Status) → IsNoHost host status
     → ServerNotStepped host event before status
 unfolding ServerNotStepped
 server_no_host host event before status wrong = inl wrong
 
-pub server_refused : (host : Host) (event : Given) (before : ServerStruct) (server next : State) (says : ServerSays)
-    (status : Status) → Serves host before Wanting server → AcceptorSteps state_machine server event says next
-    → ServerHides says status → ServerNotStepped host event before status
+pub server_not_stepped : (host : Host) (event : Given) (before : ServerStruct) (server : State) (status : Status)
+    → Serves host before Wanting server → NotStepped state_machine ShowsState server event status
+    → ServerNotStepped host event before status
 unfolding ServerNotStepped
-server_refused host event before server next says status serves steps hides =
-    inr (server, next, says, serves, steps, inl hides)
-
-pub server_no_room : (host : Host) (event : Given) (before : ServerStruct) (server next : State) (says : ServerSays)
-    (sent : List ℕ) (stands : Standing) → Serves host before Wanting server
-    → AcceptorSteps state_machine server event says next → ServerTells says sent stands
-    → ((scram : ServerStruct) → ¬ ShowsState scram stands next)
-    → ServerNotStepped host event before statuses.TooLong
-unfolding ServerNotStepped
-server_no_room host event before server next says sent stands serves steps tells none = inr (
-  server,
-  next,
-  says,
-  serves,
-  steps,
-  inr (refl, (stands, sent, tells, λ other is. none other is.1)),
-)
+server_not_stepped host event before server status serves (next, says, steps, inl hides) =
+    inr (server, serves, (next, says, steps, inl hides))
+server_not_stepped host event before server status serves
+    (next, says, steps, inr (is, (stands, sent, tells, none))) = inr (
+      server,
+      serves,
+      (next, says, steps, inr (is, (stands, sent, tells, λ after shows. none after shows.1))),
+    )

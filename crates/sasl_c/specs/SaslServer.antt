@@ -198,20 +198,45 @@ abbrev pub ShowsUser : ScramStruct → Option (List ℕ) → Type 0
 ShowsUser scram None = scram.stands ≡ 0
 ShowsUser scram (Some user) = HasLoggedIn scram user
 
--- the struct of SCRAM shows how far the server is: its challenge, who has logged in, or nothing once it is closed
-abbrev pub ShowsState : ScramStruct → Standing → State → Type 0
-ShowsState scram Wanting server = ShowsOpen scram (open_in server)
-ShowsState scram LoggedIn server = ShowsUser scram (user_in server)
-ShowsState scram (Closed why) server = scram.stands ≡ 0
+-- the struct of SCRAM shows how far a login is that stands so: the challenge that is open, who has logged in, or nothing
+-- once it is closed
+abbrev pub ShowsStanding : ScramStruct → Standing → Option Challenge → Option (List ℕ) → Type 0
+ShowsStanding scram Wanting opened user = ShowsOpen scram opened
+ShowsStanding scram LoggedIn opened user = ShowsUser scram user
+ShowsStanding scram (Closed why) opened user = scram.stands ≡ 0
 
--- the structs show a side
-unfoldable pub ShowsSide : Struct → Side State → Type 0
-ShowsSide server side = Keeps server.connection side.standing side.due side.held
-    × ShowsState server.scram side.standing side.state
+-- so it shows a server
+abbrev pub ShowsState : ScramStruct → Standing → State → Type 0
+ShowsState scram standing server = ShowsStanding scram standing (open_in server) (user_in server)
+
+-- the structs show a side, where this says what the one of SCRAM shows
+abbrev pub ShowsBy : {S : Type 0} → (ScramStruct → Standing → S → Type 0) → Struct → Side S → Type 0
+ShowsBy shows server side = Keeps server.connection side.standing side.due side.held
+    × shows server.scram side.standing side.state
 
 -- no structs do: more is held than has room in one, or none shows how far the server is
+abbrev pub HasNone : {S : Type 0} → (ScramStruct → Standing → S → Type 0) → Side S → Type 0
+HasNone shows side = (512 < length side.held) ⊎ ((scram : ScramStruct) → ¬ shows scram side.standing side.state)
+
+-- the structs show a side of the library's acceptor
+unfoldable pub ShowsSide : Struct → Side State → Type 0
+ShowsSide server side = ShowsBy ShowsState server side
+
+-- or none does
 unfoldable pub HasNoStruct : Side State → Type 0
-HasNoStruct side = (512 < length side.held) ⊎ ((scram : ScramStruct) → ¬ ShowsState scram side.standing side.state)
+HasNoStruct side = HasNone ShowsState side
+
+-- a side that is taken up takes so many bytes, sends these, and is then the one that the structs show
+abbrev pub IsTaken : {S : Type 0} → (S → List (List ℕ)) → (S → List ℕ → SaslFrame → SaslFrame → S → Type 0)
+    → (ScramStruct → Standing → S → Type 0) → Side S → List ℕ → List ℕ → Struct → ℕ → List ℕ → Type 0
+IsTaken {S} names machine shows side bytes nonce after taken sent =
+    (next : Side S) × ServerReceives names machine side bytes nonce taken sent next × ShowsBy shows after next
+
+-- or is then one that none show
+abbrev pub NotTaken : {S : Type 0} → (S → List (List ℕ)) → (S → List ℕ → SaslFrame → SaslFrame → S → Type 0)
+    → (ScramStruct → Standing → S → Type 0) → Side S → List ℕ → List ℕ → Type 0
+NotTaken {S} names machine shows side bytes nonce = (next : Side S) × (taken : ℕ) × (sent : List ℕ)
+    × ServerReceives names machine side bytes nonce taken sent next × HasNone shows next
 
 -- the structs are those of this side, whose frames have 512 bytes at most (part 5, section 5.3.1)
 unfoldable pub IsServer : Host → Struct → Side State → Type 0

@@ -3,6 +3,7 @@
 use Rattle.std.specs.Prelude.{◌≡◌, ◌≢◌, ◌<◌, ◌≤◌, ◌⊎◌, ℕ, Option, Some, None, List, [], length, Result, Ok, Err}
 use Rattle.fe2o3_sasl_wire.specs.declared.amqp_types.SaslCode.{SaslCode}
 use Rattle.fe2o3_sasl_wire.specs.declared.amqp_types.SaslCode.TheVariants as outcomes
+use Rattle.fe2o3_sasl_wire.specs.SaslFrames.{SaslFrame}
 use Rattle.fe2o3_sasl.specs.declared.sasl_profile.error.ProfileError.{ProfileError}
 use Rattle.fe2o3_sasl.specs.Events.{Given, ClientSays, Started, Answered, Reported, Refused, ServerSays, Challenged, Concluded, Failed}
 use Rattle.fe2o3_sasl.specs.ProfileFaults.{client_fault}
@@ -103,19 +104,31 @@ ServerHides (Challenged body) status = IsUnsent body status
 ServerHides (Concluded code body) status = IsUnsent body status
 ServerHides (Failed fault) status = status ≡ frame_status fault
 
--- a step between two structs: the one that the library's acceptor makes over the body
-unfoldable pub ServerStepped : Host → Given → ServerStruct → ServerStruct → ℕ → List ℕ → Type 0
-ServerStepped host event before after standing sent = (server next : State) × (says : ServerSays) × (stands : Standing)
-    × Serves host before Wanting server × AcceptorSteps state_machine server event says next
-    × ServerTells says sent stands × (standing ≡ standing_number stands) × Serves host after stands next
+-- an acceptor makes a step over a body, after which the struct shows it
+abbrev pub IsStepped : {S : Type 0} → (S → List ℕ → SaslFrame → SaslFrame → S → Type 0)
+    → (ServerStruct → Standing → S → Type 0) → S → Given → ServerStruct → Standing → List ℕ → Type 0
+IsStepped {S} machine shows server event after stands sent = (next : S) × (says : ServerSays)
+    × AcceptorSteps machine server event says next × ServerTells says sent stands × shows after stands next
 
--- or none: the host has no acceptor, it refuses the body, or no struct has room for what it keeps behind the step
+-- or none: it refuses the body, or no struct shows it
+abbrev pub NotStepped : {S : Type 0} → (S → List ℕ → SaslFrame → SaslFrame → S → Type 0)
+    → (ServerStruct → Standing → S → Type 0) → S → Given → Status → Type 0
+NotStepped {S} machine shows server event status = (next : S) × (says : ServerSays)
+    × AcceptorSteps machine server event says next × (ServerHides says status
+    ⊎ ((status ≡ statuses.TooLong) × ((stands : Standing) × (sent : List ℕ) × ServerTells says sent stands
+    × ((after : ServerStruct) → ¬ shows after stands next))))
+
+-- a step between two structs: the one that the library's acceptor of the host makes over the body
+unfoldable pub ServerStepped : Host → Given → ServerStruct → ServerStruct → ℕ → List ℕ → Type 0
+ServerStepped host event before after standing sent = (server : State) × (stands : Standing)
+    × Serves host before Wanting server × IsStepped state_machine (Serves host) server event after stands sent
+    × (standing ≡ standing_number stands)
+
+-- or none: the host has no acceptor, or it makes none
 unfoldable pub ServerNotStepped : Host → Given → ServerStruct → Status → Type 0
 ServerNotStepped host event before status = IsNoHost host status
-    ⊎ ((server next : State) × (says : ServerSays) × Serves host before Wanting server
-    × AcceptorSteps state_machine server event says next × (ServerHides says status
-    ⊎ ((status ≡ statuses.TooLong) × ((stands : Standing) × (sent : List ℕ) × ServerTells says sent stands
-    × ((other : ServerStruct) → ¬ Serves host other stands next)))))
+    ⊎ ((server : State) × Serves host before Wanting server
+    × NotStepped state_machine (Serves host) server event status)
 
 -- what a call makes of a body
 abbrev pub ServerSteps : Host → Given → ServerStruct → ServerStruct → ℕ → Result (List ℕ) Status → Type 0

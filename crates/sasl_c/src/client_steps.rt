@@ -20,7 +20,7 @@ use std::alloc::Global;
 
 /// The body that a reply sends, and how the login stands behind it.
 fn told(alloc: Global, reply: ClientReply) -> Result<(Vec<u8>, Standing), Status>
-    ensures { MatchResult result (λ told. ClientTells (client_reply reply) told.0.items told.1)
+    ensures told { MatchResult result (λ told. ClientTells (client_reply reply) told.0.items told.1)
         (λ status. ClientHides (client_reply reply) status) }
     ensures room { IfErr result (λ status. status ≢ RoomTooSmall) }
 {
@@ -55,7 +55,7 @@ struct Made {
 }
 
 /// What a client makes of a body.
-fn made(
+fn answered(
     alloc: Global,
     login: &SaslLogin<'_>,
     client: &ScramClient,
@@ -121,7 +121,7 @@ fn step(
         *len = BODY_MOST;
         return Err(Status::RoomTooSmall);
     }
-    let made = match made(alloc, login, client, body, nonce, meter) {
+    let made = match answered(alloc, login, client, body, nonce, meter) {
         Ok(made) => made,
         Err(status) => return Err(status),
     };
