@@ -45,7 +45,7 @@ use Rattle.sasl_c.specs.declared.sasl_server.SaslServer.{SaslServer as Struct}
 use Rattle.sasl_c.specs.declared.status.Status.{Status}
 use Rattle.sasl_c.specs.declared.status.Status.TheVariants as statuses
 use Rattle.sasl_c.specs.Connection.{Keeps, KeepsNoPart, side_tests}
-use Rattle.sasl_c.specs.SaslServer.{All, Comes, HasNoStruct, IsNoHost, IsNoServer, IsOf, IsServer, IsTaken, Last, NotReceived, NotTaken, Others, Received, ShowsSide, ShowsState, State, all_machine, all_names, external_names, last_machine, last_names, other_machine, other_names, plain_names, server_of, state_machine, state_names}
+use Rattle.sasl_c.specs.SaslServer.{All, Comes, HasNoStruct, IsNoHost, IsNoServer, IsOf, IsServer, SetsDown, Last, NotReceived, SetsNoneDown, Others, Received, ShowsSide, ShowsState, State, all_machine, all_names, external_names, last_machine, last_names, other_machine, other_names, plain_names, server_of, state_machine, state_names}
 use Rattle.sasl_c.proofs.SaslClientLemmas.{one_due, part_short}
 use Rattle.sasl_c.proofs.SaslServerLemmas.{is_server, no_server, shows_nothing, shows_side}
 use Rattle.sasl_c.proofs.StatusLemmas.{carried}
@@ -504,7 +504,7 @@ module _ (host : Host) (bytes nonce : List ℕ) (before : Struct) (kept : SetDow
   is = taken_up host before kept state keeps wants limit known.0 known.1
 
   pub answered : (after : Struct) (taken : ℕ) (sent : List ℕ)
-      → IsTaken state_names state_machine ShowsState taken_side bytes nonce after taken sent
+      → SetsDown state_names state_machine ShowsState taken_side bytes nonce after taken sent
       → Received host bytes nonce before after taken sent
   answered after taken sent (next, held, shows) =
       received host bytes nonce before after taken_side next taken sent is wants held
@@ -513,12 +513,12 @@ module _ (host : Host) (bytes nonce : List ℕ) (before : Struct) (kept : SetDow
       (behind_limit host before taken_side next bytes nonce taken sent is wants held))
 
   pub short_answer : (after : Struct) (taken : ℕ) (sent : List ℕ)
-      → IsTaken state_names state_machine ShowsState taken_side bytes nonce after taken sent → length sent ≤ 520
+      → SetsDown state_names state_machine ShowsState taken_side bytes nonce after taken sent → length sent ≤ 520
   short_answer after taken sent (next, held, shows) =
       behind_short host before taken_side next bytes nonce taken sent is wants held
 
   pub unanswered : (status : Status) → ((status ≡ statuses.NotKept) × ¬ IsKept kept)
-      ⊎ ((status ≡ statuses.TooLong) × NotTaken state_names state_machine ShowsState taken_side bytes nonce)
+      ⊎ ((status ≡ statuses.TooLong) × SetsNoneDown state_names state_machine ShowsState taken_side bytes nonce)
       → NotReceived host bytes nonce before status
   unanswered status (inl wrong) = not_kept host bytes nonce before kept state status keeps wants limit known.0 wrong
   unanswered status (inr (same, (next, taken, sent, held, none))) =

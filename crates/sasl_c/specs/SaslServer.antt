@@ -227,15 +227,15 @@ unfoldable pub HasNoStruct : Side State → Type 0
 HasNoStruct side = HasNone ShowsState side
 
 -- a side that is taken up takes so many bytes, sends these, and is then the one that the structs show
-abbrev pub IsTaken : {S : Type 0} → (S → List (List ℕ)) → (S → List ℕ → SaslFrame → SaslFrame → S → Type 0)
+abbrev pub SetsDown : {S : Type 0} → (S → List (List ℕ)) → (S → List ℕ → SaslFrame → SaslFrame → S → Type 0)
     → (ScramStruct → Standing → S → Type 0) → Side S → List ℕ → List ℕ → Struct → ℕ → List ℕ → Type 0
-IsTaken {S} names machine shows side bytes nonce after taken sent =
+SetsDown {S} names machine shows side bytes nonce after taken sent =
     (next : Side S) × ServerReceives names machine side bytes nonce taken sent next × ShowsBy shows after next
 
 -- or is then one that none show
-abbrev pub NotTaken : {S : Type 0} → (S → List (List ℕ)) → (S → List ℕ → SaslFrame → SaslFrame → S → Type 0)
+abbrev pub SetsNoneDown : {S : Type 0} → (S → List (List ℕ)) → (S → List ℕ → SaslFrame → SaslFrame → S → Type 0)
     → (ScramStruct → Standing → S → Type 0) → Side S → List ℕ → List ℕ → Type 0
-NotTaken {S} names machine shows side bytes nonce = (next : Side S) × (taken : ℕ) × (sent : List ℕ)
+SetsNoneDown {S} names machine shows side bytes nonce = (next : Side S) × (taken : ℕ) × (sent : List ℕ)
     × ServerReceives names machine side bytes nonce taken sent next × HasNone shows next
 
 -- the structs are those of this side, whose frames have 512 bytes at most (part 5, section 5.3.1)

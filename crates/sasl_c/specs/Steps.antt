@@ -21,8 +21,8 @@ use Rattle.sasl_c.specs.declared.server.ScramServer.{ScramServer as ServerStruct
 use Rattle.sasl_c.specs.declared.status.Status.{Status}
 use Rattle.sasl_c.specs.declared.status.Status.TheVariants as statuses
 use Rattle.sasl_c.specs.Connection.{closed_status, frame_status, profile_status}
-use Rattle.sasl_c.specs.SaslClient.{HasNoHostname, IsHostname, IsNoProfile, IsProfile}
-use Rattle.sasl_c.specs.SaslServer.{BodyNames, BodyNamesNobody, Comes, IsNoHost, ShowsState, State, state_machine, state_names}
+use Rattle.sasl_c.specs.SaslClient.{Comes, HasNoHostname, IsHostname, IsNoProfile, IsProfile}
+use Rattle.sasl_c.specs.SaslServer.{BodyNames, BodyNamesNobody, Comes as HostComes, IsNoHost, ShowsState, State, state_machine, state_names}
 use Rattle.sasl_c.specs.Status.{status_number}
 
 -- how a login stands behind an outcome of this code (part 5, section 5.3.3.6)
@@ -61,6 +61,18 @@ ClientHides (Answered body) status = IsUnsent body status
 ClientHides (Reported code more) status = ⊥
 ClientHides (Refused fault) status = (why : ProfileError) × (fault ≡ client_fault why) × (status ≡ profile_status why)
 
+-- a profile makes a step over a body, after which it is, for each login that comes to it, the one of the struct
+abbrev pub ProfileStepped : Option (List ℕ) → Profile → Given → ClientStruct → Standing → List ℕ → Type 0
+ProfileStepped hostname profile event after stands sent = (next : Profile) × (says : ClientSays)
+    × ProfileSteps hostname profile event says next × ClientTells says sent stands
+    × ((login : Login) → Comes login next → IsProfile login after next)
+
+-- or none: it refuses the body, or no login comes to the one behind it
+abbrev pub ProfileNotStepped : Option (List ℕ) → Profile → Given → Status → Type 0
+ProfileNotStepped hostname profile event status = (next : Profile) × (says : ClientSays)
+    × ProfileSteps hostname profile event says next
+    × (ClientHides says status ⊎ ((login : Login) → ¬ Comes login next))
+
 -- a step between two structs: the one that the library's profile makes over the body
 unfoldable pub ClientStepped : Login → Given → ClientStruct → ClientStruct → ℕ → List ℕ → Type 0
 ClientStepped login event before after standing sent = (hostname : Option (List ℕ)) × (profile next : Profile)
@@ -84,13 +96,13 @@ ClientSteps login event before after standing (Err status) = ClientNotStepped lo
 
 -- the struct is that of this server of a host, whose login stands so
 abbrev pub Serves : Host → ServerStruct → Standing → State → Type 0
-Serves host scram stands server = Comes host stands server × ShowsState scram stands server
+Serves host scram stands server = HostComes host stands server × ShowsState scram stands server
 
 -- the body with which a server offers its mechanisms (part 5, section 5.3.3.1), or why there is none
 abbrev pub Offers : Host → Result (List ℕ) Status → Type 0
-Offers host (Ok body) = (server : State) × Comes host Wanting server × (offer_body (state_names server) ≡ Some body)
+Offers host (Ok body) = (server : State) × HostComes host Wanting server × (offer_body (state_names server) ≡ Some body)
 Offers host (Err status) = IsNoHost host status ⊎ ((status ≡ statuses.FrameTooLarge)
-    × ((server : State) × Comes host Wanting server × (offer_body (state_names server) ≡ None)))
+    × ((server : State) × HostComes host Wanting server × (offer_body (state_names server) ≡ None)))
 
 -- what it tells with what it says: a challenge and an outcome are sent
 abbrev pub ServerTells : ServerSays → List ℕ → Standing → Type 0

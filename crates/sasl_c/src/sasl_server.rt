@@ -7,7 +7,7 @@ ghost use Rattle.fe2o3_sasl_negotiation.specs.declared.standing.Standing.{Standi
 ghost use Rattle.fe2o3_sasl_negotiation.specs.declared.standing.Standing.TheVariants.{Wanting};
 ghost use Rattle.fe2o3_sasl_negotiation.specs.SetDown.{IsKept, side_of};
 ghost use Rattle.fe2o3_sasl_negotiation.specs.Sides.{server_side};
-ghost use Rattle.sasl_c.specs.SaslServer.{BodyNames, BodyNamesNobody, Comes, FrameNames, InitNames, HasNoWords, HasNone, HasRecords, IsAll, IsNoHost, IsTaken, Named, Names, NotNamed, NotReceived, NotTaken, Received, Receives, ResponseNames, ShowsBy, ShowsStanding, ShowsState, Stands, all_in, all_of, allowed_of, name_where, one_where, state_of, sum_of};
+ghost use Rattle.sasl_c.specs.SaslServer.{BodyNames, BodyNamesNobody, Comes, FrameNames, InitNames, HasNoWords, HasNone, HasRecords, IsAll, IsNoHost, SetsDown, Named, Names, NotNamed, NotReceived, SetsNoneDown, Received, Receives, ResponseNames, ShowsBy, ShowsStanding, ShowsState, Stands, all_in, all_of, allowed_of, name_where, one_where, state_of, sum_of};
 ghost use Rattle.sasl_c.specs.declared.sasl_server.Choice.{Choice as Choices};
 ghost use Rattle.sasl_c.specs.declared.server.ScramServer.{ScramServer as ScramStruct};
 ghost use Rattle.fe2o3_sasl_wire.specs.FrameView.{shown, viewed_frame};
@@ -331,10 +331,10 @@ fn taken<A: Shows + Drop>(
     meter: &mut Meter,
 ) -> Result<Made, Status>
     requires { meter.old ≤ 2 ^ 63 }
-    ensures ok { IfOk result (λ made. IsTaken A.names A.machine A.shows (side_of kept.now (A.state acceptor)) bytes.now
+    ensures ok { IfOk result (λ made. SetsDown A.names A.machine A.shows (side_of kept.now (A.state acceptor)) bytes.now
         nonce.now made.next made.taken made.sent.items) }
     ensures err { IfErr result (λ status. status ≢ StatusOutOfMemory → ((status ≡ StatusNotKept) × ¬ IsKept kept.now)
-        ⊎ ((status ≡ StatusTooLong) × NotTaken A.names A.machine A.shows (side_of kept.now (A.state acceptor)) bytes.now
+        ⊎ ((status ≡ StatusTooLong) × SetsNoneDown A.names A.machine A.shows (side_of kept.now (A.state acceptor)) bytes.now
         nonce.now)) }
     ensures room { IfErr result (λ status. status ≢ RoomTooSmall) }
 {
