@@ -11,6 +11,7 @@ use Rattle.fe2o3_scram.specs.ScramServer.{ServerState, Initial, ServerFirstSent,
 use Rattle.fe2o3_scram.specs.ServerFirst.{Challenge}
 use Rattle.fe2o3_sasl.specs.declared.one_of.Part.{Part}
 use Rattle.fe2o3_sasl.specs.declared.one_of.Part.TheVariants.{First}
+use Rattle.fe2o3_sasl_negotiation.specs.declared.server.ServerNegotiation.{ServerNegotiation}
 use Rattle.fe2o3_sasl_negotiation.specs.declared.set_down.SetDown.{SetDown}
 use Rattle.fe2o3_sasl_negotiation.specs.declared.standing.ClosedBecause.{ClosedBecause}
 use Rattle.fe2o3_sasl_negotiation.specs.declared.standing.Standing.{Standing}
@@ -27,7 +28,7 @@ use Rattle.sasl_c.specs.declared.status.Status.{Status}
 use Rattle.sasl_c.specs.declared.status.Status.TheVariants as statuses
 use Rattle.sasl_c.specs.Connection.{Keeps}
 use Rattle.sasl_c.specs.Records.{IsVersion, Shows, SpellsStruct}
-use Rattle.sasl_c.specs.SaslServer.{All, Comes, HasNoWords, HasNoStruct, HasRecords, IsAll, IsNoHost, IsOf, IsServer, HasNone, ShowsBy, ShowsOpen, ShowsSide, ShowsStanding, ShowsState, ShowsUser, Stands, State, allowed_of, all_of, host_tests, one_where, open_in, server_of, state_names, sum_of, user_in}
+use Rattle.sasl_c.specs.SaslServer.{All, Code, Comes, HasNoWords, HasNoStruct, HasRecords, IsAll, IsNoHost, IsOf, IsServer, HasNone, ShowsBy, ShowsOpen, ShowsSide, ShowsStanding, ShowsState, ShowsUser, Stands, State, allowed_of, all_of, host_tests, one_where, open_in, server_of, side_in, state_names, state_of, sum_of, user_in}
 use Rattle.sasl_c.specs.Server.{HasLoggedIn, HasRoom, IsOpen}
 use Rattle.sasl_c.specs.Status.{version_number}
 use Rattle.sasl_c.proofs.StatusLemmas.{carried}
@@ -328,13 +329,18 @@ shows_as standing server opened user answer is named held =
 
 -- ---- the structs of a side
 
-pub shows_side : (server : Struct) (side : Side State) → ShowsBy ShowsState server side → ShowsSide server side
-unfolding ShowsSide
-shows_side server side shows = shows
+-- what a struct of SCRAM shows of an acceptor
+abbrev pub Shown : ScramStruct → Standing → Code → Type 0
+Shown scram standing acceptor = ShowsState scram standing (state_of acceptor)
 
-pub shows_nothing : (side : Side State) → HasNone ShowsState side → HasNoStruct side
+pub shows_side : (server : Struct) (next : ServerNegotiation Code) → ShowsBy state_of Shown server next
+    → ShowsSide server (side_in next)
+unfolding ShowsSide
+shows_side server next shows = shows
+
+pub shows_nothing : (next : ServerNegotiation Code) → HasNone state_of Shown next → HasNoStruct (side_in next)
 unfolding HasNoStruct
-shows_nothing side none = none
+shows_nothing next none = none
 
 pub is_server : (host : Host) (server : Struct) (side : Side State) → ShowsSide server side
     → Comes host side.standing side.state → side.limit ≡ 512 → IsServer host server side

@@ -19,9 +19,10 @@ use Rattle.sasl_c.specs.declared.status.Status.{Status}
 use Rattle.sasl_c.specs.declared.status.Status.TheVariants as statuses
 use Rattle.sasl_c.specs.Connection.{profile_status}
 use Rattle.sasl_c.specs.SaslClient.{Comes as LoginComes, HasNoHostname, IsHostname, IsNoProfile, IsProfile}
-use Rattle.sasl_c.specs.SaslServer.{Comes, IsNoHost, ShowsState, State, state_machine}
+use Rattle.sasl_c.specs.SaslServer.{Comes, IsNoHost, State, state_machine, state_of}
 use Rattle.sasl_c.specs.Steps.{ClientHides, ClientNotStepped, ClientStepped, ClientTells, IsStepped, NotStepped, ProfileNotStepped, ProfileStepped, ServerNotStepped, ServerStepped, ServerTells, Serves, behind_code, standing_number}
 use Rattle.sasl_c.proofs.SaslClientLemmas.{gives_comes as profile_gives, profile_comes}
+use Rattle.sasl_c.proofs.SaslServerLemmas.{Shown}
 use Rattle.sasl_c.proofs.ServerCallLemmas.{gives_comes as acceptor_gives}
 use Rattle.sasl_c.proofs.StatusLemmas.{carried}
 
@@ -130,19 +131,25 @@ server_comes host event server next (Failed fault) sent stands comes steps tells
 
 pub server_stepped : (host : Host) (event : Given) (before after : ServerStruct) (server : State)
     (stands : Standing) (sent : List ℕ) → Serves host before Wanting server
-    → IsStepped state_machine ShowsState server event after stands sent
+    → IsStepped state_of state_machine Shown server event after stands sent
     → ServerStepped host event before after (standing_number stands) sent
 unfolding ServerStepped
 server_stepped host event before after server stands sent serves (next, says, steps, tells, shows) = (
   server,
   stands,
   serves,
-  (next, says, steps, tells, (server_comes host event server next says sent stands serves.0 steps tells, shows)),
+  (
+    state_of next,
+    says,
+    steps,
+    tells,
+    (server_comes host event server (state_of next) says sent stands serves.0 steps tells, shows),
+  ),
   refl,
 )
 
 pub server_steps_short : (server : State) (event : Given) (after : ServerStruct) (stands : Standing) (sent : List ℕ)
-    → IsStepped state_machine ShowsState server event after stands sent → length sent ≤ 508
+    → IsStepped state_of state_machine Shown server event after stands sent → length sent ≤ 508
 server_steps_short server event after stands sent (next, says, steps, tells, shows) =
     server_short says sent stands tells
 
@@ -152,14 +159,14 @@ unfolding ServerNotStepped
 server_no_host host event before status wrong = inl wrong
 
 pub server_not_stepped : (host : Host) (event : Given) (before : ServerStruct) (server : State) (status : Status)
-    → Serves host before Wanting server → NotStepped state_machine ShowsState server event status
+    → Serves host before Wanting server → NotStepped state_of state_machine Shown server event status
     → ServerNotStepped host event before status
 unfolding ServerNotStepped
 server_not_stepped host event before server status serves (next, says, steps, inl hides) =
-    inr (server, serves, (next, says, steps, inl hides))
+    inr (server, serves, (state_of next, says, steps, inl hides))
 server_not_stepped host event before server status serves
     (next, says, steps, inr (is, (stands, sent, tells, none))) = inr (
       server,
       serves,
-      (next, says, steps, inr (is, (stands, sent, tells, λ after shows. none after shows.1))),
+      (state_of next, says, steps, inr (is, (stands, sent, tells, λ after shows. none after shows.1))),
     )

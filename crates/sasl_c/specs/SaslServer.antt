@@ -33,7 +33,7 @@ use Rattle.fe2o3_sasl_negotiation.specs.declared.standing.Turn.{Turn}
 use Rattle.fe2o3_sasl_negotiation.specs.declared.standing.Turn.TheVariants as turns
 use Rattle.fe2o3_sasl_negotiation.specs.Negotiations.{Completes, Side}
 use Rattle.fe2o3_sasl_negotiation.specs.ServerNegotiation.{ServerReceives}
-use Rattle.fe2o3_sasl_negotiation.specs.Sides.{server_side}
+use Rattle.fe2o3_sasl_negotiation.specs.Sides.{acceptor_in, server_side}
 use Rattle.sasl_c.specs.declared.sasl_server.Choice.{Choice}
 use Rattle.sasl_c.specs.declared.sasl_server.SaslHost.{SaslHost as Host}
 use Rattle.sasl_c.specs.declared.sasl_server.SaslServer.{SaslServer as Struct}
@@ -209,34 +209,25 @@ ShowsStanding scram (Closed why) opened user = scram.stands ≡ 0
 abbrev pub ShowsState : ScramStruct → Standing → State → Type 0
 ShowsState scram standing server = ShowsStanding scram standing (open_in server) (user_in server)
 
--- the structs show a side, where this says what the one of SCRAM shows
-abbrev pub ShowsBy : {S : Type 0} → (ScramStruct → Standing → S → Type 0) → Struct → Side S → Type 0
-ShowsBy shows server side = Keeps server.connection side.standing side.due side.held
-    × shows server.scram side.standing side.state
+-- the structs show a side, where this says what the one of SCRAM shows of its acceptor
+abbrev pub ShowsBy : {A S : Type 0} → (A → S) → (ScramStruct → Standing → A → Type 0) → Struct → ServerNegotiation A
+    → Type 0
+ShowsBy state shows server next = let side = server_side state next in
+    Keeps server.connection side.standing side.due side.held × shows server.scram side.standing (acceptor_in next)
 
--- no structs do: more is held than has room in one, or none shows how far the server is
-abbrev pub HasNone : {S : Type 0} → (ScramStruct → Standing → S → Type 0) → Side S → Type 0
-HasNone shows side = (512 < length side.held) ⊎ ((scram : ScramStruct) → ¬ shows scram side.standing side.state)
+-- no structs do: more is held than has room in one, or none shows how far the acceptor is
+abbrev pub HasNone : {A S : Type 0} → (A → S) → (ScramStruct → Standing → A → Type 0) → ServerNegotiation A → Type 0
+HasNone state shows next = let side = server_side state next in
+    (512 < length side.held) ⊎ ((scram : ScramStruct) → ¬ shows scram side.standing (acceptor_in next))
 
 -- the structs show a side of the library's acceptor
 unfoldable pub ShowsSide : Struct → Side State → Type 0
-ShowsSide server side = ShowsBy ShowsState server side
+ShowsSide server side = Keeps server.connection side.standing side.due side.held
+    × ShowsState server.scram side.standing side.state
 
 -- or none does
 unfoldable pub HasNoStruct : Side State → Type 0
-HasNoStruct side = HasNone ShowsState side
-
--- a side that is taken up takes so many bytes, sends these, and is then the one that the structs show
-abbrev pub SetsDown : {S : Type 0} → (S → List (List ℕ)) → (S → List ℕ → SaslFrame → SaslFrame → S → Type 0)
-    → (ScramStruct → Standing → S → Type 0) → Side S → List ℕ → List ℕ → Struct → ℕ → List ℕ → Type 0
-SetsDown {S} names machine shows side bytes nonce after taken sent =
-    (next : Side S) × ServerReceives names machine side bytes nonce taken sent next × ShowsBy shows after next
-
--- or is then one that none show
-abbrev pub SetsNoneDown : {S : Type 0} → (S → List (List ℕ)) → (S → List ℕ → SaslFrame → SaslFrame → S → Type 0)
-    → (ScramStruct → Standing → S → Type 0) → Side S → List ℕ → List ℕ → Type 0
-SetsNoneDown {S} names machine shows side bytes nonce = (next : Side S) × (taken : ℕ) × (sent : List ℕ)
-    × ServerReceives names machine side bytes nonce taken sent next × HasNone shows next
+HasNoStruct side = (512 < length side.held) ⊎ ((scram : ScramStruct) → ¬ ShowsState scram side.standing side.state)
 
 -- the structs are those of this side, whose frames have 512 bytes at most (part 5, section 5.3.1)
 unfoldable pub IsServer : Host → Struct → Side State → Type 0

@@ -117,30 +117,31 @@ ServerHides (Concluded code body) status = IsUnsent body status
 ServerHides (Failed fault) status = status ≡ frame_status fault
 
 -- an acceptor makes a step over a body, after which the struct shows it
-abbrev pub IsStepped : {S : Type 0} → (S → List ℕ → SaslFrame → SaslFrame → S → Type 0)
-    → (ServerStruct → Standing → S → Type 0) → S → Given → ServerStruct → Standing → List ℕ → Type 0
-IsStepped {S} machine shows server event after stands sent = (next : S) × (says : ServerSays)
-    × AcceptorSteps machine server event says next × ServerTells says sent stands × shows after stands next
+abbrev pub IsStepped : {A S : Type 0} → (A → S) → (S → List ℕ → SaslFrame → SaslFrame → S → Type 0)
+    → (ServerStruct → Standing → A → Type 0) → S → Given → ServerStruct → Standing → List ℕ → Type 0
+IsStepped {A} state machine shows server event after stands sent = (next : A) × (says : ServerSays)
+    × AcceptorSteps machine server event says (state next) × ServerTells says sent stands × shows after stands next
 
 -- or none: it refuses the body, or no struct shows it
-abbrev pub NotStepped : {S : Type 0} → (S → List ℕ → SaslFrame → SaslFrame → S → Type 0)
-    → (ServerStruct → Standing → S → Type 0) → S → Given → Status → Type 0
-NotStepped {S} machine shows server event status = (next : S) × (says : ServerSays)
-    × AcceptorSteps machine server event says next × (ServerHides says status
+abbrev pub NotStepped : {A S : Type 0} → (A → S) → (S → List ℕ → SaslFrame → SaslFrame → S → Type 0)
+    → (ServerStruct → Standing → A → Type 0) → S → Given → Status → Type 0
+NotStepped {A} state machine shows server event status = (next : A) × (says : ServerSays)
+    × AcceptorSteps machine server event says (state next) × (ServerHides says status
     ⊎ ((status ≡ statuses.TooLong) × ((stands : Standing) × (sent : List ℕ) × ServerTells says sent stands
     × ((after : ServerStruct) → ¬ shows after stands next))))
 
 -- a step between two structs: the one that the library's acceptor of the host makes over the body
 unfoldable pub ServerStepped : Host → Given → ServerStruct → ServerStruct → ℕ → List ℕ → Type 0
 ServerStepped host event before after standing sent = (server : State) × (stands : Standing)
-    × Serves host before Wanting server × IsStepped state_machine (Serves host) server event after stands sent
+    × Serves host before Wanting server
+    × IsStepped (λ (next : State). next) state_machine (Serves host) server event after stands sent
     × (standing ≡ standing_number stands)
 
 -- or none: the host has no acceptor, or it makes none
 unfoldable pub ServerNotStepped : Host → Given → ServerStruct → Status → Type 0
 ServerNotStepped host event before status = IsNoHost host status
     ⊎ ((server : State) × Serves host before Wanting server
-    × NotStepped state_machine (Serves host) server event status)
+    × NotStepped (λ (next : State). next) state_machine (Serves host) server event status)
 
 -- what a call makes of a body
 abbrev pub ServerSteps : Host → Given → ServerStruct → ServerStruct → ℕ → Result (List ℕ) Status → Type 0

@@ -5,9 +5,10 @@ ghost use Rattle.std.specs.Str.{IsUtf8};
 ghost use Rattle.fe2o3_scram.specs.ScramServer.{challenge_kept, provider_in, state_in};
 ghost use Rattle.fe2o3_sasl_negotiation.specs.declared.standing.Standing.{Standing as StandingOf};
 ghost use Rattle.fe2o3_sasl_negotiation.specs.declared.standing.Standing.TheVariants.{Wanting};
+ghost use Rattle.fe2o3_sasl_negotiation.specs.ServerNegotiation.{ServerReceives};
 ghost use Rattle.fe2o3_sasl_negotiation.specs.SetDown.{IsKept, side_of};
 ghost use Rattle.fe2o3_sasl_negotiation.specs.Sides.{server_side};
-ghost use Rattle.sasl_c.specs.SaslServer.{BodyNames, BodyNamesNobody, Comes, FrameNames, InitNames, HasNoWords, HasNone, HasRecords, IsAll, IsNoHost, SetsDown, Named, Names, NotNamed, NotReceived, SetsNoneDown, Received, Receives, ResponseNames, ShowsBy, ShowsStanding, ShowsState, Stands, all_in, all_of, allowed_of, name_where, one_where, state_of, sum_of};
+ghost use Rattle.sasl_c.specs.SaslServer.{BodyNames, BodyNamesNobody, Comes, FrameNames, InitNames, HasNoWords, HasNone, HasRecords, IsAll, IsNoHost, Named, Names, NotNamed, NotReceived, Received, Receives, ResponseNames, ShowsBy, ShowsStanding, ShowsState, Stands, all_in, all_of, allowed_of, name_where, one_where, state_of, sum_of};
 ghost use Rattle.sasl_c.specs.declared.sasl_server.Choice.{Choice as Choices};
 ghost use Rattle.sasl_c.specs.declared.server.ScramServer.{ScramServer as ScramStruct};
 ghost use Rattle.fe2o3_sasl_wire.specs.FrameView.{shown, viewed_frame};
@@ -245,6 +246,49 @@ impl SaslHost<'_> {
     }
 }
 
+/// What a side of a connection makes of bytes.
+#[derive(Drop)]
+struct TakenUp<A> {
+    /// How many it takes.
+    taken: usize,
+
+    /// What is to be sent.
+    sent: BytesMut,
+
+    /// The side then.
+    side: ServerNegotiation<A>,
+}
+
+/// Takes up a side, which takes bytes.
+fn take_up<A: NamesUser + Drop>(
+    alloc: Global,
+    acceptor: A,
+    kept: &SetDown<'_>,
+    bytes: &[u8],
+    nonce: &[u8; 32],
+    meter: &mut Meter,
+) -> Result<TakenUp<A>, Status>
+    requires { meter.old ≤ 2 ^ 63 }
+    ensures ok { IfOk result (λ call. IsKept kept.now
+        × ServerReceives A.names A.machine (side_of kept.now (A.state acceptor)) bytes.now nonce.now call.taken
+        call.sent.items (server_side A.state call.side)) }
+    ensures err { IfErr result (λ status. status ≢ StatusOutOfMemory → (status ≡ StatusNotKept) × ¬ IsKept kept.now) }
+    ensures room { IfErr result (λ status. status ≢ RoomTooSmall) }
+{
+    let mut side = match ServerNegotiation::take_up(alloc, acceptor, kept) {
+        Ok(side) => side,
+        Err(TakeUpError::NotKept) => return Err(Status::NotKept),
+        Err(TakeUpError::OutOfMemory) => return Err(Status::OutOfMemory),
+    };
+    let mut sent = BytesMut::new(alloc);
+    let received = side.receive(alloc, bytes, nonce, meter, &mut sent)?;
+    Ok(TakenUp {
+        taken: received.taken,
+        sent,
+        side,
+    })
+}
+
 /// The struct of SCRAM that shows how far a login is that stands so, or `None` where a text has no room in it.
 #[tactic(auto, using(crate::proofs::SaslServerLemmas::shown))]
 fn shown(
@@ -253,9 +297,9 @@ fn shown(
     user: Option<&str>,
 ) -> Option<ScramServer>
     ensures { MatchOption result
-        ((scram : ScramStruct) → ¬ ShowsStanding scram standing (option_map challenge_kept challenge)
-        (option_map (λ user. user.now) user)) (λ scram. ShowsStanding scram standing (option_map challenge_kept challenge)
-        (option_map (λ user. user.now) user)) }
+        ((scram : ScramStruct) → ¬ ShowsStanding scram standing (option_map challenge_kept challenge.entry)
+        (option_map (λ user. user.now) user.entry)) (λ scram. ShowsStanding scram standing (option_map challenge_kept challenge.entry)
+        (option_map (λ user. user.now) user.entry)) }
 {
     match standing {
         Standing::Wanting => match challenge {
@@ -272,16 +316,16 @@ fn shown(
 
 /// An acceptor of which a struct of SCRAM shows how far it is.
 pub trait Shows: NamesUser {
-    ghost shows: { ScramStruct → StandingOf → State → Type 0 };
+    ghost shows: { ScramStruct → StandingOf → Self → Type 0 };
 
     /// The struct that shows it where the login stands so, or `None` where a text has no room in it.
     fn shown(&self, standing: Standing) -> Option<ScramServer>
-        ensures { MatchOption result ((scram : ScramStruct) → ¬ shows scram standing (state self.now))
-            (λ scram. shows scram standing (state self.now)) };
+        ensures { MatchOption result ((scram : ScramStruct) → ¬ shows scram standing self.now)
+            (λ scram. shows scram standing self.now) };
 }
 
 impl Shows for Acceptor {
-    ghost shows = { λ scram standing server. ShowsState scram standing server };
+    ghost shows = { λ scram standing acceptor. ShowsState scram standing (state_of acceptor) };
 
     fn shown(&self, standing: Standing) -> Option<ScramServer> {
         shown(
@@ -295,8 +339,8 @@ impl Shows for Acceptor {
 impl SaslServer {
     /// The structs of a side, or `None` where a text has no room in them.
     fn of<A: Shows>(side: &ServerNegotiation<A>) -> Option<SaslServer>
-        ensures { MatchOption result (HasNone A.shows (server_side A.state side.now))
-            (λ server. ShowsBy A.shows server (server_side A.state side.now)) }
+        ensures { MatchOption result (HasNone A.state A.shows side.now)
+            (λ server. ShowsBy A.state A.shows server side.now) }
     {
         let Some(connection) = Connection::of(&side.set_down()) else {
             return None;
@@ -331,26 +375,25 @@ fn taken<A: Shows + Drop>(
     meter: &mut Meter,
 ) -> Result<Made, Status>
     requires { meter.old ≤ 2 ^ 63 }
-    ensures ok { IfOk result (λ made. SetsDown A.names A.machine A.shows (side_of kept.now (A.state acceptor)) bytes.now
-        nonce.now made.next made.taken made.sent.items) }
+    ensures ok { IfOk result (λ made. (next : ServerNegotiation A) × ServerReceives A.names A.machine
+        (side_of kept.now (A.state acceptor)) bytes.now nonce.now made.taken made.sent.items (server_side A.state next)
+        × ShowsBy A.state A.shows made.next next) }
     ensures err { IfErr result (λ status. status ≢ StatusOutOfMemory → ((status ≡ StatusNotKept) × ¬ IsKept kept.now)
-        ⊎ ((status ≡ StatusTooLong) × SetsNoneDown A.names A.machine A.shows (side_of kept.now (A.state acceptor)) bytes.now
-        nonce.now)) }
+        ⊎ ((status ≡ StatusTooLong) × ((next : ServerNegotiation A) × (taken : ℕ) × (sent : List ℕ)
+        × ServerReceives A.names A.machine (side_of kept.now (A.state acceptor)) bytes.now nonce.now taken sent
+        (server_side A.state next) × HasNone A.state A.shows next))) }
     ensures room { IfErr result (λ status. status ≢ RoomTooSmall) }
 {
-    let mut side = match ServerNegotiation::take_up(alloc, acceptor, kept) {
-        Ok(side) => side,
-        Err(TakeUpError::NotKept) => return Err(Status::NotKept),
-        Err(TakeUpError::OutOfMemory) => return Err(Status::OutOfMemory),
+    let call = match take_up(alloc, acceptor, kept, bytes, nonce, meter) {
+        Ok(call) => call,
+        Err(status) => return Err(status),
     };
-    let mut sent = BytesMut::new(alloc);
-    let received = side.receive(alloc, bytes, nonce, meter, &mut sent)?;
-    let Some(next) = SaslServer::of(&side) else {
+    let Some(next) = SaslServer::of(&call.side) else {
         return Err(Status::TooLong);
     };
     Ok(Made {
-        taken: received.taken,
-        sent,
+        taken: call.taken,
+        sent: call.sent,
         next,
     })
 }
