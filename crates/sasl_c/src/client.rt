@@ -233,6 +233,16 @@ impl Login<'_> {
         Ok(text(self.password)?.to_string(alloc)?)
     }
 
+    /// The iteration counts that are answered.
+    fn limits(&self) -> IterationLimits
+        ensures { result ≡ record { least = self.now.least_iterations; most = self.now.most_iterations } }
+    {
+        IterationLimits {
+            least: self.least_iterations,
+            most: self.most_iterations,
+        }
+    }
+
     /// The version, where it is known and the user's name is a text.
     fn named_version(&self) -> Result<ScramVersion, Status>
         ensures { Reads (name_tests self.now) (λ version. IsVersion self.now.version version) result }
@@ -385,17 +395,13 @@ fn answered_by(
     let mut room = [0; 44];
     let nonce = nonce_text(&client.nonce, &mut room);
     let (_, bare) = version.client_first_message(alloc, login.username, nonce.as_bytes())?;
-    let limits = IterationLimits {
-        least: login.least_iterations,
-        most: login.most_iterations,
-    };
     match version.answer_server_first(
         alloc,
         nonce,
         secret,
         server_first,
         bare.as_slice(),
-        limits,
+        login.limits(),
         meter,
     ) {
         Ok(answer) => Ok(answer),
