@@ -215,9 +215,14 @@ enum fe2o3_status {
 
 /* What a side of a connection keeps between its calls. All zeros is a connection of which no byte has come. */
 struct fe2o3_connection {
-    /* 0 while more bytes are wanted, 1 once the client is logged in, and 2 once the connection is to be closed. */
+    /* 0 while more bytes are wanted, 1 once the client is logged in, and 2 once the connection is to be closed. So
+     * behind an outcome a client stands at 1 where its code is Ok and, by SCRAM, it shows the signature that is
+     * waited for; by the other mechanisms the server's word is all that there is. Behind an outcome of another code
+     * it stands at 2, and so it does behind one that is Ok and does not show the signature. A server stands at 1 with
+     * the outcome Ok that it writes, and at 2 with any other. */
     uint32_t standing;
-    /* Why it is to be closed: a status. */
+    /* Why it is to be closed: a status, as `REFUSED_AUTH` of an outcome that says so, or
+     * `CLIENT_SERVER_SIGNATURE_MISMATCH` of a server that a client does not believe. */
     uint32_t why;
     /* What is due: 0 the other side's header, 1 the mechanisms, 2 the init, 3 the challenge, or at once the outcome,
      * 4 the response, and 5 the outcome. */
@@ -434,6 +439,25 @@ uint32_t fe2o3_scram_client_verify(
  * and its count takes no password, and two hashes of HMAC. Whoever has them can log in. */
 uint32_t fe2o3_scram_client_keys(const struct fe2o3_scram_client *client, struct fe2o3_client_keys *keys);
 
+/* Takes the body of a frame that the server sent, behind the four bytes of the frame's size, and writes the body that
+ * is to be sent: the init to its mechanisms, the response to its challenge, and nothing (a length of 0) to its outcome.
+ * Standing is 0 while the login goes on, 1 once the client is logged in, and the number of a refusal (81 to 84) where
+ * the outcome is one. A room of 508 bytes suffices, and is asked for before any hash is made. The nonce is 32 random
+ * bytes, fresh for each call.
+ *
+ * SCRAM stands at 1 only where the server has shown that it has the verifier (RFC 5802, section 5). PLAIN, ANONYMOUS and
+ * EXTERNAL take any outcome at its word, also one before the init. */
+uint32_t fe2o3_sasl_client_step(
+    const struct fe2o3_sasl_login *login,
+    struct fe2o3_scram_client *client,
+    const uint8_t *body,
+    size_t body_len,
+    const uint8_t nonce[32],
+    uint32_t *standing,
+    uint8_t *out,
+    size_t out_room,
+    size_t *len);
+
 /* Reads the body of a frame, which begins with its data offset, behind the four bytes of its size. It takes no memory.
  */
 uint32_t fe2o3_sasl_view_frame(const uint8_t *body, size_t body_len, struct fe2o3_sasl_frame_view *view);
@@ -593,6 +617,39 @@ uint32_t fe2o3_scram_server_final(
 /* Writes the plain name of the user who has logged in: the one whose challenge was answered. */
 uint32_t fe2o3_scram_server_logged_in(
     const struct fe2o3_scram_server *server,
+    uint8_t *out,
+    size_t out_room,
+    size_t *len);
+
+/* Writes the body of the frame with which a server offers its mechanisms, to whoever has sent the header of SASL. */
+uint32_t fe2o3_sasl_server_offer(const struct fe2o3_sasl_host *host, uint8_t *out, size_t out_room, size_t *len);
+
+/* Takes the body of a frame that the client sent, behind the four bytes of the frame's size, and writes the body that
+ * is to be sent: a challenge, or the outcome. Standing is 0 while the login goes on, 1 once the client is logged in, and
+ * the number of a refusal (81 to 84) where the outcome is one. A room of 508 bytes suffices, and is asked for before any
+ * hash is made. Before the call the caller fetches the record of the user whom the body names
+ * (`fe2o3_sasl_server_step_user`), if it names one. Once the client is logged in, the struct names the user of any
+ * mechanism (`fe2o3_scram_server_logged_in`); ANONYMOUS names nobody. The nonce is 32 random bytes, fresh for each call.
+ * Where a name or a message has no room in the struct, the call is refused by `TOO_LONG`, and the connection is to be
+ * closed. */
+uint32_t fe2o3_sasl_server_step(
+    const struct fe2o3_sasl_host *host,
+    struct fe2o3_scram_server *server,
+    const uint8_t *body,
+    size_t body_len,
+    const uint8_t nonce[32],
+    uint32_t *standing,
+    uint8_t *out,
+    size_t out_room,
+    size_t *len);
+
+/* Writes the plain name of the user whom the body of a frame names, and whose record is to be fetched before it is
+ * taken: that of an init of SCRAM or PLAIN, and for a response that of the open challenge. Where it names nobody, the
+ * number is that of `NAMES_NOBODY`, and no record is needed. */
+uint32_t fe2o3_sasl_server_step_user(
+    const struct fe2o3_scram_server *server,
+    const uint8_t *body,
+    size_t body_len,
     uint8_t *out,
     size_t out_room,
     size_t *len);

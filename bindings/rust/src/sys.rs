@@ -214,9 +214,14 @@ pub const REFUSED_SYS_TEMP: u32 = 84;
 #[repr(C)]
 #[derive(Clone, Copy)]
 pub struct Connection {
-    /// 0 while more bytes are wanted, 1 once the client is logged in, and 2 once the connection is to be closed.
+    /// 0 while more bytes are wanted, 1 once the client is logged in, and 2 once the connection is to be closed. So
+    /// behind an outcome a client stands at 1 where its code is Ok and, by SCRAM, it shows the signature that is waited
+    /// for; by the other mechanisms the server's word is all that there is. Behind an outcome of another code it stands
+    /// at 2, and so it does behind one that is Ok and does not show the signature. A server stands at 1 with the
+    /// outcome Ok that it writes, and at 2 with any other.
     pub standing: u32,
-    /// Why it is to be closed: a status.
+    /// Why it is to be closed: a status, as `REFUSED_AUTH` of an outcome that says so, or
+    /// `CLIENT_SERVER_SIGNATURE_MISMATCH` of a server that a client does not believe.
     pub why: u32,
     /// What is due: 0 the other side's header, 1 the mechanisms, 2 the init, 3 the challenge, or at once the outcome, 4
     /// the response, and 5 the outcome.
@@ -452,6 +457,25 @@ extern "C" {
     /// salt and its count takes no password, and two hashes of HMAC. Whoever has them can log in.
     pub fn fe2o3_scram_client_keys(client: *const ScramClient, keys: *mut ClientKeys) -> u32;
 
+    /// Takes the body of a frame that the server sent, behind the four bytes of the frame's size, and writes the body
+    /// that is to be sent: the init to its mechanisms, the response to its challenge, and nothing (a length of 0) to
+    /// its outcome. Standing is 0 while the login goes on, 1 once the client is logged in, and the number of a refusal
+    /// (81 to 84) where the outcome is one. A room of 508 bytes suffices, and is asked for before any hash is made. The
+    /// nonce is 32 random bytes, fresh for each call.
+    ///
+    /// SCRAM stands at 1 only where the server has shown that it has the verifier (RFC 5802, section 5). PLAIN,
+    /// ANONYMOUS and EXTERNAL take any outcome at its word, also one before the init.
+    pub fn fe2o3_sasl_client_step(
+        login: *const SaslLogin,
+        client: *mut ScramClient,
+        body: *const u8,
+        body_len: usize,
+        nonce: *const [u8; 32],
+        standing: *mut u32,
+        out: *mut u8,
+        out_room: usize,
+        len: *mut usize) -> u32;
+
     /// Reads the body of a frame, which begins with its data offset, behind the four bytes of its size. It takes no
     /// memory.
     pub fn fe2o3_sasl_view_frame(body: *const u8, body_len: usize, view: *mut SaslFrameView) -> u32;
@@ -609,6 +633,39 @@ extern "C" {
     /// Writes the plain name of the user who has logged in: the one whose challenge was answered.
     pub fn fe2o3_scram_server_logged_in(
         server: *const ScramServer,
+        out: *mut u8,
+        out_room: usize,
+        len: *mut usize) -> u32;
+
+    /// Writes the body of the frame with which a server offers its mechanisms, to whoever has sent the header of SASL.
+    pub fn fe2o3_sasl_server_offer(host: *const SaslHost, out: *mut u8, out_room: usize, len: *mut usize) -> u32;
+
+    /// Takes the body of a frame that the client sent, behind the four bytes of the frame's size, and writes the body
+    /// that is to be sent: a challenge, or the outcome. Standing is 0 while the login goes on, 1 once the client is
+    /// logged in, and the number of a refusal (81 to 84) where the outcome is one. A room of 508 bytes suffices, and is
+    /// asked for before any hash is made. Before the call the caller fetches the record of the user whom the body names
+    /// (`fe2o3_sasl_server_step_user`), if it names one. Once the client is logged in, the struct names the user of any
+    /// mechanism (`fe2o3_scram_server_logged_in`); ANONYMOUS names nobody. The nonce is 32 random bytes, fresh for each
+    /// call. Where a name or a message has no room in the struct, the call is refused by `TOO_LONG`, and the connection
+    /// is to be closed.
+    pub fn fe2o3_sasl_server_step(
+        host: *const SaslHost,
+        server: *mut ScramServer,
+        body: *const u8,
+        body_len: usize,
+        nonce: *const [u8; 32],
+        standing: *mut u32,
+        out: *mut u8,
+        out_room: usize,
+        len: *mut usize) -> u32;
+
+    /// Writes the plain name of the user whom the body of a frame names, and whose record is to be fetched before it is
+    /// taken: that of an init of SCRAM or PLAIN, and for a response that of the open challenge. Where it names nobody,
+    /// the number is that of `NAMES_NOBODY`, and no record is needed.
+    pub fn fe2o3_sasl_server_step_user(
+        server: *const ScramServer,
+        body: *const u8,
+        body_len: usize,
         out: *mut u8,
         out_room: usize,
         len: *mut usize) -> u32;

@@ -11,3 +11,4 @@ pub mod SaslServerLemmas
 pub mod ServerCallLemmas
 pub mod ServerUserLemmas
 pub mod LoginLemmas
+pub mod StepLemmas

@@ -174,7 +174,7 @@ replied_comes login profile moved next (Ok (frames.Mechanisms names)) says comes
 replied_comes login profile moved next (Ok (frames.Challenge text)) says comes moves is =
     sent_comes login profile (canonical (frames.Challenge text)) moved next comes moves is.1
 
-gives_comes : (login : Login) (hostname : Option (List ℕ)) (profile : Profile) (event : Given)
+pub gives_comes : (login : Login) (hostname : Option (List ℕ)) (profile : Profile) (event : Given)
     (spelled : Result SaslFrame Error) (says : ClientSays) (next : Profile)
     → ProfileGives hostname profile event spelled says next → Comes login profile → Comes login next
 gives_comes login hostname profile event (Err fault) says next is comes = same_comes login profile next is.1 comes
@@ -303,13 +303,12 @@ receives_behind login hostname side next bytes nonce taken sent wanting is limit
 -- ---- structs
 
 -- the profile of a struct is one that the login comes to
-profile_comes : (login : Login) (client : Struct) (profile : Profile) → IsProfile login client.scram profile
+pub profile_comes : (login : Login) (scram : ScramStruct) (profile : Profile) → IsProfile login scram profile
     → Comes login profile
-profile_comes login client (ScramProfile side) is =
-    (is.0, (is.1.0, reached side.user client.scram side.state is.1.1))
-profile_comes login client (PlainProfile user password) is = is
-profile_comes login client AnonymousProfile is = is
-profile_comes login client ExternalProfile is = is
+profile_comes login scram (ScramProfile side) is = (is.0, (is.1.0, reached side.user scram side.state is.1.1))
+profile_comes login scram (PlainProfile user password) is = is
+profile_comes login scram AnonymousProfile is = is
+profile_comes login scram ExternalProfile is = is
 
 -- the struct that a profile was set down as
 pub shows_scram : (login : Login) (profile : Profile) (machine : ClientSide) (answer : Option ScramStruct)
@@ -462,7 +461,7 @@ behind_all login before hostname side next bytes nonce old items taken is wantin
     let same : items ≡ sent = all ∙ ap (λ (o : List ℕ). o ++ sent) empty in
     let whole = carried (λ s. ClientReceives hostname side bytes nonce taken s next) sent items (sym same) held in
     let last = receives_behind login hostname side next bytes nonce taken items wanting whole is.0.1
-    (profile_comes login before side.state is.1) in
+    (profile_comes login before.scram side.state is.1) in
     (whole, last.comes, last.limit, last.held, last.short)
 
 pub ruleset taken_up = (is_taken_up, no_connection, no_hostname, no_profile, is_not_kept)

@@ -8,3 +8,4 @@ pub mod SaslClient
 pub mod Frames
 pub mod Lines
 pub mod SaslServer
+pub mod Steps

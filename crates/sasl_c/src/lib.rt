@@ -11,6 +11,7 @@
 
 mod arrays;
 mod client;
+mod client_steps;
 mod connection;
 mod frames;
 mod keys;
@@ -19,5 +20,7 @@ mod records;
 mod sasl_client;
 mod sasl_server;
 mod server;
+mod server_steps;
 mod status;
+mod steps;
 mod texts;

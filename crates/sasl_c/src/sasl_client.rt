@@ -48,7 +48,7 @@ pub struct SaslClient {
 
 impl SaslLogin<'_> {
     /// The hostname, if there is one.
-    fn hostname(&self, alloc: Global) -> Result<Option<String>, Status>
+    pub fn hostname(&self, alloc: Global) -> Result<Option<String>, Status>
         ensures ok { IfOk result (λ hostname. IsHostname self.now (option_map string_bytes hostname)) }
         ensures utf8 { IfOk result (λ _. ¬ HasNoHostname self.now) }
         ensures err { IfErr result (λ status. status ≢ StatusOutOfMemory → (status ≡ NotUtf8) × HasNoHostname self.now) }
@@ -74,7 +74,7 @@ impl SaslLogin<'_> {
 
     /// The profile, whose client of SCRAM is that of the struct.
     #[tactic(auto, using(crate::proofs::SaslClientLemmas::no_profiles))]
-    fn profile(&self, alloc: Global, scram: &ScramClient) -> Result<SaslProfile, Status>
+    pub fn profile(&self, alloc: Global, scram: &ScramClient) -> Result<SaslProfile, Status>
         ensures ok { IfOk result (λ profile. IsProfile self.now scram.now (profile_of profile)) }
         ensures err { IfErr result (λ status. status ≢ StatusOutOfMemory → IsNoProfile self.now status) }
         ensures room { IfErr result (λ status. status ≢ RoomTooSmall) }
@@ -93,7 +93,7 @@ impl SaslLogin<'_> {
 }
 
 /// The struct of a profile's client of SCRAM, and a fresh one of another profile.
-fn scram_of(profile: &SaslProfile) -> Option<ScramClient>
+pub fn scram_of(profile: &SaslProfile) -> Option<ScramClient>
     ensures { (login : LoginStruct) → Comes login (profile_of profile.now)
         → MatchOption result ⊥ (λ scram. IsProfile login scram (profile_of profile.now)) }
 {

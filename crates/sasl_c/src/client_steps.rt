@@ -1,0 +1,182 @@
+//! A client's steps over the bodies of frames, for whoever reads and writes the frames.
+
+ghost use Rattle.std.specs.Prelude.{◌≡◌, ◌≢◌, ◌≤◌, ◌^◌, length, option_map, string_bytes, IfOk, IfErr, OnErr, MatchResult};
+ghost use Rattle.fe2o3_sasl_wire.specs.FrameView.{shown};
+ghost use Rattle.fe2o3_sasl.specs.Runs.{client_reply};
+ghost use Rattle.fe2o3_sasl.specs.SaslProfile.{profile_of};
+ghost use Rattle.sasl_c.specs.Status.{Answers, FillsWithin};
+ghost use Rattle.sasl_c.specs.Steps.{ClientHides, ClientNotStepped, ClientStepped, ClientSteps, ClientTells, ProfileNotStepped, ProfileStepped, standing_number};
+ghost use Rattle.sasl_c.specs.declared.status.Status.TheVariants.{OutOfMemory as StatusOutOfMemory, RoomTooSmall};
+
+use crate::arrays::put;
+use crate::client::ScramClient;
+use crate::connection::of_profile;
+use crate::sasl_client::{SaslLogin, scram_of};
+use crate::status::{Status, number};
+use crate::steps::{BODY_MOST, behind, number_of, sendable};
+use fe2o3_sasl::{ClientReply, SaslProfile, profile_body_step};
+use fe2o3_sasl_negotiation::Standing;
+use fe2o3_scram::Meter;
+use std::alloc::Global;
+
+/// The body that a reply sends, and how the login stands behind it.
+fn told(alloc: Global, reply: ClientReply) -> Result<(Vec<u8>, Standing), Status>
+    ensures told { MatchResult result (λ told. ClientTells (client_reply reply) told.0.items told.1)
+        (λ status. ClientHides (client_reply reply) status) }
+    ensures room { IfErr result (λ status. status ≢ RoomTooSmall) }
+{
+    match reply {
+        ClientReply::Init { body } => Ok((sendable(body)?, Standing::Wanting)),
+        ClientReply::Response { body } => Ok((sendable(body)?, Standing::Wanting)),
+        ClientReply::Outcome(outcome) => Ok((Vec::new(alloc), behind(outcome.code))),
+    }
+}
+
+/// The hostname, if there is one.
+fn shown_name(hostname: &Option<String>) -> Option<&str>
+    ensures { shown result ≡ option_map string_bytes hostname.now }
+{
+    match hostname {
+        Some(hostname) => Some(hostname.as_str()),
+        None => None,
+    }
+}
+
+/// What a call makes of a body.
+#[derive(Drop)]
+struct Made {
+    /// The body that is to be sent, if it is not empty.
+    sent: Vec<u8>,
+
+    /// How the login stands then.
+    standing: Standing,
+
+    /// The struct then.
+    next: ScramClient,
+}
+
+/// The step of a profile over the body of a frame, and the struct of its client then.
+fn stepped(
+    alloc: Global,
+    profile: &mut SaslProfile,
+    hostname: Option<&str>,
+    body: &[u8],
+    nonce: &[u8; 32],
+    meter: &mut Meter,
+) -> Result<Made, Status>
+    requires { meter.old ≤ 2 ^ 63 }
+    ensures ok { IfOk result (λ made. ProfileStepped (shown hostname.entry) (profile_of profile.old)
+        (record { body = body.now; nonce = nonce.now }) made.next made.standing made.sent.items) }
+    ensures err { IfErr result (λ status. status ≢ StatusOutOfMemory → ProfileNotStepped (shown hostname.entry)
+        (profile_of profile.old) (record { body = body.now; nonce = nonce.now }) status) }
+    ensures room { IfErr result (λ status. status ≢ RoomTooSmall) }
+{
+    let reply = match profile_body_step(alloc, profile, body, nonce, hostname, meter) {
+        Ok(reply) => reply,
+        Err(fault) => return Err(of_profile(fault)),
+    };
+    let (sent, standing) = match told(alloc, reply) {
+        Ok(told) => told,
+        Err(status) => return Err(status),
+    };
+    let Some(next) = scram_of(profile) else {
+        return Err(Status::NotKept);
+    };
+    Ok(Made {
+        sent,
+        standing,
+        next,
+    })
+}
+
+/// What a client makes of a body.
+fn answered(
+    alloc: Global,
+    login: &SaslLogin<'_>,
+    client: &ScramClient,
+    body: &[u8],
+    nonce: &[u8; 32],
+    meter: &mut Meter,
+) -> Result<Made, Status>
+    requires { meter.old ≤ 2 ^ 63 }
+    ensures ok { IfOk result (λ made. ClientStepped login.now (record { body = body.now; nonce = nonce.now })
+        client.now made.next (standing_number made.standing) made.sent.items) }
+    ensures fits { IfOk result (λ made. length made.sent.items ≤ 508) }
+    ensures err { IfErr result (λ status. status ≢ StatusOutOfMemory
+        → ClientNotStepped login.now (record { body = body.now; nonce = nonce.now }) client.now status) }
+    ensures room { IfErr result (λ status. status ≢ RoomTooSmall) }
+{
+    let hostname = match login.hostname(alloc) {
+        Ok(hostname) => hostname,
+        Err(status) => return Err(status),
+    };
+    let mut profile = match login.profile(alloc, client) {
+        Ok(profile) => profile,
+        Err(status) => return Err(status),
+    };
+    let name = shown_name(&hostname);
+    stepped(alloc, &mut profile, name, body, nonce, meter)
+}
+
+/// Takes the body of a frame, and writes the body that is to be sent.
+fn step(
+    alloc: Global,
+    login: &SaslLogin<'_>,
+    client: &mut ScramClient,
+    body: &[u8],
+    nonce: &[u8; 32],
+    meter: &mut Meter,
+    standing: &mut u32,
+    out: &mut [u8],
+    len: &mut usize,
+) -> Result<(), Status>
+    requires { meter.old ≤ 2 ^ 63 }
+    ensures text { FillsWithin 508 (ClientSteps login.now (record { body = body.now; nonce = nonce.now }) client.old
+        client.new standing.new) (record { bytes = out.old; len = len.old })
+        (record { bytes = out.new; len = len.new }) result }
+    ensures stays { OnErr result ((client.new ≡ client.old) × (standing.new ≡ standing.old)) }
+    ensures first { IfErr result (λ status. status ≡ RoomTooSmall → meter.new ≡ meter.old) }
+{
+    if out.len() < BODY_MOST {
+        *len = BODY_MOST;
+        return Err(Status::RoomTooSmall);
+    }
+    let made = match answered(alloc, login, client, body, nonce, meter) {
+        Ok(made) => made,
+        Err(status) => return Err(status),
+    };
+    put(&made.sent, out, len)?;
+    *standing = number_of(made.standing);
+    *client = made.next;
+    Ok(())
+}
+
+/// Takes the body of a frame that the server sent, behind the four bytes of the frame's size, and writes the body that
+/// is to be sent: the init to its mechanisms, the response to its challenge, and nothing (a length of 0) to its outcome.
+/// Standing is 0 while the login goes on, 1 once the client is logged in, and the number of a refusal (81 to 84) where
+/// the outcome is one. A room of 508 bytes suffices, and is asked for before any hash is made. The nonce is 32 random
+/// bytes, fresh for each call.
+///
+/// SCRAM stands at 1 only where the server has shown that it has the verifier (RFC 5802, section 5). PLAIN, ANONYMOUS and
+/// EXTERNAL take any outcome at its word, also one before the init.
+#[unsafe(no_mangle)]
+pub extern "C" fn fe2o3_sasl_client_step(
+    alloc: Global,
+    login: &SaslLogin<'_>,
+    client: &mut ScramClient,
+    body: &[u8],
+    nonce: &[u8; 32],
+    standing: &mut u32,
+    out: &mut [u8],
+    len: &mut usize,
+) -> u32
+    ensures { Answers result (λ answer. FillsWithin 508 (ClientSteps login.now
+        (record { body = body.now; nonce = nonce.now }) client.old client.new standing.new)
+        (record { bytes = out.old; len = len.old }) (record { bytes = out.new; len = len.new }) answer
+        × OnErr answer ((client.new ≡ client.old) × (standing.new ≡ standing.old))) }
+{
+    let mut meter = Meter::new();
+    number(step(
+        alloc, login, client, body, nonce, &mut meter, standing, out, len,
+    ))
+}

@@ -1,0 +1,275 @@
+//! A server's steps over the bodies of frames, for whoever reads and writes the frames.
+
+ghost use Rattle.std.specs.Prelude.{◌≡◌, ◌≢◌, ◌≤◌, ◌^◌, ◌⊎◌, Some, None, length, Ok, Err, IfOk, IfErr, OnErr, MatchResult};
+ghost use Rattle.fe2o3_sasl.specs.Events.{ServerSays};
+ghost use Rattle.fe2o3_sasl.specs.Runs.{AcceptorSteps, server_reply};
+ghost use Rattle.fe2o3_sasl_negotiation.specs.ServerNegotiation.{offer_body};
+ghost use Rattle.fe2o3_sasl_negotiation.specs.declared.standing.Turn.TheVariants.{Init, Response};
+ghost use Rattle.sasl_c.specs.SaslServer.{BodyNames, BodyNamesNobody};
+ghost use Rattle.sasl_c.specs.Status.{Answers, Fills, FillsWithin};
+ghost use Rattle.sasl_c.specs.Steps.{IsStepped, NotStepped, Offers, ServerHides, ServerNotStepped, ServerStepped, ServerSteps, ServerTells, StepNames, standing_number};
+ghost use Rattle.sasl_c.specs.declared.status.Status.TheVariants.{FrameTooLarge, OutOfMemory as StatusOutOfMemory, RoomTooSmall};
+
+use crate::arrays::put;
+use crate::connection::of_frame;
+use crate::sasl_server::{SaslHost, Shows, body_user};
+use crate::server::ScramServer;
+use crate::status::{Status, number};
+use crate::steps::{BODY_MOST, behind, number_of, sendable};
+use bytes::BytesMut;
+use fe2o3_sasl::{SaslAcceptor, SaslAcceptorExt, ServerReply, acceptor_body_step};
+use fe2o3_sasl_negotiation::{Standing, Turn};
+use fe2o3_sasl_wire::{Error, Frame, FrameCodec};
+use fe2o3_scram::Meter;
+use std::alloc::Global;
+
+/// The body with which an acceptor offers its mechanisms.
+fn offer_of<A: SaslAcceptor>(alloc: Global, acceptor: &A) -> Result<BytesMut, Status>
+    ensures ok { IfOk result (λ body. offer_body (A.names (A.state acceptor.now)) ≡ Some body.items) }
+    ensures err { IfErr result (λ status. status ≢ StatusOutOfMemory
+        → (status ≡ FrameTooLarge) × (offer_body (A.names (A.state acceptor.now)) ≡ None)) }
+    ensures room { IfErr result (λ status. status ≢ RoomTooSmall) }
+{
+    let mechanisms = acceptor.sasl_mechanisms(alloc)?;
+    let mut body = BytesMut::new(alloc);
+    match (FrameCodec {}).encode(Frame::Mechanisms(mechanisms), &mut body) {
+        Ok(()) => Ok(body),
+        Err(Error::OutOfMemory) => Err(Status::OutOfMemory),
+        Err(_) => Err(Status::FrameTooLarge),
+    }
+}
+
+/// The body with which a host offers its mechanisms.
+fn offered(alloc: Global, host: &SaslHost<'_>) -> Result<BytesMut, Status>
+    ensures offers { MatchResult result (λ body. Offers host.now (Ok body.items))
+        (λ status. status ≢ StatusOutOfMemory → Offers host.now (Err status)) }
+    ensures room { IfErr result (λ status. status ≢ RoomTooSmall) }
+{
+    let acceptor = match host.acceptor(alloc, &ScramServer::fresh()) {
+        Ok(acceptor) => acceptor,
+        Err(status) => return Err(status),
+    };
+    match offer_of(alloc, &acceptor) {
+        Ok(body) => Ok(body),
+        Err(status) => Err(status),
+    }
+}
+
+/// Writes the body with which a host offers its mechanisms.
+fn offer(alloc: Global, host: &SaslHost<'_>, out: &mut [u8], len: &mut usize) -> Result<(), Status>
+    ensures { Fills (Offers host.now) (record { bytes = out.old; len = len.old })
+        (record { bytes = out.new; len = len.new }) result }
+{
+    let body = offered(alloc, host)?;
+    put(&body, out, len)
+}
+
+/// Writes the body of the frame with which a server offers its mechanisms, to whoever has sent the header of SASL.
+#[unsafe(no_mangle)]
+pub extern "C" fn fe2o3_sasl_server_offer(
+    alloc: Global,
+    host: &SaslHost<'_>,
+    out: &mut [u8],
+    len: &mut usize,
+) -> u32
+    ensures { Answers result (Fills (Offers host.now) (record { bytes = out.old; len = len.old })
+        (record { bytes = out.new; len = len.new })) }
+{
+    number(offer(alloc, host, out, len))
+}
+
+/// The body that a reply sends, and how the login stands behind it.
+fn told(reply: ServerReply) -> Result<(Vec<u8>, Standing), Status>
+    ensures told { MatchResult result (λ told. ServerTells (server_reply reply) told.0.items told.1)
+        (λ status. ServerHides (server_reply reply) status) }
+    ensures room { IfErr result (λ status. status ≢ RoomTooSmall) }
+{
+    match reply {
+        ServerReply::Challenge { body } => Ok((sendable(body)?, Standing::Wanting)),
+        ServerReply::Outcome { code, body } => Ok((sendable(body)?, behind(code))),
+    }
+}
+
+/// What a call makes of a body.
+#[derive(Drop)]
+struct Made {
+    /// The body that is to be sent.
+    sent: Vec<u8>,
+
+    /// How the login stands then.
+    standing: Standing,
+
+    /// The struct then.
+    next: ScramServer,
+}
+
+/// The step of an acceptor over the body of a frame, and the struct that shows it then.
+fn stepped<A: Shows + Drop>(
+    alloc: Global,
+    acceptor: A,
+    body: &[u8],
+    nonce: &[u8; 32],
+    meter: &mut Meter,
+) -> Result<Made, Status>
+    requires { meter.old ≤ 2 ^ 63 }
+    ensures ok { IfOk result (λ made. IsStepped A.state A.machine A.shows (A.state acceptor)
+        (record { body = body.now; nonce = nonce.now }) made.next made.standing made.sent.items) }
+    ensures err { IfErr result (λ status. status ≢ StatusOutOfMemory → NotStepped A.state A.machine A.shows (A.state acceptor)
+        (record { body = body.now; nonce = nonce.now }) status) }
+    ensures room { IfErr result (λ status. status ≢ RoomTooSmall) }
+{
+    let mut acceptor = acceptor;
+    let reply = match acceptor_body_step(alloc, &mut acceptor, body, nonce, meter) {
+        Ok(reply) => reply,
+        Err(fault) => return Err(of_frame(fault)),
+    };
+    let (sent, standing) = match told(reply) {
+        Ok(told) => told,
+        Err(status) => return Err(status),
+    };
+    let Some(next) = acceptor.shown(standing) else {
+        return Err(Status::TooLong);
+    };
+    Ok(Made {
+        sent,
+        standing,
+        next,
+    })
+}
+
+/// What a server makes of a body.
+fn answered(
+    alloc: Global,
+    host: &SaslHost<'_>,
+    server: &ScramServer,
+    body: &[u8],
+    nonce: &[u8; 32],
+    meter: &mut Meter,
+) -> Result<Made, Status>
+    requires { meter.old ≤ 2 ^ 63 }
+    ensures ok { IfOk result (λ made. ServerStepped host.now (record { body = body.now; nonce = nonce.now })
+        server.now made.next (standing_number made.standing) made.sent.items) }
+    ensures fits { IfOk result (λ made. length made.sent.items ≤ 508) }
+    ensures err { IfErr result (λ status. status ≢ StatusOutOfMemory
+        → ServerNotStepped host.now (record { body = body.now; nonce = nonce.now }) server.now status) }
+    ensures room { IfErr result (λ status. status ≢ RoomTooSmall) }
+{
+    let acceptor = match host.acceptor(alloc, server) {
+        Ok(acceptor) => acceptor,
+        Err(status) => return Err(status),
+    };
+    match stepped(alloc, acceptor, body, nonce, meter) {
+        Ok(made) => Ok(made),
+        Err(status) => Err(status),
+    }
+}
+
+/// Takes the body of a frame, and writes the body that is to be sent.
+fn step(
+    alloc: Global,
+    host: &SaslHost<'_>,
+    server: &mut ScramServer,
+    body: &[u8],
+    nonce: &[u8; 32],
+    meter: &mut Meter,
+    standing: &mut u32,
+    out: &mut [u8],
+    len: &mut usize,
+) -> Result<(), Status>
+    requires { meter.old ≤ 2 ^ 63 }
+    ensures text { FillsWithin 508 (ServerSteps host.now (record { body = body.now; nonce = nonce.now }) server.old
+        server.new standing.new) (record { bytes = out.old; len = len.old })
+        (record { bytes = out.new; len = len.new }) result }
+    ensures stays { OnErr result ((server.new ≡ server.old) × (standing.new ≡ standing.old)) }
+    ensures first { IfErr result (λ status. status ≡ RoomTooSmall → meter.new ≡ meter.old) }
+{
+    if out.len() < BODY_MOST {
+        *len = BODY_MOST;
+        return Err(Status::RoomTooSmall);
+    }
+    let made = match answered(alloc, host, server, body, nonce, meter) {
+        Ok(made) => made,
+        Err(status) => return Err(status),
+    };
+    put(&made.sent, out, len)?;
+    *standing = number_of(made.standing);
+    *server = made.next;
+    Ok(())
+}
+
+/// Takes the body of a frame that the client sent, behind the four bytes of the frame's size, and writes the body that
+/// is to be sent: a challenge, or the outcome. Standing is 0 while the login goes on, 1 once the client is logged in, and
+/// the number of a refusal (81 to 84) where the outcome is one. A room of 508 bytes suffices, and is asked for before any
+/// hash is made. Before the call the caller fetches the record of the user whom the body names
+/// (`fe2o3_sasl_server_step_user`), if it names one. Once the client is logged in, the struct names the user of any
+/// mechanism (`fe2o3_scram_server_logged_in`); ANONYMOUS names nobody. The nonce is 32 random bytes, fresh for each call.
+/// Where a name or a message has no room in the struct, the call is refused by `TOO_LONG`, and the connection is to be
+/// closed.
+#[unsafe(no_mangle)]
+pub extern "C" fn fe2o3_sasl_server_step(
+    alloc: Global,
+    host: &SaslHost<'_>,
+    server: &mut ScramServer,
+    body: &[u8],
+    nonce: &[u8; 32],
+    standing: &mut u32,
+    out: &mut [u8],
+    len: &mut usize,
+) -> u32
+    ensures { Answers result (λ answer. FillsWithin 508 (ServerSteps host.now
+        (record { body = body.now; nonce = nonce.now }) server.old server.new standing.new)
+        (record { bytes = out.old; len = len.old }) (record { bytes = out.new; len = len.new }) answer
+        × OnErr answer ((server.new ≡ server.old) × (standing.new ≡ standing.old))) }
+{
+    let mut meter = Meter::new();
+    number(step(
+        alloc, host, server, body, nonce, &mut meter, standing, out, len,
+    ))
+}
+
+/// The name of the user whom a body names.
+fn named(alloc: Global, server: &ScramServer, body: &[u8]) -> Result<Vec<u8>, Status>
+    ensures names { MatchResult result (λ name. StepNames server.now body.now (Ok name.items))
+        (λ status. status ≢ StatusOutOfMemory → StepNames server.now body.now (Err status)) }
+    ensures room { IfErr result (λ status. status ≢ RoomTooSmall) }
+{
+    if let Some(name) = body_user(alloc, server, Turn::Init, body)? {
+        return Ok(name);
+    }
+    match body_user(alloc, server, Turn::Response, body)? {
+        Some(name) => Ok(name),
+        None => Err(Status::NamesNobody),
+    }
+}
+
+/// Writes the name of the user whom a body names.
+fn user(
+    alloc: Global,
+    server: &ScramServer,
+    body: &[u8],
+    out: &mut [u8],
+    len: &mut usize,
+) -> Result<(), Status>
+    ensures { Fills (StepNames server.now body.now) (record { bytes = out.old; len = len.old })
+        (record { bytes = out.new; len = len.new }) result }
+{
+    let name = named(alloc, server, body)?;
+    put(&name, out, len)
+}
+
+/// Writes the plain name of the user whom the body of a frame names, and whose record is to be fetched before it is
+/// taken: that of an init of SCRAM or PLAIN, and for a response that of the open challenge. Where it names nobody, the
+/// number is that of `NAMES_NOBODY`, and no record is needed.
+#[unsafe(no_mangle)]
+pub extern "C" fn fe2o3_sasl_server_step_user(
+    alloc: Global,
+    server: &ScramServer,
+    body: &[u8],
+    out: &mut [u8],
+    len: &mut usize,
+) -> u32
+    ensures { Answers result (Fills (StepNames server.now body.now) (record { bytes = out.old; len = len.old })
+        (record { bytes = out.new; len = len.new })) }
+{
+    number(user(alloc, server, body, out, len))
+}

@@ -1,0 +1,43 @@
+//! What the steps of a client and of a server over the bodies of frames have in common.
+
+ghost use Rattle.std.specs.Prelude.{◌≡◌, IfErr, MatchResult};
+ghost use Rattle.sasl_c.specs.Steps.{IsSent, IsUnsent, behind_code, standing_number};
+
+use crate::connection::of_closed;
+use crate::status::Status;
+use fe2o3_sasl_negotiation::{ClosedBecause, Standing};
+use fe2o3_sasl_wire::SaslCode;
+
+/// The most bytes of a body that is sent.
+pub const BODY_MOST: usize = 508;
+
+/// The body, where it can be sent.
+pub fn sendable(body: Vec<u8>) -> Result<Vec<u8>, Status>
+    ensures { MatchResult result (λ sent. IsSent body.items sent.items) (λ status. IsUnsent body.items status) }
+{
+    if body.len() > BODY_MOST {
+        return Err(Status::ReplyTooLarge);
+    }
+    Ok(body)
+}
+
+/// How a login stands behind an outcome.
+pub fn behind(code: SaslCode) -> Standing
+    ensures { result ≡ behind_code code }
+{
+    match code {
+        SaslCode::Ok => Standing::LoggedIn,
+        code => Standing::Closed(ClosedBecause::Refused(code)),
+    }
+}
+
+/// The number of how a login stands.
+pub fn number_of(standing: Standing) -> u32
+    ensures { result ≡ standing_number standing }
+{
+    match standing {
+        Standing::Wanting => 0,
+        Standing::LoggedIn => 1,
+        Standing::Closed(why) => of_closed(why).number(),
+    }
+}
