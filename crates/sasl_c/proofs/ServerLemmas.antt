@@ -15,7 +15,7 @@ use Rattle.fe2o3_scram.specs.ServerFinal.{AnswersClientFinal}
 use Rattle.fe2o3_scram.proofs.lemmas.hashes.DigestLemmas.{length-hmac_of}
 use Rattle.sasl_c.proofs.TextLemmas.{short, short_text}
 use Rattle.fe2o3_scram.specs.Credentials.{Provider, VersionedRecord, record_at}
-use Rattle.fe2o3_scram.specs.ScramServer.{ChallengesFrom, ConcludesFrom, ServerState, ServerFinalSent, ServerFirstSent}
+use Rattle.fe2o3_scram.specs.ScramServer.{ChallengesFrom, ServerState, ServerFirstSent}
 use Rattle.fe2o3_scram.specs.ServerFirst.{AnswersClientFirst, Challenge}
 use Rattle.fe2o3_scram.specs.Texts.{base64_text}
 use Rattle.sasl_c.specs.declared.records.ScramRecord.{ScramRecord as Kept}
