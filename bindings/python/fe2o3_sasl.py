@@ -31,6 +31,16 @@ The client's side of a connection of AMQP 1.0, before its first frame of AMQP:
         socket.sendall(answer)
     # logged in where side.standing is Standing.LOGGED_IN, and `rest` is AMQP's; else side.why says why not
 
+The same over the bodies of frames, each from the data offset on, for who reads and writes the frames:
+
+    side = ClientSteps(client, hostname="broker.example")
+    for _ in range(3):                  # the mechanisms, a challenge, and the outcome
+        answer = side.on_frame(receive_body())
+        if side.standing != Standing.WANTING:
+            break
+        send_body(answer)
+    # logged in where side.standing is Standing.LOGGED_IN; else side.why says why not
+
 A call that the library refuses raises `Refused` and leaves the object as it was. A call that does not raise is done.
 An argument that is none (another type, a number outside of its C type) raises TypeError or ValueError before any call.
 Any thread may call: calls on one object wait for each other, and what takes long does not hold the interpreter.
@@ -47,7 +57,7 @@ import operator
 import os
 import secrets
 import threading
-from typing import Any, Callable, NamedTuple, Optional, Union
+from typing import Any, Callable, NamedTuple, Optional, TypeVar, Union
 
 __all__ = [
     "SHA_1",
@@ -55,6 +65,7 @@ __all__ = [
     "SHA_512",
     "Client",
     "ClientConnection",
+    "ClientSteps",
     "Frame",
     "Keys",
     "Offer",
@@ -62,6 +73,7 @@ __all__ = [
     "Refused",
     "Server",
     "ServerConnection",
+    "ServerSteps",
     "Standing",
     "Status",
     "library_version",
@@ -155,7 +167,8 @@ class Status(enum.IntEnum):
 
 
 class Standing(enum.IntEnum):
-    """How a connection stands: more bytes are wanted, the client is logged in, or the connection is to be closed."""
+    """How a login stands: more is wanted of the other side, the client is logged in, or the connection is to be
+    closed."""
 
     WANTING = 0
     LOGGED_IN = 1
@@ -332,7 +345,7 @@ def _load(name: str) -> ctypes.CDLL:
     server, text = ctypes.POINTER(_ServerStruct), ctypes.POINTER(_TextStruct)
     sasl_login, sasl_client = ctypes.POINTER(_SaslLoginStruct), ctypes.POINTER(_SaslClientStruct)
     host, sasl_server = ctypes.POINTER(_SaslHostStruct), ctypes.POINTER(_SaslServerStruct)
-    count = ctypes.POINTER(length)
+    count, stands = ctypes.POINTER(length), ctypes.POINTER(number)
     exports: dict[str, tuple[Any, list[Any]]] = {
         "fe2o3_scram_client_first": (number, [login, client, read, *written]),
         "fe2o3_scram_client_final": (number, [login, client, read, length, *written]),
@@ -354,6 +367,10 @@ def _load(name: str) -> ctypes.CDLL:
         "fe2o3_sasl_client_receive": (number, [sasl_login, sasl_client, read, length, read, count, *written]),
         "fe2o3_sasl_server_receive": (number, [host, sasl_server, read, length, read, count, *written]),
         "fe2o3_sasl_server_user": (number, [sasl_server, read, length, *written]),
+        "fe2o3_sasl_client_step": (number, [sasl_login, client, read, length, read, stands, *written]),
+        "fe2o3_sasl_server_offer": (number, [host, *written]),
+        "fe2o3_sasl_server_step": (number, [host, server, read, length, read, stands, *written]),
+        "fe2o3_sasl_server_step_user": (number, [server, read, length, *written]),
         "fe2o3_sasl_view_frame": (number, [read, length, ctypes.POINTER(_FrameViewStruct)]),
         "fe2o3_sasl_offers": (number, [read, length, read, length]),
         "fe2o3_status_text": (None, [number, text]),
@@ -708,6 +725,14 @@ class Frame(NamedTuple):
     #: The hostname of an init.
     hostname: Optional[str]
 
+    def __repr__(self) -> str:
+        # (by PLAIN the message holds the password)
+        message = None if self.message is None else f"<{len(self.message)} bytes>"
+        return (
+            f"Frame(kind={self.kind:#x}, code={self.code}, count={self.count}, taken={self.taken}, "
+            f"mechanism={self.mechanism!r}, message={message}, hostname={self.hostname!r})"
+        )
+
 
 def view_frame(body: Bytes) -> Frame:
     """What the body of a frame says, which begins with its data offset, behind the four bytes of its size."""
@@ -743,44 +768,129 @@ def offers(body: Bytes, mechanism: Text) -> bool:
     return True
 
 
-class ClientConnection:
-    """The client's side of one connection of AMQP 1.0, from its first byte to the end of the login. It owns no
-    socket: what came is handed in, in pieces of any size, and what is to be sent is handed out."""
+class _Login:
+    """What either side of a login tells of it."""
+
+    __slots__ = ()
+    _struct: Any
+
+    def _ends(self) -> tuple[int, int]:
+        """How the login stands, and the status of why it is refused."""
+        raise NotImplementedError
+
+    @property
+    def standing(self) -> int:
+        """How the login stands: one of `Standing`."""
+        return self._ends()[0]
+
+    @property
+    def why(self) -> Optional[Refused]:
+        """Why the connection is to be closed, and None where it is not."""
+        standing, why = self._ends()
+        return Refused(why, _status_text(why)) if standing == Standing.CLOSED else None
+
+    def __repr__(self) -> str:
+        return f"{type(self).__name__}(standing={self.standing})"
+
+
+class _Connection(_Login):
+    """A login over the bytes of a connection, whose struct tells how it stands."""
+
+    __slots__ = ()
+
+    def _ends(self) -> tuple[int, int]:
+        connection = self._struct.connection
+        return int(connection.standing), int(connection.why)
+
+
+class _Steps(_Login):
+    """A login over the bodies of frames, of which the number of the last step tells how it stands."""
+
+    __slots__ = ()
+    _stands: int
+
+    def _ends(self) -> tuple[int, int]:
+        return min(self._stands, int(Standing.CLOSED)), self._stands
+
+    def _goes_on(self) -> None:
+        if self.standing != Standing.WANTING:
+            _done(Status.ENDED)
+
+    def _stepped(self, call: Callable[..., int]) -> bytes:
+        """The body that a step writes: `call` is given where the number goes, and what `_written` gives."""
+        number = ctypes.c_uint32()
+        # 508 bytes are those of a frame of 512 behind its size (AMQP 1.0, part 5, section 5.3.1).
+        answer = _written(508, lambda *room: call(ctypes.byref(number), *room))
+        self._stands = number.value
+        return answer
+
+
+_Side = TypeVar("_Side", bound="_ClientSide")
+
+
+class _ClientSide(_Login):
+    """Who logs in, and by which mechanism."""
 
     __slots__ = ("_lock", "_login", "_struct")
 
     def __init__(self, client: Client, *, hostname: Text = "") -> None:
-        """A connection on which this client logs in by SCRAM, whose init names the hostname, if it is not empty. The
-        client's own calls go on apart from it."""
+        """A login of this client by SCRAM, whose init names the hostname, if it is not empty. The client's own calls
+        go on apart from it."""
         self._begin(0, client._login, hostname)
 
     def _begin(self, mechanism: int, login: _LoginStruct, hostname: Text) -> None:
         name = _text(hostname)
         # (the words of a login that is copied into another struct are kept alive by the one that has them)
         self._login = _SaslLoginStruct(mechanism=mechanism, hostname=name, hostname_len=len(name), login=login), login
-        self._struct = _SaslClientStruct()
+        self._struct = self._fresh()
         self._lock = threading.RLock()
 
+    def _fresh(self) -> Any:
+        raise NotImplementedError
+
+    def _scram(self) -> Any:
+        raise NotImplementedError
+
     @classmethod
-    def _by(cls, mechanism: int, username: Text, password: Text, hostname: Text) -> ClientConnection:
+    def _by(cls: type[_Side], mechanism: int, username: Text, password: Text, hostname: Text) -> _Side:
         side = cls.__new__(cls)
         side._begin(mechanism, Client(SHA_256, username, password)._login, hostname)
         return side
 
     @classmethod
-    def plain(cls, username: Text, password: Text, *, hostname: Text = "") -> ClientConnection:
-        """A connection on which a user logs in by PLAIN (RFC 4616), which sends the password as it is."""
+    def plain(cls: type[_Side], username: Text, password: Text, *, hostname: Text = "") -> _Side:
+        """The login of a user by PLAIN (RFC 4616), which sends the password as it is."""
         return cls._by(1, username, password, hostname)
 
     @classmethod
-    def anonymous(cls, *, hostname: Text = "") -> ClientConnection:
-        """A connection on which a user logs in by ANONYMOUS (RFC 4505)."""
+    def anonymous(cls: type[_Side], *, hostname: Text = "") -> _Side:
+        """The login of a user by ANONYMOUS (RFC 4505)."""
         return cls._by(2, "", "", hostname)
 
     @classmethod
-    def external(cls, *, hostname: Text = "") -> ClientConnection:
-        """A connection on which a user logs in by EXTERNAL (RFC 4422, appendix A), as whom the transport knows."""
+    def external(cls: type[_Side], *, hostname: Text = "") -> _Side:
+        """The login of a user by EXTERNAL (RFC 4422, appendix A), as whom the transport knows."""
         return cls._by(3, "", "", hostname)
+
+    def keys(self) -> Keys:
+        """The keys of a login by SCRAM, as `Client.keys` hands them out."""
+        struct = _KeysStruct()
+        with self._lock:
+            _done(_library.fe2o3_scram_client_keys(ctypes.byref(self._scram()), ctypes.byref(struct)))
+        return Keys._of(struct)
+
+
+class ClientConnection(_Connection, _ClientSide):
+    """The client's side of one connection of AMQP 1.0, from its first byte to the end of the login. It owns no
+    socket: what came is handed in, in pieces of any size, and what is to be sent is handed out."""
+
+    __slots__ = ()
+
+    def _fresh(self) -> _SaslClientStruct:
+        return _SaslClientStruct()
+
+    def _scram(self) -> Any:
+        return self._struct.scram
 
     @staticmethod
     def open() -> bytes:
@@ -805,27 +915,39 @@ class ClientConnection:
                 rest = rest[taken.value :]
         return b"".join(answers), rest
 
-    @property
-    def standing(self) -> int:
-        """How the connection stands: one of `Standing`."""
-        return int(self._struct.connection.standing)
 
-    @property
-    def why(self) -> Optional[Refused]:
-        """Why the connection is to be closed, and None where it is not."""
-        if self.standing != Standing.CLOSED:
-            return None
-        return Refused(int(self._struct.connection.why), _status_text(int(self._struct.connection.why)))
+class ClientSteps(_Steps, _ClientSide):
+    """The client's side of one login over the bodies of frames, each from the data offset on, behind the four bytes of
+    the frame's size.
 
-    def keys(self) -> Keys:
-        """The keys of a login by SCRAM, as `Client.keys` hands them out."""
-        struct = _KeysStruct()
+    A login takes three bodies of the server: its mechanisms, for SCRAM a challenge, and the outcome. Who answers more
+    of them, which this allows, lets the server have a challenge hashed again and again.
+    """
+
+    __slots__ = ("_stands",)
+
+    def _fresh(self) -> _ClientStruct:
+        self._stands = 0
+        return _ClientStruct()
+
+    def _scram(self) -> Any:
+        return self._struct
+
+    def on_frame(self, body: Bytes) -> bytes:
+        """The body that is to be sent for one that came: the init for the mechanisms, the response for a challenge, and
+        nothing for an outcome, behind which `standing` says how the login stands. Where it raises, other than for want
+        of memory, the connection is to be closed.
+
+        PLAIN, ANONYMOUS and EXTERNAL are logged in by any outcome Ok, also by one that comes first; SCRAM by one alone
+        that shows that the server has the verifier (RFC 5802, section 5)."""
+        came, nonce = _bytes(body), secrets.token_bytes(32)
         with self._lock:
-            _done(_library.fe2o3_scram_client_keys(ctypes.byref(self._struct.scram), ctypes.byref(struct)))
-        return Keys._of(struct)
-
-    def __repr__(self) -> str:
-        return f"ClientConnection(standing={self.standing})"
+            self._goes_on()
+            return self._stepped(
+                lambda *room: _library.fe2o3_sasl_client_step(
+                    self._login[0], self._struct, came, len(came), nonce, *room
+                )
+            )
 
 
 class Offer(enum.IntFlag):
@@ -837,9 +959,8 @@ class Offer(enum.IntFlag):
     EXTERNAL = 8
 
 
-class ServerConnection:
-    """The server's side of one connection of AMQP 1.0, from its first byte to the end of the login. It owns no socket,
-    as `ClientConnection`."""
+class _ServerSide(_Login):
+    """What a server offers, and whose records it has."""
 
     __slots__ = ("_iterations", "_lock", "_mechanisms", "_peer", "_record_of", "_struct", "_version")
 
@@ -852,12 +973,65 @@ class ServerConnection:
         iterations: int = 4096,
         peer: Text = "",
     ) -> None:
-        """A connection on which a client logs in by one of the mechanisms. `record_of` is asked for the record of a
-        name: for one that it does not know it answers `Record.of_nobody(..)`, so that nobody learns that, or None. The
-        count is what PLAIN takes for an unknown user. EXTERNAL lets in the peer: whom the transport has authenticated."""
+        """A login by one of the mechanisms. `record_of` is asked for the record of a name: for one that it does not
+        know it answers `Record.of_nobody(..)`, so that nobody learns that, or None. The count is what PLAIN takes for
+        an unknown user. EXTERNAL lets in the peer: whom the transport has authenticated."""
         self._record_of, self._mechanisms, self._version = record_of, _number(mechanisms), _number(version)
-        self._iterations, self._peer, self._struct = _number(iterations), _text(peer), _SaslServerStruct()
+        self._iterations, self._peer, self._struct = _number(iterations), _text(peer), self._fresh()
         self._lock = threading.RLock()
+
+    def _fresh(self) -> Any:
+        raise NotImplementedError
+
+    def _scram(self) -> Any:
+        raise NotImplementedError
+
+    def _host(self, name: Optional[str]) -> _SaslHostStruct:
+        """What the library is lent, with the record of this name, if there is one."""
+        record = None if name is None else self._record_of(name)
+        known = b"" if name is None else _text(name)
+        return _SaslHostStruct(
+            mechanisms=self._mechanisms,
+            version=self._version,
+            iterations=self._iterations,
+            username=known,
+            username_len=len(known),
+            record=ctypes.pointer(_RecordStruct() if record is None else record._struct),
+            peer=self._peer,
+            peer_len=len(self._peer),
+        )
+
+    @staticmethod
+    def _named(call: Callable[..., int]) -> Optional[str]:
+        """The user whom a call names, if it names one."""
+        try:
+            return _written(512, call).decode("utf-8")
+        except Refused as why:
+            if why.status == Status.NAMES_NOBODY:
+                return None
+            raise
+
+    def logged_in(self) -> Optional[str]:
+        """The plain name of the user who has logged in; None by ANONYMOUS. Raises `Refused` before."""
+        with self._lock:
+            scram = self._scram()
+            if self.standing == Standing.LOGGED_IN and not scram.stands:
+                return None
+            name = _written(256, lambda *room: _library.fe2o3_scram_server_logged_in(ctypes.byref(scram), *room))
+        return name.decode("utf-8")
+
+
+class ServerConnection(_Connection, _ServerSide):
+    """The server's side of one connection of AMQP 1.0, from its first byte to the end of the login. It owns no socket,
+    as `ClientConnection`."""
+
+    __slots__ = ()
+
+    def _fresh(self) -> _SaslServerStruct:
+        return _SaslServerStruct()
+
+    def _scram(self) -> Any:
+        return self._struct.scram
 
     def receive(self, data: Bytes) -> tuple[bytes, bytes]:
         """What is to be sent for bytes that came, and those of them that are left, as `ClientConnection.receive`."""
@@ -870,21 +1044,8 @@ class ServerConnection:
         return b"".join(answers), rest
 
     def _step(self, data: bytes) -> tuple[bytes, int]:
-        name, record = self._named(data), None
-        if name is not None:
-            record = self._record_of(name)
-        known = b"" if name is None else _text(name)
-        host = _SaslHostStruct(
-            mechanisms=self._mechanisms,
-            version=self._version,
-            iterations=self._iterations,
-            username=known,
-            username_len=len(known),
-            record=ctypes.pointer(_RecordStruct() if record is None else record._struct),
-            peer=self._peer,
-            peer_len=len(self._peer),
-        )
-        nonce, taken = secrets.token_bytes(32), ctypes.c_size_t()
+        name = self._named(lambda *room: _library.fe2o3_sasl_server_user(self._struct, data, len(data), *room))
+        host, nonce, taken = self._host(name), secrets.token_bytes(32), ctypes.c_size_t()
         answer = _written(
             520,
             lambda *room: _library.fe2o3_sasl_server_receive(
@@ -893,42 +1054,39 @@ class ServerConnection:
         )
         return answer, taken.value
 
-    def _named(self, data: bytes) -> Optional[str]:
-        """The user whom the frame names that these bytes complete, if it names one."""
-        try:
-            name = _written(
-                512, lambda *room: _library.fe2o3_sasl_server_user(self._struct, data, len(data), *room)
-            )
-        except Refused as why:
-            if why.status == Status.NAMES_NOBODY:
-                return None
-            raise
-        return name.decode("utf-8")
 
-    @property
-    def standing(self) -> int:
-        """How the connection stands: one of `Standing`."""
-        return int(self._struct.connection.standing)
+class ServerSteps(_Steps, _ServerSide):
+    """The server's side of one login over the bodies of frames, as `ClientSteps` has them.
 
-    @property
-    def why(self) -> Optional[Refused]:
-        """Why the connection is to be closed, and None where it is not."""
-        if self.standing != Standing.CLOSED:
-            return None
-        return Refused(int(self._struct.connection.why), _status_text(int(self._struct.connection.why)))
+    A login takes two bodies of the client: its init, and for SCRAM a response. Who answers more of them, which this
+    allows, lets the client try again and again.
+    """
 
-    def logged_in(self) -> Optional[str]:
-        """The plain name of the user who has logged in; None by ANONYMOUS. Raises `Refused` before."""
-        if self.standing == Standing.LOGGED_IN and not self._struct.scram.stands:
-            return None
+    __slots__ = ("_stands",)
+
+    def _fresh(self) -> _ServerStruct:
+        self._stands = 0
+        return _ServerStruct()
+
+    def _scram(self) -> Any:
+        return self._struct
+
+    def offer(self) -> bytes:
+        """The body of the frame with which the server offers its mechanisms, to whoever has sent the header of SASL."""
+        host = self._host(None)
+        return _written(508, lambda *room: _library.fe2o3_sasl_server_offer(host, *room))
+
+    def on_frame(self, body: Bytes) -> bytes:
+        """The body that is to be sent for one that came: a challenge, or the outcome, behind which `standing` says how
+        the login stands. Where it raises, other than for want of memory, the connection is to be closed."""
+        came, nonce = _bytes(body), secrets.token_bytes(32)
         with self._lock:
-            name = _written(
-                256, lambda *room: _library.fe2o3_scram_server_logged_in(ctypes.byref(self._struct.scram), *room)
+            self._goes_on()
+            name = self._named(lambda *room: _library.fe2o3_sasl_server_step_user(self._struct, came, len(came), *room))
+            host = self._host(name)
+            return self._stepped(
+                lambda *room: _library.fe2o3_sasl_server_step(host, self._struct, came, len(came), nonce, *room)
             )
-        return name.decode("utf-8")
-
-    def __repr__(self) -> str:
-        return f"ServerConnection(standing={self.standing})"
 
 
 class Server:

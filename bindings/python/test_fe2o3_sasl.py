@@ -18,12 +18,14 @@ from unittest import mock
 
 import fe2o3_sasl
 from fe2o3_sasl import SHA_1, SHA_256, SHA_512, Client, ClientConnection, Keys, Record, Refused, Server, Standing, Status
-from fe2o3_sasl import Offer, ServerConnection
+from fe2o3_sasl import ClientSteps, Offer, ServerConnection, ServerSteps
 from peers import (
     CHALLENGE,
+    INIT,
     MECHANISMS,
     NULL,
     OUTCOME,
+    RESPONSE,
     SASL_HEADER,
     VERSIONS,
     Broker,
@@ -34,6 +36,7 @@ from peers import (
     bare_of,
     base64_of,
     exclusive_or,
+    fields_of,
     fields_of_last,
     frame_of,
     framed,
@@ -83,6 +86,31 @@ def served(side: ServerConnection, by: Any, piece: int) -> None:
             sent, _ = side.receive(to_server[at : at + piece])
             answer += sent
         to_server = b"".join(by.receive(answer[at : at + piece]) for at in range(0, len(answer), piece))
+
+
+def body_of(code: int, *fields: bytes) -> bytes:
+    return frame_of(code, *fields)[4:]
+
+
+def sized(body: bytes) -> bytes:
+    """A body behind the size of its frame."""
+    return struct.pack(">I", len(body) + 4) + body
+
+
+def stepped(side: ClientSteps, broker: Broker) -> None:
+    """Joins a client and a server that is made here, body by body."""
+    answer = mechanisms_frame(*broker.names)
+    while answer:
+        sent = side.on_frame(answer[4:])
+        answer = broker.frame(*fields_of(sized(sent))) if sent else b""
+
+
+def steps_served(side: ServerSteps, by: Any, *, ask: bool = False) -> None:
+    """Joins a server and a client that is made here, body by body."""
+    by.begin(ask)
+    answer = sized(side.offer())
+    while sent := by.frame(answer[10], answer):
+        answer = sized(side.on_frame(sent[4:]))
 
 
 class Case(unittest.TestCase):
@@ -416,6 +444,257 @@ class Connections(Case):
             self.assertIn((Status.DONE, standing), seen)
 
 
+class Steps(Case):
+    def closed(self, side: Any, status: int) -> None:
+        self.assertEqual(side.standing, Standing.CLOSED)
+        assert side.why is not None
+        self.assertEqual((side.why.status, bool(side.why.text)), (status, True))
+
+    def test_each_body_of_each_hash(self) -> None:
+        drawn = [os.urandom(32) for _ in range(5)]
+        for version, mechanism in MECHANISMS.items():
+            for number, name in enumerate(NAMES[:-1]):
+                password = PASSWORDS[number % len(PASSWORDS)]
+                with self.subTest(version=version, name=name), nonces(*drawn):
+                    known = Secret(version, password, SALT, 4096)
+                    bare = bare_of(name, drawn[0])
+                    server_first = known.server_first(drawn[0], drawn[1])
+                    client_final, server_final = known.finals(bare, server_first)
+                    record = Record.make(version, password, salt=SALT)
+                    client = ClientSteps(Client(version, name, password), hostname="broker.example")
+                    server = ServerSteps({name: record}.get, version=version)
+                    offer = server.offer()
+                    self.assertEqual(offer, mechanisms_frame(mechanism)[4:])
+                    init = client.on_frame(offer)
+                    fields = short(0xA3, mechanism.encode()), short(0xA0, b"n,," + bare), short(0xA1, b"broker.example")
+                    self.assertEqual(init, body_of(INIT, *fields))
+                    challenge = server.on_frame(init)
+                    self.assertEqual(challenge, body_of(CHALLENGE, short(0xA0, server_first)))
+                    response = client.on_frame(challenge)
+                    self.assertEqual(response, body_of(RESPONSE, short(0xA0, client_final)))
+                    self.assertEqual((client.standing, server.standing), (Standing.WANTING, Standing.WANTING))
+                    self.refused(Status.SERVER_ILLEGAL_AUTHENTICATOR_STATE, server.logged_in)
+                    outcome = server.on_frame(response)
+                    self.assertEqual(outcome, body_of(OUTCOME, b"\x50\0", short(0xA0, server_final)))
+                    self.assertEqual(client.on_frame(outcome), b"")
+                    self.assertEqual((client.standing, client.why), (Standing.LOGGED_IN, None))
+                    self.assertEqual((server.standing, server.why), (Standing.LOGGED_IN, None))
+                    self.assertEqual(server.logged_in(), name)
+                    self.assertEqual(client.keys().client_key, known.client_key)
+
+    def test_clients(self) -> None:
+        for version, mechanism in MECHANISMS.items():
+            for name in NAMES:
+                known = Secret(version, "pencil", SALT, 4096)
+                side, broker = ClientSteps(Client(version, name, "pencil")), Broker(known, "PLAIN", mechanism)
+                stepped(side, broker)
+                self.assertEqual((side.standing, broker.init[0]), (Standing.LOGGED_IN, mechanism.encode()))
+                by_keys = ClientSteps(Client(version, name, keys=side.keys()))
+                stepped(by_keys, Broker(known, mechanism))
+                self.assertEqual(by_keys.standing, Standing.LOGGED_IN)
+                side = ClientSteps(Client(version, name, "pencils"))
+                stepped(side, Broker(known, mechanism))
+                self.closed(side, Status.REFUSED_AUTH)
+                self.refused(Status.CLIENT_ILLEGAL_CLIENT_STATE, side.keys)
+
+    def test_clients_of_other_mechanisms(self) -> None:
+        known = Secret(SHA_1, "pencil", SALT, 1)
+        for side_of, init in (
+            (lambda: ClientSteps.plain("us\u00e9r", "p\u00e9ncil"),
+             [b"PLAIN", "\0us\u00e9r\0p\u00e9ncil".encode(), None]),
+            (ClientSteps.anonymous, [b"ANONYMOUS", None, None]),
+            (lambda: ClientSteps.external(hostname="b"), [b"EXTERNAL", None, b"b"]),
+        ):
+            for code in range(5):
+                side, broker = side_of(), Broker(known, "PLAIN", "ANONYMOUS", "EXTERNAL", code=code)
+                stepped(side, broker)
+                self.assertEqual((broker.init + [None, None])[:3], init)
+                if code == 0:
+                    self.assertEqual((side.standing, side.why), (Standing.LOGGED_IN, None))
+                else:
+                    self.closed(side, Status.REFUSED_AUTH + code - 1)
+                self.refused(Status.ENDED, side.on_frame, body_of(OUTCOME, b"\x50\0"))
+            # What is not of SCRAM takes the server at its word, whenever that comes.
+            side = side_of()
+            self.assertEqual(side.on_frame(body_of(OUTCOME, b"\x50\0")), b"")
+            self.assertEqual(side.standing, Standing.LOGGED_IN)
+
+    def test_refusals_of_a_client(self) -> None:
+        def scram() -> ClientSteps:
+            return ClientSteps(Client(SHA_256, "user", "pencil"))
+
+        known, name = Secret(SHA_256, "pencil", SALT, 4096), MECHANISMS[SHA_256]
+        for mar in (lambda m: m[:-4] + b"AAA=", lambda m: b"v=", lambda m: b"e=other-error"):
+            side = scram()
+            with self.assertRaises(Refused) as caught:
+                stepped(side, Broker(known, name, mar=mar))
+            self.assertIn(
+                caught.exception.status, (Status.CLIENT_SERVER_SIGNATURE_MISMATCH, Status.CLIENT_BASE64_DECODE_ERROR)
+            )
+            self.assertEqual(side.standing, Standing.WANTING)
+            self.refused(Status.CLIENT_ILLEGAL_CLIENT_STATE, side.keys)
+        few = Broker(Secret(SHA_256, "pencil", SALT, 4095), name)
+        self.refused(Status.CLIENT_ITERATION_COUNT_TOO_SMALL, stepped, scram(), few)
+        self.refused(Status.NOT_IMPLEMENTED, stepped, scram(), Broker(known, "PLAIN"))
+        self.refused(
+            Status.REPLY_TOO_LARGE, stepped, ClientSteps(Client(SHA_256, "x" * 500, "pencil")), Broker(known, name)
+        )
+        challenge = body_of(CHALLENGE, short(0xA0, b"r=x,s=AAAA,i=4096"))
+        for body, status in (
+            (challenge, Status.CLIENT_ILLEGAL_CLIENT_STATE),
+            (body_of(OUTCOME, b"\x50\0"), Status.CLIENT_SERVER_SIGNATURE_MISMATCH),
+            (body_of(OUTCOME, b"\x50\0", short(0xA0, b"v=AAAA")), Status.CLIENT_ILLEGAL_CLIENT_STATE),
+            (body_of(RESPONSE, short(0xA0, b"")), Status.NOT_IMPLEMENTED),
+            (b"\2\1\0", Status.FRAME_UNREAD),
+            (b"\2\0" + challenge[2:], Status.NO_SASL_FRAME),
+        ):
+            side = scram()
+            self.refused(status, side.on_frame, body)
+            self.assertEqual((side.standing, bytes(side._struct)), (Standing.WANTING, bytes(len(bytes(side._struct)))))
+        self.refused(Status.NOT_IMPLEMENTED, ClientSteps.anonymous().on_frame, challenge)
+        self.refused(Status.NOT_UTF8, ClientSteps.anonymous(hostname=b"\xff").on_frame, challenge)
+        self.refused(Status.NO_SUCH_VERSION, ClientSteps(Client(2, "a", "b")).on_frame, challenge)
+
+    def test_servers(self) -> None:
+        for version in VERSIONS:
+            for name in NAMES[:-1]:
+                record = Record.make(version, "pencil", salt=SALT)
+                for password, standing in (("pencil", Standing.LOGGED_IN), ("pencils", Standing.CLOSED)):
+                    for by in (Login(version, name, password), Plain(name, password)):
+                        if name == "" and isinstance(by, Plain):
+                            continue  # (PLAIN has no empty name)
+                        side = ServerSteps({name: record}.get, mechanisms=Offer.SCRAM | Offer.PLAIN, version=version)
+                        steps_served(side, by)
+                        self.assertEqual((side.standing, by.logged_in), (standing, standing == Standing.LOGGED_IN))
+                        if standing == Standing.LOGGED_IN:
+                            self.assertEqual(side.logged_in(), name)
+                        else:
+                            self.closed(side, Status.REFUSED_AUTH)
+                            self.refused(Status.SERVER_ILLEGAL_AUTHENTICATOR_STATE, side.logged_in)
+                        self.refused(Status.ENDED, side.on_frame, body_of(INIT, short(0xA3, b"PLAIN")))
+
+    def test_whom_a_server_asks_for(self) -> None:
+        for known in (True, False):
+            asked: list[str] = []
+
+            def record_of(name: str) -> Record:
+                asked.append(name)
+                return record if known else Record.of_nobody(SHA_256, bytes(32), name)
+
+            record = Record.make(SHA_256, "pencil")
+            side, by = ServerSteps(record_of), Login(SHA_256, "a=b,c", "pencil")
+            steps_served(side, by)
+            self.assertEqual((asked, by.logged_in), (["a=b,c", "a=b,c"], known))
+            self.assertEqual(by.code, 0 if known else 1)
+            asked.clear()
+            side = ServerSteps(record_of, mechanisms=Offer.ANONYMOUS)
+            steps_served(side, Other("ANONYMOUS"))
+            self.assertEqual((asked, side.standing), ([], Standing.LOGGED_IN))
+
+    def test_servers_of_other_mechanisms(self) -> None:
+        def server(mechanisms: int) -> ServerSteps:
+            return ServerSteps(lambda name: None, mechanisms=mechanisms, peer="peer")
+
+        all_of_them = mechanisms_frame(MECHANISMS[SHA_256], "PLAIN", "ANONYMOUS", "EXTERNAL")
+        self.assertEqual(server(15).offer(), all_of_them[4:])
+        for by, mechanisms, name in (
+            (Other("ANONYMOUS"), Offer.ANONYMOUS, None),
+            (Other("EXTERNAL"), Offer.EXTERNAL | Offer.PLAIN, "peer"),
+            (Other("EXTERNAL", b"peer"), Offer.EXTERNAL | Offer.SCRAM, "peer"),
+        ):
+            side = server(mechanisms)
+            steps_served(side, by)
+            self.assertEqual((side.standing, side.logged_in(), by.logged_in), (Standing.LOGGED_IN, name, True))
+        for by, mechanisms in ((Other("EXTERNAL", b"other"), Offer.EXTERNAL), (Other("ANONYMOUS"), Offer.EXTERNAL)):
+            side = server(mechanisms)
+            steps_served(side, by, ask=True)
+            self.closed(side, Status.REFUSED_AUTH)
+        for side, status in (
+            (server(0), Status.NO_SUCH_MECHANISM),
+            (server(16), Status.NO_SUCH_MECHANISM),
+            (ServerSteps(lambda name: None, version=2), Status.NO_SUCH_VERSION),
+            (ServerSteps(lambda name: None, peer=b"\xff"), Status.NOT_UTF8),
+        ):
+            self.refused(status, side.offer)
+            self.refused(status, side.on_frame, body_of(RESPONSE, short(0xA0, b"")))
+
+    def test_refusals_of_a_server(self) -> None:
+        record = Record.make(SHA_256, "pencil")
+        side = ServerSteps(lambda name: record)
+        for body, status in (
+            (mechanisms_frame("PLAIN")[4:], Status.NO_SASL_FRAME),
+            (body_of(CHALLENGE, short(0xA0, b"")), Status.NO_SASL_FRAME),
+            (body_of(OUTCOME, b"\x50\0"), Status.NO_SASL_FRAME),
+            (b"\2\1\0", Status.FRAME_UNREAD),
+        ):
+            self.refused(status, side.on_frame, body)
+            self.assertEqual((side.standing, bytes(side._struct)), (Standing.WANTING, bytes(len(bytes(side._struct)))))
+        # A response without a challenge is refused by the outcome, not by the call.
+        self.assertEqual(side.on_frame(body_of(RESPONSE, short(0xA0, b"c=biws"))), body_of(OUTCOME, b"\x50\1"))
+        self.closed(side, Status.REFUSED_AUTH)
+
+    def test_structs_of_random_bytes(self) -> None:
+        """Of whatever bits the structs are, a step is done or refused, and refused it has changed nothing."""
+        bits, seen = random.Random(20261126), set()
+        keys = fe2o3_sasl._KeysStruct()
+        login = fe2o3_sasl._SaslLoginStruct(
+            mechanism=0,
+            hostname=b"",
+            login=fe2o3_sasl._LoginStruct(
+                version=256, most_iterations=2, username=b"u", username_len=1, password=b"p", password_len=1,
+                keys=ctypes.pointer(keys),
+            ),
+        )
+        host = ServerSteps(lambda name: Record.make(SHA_256, "p", salt=SALT, iterations=1), mechanisms=15)._host("u")
+
+        def filled(kind: Any) -> Any:
+            size = ctypes.sizeof(kind)
+            return kind.from_buffer_copy(bits.getrandbits(8 * size).to_bytes(size, "little"))
+
+        def asked(export: str, lent: Any, kept: Any, body: bytes) -> None:
+            before, number, length = bytes(kept), ctypes.c_uint32(99), ctypes.c_size_t(7)
+            room, out = bits.choice((507, 508, 508, 508)), ctypes.create_string_buffer(b"\xa5" * 600, 600)
+            status = getattr(LIBRARY, export)(
+                lent, kept, body, len(body), bytes(32), ctypes.byref(number), out, room, ctypes.byref(length)
+            )
+            self.assertIn(status, set(Status))
+            seen.add((export, status, number.value))
+            if status == Status.DONE:
+                self.assertIn(number.value, (0, 1, *range(81, 85)))
+                self.assertLessEqual(length.value, room)
+                self.assertEqual(out.raw[length.value :], b"\xa5" * (600 - length.value))
+            else:
+                self.assertEqual((bytes(kept), out.raw, number.value), (before, b"\xa5" * 600, 99))
+                self.assertEqual(length.value, 508 if room == 507 else 7)
+                self.assertEqual(status == Status.ROOM_TOO_SMALL, room == 507)
+
+        for _ in range(20_000):
+            login.mechanism = bits.choice((0, 0, 0, bits.randrange(5)))
+            client, server = filled(fe2o3_sasl._ClientStruct), filled(fe2o3_sasl._ServerStruct)
+            client.sent, client.signature_len = bits.randrange(4), bits.choice((32, bits.randrange(66)))
+            server.stands, server.user_len = bits.randrange(4), 1
+            server.bare_len, server.nonce_len = bits.randrange(1026), bits.randrange(514)
+            server.first_len, server.user[0] = bits.randrange(1026), ord("u")
+            any_bytes = bytes(bits.randrange(256) for _ in range(bits.randrange(20)))
+            signature = base64_of(bytes(client.signature)[:32])
+            asked("fe2o3_sasl_client_step", login, client, bits.choice((
+                mechanisms_frame(MECHANISMS[SHA_256], "PLAIN")[4:],
+                body_of(CHALLENGE, short(0xA0, b"r=" + base64_of(bytes(client.nonce)) + b"x,s=AAAA,i=1")),
+                body_of(OUTCOME, b"\x50\0", short(0xA0, b"v=" + signature)),
+                body_of(OUTCOME, bytes([0x50, bits.randrange(5)])),
+                any_bytes,
+            )))
+            asked("fe2o3_sasl_server_step", host, server, bits.choice((
+                body_of(INIT, short(0xA3, b"SCRAM-SHA-256"), short(0xA0, b"n,,n=u,r=" + base64_of(bytes(32)))),
+                body_of(INIT, short(0xA3, b"PLAIN"), short(0xA0, b"\0u\0p")),
+                body_of(RESPONSE, short(0xA0, b"c=biws,r=x,p=AAAA")),
+                any_bytes,
+            )))
+        for export in ("fe2o3_sasl_client_step", "fe2o3_sasl_server_step"):
+            for status, number in ((0, 0), (0, 1), (0, 81), (Status.ROOM_TOO_SMALL, 99), (Status.FRAME_UNREAD, 99)):
+                self.assertIn((export, status, number), seen)
+
+
 class Records(Case):
     def test_text_and_verify(self) -> None:
         for version in VERSIONS:
@@ -529,6 +808,8 @@ class Frames(Case):
             with self.subTest(body=body):
                 view = fe2o3_sasl.view_frame(body + b"behind")
                 self.assertEqual((view[0], view[1], view[2], *view[4:]), shown)
+                if view.message:
+                    self.assertNotIn(repr(view.message), repr(view))
                 self.assertEqual(view.taken, len(body))
 
     def test_refusals(self) -> None:
@@ -604,7 +885,13 @@ class Arguments(Case):
         login(client, server, record)
         keys = client.keys()
         secret = Secret(SHA_256, password, record.salt, 4096)
+        sides = ClientSteps.plain(name, password), ServerSteps({name: record}.get, mechanisms=Offer.PLAIN)
+        init = sides[0].on_frame(sides[1].offer())
+        self.assertIn(password.encode(), init)
+        frame = fe2o3_sasl.view_frame(init)
+        self.assertEqual(frame.message, f"\0{name}\0{password}".encode())
         shown = "".join(map(repr, (client, server, record, keys, client._struct, client._login, keys._struct)))
+        shown += "".join(map(repr, (*sides, frame, ClientConnection.plain(name, password)))) + f"{frame}"
         shown += "".join(map(str, (client, server, record, keys)))
         for status in range(100):
             try:

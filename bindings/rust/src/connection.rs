@@ -5,6 +5,7 @@ use crate::client::{Who, NOTHING_SENT};
 use crate::keys::NO_KEYS;
 use crate::{generate_nonce, sys, ConnectionError, ScramClient, ScramClientKeys, ScramVersion};
 use std::fmt;
+use std::marker::PhantomData;
 
 /// A connection of which no byte has come.
 pub(crate) const FRESH: sys::Connection = sys::Connection { standing: 0, why: 0, due: 0, held_len: 0, held: [0; 512] };
@@ -55,10 +56,48 @@ impl fmt::Debug for SaslProfile {
     }
 }
 
-/// How a connection stands.
+/// Who logs in, and by which mechanism.
+#[derive(Clone)]
+pub(crate) struct Login {
+    who: Who,
+    mechanism: u32,
+    hostname: String,
+}
+
+/// A login of the library, whose pointers are to what is borrowed for `'a`.
+pub(crate) struct LentLogin<'a> {
+    pub(crate) login: sys::SaslLogin,
+    from: PhantomData<&'a Login>,
+}
+
+impl Login {
+    /// The login of a profile. Its init names the hostname, if it is not empty.
+    pub(crate) fn new(profile: SaslProfile, hostname: Option<&str>) -> Self {
+        let words = |username, password| Who::new(username, password, NO_KEYS, 0, ScramVersion::Sha256);
+        let (mechanism, who) = match profile {
+            SaslProfile::Scram(client) => (0, client.who),
+            SaslProfile::Plain { username, password } => (1, words(username, password)),
+            SaslProfile::Anonymous => (2, words(String::new(), String::new())),
+            SaslProfile::External => (3, words(String::new(), String::new())),
+        };
+        Self { who, mechanism, hostname: hostname.unwrap_or_default().to_owned() }
+    }
+
+    pub(crate) fn lend(&self) -> LentLogin<'_> {
+        let login = sys::SaslLogin {
+            mechanism: self.mechanism,
+            hostname: self.hostname.as_ptr(),
+            hostname_len: self.hostname.len(),
+            login: self.who.lend().login,
+        };
+        LentLogin { login, from: PhantomData }
+    }
+}
+
+/// How a login stands.
 #[derive(Clone, Copy, Debug, PartialEq, Eq)]
 pub enum Standing {
-    /// More bytes are wanted.
+    /// More is wanted of the other side.
     Wanting,
 
     /// The client is logged in. What comes next on the connection is AMQP's.
@@ -78,13 +117,22 @@ pub(crate) fn standing_of(connection: &sys::Connection) -> Standing {
 }
 
 /// What came of bytes that were handed in.
-#[derive(Clone, Debug, PartialEq, Eq)]
+#[derive(Clone, PartialEq, Eq)]
 pub struct Received {
     /// How many of them were taken. Those behind are AMQP's once the client is logged in.
     pub taken: usize,
 
-    /// What is to be sent.
+    /// What is to be sent. By PLAIN it holds the password.
     pub sent: Vec<u8>,
+}
+
+impl fmt::Debug for Received {
+    fn fmt(&self, f: &mut fmt::Formatter<'_>) -> fmt::Result {
+        f.debug_struct("Received")
+            .field("taken", &self.taken)
+            .field("sent", &format_args!("{} bytes", self.sent.len()))
+            .finish()
+    }
 }
 
 /// The client's side of one connection of AMQP 1.0, without a socket: bytes in, bytes out.
@@ -109,23 +157,14 @@ pub struct Received {
 /// ```
 #[derive(Clone)]
 pub struct ClientNegotiation {
-    who: Who,
-    mechanism: u32,
-    hostname: String,
+    login: Login,
     state: sys::SaslClient,
 }
 
 impl ClientNegotiation {
     /// A new connection, on which the client logs in by this profile. Its init names the hostname, if it is not empty.
     pub fn new(profile: impl Into<SaslProfile>, hostname: Option<&str>) -> Self {
-        let words = |username, password| Who::new(username, password, NO_KEYS, 0, ScramVersion::Sha256);
-        let (mechanism, who) = match profile.into() {
-            SaslProfile::Scram(client) => (0, client.who),
-            SaslProfile::Plain { username, password } => (1, words(username, password)),
-            SaslProfile::Anonymous => (2, words(String::new(), String::new())),
-            SaslProfile::External => (3, words(String::new(), String::new())),
-        };
-        Self { who, mechanism, hostname: hostname.unwrap_or_default().to_owned(), state: NEW }
+        Self { login: Login::new(profile.into(), hostname), state: NEW }
     }
 
     /// The header of SASL, which a client sends first.
@@ -154,20 +193,15 @@ impl ClientNegotiation {
     /// One call of the library: takes bytes to the end of the header or of the frame that is due. The nonce is 32 random
     /// bytes, fresh for each call.
     fn step(&mut self, bytes: &[u8], nonce: &[u8; 32]) -> Result<(usize, Vec<u8>), ConnectionError> {
-        let login = sys::SaslLogin {
-            mechanism: self.mechanism,
-            hostname: self.hostname.as_ptr(),
-            hostname_len: self.hostname.len(),
-            login: self.who.lend().login,
-        };
+        let lent = self.login.lend();
         let state = &mut self.state;
         let mut taken = 0;
         let sent = filled(FRAME_MOST, |out, len| {
-            // SAFETY: the login's pointers are to what this side owns, and the bytes are a slice that lives through the
+            // SAFETY: the login's pointers are to what `lent` borrows, and the bytes are a slice that lives through the
             // call; the state, the room, its length and the count are borrowed for writing, and so overlap nothing.
             unsafe {
                 sys::fe2o3_sasl_client_receive(
-                    &login,
+                    &lent.login,
                     state,
                     bytes.as_ptr(),
                     bytes.len(),

@@ -37,6 +37,7 @@ mod keys;
 mod records;
 mod server;
 mod serving;
+mod steps;
 #[allow(dead_code, missing_docs)]
 #[rustfmt::skip]
 mod sys;
@@ -50,6 +51,7 @@ pub use keys::ScramClientKeys;
 pub use records::{ScramRecord, StoredPassword};
 pub use server::{ScramAuthenticator, ScramCredentialProvider, SingleScramCredential};
 pub use serving::{Offers, ServerNegotiation};
+pub use steps::{Answered, ClientSteps, ServerSteps};
 pub use version::ScramVersion;
 
 /// The iteration count of a credential that names none.

@@ -230,11 +230,7 @@ impl<C: ScramCredentialProvider + Clone> ScramAuthenticator<C> {
 
     /// The user who has logged in: the one whose challenge was answered.
     pub fn user(&self) -> Option<String> {
-        let name = filled(self.state.user.len(), |out, len| {
-            // SAFETY: the state is borrowed; the room and its length are borrowed for writing, and so overlap nothing.
-            unsafe { sys::fe2o3_scram_server_logged_in(&self.state, out.as_mut_ptr(), out.len(), len) }
-        });
-        String::from_utf8(name.ok()?).ok()
+        logged_in(&self.state)
     }
 
     /// The record of a user, or one that is made up; `None` where there is none and none is made up.
@@ -251,6 +247,15 @@ impl<C: ScramCredentialProvider + Clone> ScramAuthenticator<C> {
             None => Ok(None),
         }
     }
+}
+
+/// The user who has logged in, by the struct of a server.
+pub(crate) fn logged_in(state: &sys::ScramServer) -> Option<String> {
+    let name = filled(state.user.len(), |out, len| {
+        // SAFETY: the state is borrowed; the room and its length are borrowed for writing, and so overlap nothing.
+        unsafe { sys::fe2o3_scram_server_logged_in(state, out.as_mut_ptr(), out.len(), len) }
+    });
+    String::from_utf8(name.ok()?).ok()
 }
 
 /// The plain name of the user whom a client-first message names.

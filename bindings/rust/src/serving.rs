@@ -3,9 +3,10 @@
 use crate::calls::filled;
 use crate::connection::{standing_of, Received, Standing, FRESH};
 use crate::records::ScramRecord;
-use crate::server::{ScramAuthenticator, ScramCredentialProvider, NO_CHALLENGE};
+use crate::server::{logged_in, ScramAuthenticator, ScramCredentialProvider, NO_CHALLENGE};
 use crate::{generate_nonce, sys, ConnectionError, DEFAULT_SCRAM_ITERATIONS};
 use std::fmt;
+use std::marker::PhantomData;
 
 /// The most bytes that are sent at once: a header, and behind it a frame (AMQP 1.0, part 5, section 5.3.1).
 const SENT_MOST: usize = 520;
@@ -44,10 +45,68 @@ impl Offers {
 
     /// The sum of the library.
     fn sum(self) -> u32 {
-        u32::from(self.scram)
-            + 2 * u32::from(self.plain)
-            + 4 * u32::from(self.anonymous)
-            + 8 * u32::from(self.external)
+        u32::from(self.scram) + 2 * u32::from(self.plain) + 4 * u32::from(self.anonymous) + 8 * u32::from(self.external)
+    }
+}
+
+/// What a server offers, and over which credentials.
+#[derive(Clone)]
+pub(crate) struct Host<C: ScramCredentialProvider + Clone> {
+    authenticator: ScramAuthenticator<C>,
+    offers: Offers,
+    peer: String,
+}
+
+/// A host of the library, whose pointers are to what is borrowed for `'a`.
+pub(crate) struct LentHost<'a> {
+    pub(crate) host: sys::SaslHost,
+    from: PhantomData<&'a ()>,
+}
+
+impl<C: ScramCredentialProvider + Clone> Host<C> {
+    pub(crate) fn new(authenticator: ScramAuthenticator<C>, offers: Offers) -> Self {
+        Self { authenticator, offers, peer: String::new() }
+    }
+
+    /// The same host, where EXTERNAL lets in this name.
+    pub(crate) fn with_peer(self, peer: String) -> Self {
+        Self { peer, ..self }
+    }
+
+    /// The record of the user whom a frame names, if it names one and there is one.
+    pub(crate) fn record(&self, name: Option<&str>) -> Result<Option<ScramRecord>, ConnectionError> {
+        match name {
+            Some(name) => self.authenticator.record(name).map_err(|why| ConnectionError::of(why.number())),
+            None => Ok(None),
+        }
+    }
+
+    /// The host with the record of a user, if there is one.
+    pub(crate) fn lend<'a>(&'a self, name: Option<&'a str>, record: Option<&'a ScramRecord>) -> LentHost<'a> {
+        let username = name.unwrap_or_default();
+        let host = sys::SaslHost {
+            mechanisms: self.offers.sum(),
+            version: self.authenticator.credentials().scram_version().number(),
+            iterations: DEFAULT_SCRAM_ITERATIONS,
+            username: username.as_ptr(),
+            username_len: username.len(),
+            record: record.map_or(&NO_RECORD, |record| &record.0),
+            peer: self.peer.as_ptr(),
+            peer_len: self.peer.len(),
+        };
+        LentHost { host, from: PhantomData }
+    }
+}
+
+/// The name that a call writes into a room of so many bytes, if there is one.
+pub(crate) fn named(
+    room: usize,
+    call: impl FnMut(&mut [u8], &mut usize) -> u32,
+) -> Result<Option<String>, ConnectionError> {
+    match filled(room, call) {
+        Ok(name) => Ok(String::from_utf8(name).ok()),
+        Err(sys::NAMES_NOBODY) => Ok(None),
+        Err(why) => Err(ConnectionError::of(why)),
     }
 }
 
@@ -72,9 +131,7 @@ impl Offers {
 /// ```
 #[derive(Clone)]
 pub struct ServerNegotiation<C: ScramCredentialProvider + Clone> {
-    authenticator: ScramAuthenticator<C>,
-    offers: Offers,
-    peer: String,
+    host: Host<C>,
     state: sys::SaslServer,
 }
 
@@ -83,12 +140,12 @@ impl<C: ScramCredentialProvider + Clone> ServerNegotiation<C> {
     /// challenge, if one is open, does not count.
     pub fn new(authenticator: ScramAuthenticator<C>, offers: Offers) -> Self {
         let state = sys::SaslServer { connection: FRESH, scram: NO_CHALLENGE };
-        Self { authenticator, offers, peer: String::new(), state }
+        Self { host: Host::new(authenticator, offers), state }
     }
 
     /// The same, where EXTERNAL lets in this name, whom the transport has authenticated.
     pub fn with_peer(mut self, peer: impl Into<String>) -> Self {
-        self.peer = peer.into();
+        self.host = self.host.with_peer(peer.into());
         self
     }
 
@@ -103,11 +160,8 @@ impl<C: ScramCredentialProvider + Clone> ServerNegotiation<C> {
         while received.taken < bytes.len() && self.standing() == Standing::Wanting {
             let rest = &bytes[received.taken..];
             let name = self.named(rest)?;
-            let record = match &name {
-                Some(name) => self.authenticator.record(name).map_err(|why| ConnectionError::of(why.number()))?,
-                None => None,
-            };
-            let (taken, sent) = self.step(rest, name.as_deref().unwrap_or_default(), record.as_ref())?;
+            let record = self.host.record(name.as_deref())?;
+            let (taken, sent) = self.step(rest, name.as_deref(), record.as_ref())?;
             received.taken += taken;
             received.sent.extend(sent);
         }
@@ -116,54 +170,32 @@ impl<C: ScramCredentialProvider + Clone> ServerNegotiation<C> {
 
     /// The user whom the frame names that these bytes complete, if it names one.
     fn named(&self, bytes: &[u8]) -> Result<Option<String>, ConnectionError> {
-        let name = filled(self.state.connection.held.len(), |out, len| {
+        named(self.state.connection.held.len(), |out, len| {
             // SAFETY: the state and the bytes are borrowed and live through the call; the room and its length are
             // borrowed for writing, and so overlap nothing.
             unsafe {
-                sys::fe2o3_sasl_server_user(
-                    &self.state,
-                    bytes.as_ptr(),
-                    bytes.len(),
-                    out.as_mut_ptr(),
-                    out.len(),
-                    len,
-                )
+                sys::fe2o3_sasl_server_user(&self.state, bytes.as_ptr(), bytes.len(), out.as_mut_ptr(), out.len(), len)
             }
-        });
-        match name {
-            Ok(name) => Ok(String::from_utf8(name).ok()),
-            Err(sys::NAMES_NOBODY) => Ok(None),
-            Err(why) => Err(ConnectionError::of(why)),
-        }
+        })
     }
 
     /// One call of the library, with the record of the user whom the frame names, if there is one.
     fn step(
         &mut self,
         bytes: &[u8],
-        username: &str,
+        name: Option<&str>,
         record: Option<&ScramRecord>,
     ) -> Result<(usize, Vec<u8>), ConnectionError> {
         let nonce = generate_nonce();
-        let host = sys::SaslHost {
-            mechanisms: self.offers.sum(),
-            version: self.authenticator.credentials().scram_version().number(),
-            iterations: DEFAULT_SCRAM_ITERATIONS,
-            username: username.as_ptr(),
-            username_len: username.len(),
-            record: record.map_or(&NO_RECORD, |record| &record.0),
-            peer: self.peer.as_ptr(),
-            peer_len: self.peer.len(),
-        };
+        let lent = self.host.lend(name, record);
         let state = &mut self.state;
         let mut taken = 0;
         let sent = filled(SENT_MOST, |out, len| {
-            // SAFETY: the host's pointers are to what is borrowed here and to what this side owns, and the bytes are a
-            // slice that lives through the call; the state, the room, its length and the count are borrowed for
-            // writing, and so overlap nothing.
+            // SAFETY: the host's pointers are to what `lent` borrows, and the bytes are a slice that lives through the
+            // call; the state, the room, its length and the count are borrowed for writing, and so overlap nothing.
             unsafe {
                 sys::fe2o3_sasl_server_receive(
-                    &host,
+                    &lent.host,
                     state,
                     bytes.as_ptr(),
                     bytes.len(),
@@ -186,11 +218,7 @@ impl<C: ScramCredentialProvider + Clone> ServerNegotiation<C> {
 
     /// The user who has logged in; `None` before, and by ANONYMOUS.
     pub fn user(&self) -> Option<String> {
-        let name = filled(self.state.scram.user.len(), |out, len| {
-            // SAFETY: the state is borrowed; the room and its length are borrowed for writing, and so overlap nothing.
-            unsafe { sys::fe2o3_scram_server_logged_in(&self.state.scram, out.as_mut_ptr(), out.len(), len) }
-        });
-        String::from_utf8(name.ok()?).ok()
+        logged_in(&self.state.scram)
     }
 }
 

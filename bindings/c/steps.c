@@ -1,0 +1,311 @@
+/* Logins over the bodies of frames (AMQP 1.0, part 5, section 5.3.3), client and server in one program, by each
+ * mechanism. Prints a line for each case, and ends with 1 where one of them is not as it should be. */
+#include "fe2o3_sasl.h"
+
+#include <stdio.h>
+#include <string.h>
+
+/* A text of the program and its length; a body that was written and its length; a room for one, and where the length
+ * goes. */
+#define TEXT(words) (const uint8_t *)(words), sizeof(words) - 1
+#define GIVEN(body) (body).bytes, (body).len
+#define ROOM(body) (body).bytes, sizeof((body).bytes), &(body).len
+
+/* In earnest these are random, and fresh for each call. */
+static const uint8_t client_nonce[32] = {1}, server_nonce[32] = {2};
+
+/* The salt of the example in RFC 7677. */
+static const uint8_t salt[] = {0x5b, 0x6d, 0x99, 0x68, 0x9d, 0x12, 0x35, 0x8e,
+    0xec, 0xa0, 0x4b, 0x14, 0x12, 0x36, 0xfa, 0x81};
+
+/* The bodies of a login by SCRAM-SHA-256 with these nonces and this salt, written by hand; their proof and their
+ * signature are those of Python's hashlib and hmac. */
+#define NONCE "AQAAAAAAAAAAAAAAAAAAAAAAAAAAAAAAAAAAAAAAAAA="
+#define BOTH_NONCES NONCE "AgAAAAAAAAAAAAAAAAAAAAAAAAAAAAAAAAAAAAAAAAA="
+#define OFFERS_SCRAM "\2\1\0\0\0\x53\x40\xc0\x13\1\xe0\x10\1\xa3\15SCRAM-SHA-256"
+#define OFFERS_ALL "\2\1\0\0\0\x53\x40\xc0\x2c\1\xe0\x29\4\xa3\15SCRAM-SHA-256\5PLAIN\11ANONYMOUS\10EXTERNAL"
+#define INIT "\2\1\0\0\0\x53\x41\xc0\x50\3\xa3\15SCRAM-SHA-256\xa0\x38n,,n=user,r=" NONCE "\xa1\4host"
+#define CHALLENGE "\2\1\0\0\0\x53\x42\xc0\x7f\1\xa0\x7cr=" BOTH_NONCES ",s=W22ZaJ0SNY7soEsUEjb6gQ==,i=4096"
+#define RESPONSE "\2\1\0\0\0\x53\x43\xc0\x93\1\xa0\x90" \
+    "c=biws,r=" BOTH_NONCES ",p=MIHdNcfet0LbDJOcfcN6eFJrJahL13kbab8XbO3ku+k="
+#define OUTCOME_OK "\2\1\0\0\0\x53\x44\xc0\x33\2\x50\0\xa0\x2ev=50uHbJV+ANf1NSOfnBbK910b8IC4PmQ5G06TO7VnXz8="
+
+/* An outcome Ok, and one Auth, without more. */
+#define BARE_OK "\2\1\0\0\0\x53\x44\xc0\3\1\x50\0"
+#define BARE_AUTH "\2\1\0\0\0\x53\x44\xc0\3\1\x50\1"
+
+/* The most bytes of a body: those of a frame of 512 behind its size (part 5, section 5.3.1). */
+struct body {
+    uint8_t bytes[508];
+    size_t len;
+};
+
+/* What both sides of a login keep, and the bodies that were sent, of which the last may be empty. */
+struct exchange {
+    struct fe2o3_scram_client client, client_before;
+    struct fe2o3_scram_server server;
+    uint32_t client_stands, server_stands;
+    struct body sent[6];
+    size_t count;
+};
+
+static const struct fe2o3_scram_client fresh_client;
+static const struct fe2o3_scram_server fresh_server;
+static const struct fe2o3_client_keys no_keys;
+static const struct fe2o3_scram_record no_record;
+static int differences;
+
+static void told(const char *mechanism, const char *what, int holds)
+{
+    printf("%s, %s: %s\n", mechanism, what, holds ? "ok" : "DIFFERS");
+    differences += !holds;
+}
+
+static int spells(const struct body *body, const uint8_t *bytes, size_t len)
+{
+    return body->len == len && memcmp(body->bytes, bytes, len) == 0;
+}
+
+static int names(const struct fe2o3_scram_server *server, const uint8_t *name, size_t len)
+{
+    struct body user;
+    return fe2o3_scram_server_logged_in(server, ROOM(user)) == FE2O3_DONE && spells(&user, name, len);
+}
+
+static int names_nobody(const struct fe2o3_scram_server *server)
+{
+    return memcmp(server, &fresh_server, sizeof fresh_server) == 0;
+}
+
+/* A login of this mechanism, of SCRAM by the hash of this version. */
+static struct fe2o3_sasl_login login_by(uint32_t mechanism, uint32_t version)
+{
+    struct fe2o3_sasl_login login = {mechanism, TEXT("host"),
+        {version, 0, 4096, 100000, TEXT("user"), TEXT("pencil"), &no_keys}};
+    return login;
+}
+
+/* The record of the password, with the salt above. */
+static struct fe2o3_scram_record record_by(uint32_t version)
+{
+    struct fe2o3_scram_record record = {0};
+    fe2o3_scram_record_make(version, TEXT("pencil"), salt, sizeof salt, 4096, &record);
+    return record;
+}
+
+/* A host of all mechanisms, which knows one user: the one of this record. */
+static struct fe2o3_sasl_host host_of(const struct fe2o3_scram_record *record)
+{
+    struct fe2o3_sasl_host host = {
+        FE2O3_OFFER_SCRAM | FE2O3_OFFER_PLAIN | FE2O3_OFFER_ANONYMOUS | FE2O3_OFFER_EXTERNAL,
+        record->version, 4096, TEXT("user"), record, TEXT("peer")};
+    return host;
+}
+
+/* What a server makes of a body, with the record of the user whom the body names, if the host knows one. */
+static uint32_t served(struct exchange *one, const struct fe2o3_sasl_host *host, const struct body *came,
+    struct body *next)
+{
+    struct fe2o3_sasl_host with = *host;
+    struct body name;
+    uint32_t number = fe2o3_sasl_server_step_user(&one->server, GIVEN(*came), ROOM(name));
+    if (number != FE2O3_DONE && number != FE2O3_NAMES_NOBODY)
+        return number;
+    if (number != FE2O3_DONE || !spells(&name, host->username, host->username_len))
+        with.record = &no_record;
+    return fe2o3_sasl_server_step(&with, &one->server, GIVEN(*came), server_nonce, &one->server_stands, ROOM(*next));
+}
+
+/* A whole login, or one up to the call that is refused. Answers the number of its last call. */
+static uint32_t run(struct exchange *one, const struct fe2o3_sasl_login *login, const struct fe2o3_sasl_host *host)
+{
+    uint32_t number;
+    memset(one, 0, sizeof *one);
+    number = fe2o3_sasl_server_offer(host, ROOM(one->sent[0]));
+    while (number == FE2O3_DONE && one->client_stands == FE2O3_WANTING && ++one->count < 6) {
+        const struct body *came = &one->sent[one->count - 1];
+        struct body *next = &one->sent[one->count];
+        one->client_before = one->client;
+        if (one->count % 2 == 0)
+            number = served(one, host, came, next);
+        else
+            number = fe2o3_sasl_client_step(
+                login, &one->client, GIVEN(*came), client_nonce, &one->client_stands, ROOM(*next));
+    }
+    return number;
+}
+
+/* Whether a login ends so on both sides, and nothing is sent behind the outcome. */
+static int ends(const struct fe2o3_sasl_login *login, const struct fe2o3_sasl_host *host, uint32_t stands,
+    struct exchange *one)
+{
+    return run(one, login, host) == FE2O3_DONE && one->client_stands == stands && one->server_stands == stands
+        && one->count < 6 && one->sent[one->count].len == 0;
+}
+
+/* Each side with a room that is a byte too small, at a body that would bring it further. */
+static int too_little_room(const struct fe2o3_sasl_login *login, const struct fe2o3_sasl_host *host,
+    const struct exchange *whole)
+{
+    struct fe2o3_scram_client client = fresh_client;
+    struct fe2o3_scram_server server = fresh_server;
+    struct body out, before;
+    uint32_t stands = 9;
+    int holds;
+    memset(&out, 0xa5, sizeof out);
+    before = out;
+    holds = fe2o3_sasl_client_step(login, &client, GIVEN(whole->sent[0]), client_nonce, &stands, out.bytes, 507,
+        &out.len) == FE2O3_ROOM_TOO_SMALL && out.len == 508;
+    out.len = 0;
+    holds &= fe2o3_sasl_server_step(host, &server, GIVEN(whole->sent[1]), server_nonce, &stands, out.bytes, 507,
+        &out.len) == FE2O3_ROOM_TOO_SMALL && out.len == 508;
+    holds &= fe2o3_sasl_server_offer(host, out.bytes, whole->sent[0].len - 1, &out.len) == FE2O3_ROOM_TOO_SMALL
+        && out.len == whole->sent[0].len;
+    holds &= fe2o3_sasl_server_step_user(&server, GIVEN(whole->sent[1]), out.bytes, 3, &out.len)
+        == FE2O3_ROOM_TOO_SMALL && out.len == 4;
+    return holds && stands == 9 && memcmp(&client, &fresh_client, sizeof client) == 0
+        && memcmp(&server, &fresh_server, sizeof server) == 0
+        && memcmp(out.bytes, before.bytes, sizeof out.bytes) == 0;
+}
+
+/* The names of the bodies of a login: that of the init, and then that of the open challenge for any response. */
+static int bodies_name(const struct fe2o3_sasl_host *host, const struct exchange *whole)
+{
+    struct fe2o3_scram_server server = fresh_server;
+    struct body name, out;
+    uint32_t stands = 9;
+    int holds = fe2o3_sasl_server_step_user(&server, GIVEN(whole->sent[1]), ROOM(name)) == FE2O3_DONE
+        && spells(&name, TEXT("user"));
+    holds &= fe2o3_sasl_server_step_user(&server, GIVEN(whole->sent[3]), ROOM(name)) == FE2O3_NAMES_NOBODY;
+    holds &= fe2o3_sasl_server_step_user(&server, GIVEN(whole->sent[0]), ROOM(name)) == FE2O3_NAMES_NOBODY;
+    holds &= fe2o3_sasl_server_step(host, &server, GIVEN(whole->sent[1]), server_nonce, &stands, ROOM(out))
+        == FE2O3_DONE && stands == FE2O3_WANTING;
+    return holds && fe2o3_sasl_server_step_user(&server, GIVEN(whole->sent[3]), ROOM(name)) == FE2O3_DONE
+        && spells(&name, TEXT("user"));
+}
+
+static void by_scram(const char *mechanism, uint32_t version)
+{
+    struct fe2o3_scram_record record = record_by(version), other = record;
+    struct fe2o3_client_keys keys = {0}, made = {0};
+    struct fe2o3_sasl_login login = login_by(FE2O3_SCRAM, version), stranger = login;
+    struct fe2o3_sasl_host host = host_of(&record), without_verifier = host_of(&other);
+    struct exchange whole, one;
+    told(mechanism, "a login",
+        ends(&login, &host, FE2O3_LOGGED_IN, &whole) && names(&whole.server, TEXT("user")));
+    told(mechanism, "the login hands out its keys",
+        fe2o3_scram_client_keys(&whole.client, &keys) == FE2O3_DONE
+            && fe2o3_scram_keys_make(version, TEXT("pencil"), salt, sizeof salt, 4096, &made) == FE2O3_DONE
+            && memcmp(&keys, &made, sizeof keys) == 0);
+    stranger.login.password_len--;
+    told(mechanism, "a wrong password",
+        ends(&stranger, &host, FE2O3_REFUSED_AUTH, &one) && names_nobody(&one.server)
+            && spells(&one.sent[4], TEXT(BARE_AUTH)) && fe2o3_scram_client_keys(&one.client, &keys) != FE2O3_DONE);
+    stranger = login;
+    stranger.login.username_len--;
+    told(mechanism, "an unknown user",
+        ends(&stranger, &host, FE2O3_REFUSED_AUTH, &one) && names_nobody(&one.server));
+    other.server_key[0] ^= 1;
+    told(mechanism, "a server without the verifier is not believed",
+        run(&one, &login, &without_verifier) == FE2O3_CLIENT_SERVER_SIGNATURE_MISMATCH && one.count == 5
+            && one.client_stands == FE2O3_WANTING
+            && memcmp(&one.client, &one.client_before, sizeof one.client) == 0
+            && fe2o3_scram_client_keys(&one.client, &keys) == FE2O3_CLIENT_ILLEGAL_CLIENT_STATE);
+    told(mechanism, "a room that is too small", too_little_room(&login, &host, &whole));
+    told(mechanism, "whom a body names", bodies_name(&host, &whole));
+}
+
+/* Each body of a login, and the offer of one mechanism, byte for byte. */
+static void by_hand(void)
+{
+    struct fe2o3_scram_record record = record_by(FE2O3_SHA_256);
+    struct fe2o3_sasl_login login = login_by(FE2O3_SCRAM, FE2O3_SHA_256);
+    struct fe2o3_sasl_host host = host_of(&record);
+    struct body offer;
+    struct exchange one;
+    told("SCRAM-SHA-256", "each body is the one that was written by hand",
+        ends(&login, &host, FE2O3_LOGGED_IN, &one) && one.count == 5 && spells(&one.sent[0], TEXT(OFFERS_ALL))
+            && spells(&one.sent[1], TEXT(INIT)) && spells(&one.sent[2], TEXT(CHALLENGE))
+            && spells(&one.sent[3], TEXT(RESPONSE)) && spells(&one.sent[4], TEXT(OUTCOME_OK)));
+    host.mechanisms = FE2O3_OFFER_SCRAM;
+    told("SCRAM-SHA-256", "offered alone",
+        fe2o3_sasl_server_offer(&host, ROOM(offer)) == FE2O3_DONE && spells(&offer, TEXT(OFFERS_SCRAM)));
+    host.mechanisms = 0;
+    told("nothing", "offered", fe2o3_sasl_server_offer(&host, ROOM(offer)) == FE2O3_NO_SUCH_MECHANISM);
+}
+
+static void by_others(void)
+{
+    struct fe2o3_scram_record record = record_by(FE2O3_SHA_256);
+    struct fe2o3_sasl_login plain = login_by(FE2O3_PLAIN, 0), external = login_by(FE2O3_EXTERNAL, 0);
+    struct fe2o3_sasl_login anonymous = login_by(FE2O3_ANONYMOUS, 0);
+    struct fe2o3_sasl_host host = host_of(&record);
+    struct body name;
+    struct exchange one;
+    told("PLAIN", "a login", ends(&plain, &host, FE2O3_LOGGED_IN, &one) && names(&one.server, TEXT("user"))
+            && spells(&one.sent[1], TEXT("\2\1\0\0\0\x53\x41\xc0\x1c\3\xa3\5PLAIN\xa0\14\0user\0pencil\xa1\4host"))
+            && spells(&one.sent[2], TEXT(BARE_OK)));
+    told("PLAIN", "whom its init names",
+        fe2o3_sasl_server_step_user(&fresh_server, GIVEN(one.sent[1]), ROOM(name)) == FE2O3_DONE
+            && spells(&name, TEXT("user")));
+    plain.login.password_len--;
+    told("PLAIN", "a wrong password", ends(&plain, &host, FE2O3_REFUSED_AUTH, &one) && names_nobody(&one.server));
+    told("ANONYMOUS", "a login", ends(&anonymous, &host, FE2O3_LOGGED_IN, &one) && names_nobody(&one.server)
+            && spells(&one.sent[1], TEXT("\2\1\0\0\0\x53\x41\xc0\x13\3\xa3\11ANONYMOUS\x40\xa1\4host")));
+    told("EXTERNAL", "a login", ends(&external, &host, FE2O3_LOGGED_IN, &one) && names(&one.server, TEXT("peer"))
+            && spells(&one.sent[1], TEXT("\2\1\0\0\0\x53\x41\xc0\x12\3\xa3\10EXTERNAL\x40\xa1\4host")));
+    host.mechanisms = FE2O3_OFFER_SCRAM;
+    told("EXTERNAL", "where it is not offered", run(&one, &external, &host) == FE2O3_NOT_IMPLEMENTED);
+}
+
+/* What a client that has sent nothing makes of this body. */
+static uint32_t heard(const struct fe2o3_sasl_login *login, const uint8_t *body, size_t len, uint32_t *stands)
+{
+    struct fe2o3_scram_client client = fresh_client;
+    struct body out;
+    return fe2o3_sasl_client_step(login, &client, body, len, client_nonce, stands, ROOM(out));
+}
+
+/* Bodies that come too soon, or to the wrong side. */
+static void out_of_turn(void)
+{
+    struct fe2o3_scram_record record = record_by(FE2O3_SHA_256);
+    struct fe2o3_sasl_login scram = login_by(FE2O3_SCRAM, FE2O3_SHA_256), plain = login_by(FE2O3_PLAIN, 0);
+    struct fe2o3_sasl_host host = host_of(&record);
+    struct fe2o3_scram_server server = fresh_server;
+    struct body out;
+    uint32_t stands = 9;
+    told("SCRAM-SHA-256", "an outcome Ok first is not believed",
+        heard(&scram, TEXT(OUTCOME_OK), &stands) == FE2O3_CLIENT_ILLEGAL_CLIENT_STATE
+            && heard(&scram, TEXT(BARE_OK), &stands) == FE2O3_CLIENT_SERVER_SIGNATURE_MISMATCH && stands == 9);
+    told("SCRAM-SHA-256", "a challenge first is not answered",
+        heard(&scram, TEXT(CHALLENGE), &stands) == FE2O3_CLIENT_ILLEGAL_CLIENT_STATE && stands == 9);
+    told("PLAIN", "an outcome Ok first is believed",
+        heard(&plain, TEXT(BARE_OK), &stands) == FE2O3_DONE && stands == FE2O3_LOGGED_IN);
+    stands = 9;
+    told("PLAIN", "a challenge is not answered",
+        heard(&plain, TEXT(CHALLENGE), &stands) == FE2O3_NOT_IMPLEMENTED && stands == 9);
+    told("a client", "a body that is none of a frame",
+        heard(&plain, TEXT("\2\1\0"), &stands) == FE2O3_FRAME_UNREAD && stands == 9);
+    told("a server", "a frame that no client sends",
+        fe2o3_sasl_server_step(&host, &server, TEXT(CHALLENGE), server_nonce, &stands, ROOM(out))
+            == FE2O3_NO_SASL_FRAME && stands == 9);
+    told("a server", "a response without a challenge is refused by an outcome",
+        fe2o3_sasl_server_step(&host, &server, TEXT(RESPONSE), server_nonce, &stands, ROOM(out)) == FE2O3_DONE
+            && stands == FE2O3_REFUSED_AUTH && spells(&out, TEXT(BARE_AUTH)) && names_nobody(&server));
+    host.mechanisms = FE2O3_OFFER_PLAIN;
+    told("a server", "an init of a mechanism that it does not offer",
+        fe2o3_sasl_server_step(&host, &server, TEXT(INIT), server_nonce, &stands, ROOM(out)) == FE2O3_DONE
+            && stands == FE2O3_REFUSED_AUTH && spells(&out, TEXT(BARE_AUTH)) && names_nobody(&server));
+}
+
+int main(void)
+{
+    by_hand();
+    by_scram("SCRAM-SHA-1", FE2O3_SHA_1);
+    by_scram("SCRAM-SHA-256", FE2O3_SHA_256);
+    by_scram("SCRAM-SHA-512", FE2O3_SHA_512);
+    by_others();
+    out_of_turn();
+    return differences != 0;
+}

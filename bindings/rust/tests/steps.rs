@@ -1,0 +1,283 @@
+//! Logins over the bodies of frames, against bodies that are written here (AMQP 1.0, part 5, section 5.3.3).
+
+use fe2o3_sasl_proved::*;
+
+const MECHANISMS: u8 = 0x40;
+const INIT: u8 = 0x41;
+const CHALLENGE: u8 = 0x42;
+const RESPONSE: u8 = 0x43;
+const OUTCOME: u8 = 0x44;
+const NULL: &[u8] = &[0x40];
+
+/// The salt of the example in RFC 7677, and in base64.
+const SALT: [u8; 16] = [0x5b, 0x6d, 0x99, 0x68, 0x9d, 0x12, 0x35, 0x8e, 0xec, 0xa0, 0x4b, 0x14, 0x12, 0x36, 0xfa, 0x81];
+const SALT_TEXT: &str = "W22ZaJ0SNY7soEsUEjb6gQ==";
+
+/// Nonces of a one or a two and zeros behind it, and in base64.
+const CLIENT_NONCE_TEXT: &str = "AQAAAAAAAAAAAAAAAAAAAAAAAAAAAAAAAAAAAAAAAAA=";
+const SERVER_NONCE_TEXT: &str = "AgAAAAAAAAAAAAAAAAAAAAAAAAAAAAAAAAAAAAAAAAA=";
+
+/// Of a login by SCRAM-SHA-256 with these, the proof and the signature of Python's hashlib and hmac.
+const PROOF: &str = "MIHdNcfet0LbDJOcfcN6eFJrJahL13kbab8XbO3ku+k=";
+const SIGNATURE: &str = "50uHbJV+ANf1NSOfnBbK910b8IC4PmQ5G06TO7VnXz8=";
+
+const REFUSED: Standing = Standing::Closed(ConnectionError::RefusedAuth);
+
+fn nonce(first: u8) -> [u8; 32] {
+    let mut nonce = [0; 32];
+    nonce[0] = first;
+    nonce
+}
+
+/// The body of a frame: a described list with these fields.
+fn body(code: u8, fields: &[&[u8]]) -> Vec<u8> {
+    let data = fields.concat();
+    let head = [2, 1, 0, 0, 0, 0x53, code, 0xc0, data.len() as u8 + 1, fields.len() as u8];
+    [&head, &data[..]].concat()
+}
+
+/// A value of variable width, whose size has one byte.
+fn short(constructor: u8, bytes: &[u8]) -> Vec<u8> {
+    [&[constructor, bytes.len() as u8], bytes].concat()
+}
+
+fn binary(text: &str) -> Vec<u8> {
+    short(0xa0, text.as_bytes())
+}
+
+fn symbol(name: &str) -> Vec<u8> {
+    short(0xa3, name.as_bytes())
+}
+
+fn list_of(names: &[&str]) -> Vec<u8> {
+    let data: Vec<u8> = names.iter().flat_map(|name| [&[name.len() as u8], name.as_bytes()].concat()).collect();
+    let array = [&[0xe0, data.len() as u8 + 2, names.len() as u8, 0xa3], &data[..]].concat();
+    body(MECHANISMS, &[&array])
+}
+
+/// The body of an init by SCRAM-SHA-256 with this message, in a list whose size and whose count have four bytes.
+fn wide_init(message: &str) -> Vec<u8> {
+    let (mechanism, size) = (symbol("SCRAM-SHA-256"), (message.len() as u32).to_be_bytes());
+    let fields = [&mechanism[..], &[0xb0], &size, message.as_bytes()].concat();
+    let list = [&(fields.len() as u32 + 4).to_be_bytes(), &[0, 0, 0, 2], &fields[..]].concat();
+    [&[2, 1, 0, 0, 0, 0x53, INIT, 0xd0], &list[..]].concat()
+}
+
+fn outcome(code: u8) -> Vec<u8> {
+    body(OUTCOME, &[&[0x50, code]])
+}
+
+fn record(version: ScramVersion) -> ScramRecord {
+    ScramRecord::from_password(version, "pencil", &SALT, 4096).unwrap()
+}
+
+type Store = SingleScramCredential;
+
+fn server(version: ScramVersion, offers: Offers) -> ServerSteps<Store> {
+    let credential = SingleScramCredential::with_record("user", record(version));
+    ServerSteps::new(ScramAuthenticator::new(credential), offers).with_peer("peer")
+}
+
+/// The same, which hides the users whom it does not know.
+fn hiding(version: ScramVersion) -> ServerSteps<Store> {
+    let credential = SingleScramCredential::with_record("user", record(version));
+    let server = ScramAuthenticator::new(credential).hiding_unknown_users([3; 32], SALT.len(), 4096);
+    ServerSteps::new(server, Offers::scram())
+}
+
+fn all() -> Offers {
+    Offers { scram: true, plain: true, anonymous: true, external: true }
+}
+
+fn plain(password: &str) -> SaslProfile {
+    SaslProfile::Plain { username: "user".to_owned(), password: password.to_owned() }
+}
+
+/// Joins both sides up to the outcome, or to what the client refuses.
+fn joined(client: &mut ClientSteps, server: &mut ServerSteps<Store>) -> Result<(), ConnectionError> {
+    let mut to_client = server.sasl_mechanisms().unwrap();
+    loop {
+        let answered = client.on_frame(&to_client)?;
+        assert_eq!(answered.standing, client.standing());
+        if answered.standing != Standing::Wanting {
+            assert!(answered.body.is_empty());
+            return Ok(());
+        }
+        let reply = server.on_frame(&answered.body).unwrap();
+        assert_eq!(reply.standing, server.standing());
+        to_client = reply.body;
+    }
+}
+
+#[test]
+fn each_body_of_a_login() {
+    let mut server = server(ScramVersion::Sha256, all());
+    let mut client = ClientSteps::new(ScramClient::new("user", "pencil", ScramVersion::Sha256), Some("host"));
+    let (ours, theirs) = (nonce(1), nonce(2));
+    let both = format!("r={CLIENT_NONCE_TEXT}{SERVER_NONCE_TEXT}");
+
+    let offer = server.sasl_mechanisms().unwrap();
+    assert_eq!(offer, list_of(&["SCRAM-SHA-256", "PLAIN", "ANONYMOUS", "EXTERNAL"]));
+    let init = client.on_frame_with(&offer, &ours).unwrap();
+    let client_first = binary(&format!("n,,n=user,r={CLIENT_NONCE_TEXT}"));
+    assert_eq!(init.body, body(INIT, &[&symbol("SCRAM-SHA-256"), &client_first, &short(0xa1, b"host")]));
+    let challenge = server.on_frame_with(&init.body, &theirs).unwrap();
+    assert_eq!(challenge.body, body(CHALLENGE, &[&binary(&format!("{both},s={SALT_TEXT},i=4096"))]));
+    let response = client.on_frame_with(&challenge.body, &nonce(3)).unwrap();
+    assert_eq!(response.body, body(RESPONSE, &[&binary(&format!("c=biws,{both},p={PROOF}"))]));
+    assert_eq!((client.standing(), server.standing()), (Standing::Wanting, Standing::Wanting));
+    let last = server.on_frame_with(&response.body, &nonce(4)).unwrap();
+    assert_eq!(last.body, body(OUTCOME, &[&[0x50, 0], &binary(&format!("v={SIGNATURE}"))]));
+    assert_eq!(client.on_frame(&last.body), Ok(Answered { body: Vec::new(), standing: Standing::LoggedIn }));
+    assert_eq!((server.standing(), server.user().as_deref()), (Standing::LoggedIn, Some("user")));
+}
+
+#[test]
+fn logins_by_scram() {
+    for version in [ScramVersion::Sha1, ScramVersion::Sha256, ScramVersion::Sha512] {
+        let mut side = server(version, Offers::scram());
+        assert_eq!(side.sasl_mechanisms().unwrap(), list_of(&[version.mechanism()]));
+        let mut client = ClientSteps::new(ScramClient::new("user", "pencil", version), None);
+        assert_eq!((joined(&mut client, &mut side), side.user().as_deref()), (Ok(()), Some("user")));
+        assert_eq!((client.standing(), side.standing()), (Standing::LoggedIn, Standing::LoggedIn));
+
+        let keys = client.keys().unwrap();
+        let mut by_keys = ClientSteps::new(ScramClient::with_keys("user", keys), None);
+        assert_eq!(joined(&mut by_keys, &mut server(version, Offers::scram())), Ok(()));
+        assert_eq!(by_keys.standing(), Standing::LoggedIn);
+
+        let sides = || [server(version, Offers::scram()), hiding(version)];
+        let strangers = [("user", "pencils"), ("nobody", "pencil")];
+        for ((user, password), mut side) in strangers.into_iter().flat_map(|who| sides().map(|side| (who, side))) {
+            let mut client = ClientSteps::new(ScramClient::new(user, password, version), None);
+            assert_eq!(joined(&mut client, &mut side), Ok(()));
+            assert_eq!((client.standing(), side.standing(), side.user()), (REFUSED, REFUSED, None));
+            assert!(client.keys().is_none());
+        }
+    }
+}
+
+#[test]
+fn other_mechanisms() {
+    let asked = |name: &str, response: &[u8]| body(INIT, &[&symbol(name), response, &short(0xa1, b"host")]);
+    for (profile, init, standing, user) in [
+        (plain("pencil"), asked("PLAIN", &binary("\0user\0pencil")), Standing::LoggedIn, Some("user")),
+        (plain("pencils"), asked("PLAIN", &binary("\0user\0pencils")), REFUSED, None),
+        (SaslProfile::Anonymous, asked("ANONYMOUS", NULL), Standing::LoggedIn, None),
+        (SaslProfile::External, asked("EXTERNAL", NULL), Standing::LoggedIn, Some("peer")),
+    ] {
+        let mut side = server(ScramVersion::Sha256, all());
+        let mut client = ClientSteps::new(profile, Some("host"));
+        let sent = client.on_frame(&side.sasl_mechanisms().unwrap()).unwrap();
+        assert_eq!(sent.body, init);
+        let reply = side.on_frame(&sent.body).unwrap();
+        assert_eq!(reply.body, outcome(u8::from(standing == REFUSED)));
+        assert_eq!(client.on_frame(&reply.body), Ok(Answered { body: Vec::new(), standing }));
+        assert_eq!((side.standing(), side.user().as_deref()), (standing, user));
+    }
+}
+
+#[test]
+fn a_server_without_the_verifier_is_not_believed() {
+    let true_record = record(ScramVersion::Sha256);
+    let stored = true_record.as_stored_password();
+    let other = StoredPassword { server_key: &[0; 32], ..stored };
+    let credential =
+        SingleScramCredential::with_record("user", ScramRecord::from_parts(ScramVersion::Sha256, &other).unwrap());
+    let mut side = ServerSteps::new(ScramAuthenticator::new(credential), Offers::scram());
+    let mut client = ClientSteps::new(ScramClient::new("user", "pencil", ScramVersion::Sha256), None);
+    let why = joined(&mut client, &mut side).unwrap_err();
+    assert_eq!(why.scram(), Some(ScramErrorKind::ServerSignatureMismatch));
+    assert_eq!(client.standing(), Standing::Wanting);
+    assert!(client.keys().is_none());
+}
+
+#[test]
+fn refusals_of_a_client() {
+    let scram = || ClientSteps::new(ScramClient::new("user", "pencil", ScramVersion::Sha256), None);
+    let kind = |answer: Result<Answered, ConnectionError>| answer.unwrap_err().scram();
+    let signed = body(OUTCOME, &[&[0x50, 0], &binary(&format!("v={SIGNATURE}"))]);
+    assert_eq!(kind(scram().on_frame(&signed)), Some(ScramErrorKind::IllegalClientState));
+    assert_eq!(kind(scram().on_frame(&outcome(0))), Some(ScramErrorKind::ServerSignatureMismatch));
+    assert_eq!(scram().on_frame(&outcome(4)).unwrap().standing, Standing::Closed(ConnectionError::RefusedSysTemp));
+    let challenge = body(CHALLENGE, &[&binary("r=x,s=AAAA,i=4096")]);
+    assert_eq!(kind(scram().on_frame(&challenge)), Some(ScramErrorKind::IllegalClientState));
+    let mut begun = scram();
+    begun.on_frame(&list_of(&["SCRAM-SHA-256"])).unwrap();
+    assert_eq!(kind(begun.on_frame(&challenge)), Some(ScramErrorKind::ClientNonceMismatch));
+
+    let other = || ClientSteps::new(plain("pencil"), None);
+    for (came, why) in [
+        (challenge, ConnectionError::NotImplemented),
+        (list_of(&["SCRAM-SHA-256"]), ConnectionError::NotImplemented),
+        (body(RESPONSE, &[&binary("c=biws")]), ConnectionError::NotImplemented),
+        (vec![2, 1, 0, 0], ConnectionError::FrameUnread),
+        (vec![2, 0, 0, 0, 0, 0x53, 0x44, 0xc0, 3, 1, 0x50, 0], ConnectionError::NoSaslFrame),
+    ] {
+        assert_eq!(other().on_frame(&came), Err(why), "{:?}", came);
+    }
+    // (without SCRAM a client takes the server at its word, whenever that comes)
+    assert_eq!(other().on_frame(&outcome(0)).unwrap().standing, Standing::LoggedIn);
+
+    let long = ScramClient::new("u".repeat(500), "pencil", ScramVersion::Sha256);
+    let offer = list_of(&["SCRAM-SHA-256"]);
+    assert_eq!(ClientSteps::new(long, None).on_frame(&offer), Err(ConnectionError::ReplyTooLarge));
+}
+
+#[test]
+fn refusals_of_a_server() {
+    let mut side = server(ScramVersion::Sha256, Offers::scram());
+    assert_eq!(side.on_frame(&outcome(0)), Err(ConnectionError::NoSaslFrame));
+    assert_eq!(side.on_frame(&[2, 1, 0, 0]), Err(ConnectionError::FrameUnread));
+    let long = wide_init(&format!("n,,n=user,r={}", "x".repeat(420)));
+    assert_eq!(side.on_frame(&long), Err(ConnectionError::ReplyTooLarge));
+    let name = wide_init(&format!("n,,n={},r=x", "u".repeat(257)));
+    assert_eq!(hiding(ScramVersion::Sha256).on_frame(&name), Err(ConnectionError::TooLong));
+    // None of them has changed the server: it still answers, and a response without a challenge by an outcome.
+    let reply = side.on_frame(&body(RESPONSE, &[&binary("c=biws")])).unwrap();
+    assert_eq!(reply, Answered { body: outcome(1), standing: REFUSED });
+
+    let nobody = body(INIT, &[&symbol("ANONYMOUS")]);
+    let reply = server(ScramVersion::Sha256, Offers::scram()).on_frame(&nobody).unwrap();
+    assert_eq!(reply, Answered { body: outcome(1), standing: REFUSED });
+    let nothing = server(ScramVersion::Sha256, Offers::default());
+    assert_eq!(nothing.sasl_mechanisms(), Err(ConnectionError::NoSuchMechanism));
+}
+
+#[test]
+fn what_has_ended_stays() {
+    let mut side = server(ScramVersion::Sha256, all());
+    let mut client = ClientSteps::new(plain("pencil"), None);
+    joined(&mut client, &mut side).unwrap();
+    let init = body(INIT, &[&symbol("ANONYMOUS")]);
+    assert_eq!(side.on_frame(&init), Err(ConnectionError::Ended));
+    assert_eq!((side.standing(), side.user().as_deref()), (Standing::LoggedIn, Some("user")));
+    assert_eq!(client.on_frame(&outcome(1)), Err(ConnectionError::Ended));
+    assert_eq!(client.standing(), Standing::LoggedIn);
+}
+
+#[test]
+fn no_debug_shows_a_secret() {
+    // What is sent by PLAIN holds the password, and so each of its bytes in a row.
+    let secret = |text: &str| format!("{:?}", text.as_bytes()).trim_matches(&['[', ']'][..]).to_owned();
+    let mut side = server(ScramVersion::Sha256, all());
+    let mut client = ClientSteps::new(plain("pencil"), None);
+    let answered = client.on_frame(&side.sasl_mechanisms().unwrap()).unwrap();
+    assert!(format!("{:?}", answered.body).contains(&secret("pencil")));
+    let mut connection = ClientNegotiation::new(plain("pencil"), None);
+    let list = list_of(&["PLAIN"]);
+    let offer = [b"AMQP\x03\x01\x00\x00", &(list.len() as u32 + 4).to_be_bytes()[..], &list].concat();
+    let received = connection.receive(&offer).unwrap();
+    assert!(format!("{:?}", received.sent).contains(&secret("pencil")));
+    let reply = side.on_frame(&answered.body).unwrap();
+    let shown = format!("{answered:?} {received:?} {reply:?} {client:?} {side:?} {connection:?} {:?}", plain("pencil"));
+    assert!(!shown.contains(&secret("pencil")) && !shown.contains("pencil"));
+    assert!(!shown.contains('['), "{}", shown);
+}
+
+#[test]
+fn all_of_it_may_go_to_another_thread() {
+    fn may<T: Send + Sync>() {}
+    may::<ClientSteps>();
+    may::<ServerSteps<Store>>();
+}
