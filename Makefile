@@ -46,3 +46,6 @@ quiet:
 
 # The library for callers in C and in Rust: lib, header, callers, install, dist.
 include bindings/callers.mk
+
+# Logins to other programs, and by them: interop.
+include interop/interop.mk

@@ -1,0 +1,127 @@
+#!/usr/bin/env python3
+"""Logs in to other programs and lets them log in, through the library's bindings for C and for Rust.
+
+    run.py [--only PEER] [--what WORDS] [--logins N] [--table FILE] [--record FILE]
+
+Makes twenty fresh logins a cell, prints the table, and ends with 1 where a cell has another count. A peer whose
+package is not there is told, and is no failure. Everything stands in a temporary folder and on the loopback at free
+ports, and is gone after the run. The programs of ours are those that `make interop` builds in `build/interop`.
+"""
+
+from __future__ import annotations
+
+import argparse
+import os
+import platform
+import sys
+import tempfile
+import time
+from pathlib import Path
+
+sys.dont_write_bytecode = True
+sys.path.insert(0, str(Path(__file__).resolve().parent))
+from cells import Cell, Peer  # noqa: E402
+from gnu_sasl import GnuSasl  # noqa: E402
+from postgresql import PostgreSql  # noqa: E402
+from sides import Side  # noqa: E402
+
+PEERS: list[type[Peer]] = [GnuSasl, PostgreSql]
+LANGUAGES = ("C", "Rust")
+
+
+def sides(built: Path, folder: Path) -> list[Side]:
+    """Our side in C and in Rust."""
+    in_c = Side("C", built / "lines", [str(built / "client")], [str(built / "server")], folder)
+    rust = built / "rust" / "release"
+    frames = str(rust / "frames")
+    in_rust = Side("Rust", rust / "lines", [frames, "client"], [frames, "server"], folder)
+    return [in_c, in_rust]
+
+
+def counted(cell: Cell, side: Side, logins: int) -> tuple[str, bool]:
+    """The result of a cell, and whether each login ended as it is to end."""
+    if cell.login is None:
+        return f"none: {cell.reason}", True
+    right, other = 0, ""
+    for _ in range(logins):
+        try:
+            ending = cell.login(side)
+            fits = ending == cell.ends
+        except Exception as why:  # noqa: BLE001 (whatever a login runs into is told, and the next one is made)
+            ending, fits = f"{type(why).__name__}: {why}", False
+        right += fits
+        other = other if fits else str(ending)
+    result = f"{right} of {logins}"
+    return (result, True) if right == logins else (f"{result}, one of them {other}", False)
+
+
+def wanted(cell: Cell) -> str:
+    """How the logins of a cell are to end."""
+    if cell.login is None:
+        return ""
+    return cell.ends.ours
+
+
+def run_peer(peer: Peer, ours: list[Side], told: argparse.Namespace) -> tuple[list[list[str]], bool]:
+    """The rows of a peer, and whether all are right."""
+    rows, all_right = [], True
+    for cell in peer.cells():
+        if told.what and told.what not in f"{cell.ours} {cell.mechanism} {cell.what}":
+            continue
+        results = []
+        for side in ours:
+            began = time.monotonic()
+            result, right = counted(cell, side, told.logins)
+            results.append(result)
+            all_right &= right
+            took = "" if cell.login is None else f" ({time.monotonic() - began:.1f} s)"
+            words = (peer.name, f"ours is {cell.ours}", side.language, cell.mechanism, cell.what, result)
+            print(" | ".join(words) + took, flush=True)
+        rows.append([peer.name, cell.ours, cell.mechanism, cell.what, wanted(cell), *results])
+    return rows, all_right
+
+
+def table(rows: list[list[str]], versions: list[str]) -> str:
+    """The page's part that a run writes."""
+    head = ["peer", "ours is the", "mechanism", "what", "our program says", *LANGUAGES]
+    lines = ["| " + " | ".join(row) + " |" for row in [head, ["---"] * len(head), *rows]]
+    return "\n".join([*versions, "", *lines]) + "\n"
+
+
+def main() -> int:
+    words = argparse.ArgumentParser(description=__doc__, formatter_class=argparse.RawDescriptionHelpFormatter)
+    words.add_argument("--only", default="", help="this peer alone")
+    words.add_argument("--what", default="", help="only the cells whose words have these in them")
+    words.add_argument("--logins", type=int, default=20, help="how many logins a cell has")
+    words.add_argument("--table", type=Path, help="a file whose table is written anew")
+    words.add_argument("--built", type=Path, default=Path("build/interop"), help="the folder of our programs")
+    told = words.parse_args()
+    rows, versions, all_right = [], [], True
+    with tempfile.TemporaryDirectory(prefix="interop-") as folder:
+        os.chmod(folder, 0o755)
+        ours = sides(told.built.resolve(), Path(folder))
+        for kind in PEERS:
+            peer = kind()
+            if told.only.lower() not in peer.name.lower():
+                continue
+            if peer.missing():
+                versions.append(f"- {peer.name}: not here (Debian's package {peer.package})")
+                print(versions[-1])
+                continue
+            versions.append(f"- {peer.name} {peer.version()} (Debian's package {peer.package})")
+            print(versions[-1])
+            place = Path(folder) / kind.__name__
+            place.mkdir()
+            try:
+                peer.start(place)
+                found, right = run_peer(peer, ours, told)
+            finally:
+                peer.stop()
+            rows += found
+            all_right &= right
+    print(f"\n{platform.platform()}\n\n{table(rows, versions)}")
+    return 0 if all_right else 1
+
+
+if __name__ == "__main__":
+    sys.exit(main())
