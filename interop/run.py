@@ -21,12 +21,17 @@ from pathlib import Path
 sys.dont_write_bytecode = True
 sys.path.insert(0, str(Path(__file__).resolve().parent))
 from cells import Cell, Peer  # noqa: E402
+from cyrus_sasl import CyrusSasl  # noqa: E402
 from gnu_sasl import GnuSasl  # noqa: E402
 from postgresql import PostgreSql  # noqa: E402
 from sides import Side  # noqa: E402
 
-PEERS: list[type[Peer]] = [GnuSasl, PostgreSql]
 LANGUAGES = ("C", "Rust")
+
+
+def peers(built: Path) -> list[Peer]:
+    """The peers, in the order of the table."""
+    return [GnuSasl(), CyrusSasl(built), PostgreSql()]
 
 
 def sides(built: Path, folder: Path) -> list[Side]:
@@ -100,17 +105,16 @@ def main() -> int:
     with tempfile.TemporaryDirectory(prefix="interop-") as folder:
         os.chmod(folder, 0o755)
         ours = sides(told.built.resolve(), Path(folder))
-        for kind in PEERS:
-            peer = kind()
+        for peer in peers(told.built.resolve()):
             if told.only.lower() not in peer.name.lower():
                 continue
             if peer.missing():
-                versions.append(f"- {peer.name}: not here (Debian's package {peer.package})")
+                versions.append(f"- {peer.name}: not here (Debian: {peer.package})")
                 print(versions[-1])
                 continue
-            versions.append(f"- {peer.name} {peer.version()} (Debian's package {peer.package})")
+            versions.append(f"- {peer.name} {peer.version()} (Debian: {peer.package})")
             print(versions[-1])
-            place = Path(folder) / kind.__name__
+            place = Path(folder) / type(peer).__name__
             place.mkdir()
             try:
                 peer.start(place)

@@ -167,6 +167,8 @@ class Side:
                     with channel:
                         seen = peer(channel) and seen
                     told.append(program.stdout.readline().strip())
+                    if told[-1].startswith("not"):
+                        break
                 return Ending("; ".join(told), seen)
 
     def serve(self, mechanism: str, records: dict[str, str], peer: Callable[[socket.socket], Optional[bool]]) -> Ending:
