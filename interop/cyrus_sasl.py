@@ -17,12 +17,12 @@ MOST = 65_536
 PAST = User("user", "p\u00e4ss")
 
 
-def make_user(file: Path, user: User, records: bool = False) -> None:
+def make_user(file: Path, user: User, records: bool = False, realm: str = "localhost") -> None:
     """Puts a user into a file of users: the password, or in its place the record of SHA-1."""
     settings = file.parent / "settings"
     settings.mkdir(exist_ok=True)
     (settings / "saslpasswd.conf").write_text(f"scram_secret_generate: {'yes' if records else 'no'}\n")
-    words = ["saslpasswd2", "-p", "-c", *(["-n"] if records else []), "-f", file, "-u", "localhost", user.name]
+    words = ["saslpasswd2", "-p", "-c", *(["-n"] if records else []), "-f", file, "-u", realm, user.name]
     subprocess.run(
         words, input=user.password.encode(), env={**os.environ, "SASL_CONF_PATH": str(settings)}, check=True,
         capture_output=True, timeout=PATIENCE,

@@ -17,6 +17,7 @@ import sys
 import tempfile
 import time
 from pathlib import Path
+from typing import Optional
 
 sys.dont_write_bytecode = True
 sys.path.insert(0, str(Path(__file__).resolve().parent))
@@ -24,14 +25,15 @@ from cells import Cell, Peer  # noqa: E402
 from cyrus_sasl import CyrusSasl  # noqa: E402
 from gnu_sasl import GnuSasl  # noqa: E402
 from postgresql import PostgreSql  # noqa: E402
+from qpid_proton import ProtonWithCyrus, QpidProton  # noqa: E402
 from sides import Side  # noqa: E402
 
 LANGUAGES = ("C", "Rust")
 
 
-def peers(built: Path) -> list[Peer]:
+def peers(built: Path, proton: Optional[Path]) -> list[Peer]:
     """The peers, in the order of the table."""
-    return [GnuSasl(), CyrusSasl(built), PostgreSql()]
+    return [GnuSasl(), CyrusSasl(built), PostgreSql(), QpidProton(), ProtonWithCyrus(proton)]
 
 
 def sides(built: Path, folder: Path) -> list[Side]:
@@ -100,12 +102,13 @@ def main() -> int:
     words.add_argument("--logins", type=int, default=20, help="how many logins a cell has")
     words.add_argument("--table", type=Path, help="a file whose table is written anew")
     words.add_argument("--built", type=Path, default=Path("build/interop"), help="the folder of our programs")
+    words.add_argument("--proton", type=Path, help="the folder of a libqpid-proton-core that is built with Cyrus SASL")
     told = words.parse_args()
     rows, versions, all_right = [], [], True
     with tempfile.TemporaryDirectory(prefix="interop-") as folder:
         os.chmod(folder, 0o755)
         ours = sides(told.built.resolve(), Path(folder))
-        for peer in peers(told.built.resolve()):
+        for peer in peers(told.built.resolve(), told.proton):
             if told.only.lower() not in peer.name.lower():
                 continue
             if peer.missing():

@@ -66,7 +66,8 @@ def ended_after(program: subprocess.Popen) -> Iterator[subprocess.Popen]:
                 program.wait()
         for pipe in (program.stdin, program.stdout, program.stderr):
             if pipe is not None:
-                pipe.close()
+                with contextlib.suppress(BrokenPipeError):
+                    pipe.close()
 
 
 def listening() -> socket.socket:
@@ -89,16 +90,26 @@ def free_port() -> int:
         return listener.getsockname()[1]
 
 
-class Tap:
-    """Listens in place of a server, hands what comes to it and back, and keeps the bytes of each direction in order."""
+def marred(came: bytes) -> bytes:
+    """What a server sent, with another signature if one begins in it, on a line or in a frame."""
+    for head in (b"dj0", b"v="):
+        if (found := came.find(head)) >= 0 and (head == b"v=" or came[found - 1 : found] in (b"", b"\n")):
+            at = found + 8
+            return came[:at] + (b"B" if came[at : at + 1] == b"A" else b"A") + came[at + 1 :]
+    return came
 
-    def __init__(self, port: int) -> None:
-        self.listener, self.server, self.kept = listening(), port, []
+
+class Tap:
+    """Listens in place of a server, hands what comes to it and back, and keeps the bytes of each direction in order.
+    What the server sends can be marred."""
+
+    def __init__(self, port: int, mar: Optional[Callable[[bytes], bytes]] = None) -> None:
+        self.listener, self.server, self.kept, self.mar = listening(), port, [], mar or (lambda came: came)
         self.port = self.listener.getsockname()[1]
         threading.Thread(target=self.run, daemon=True).start()
 
     def run(self) -> None:
-        with contextlib.suppress(OSError):
+        with contextlib.suppress(OSError), self.listener:
             while True:
                 client, _ = self.listener.accept()
                 server = dialled(self.server)
@@ -108,6 +119,7 @@ class Tap:
     def relay(self, one: socket.socket, other: socket.socket, whose: str) -> None:
         with contextlib.suppress(OSError):
             while came := one.recv(65536):
+                came = self.mar(came) if whose == "server" else came
                 self.kept.append((whose, came))
                 other.sendall(came)
         with contextlib.suppress(OSError):
@@ -145,17 +157,19 @@ class Side:
         file.write_text("".join(lines))
         return file
 
-    def tapped(self, port: int) -> int:
-        """The port of a tap before a port, where bytes are to be kept."""
-        if self.taps is None:
+    def tapped(self, port: int, mar: Optional[Callable[[bytes], bytes]] = None) -> int:
+        """The port of a tap before a port, where bytes are to be kept or marred."""
+        if self.taps is None and mar is None:
             return port
-        self.taps.append(Tap(port))
-        return self.taps[-1].port
+        tap = Tap(port, mar)
+        if self.taps is not None:
+            self.taps.append(tap)
+        return tap.port
 
-    def log_in(self, client: Client, peer: Callable[[socket.socket], Optional[bool]]) -> Ending:
+    def log_in(self, client: Client, peer: Callable[[socket.socket], Optional[bool]], mar=None) -> Ending:
         """A login by our client over lines. The peer is called with its end of each connection."""
         with listening() as listener:
-            port = self.tapped(listener.getsockname()[1])
+            port = self.tapped(listener.getsockname()[1], mar)
             words = [self.lines, *client.words(port)]
             pipes = {"stdin": subprocess.PIPE, "stdout": subprocess.PIPE, "text": True}
             with ended_after(subprocess.Popen(words, **pipes)) as program:
@@ -171,11 +185,13 @@ class Side:
                         break
                 return Ending("; ".join(told), seen)
 
-    def serve(self, mechanism: str, records: dict[str, str], peer: Callable[[socket.socket], Optional[bool]]) -> Ending:
+    def serve(
+        self, mechanism: str, records: dict[str, str], peer: Callable[[socket.socket], Optional[bool]], mar=None
+    ) -> Ending:
         """A login at our server over lines. The peer is called with its end of the connection."""
         words = [self.lines, "server", str(self.users(records)), mechanism, "1"]
         with ended_after(subprocess.Popen(words, stdout=subprocess.PIPE, text=True)) as program:
-            with dialled(self.tapped(int(program.stdout.readline()))) as channel:
+            with dialled(self.tapped(int(program.stdout.readline()), mar)) as channel:
                 seen = peer(channel)
             return Ending(program.stdout.readline().strip(), seen)
 
@@ -187,9 +203,11 @@ class Side:
         )
         return done.stdout.strip() or f"status {done.returncode}"
 
-    def serve_frames(self, mechanism: str, records: dict[str, str], peer: Callable[[int], Optional[bool]]) -> Ending:
+    def serve_frames(
+        self, mechanism: str, records: dict[str, str], peer: Callable[[int], Optional[bool]], mar=None
+    ) -> Ending:
         """A login at our server over frames. The peer is called with the server's port."""
         words = [*self.frames_server, str(self.users(records)), "1", mechanism]
         with ended_after(subprocess.Popen(words, stdout=subprocess.PIPE, text=True)) as program:
-            seen = peer(self.tapped(int(program.stdout.readline())))
+            seen = peer(self.tapped(int(program.stdout.readline()), mar))
             return Ending(program.stdout.readline().strip(), seen)
