@@ -21,6 +21,8 @@ class Cell:
     login: Optional[Callable[[Side], Ending]] = None
     ends: Ending = Ending("", None)
     reason: str = ""
+    #: Whether the logins are made at once, since the peer lets each wait.
+    at_once: bool = False
 
 
 def none(ours: str, mechanism: str, what: str, reason: str) -> Cell:

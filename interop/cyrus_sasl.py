@@ -9,7 +9,7 @@ from pathlib import Path
 from typing import Iterator, Optional
 
 from cells import Cell, Peer, none
-from sides import COMMA, PATIENCE, SCRAM, USER, Client, Ending, Side, User
+from sides import COMMA, PATIENCE, SCRAM, USER, Client, Ending, Side, User, marred
 
 PLUGINS = [Path("/usr/lib/x86_64-linux-gnu/sasl2"), Path("/usr/lib/aarch64-linux-gnu/sasl2"), Path("/usr/lib/sasl2")]
 #: The highest count that its client answers.
@@ -56,22 +56,22 @@ class CyrusSasl(Peer):
         )
         return done.returncode == 0
 
-    def log_in(self, client: Client, count: int = 4096, users: Optional[Path] = None):
+    def log_in(self, client: Client, count: int = 4096, users: Optional[Path] = None, mar=None):
         """A login of our client to a server of libsasl2."""
 
         def login(side: Side) -> Ending:
             words = ["server", client.mechanism, str(users or self.passwords), str(count)]
-            return side.log_in(client, lambda channel: self.run(channel, *words))
+            return side.log_in(client, lambda channel: self.run(channel, *words), mar)
 
         return login
 
-    def serve(self, mechanism: str, user: User, known: User = USER, binds: str = ""):
+    def serve(self, mechanism: str, user: User, known: User = USER, binds: str = "", mar=None):
         """A login of a client of libsasl2 to our server, which knows one user."""
         words = ["client", mechanism, user.name, user.password, *([binds] if binds else [])]
 
         def login(side: Side) -> Ending:
             records = {known.name: side.record(mechanism, known)}
-            return side.serve(mechanism, records, lambda channel: self.run(channel, *words))
+            return side.serve(mechanism, records, lambda channel: self.run(channel, *words), mar)
 
         return login
 
@@ -105,8 +105,10 @@ class CyrusSasl(Peer):
         else:
             yield none("client", mechanism, "kept keys, of a record that it made",
                        "its file of users keeps one record of a user, that of SHA-1")
-        other = "not logged in by keys: Client: The keys are of another salt or iteration count"
-        yield cell("kept keys, where it has the password", self.log_in(again), Ending(f"logged in: Done; {other}", False))
+        other = "logged in: Done; not logged in by keys: Client: The keys are of another salt or iteration count"
+        yield cell("kept keys, where it has the password", self.log_in(again), Ending(other, False))
+        yield cell("its signature, altered on the way", self.log_in(of, mar=marred),
+                   Ending("not logged in: Client: Server signature mismatch", False))
         yield cell("password past ASCII", self.log_in(of._replace(user=PAST)),
                    Ending("not logged in: Client: Error normalizing password", False))
 
@@ -125,6 +127,8 @@ class CyrusSasl(Peer):
         for count in (MOST + 1, 100_000):
             yield cell(f"count {count:,}, above its limit", self.serve(mechanism, USER, USER._replace(count=count)),
                        Ending("not logged in: the other side ended", False))
+        yield cell("our signature, altered on the way", self.serve(mechanism, USER, mar=marred),
+                   Ending("logged in: user", False))
         yield cell("it may bind its channel, and sends `n,,`", self.serve(mechanism, USER, binds="may"), done)
         yield cell("it has to bind its channel, and sends `p=..,,`", self.serve(mechanism, USER, binds="must"),
                    Ending("not logged in: Server: Cannot parse GS2-header", False))

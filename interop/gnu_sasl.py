@@ -10,9 +10,10 @@ import subprocess
 from typing import Iterator
 
 from cells import Cell, Peer, none
-from sides import COMMA, PATIENCE, SALT, USER, Client, Ending, Side, User
+from sides import COMMA, PATIENCE, SALT, USER, Client, Ending, Side, User, marred
 
 MECHANISMS = ("SCRAM-SHA-1", "SCRAM-SHA-256")
+FORGED = "not logged in: Client: Server signature mismatch"
 ENDED = "not logged in: the other side ended"
 
 
@@ -25,24 +26,24 @@ def gsasl(channel: socket.socket, words: list[str]) -> bool:
     return done.returncode == 0
 
 
-def server(client: Client, password: str, count: int = 4096):
+def server(client: Client, password: str, count: int = 4096, mar=None):
     """A server of gsasl, which takes any name and has one password."""
     salt = base64.b64encode(SALT).decode()
     words = ["--server", "-m", client.mechanism, f"--password={password}", f"--iteration-count={count}"]
 
     def login(side: Side) -> Ending:
-        return side.log_in(client, lambda channel: gsasl(channel, [*words, f"--salt={salt}"]))
+        return side.log_in(client, lambda channel: gsasl(channel, [*words, f"--salt={salt}"]), mar)
 
     return login
 
 
-def client(mechanism: str, user: User, known: User, record_of=None):
+def client(mechanism: str, user: User, known: User, record_of=None, mar=None):
     """A client of gsasl, to a server of ours that knows one user."""
     words = ["--client", "-m", mechanism, f"--authentication-id={user.name}", f"--password={user.password}"]
 
     def login(side: Side) -> Ending:
         record = record_of(mechanism, known) if record_of else side.record(mechanism, known)
-        return side.serve(mechanism, {known.name: record}, lambda channel: gsasl(channel, words))
+        return side.serve(mechanism, {known.name: record}, lambda channel: gsasl(channel, words), mar)
 
     return login
 
@@ -75,7 +76,7 @@ class GnuSasl(Peer):
             yield from self.our_servers(mechanism)
         for ours in ("client", "server"):
             yield none(ours, "SCRAM-SHA-512", "a login", "it has SHA-1 and SHA-256 alone")
-            yield none(ours, "PLAIN, ANONYMOUS, EXTERNAL", "a login", "it speaks no AMQP, and we have these over AMQP alone")
+            yield none(ours, "PLAIN, ANONYMOUS, EXTERNAL", "a login", "we have these over AMQP alone")
 
     def our_clients(self, mechanism: str) -> Iterator[Cell]:
         done, of = Ending("logged in: Done", True), Client(mechanism)
@@ -95,6 +96,7 @@ class GnuSasl(Peer):
         yield cell("count above the limit", server(of._replace(most=99_999), "pencil", 100_000), Ending(large, False))
         yield cell("kept keys", server(of._replace(again=True), "pencil"),
                    Ending("logged in: Done; logged in by keys: Done", True))
+        yield cell("its signature, altered on the way", server(of, "pencil", mar=marred), Ending(FORGED, False))
         refused = "not logged in: Client: Error normalizing password"
         yield cell("password past ASCII", server(of._replace(user=past), past.password), Ending(refused, False))
 
@@ -112,5 +114,7 @@ class GnuSasl(Peer):
         for count in (1, 100_000):
             known = USER._replace(count=count)
             yield cell(f"count {count:,}", client(mechanism, USER, known), Ending("logged in: user", True))
+        yield cell("our signature, altered on the way", client(mechanism, USER, USER, mar=marred),
+                   Ending("logged in: user", False))
         yield cell("password past ASCII, of its own record", client(mechanism, past, past, made_by_gsasl),
                    Ending("logged in: user", True))

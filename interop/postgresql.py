@@ -4,8 +4,8 @@ protocol (its documentation, "Message Formats"), which are read and written here
 from __future__ import annotations
 
 import base64
+import contextlib
 import os
-import pwd
 import shutil
 import socket
 import ssl
@@ -16,11 +16,15 @@ from pathlib import Path
 from typing import Iterator, Optional
 
 from cells import Cell, Peer, certificate, none
-from sides import COMMA, PATIENCE, USER, Client, Ending, Side, User, dialled, ended_after, listening
+from sides import (
+    COMMA, PATIENCE, USER, Client, Ending, Side, User, dialled, ended_after, free_port, listening, marred,
+    unprivileged,
+)
 
 MECHANISM = "SCRAM-SHA-256"
 SSL_REQUEST, GSS_REQUEST, PROTOCOL = 80877103, 80877104, 196608
 SASL, SASL_CONTINUE, SASL_FINAL, OK = 10, 11, 12, 0
+FORGED = "not logged in: Client: Server signature mismatch"
 PAST = User("user", "p\u00e4ss")
 
 
@@ -176,14 +180,12 @@ def psql(port: int, name: str, password: str, more: str = "") -> subprocess.Pope
 def from_psql(ours: socket.socket, user: User, context: Optional[ssl.SSLContext]) -> bool:
     """A login of `psql` at our server. Whether it is content."""
     mode = "sslmode=require channel_binding=prefer" if context else "sslmode=disable"
-    with listening() as listener, ended_after(psql(listener.getsockname()[1], user.name, user.password, mode)) as client:
-        channel, _ = listener.accept()
-        with channel:
-            try:
+    with listening() as listener:
+        with ended_after(psql(listener.getsockname()[1], user.name, user.password, mode)) as client:
+            channel, _ = listener.accept()
+            with channel, contextlib.suppress(Ended, ConnectionError):
                 to_client(begun(channel, context), ours, b"y,," if context else b"n,,")
-            except (Ended, ConnectionError):
-                pass
-        return client.wait(PATIENCE) == 0
+            return client.wait(PATIENCE) == 0
 
 
 class PostgreSql(Peer):
@@ -203,23 +205,16 @@ class PostgreSql(Peer):
         return told.stdout.split()[2]
 
     def start(self, folder: Path) -> None:
-        """A server, which refuses to run as root, and so runs as another user then."""
-        self.folder, (self.certificate, key) = folder, certificate(folder)
-        who = {}
-        if os.geteuid() == 0:
-            user = pwd.getpwnam("nobody")
-            who = {"user": user.pw_uid, "group": user.pw_gid, "extra_groups": []}
-            for path in (folder, key):
-                os.chown(path, user.pw_uid, user.pw_gid)
-        data = folder / "data"
+        """A server, which refuses to run as root."""
+        self.folder, (shown, key), data = folder, certificate(folder), folder / "data"
+        who = unprivileged(folder, key)
         words = ["-D", data, "-U", "admin", "-E", "UTF8", "--locale=C", "--no-sync"]
         rules = ["--auth-local=trust", "--auth-host=scram-sha-256"]
         quiet = {"stdout": subprocess.DEVNULL, "stderr": subprocess.DEVNULL, "cwd": folder, **who}
         subprocess.run([self.programs / "initdb", *words, *rules], check=True, **quiet)
-        with listening() as listener:
-            self.port = listener.getsockname()[1]
-        settings = {"listen_addresses": "127.0.0.1", "port": self.port, "unix_socket_directories": folder, "fsync": "off",
-                    "password_encryption": "scram-sha-256", "ssl": "on", "ssl_cert_file": self.certificate,
+        self.port = free_port()
+        settings = {"listen_addresses": "127.0.0.1", "port": self.port, "unix_socket_directories": folder,
+                    "fsync": "off", "password_encryption": "scram-sha-256", "ssl": "on", "ssl_cert_file": shown,
                     "ssl_key_file": key}
         options = [word for name, value in settings.items() for word in ("-c", f"{name}={value}")]
         self.server = subprocess.Popen([self.programs / "postgres", "-D", data, *options], **quiet)
@@ -247,25 +242,26 @@ class PostgreSql(Peer):
         quoted, secret = name.replace('"', '""'), password.replace("'", "''")
         self.sql(f"drop role if exists \"{quoted}\"; create role \"{quoted}\" login password '{secret}';")
 
-    def log_in(self, client: Client, password: Optional[str] = None, by_tls: bool = False, count: int = 4096):
+    def log_in(self, client: Client, password: Optional[str] = None, by_tls: bool = False, count: int = 4096, mar=None):
         """A login of our client to the server, where the user has this password, or none is made."""
 
         def login(side: Side) -> Ending:
             if password is not None:
                 known = User(client.user.name, password, count)
                 self.role(known.name, password if count == 4096 else side.record(MECHANISM, known))
-            return side.log_in(client, lambda channel: to_server(self.port, channel, client.user.name, by_tls))
+            return side.log_in(client, lambda channel: to_server(self.port, channel, client.user.name, by_tls), mar)
 
         return login
 
-    def serve(self, user: User, known: User, tls: bool = False, of_server: bool = False):
+    def serve(self, user: User, known: User, tls: bool = False, of_server: bool = False, mar=None):
         """A login of `psql` to our server, which knows one user: under no name, since libpq sends none in SCRAM."""
         context = ssl.SSLContext(ssl.PROTOCOL_TLS_SERVER)
         context.load_cert_chain(*certificate(self.folder))
 
         def login(side: Side) -> Ending:
             record = self.made(known) if of_server else side.record(MECHANISM, known)
-            return side.serve(MECHANISM, {"": record}, lambda channel: from_psql(channel, user, context if tls else None))
+            begins = context if tls else None
+            return side.serve(MECHANISM, {"": record}, lambda channel: from_psql(channel, user, begins), mar)
 
         return login
 
@@ -311,6 +307,7 @@ class PostgreSql(Peer):
                    Ending(large, False))
         yield cell("kept keys", self.log_in(of._replace(again=True), "pencil"),
                    Ending("logged in: Done; logged in by keys: Done", True))
+        yield cell("its signature, altered on the way", self.log_in(of, "pencil", mar=marred), Ending(FORGED, False))
         yield cell("password past ASCII", self.log_in(of._replace(user=PAST), PAST.password),
                    Ending("not logged in: Client: Error normalizing password", False))
 
@@ -326,6 +323,7 @@ class PostgreSql(Peer):
         yield none("server", MECHANISM, "unknown user", "libpq sends no name in SCRAM")
         for count in (1, 100_000):
             yield cell(f"count {count:,}", self.serve(USER, USER._replace(count=count)), done)
+        yield cell("our signature, altered on the way", self.serve(USER, USER, mar=marred), Ending("logged in:", False))
         yield cell("password past ASCII, of its own record", self.serve(PAST, PAST, of_server=True), done)
         yield cell("`y,,`, under TLS", self.serve(USER, USER, tls=True),
                    Ending("not logged in: Server: Cannot parse GS2-header", False))

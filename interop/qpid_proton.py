@@ -1,4 +1,4 @@
-"""Qpid Proton over frames of AMQP 1.0: as Debian builds it, with SASL of its own, and as it is built with Cyrus SASL."""
+"""Qpid Proton over frames of AMQP 1.0: as Debian builds it, with SASL of its own, and as built with Cyrus SASL."""
 
 from __future__ import annotations
 
@@ -112,7 +112,7 @@ class QpidProton(Peer):
         yield from self.our_servers("PLAIN")
         yield none("server", ", ".join(SCRAM), "a login", "Debian builds it without Cyrus SASL")
         for ours in ("client", "server"):
-            yield none(ours, "EXTERNAL", "a login", "it takes it from a certificate of TLS, which our programs do not speak")
+            yield none(ours, "EXTERNAL", "a login", "it takes the name from TLS, which our programs do not speak")
 
 
 class ProtonWithCyrus(QpidProton):

@@ -16,6 +16,7 @@ import platform
 import sys
 import tempfile
 import time
+from multiprocessing.pool import ThreadPool
 from pathlib import Path
 from typing import Optional
 
@@ -26,6 +27,7 @@ from cyrus_sasl import CyrusSasl  # noqa: E402
 from gnu_sasl import GnuSasl  # noqa: E402
 from postgresql import PostgreSql  # noqa: E402
 from qpid_proton import ProtonWithCyrus, QpidProton  # noqa: E402
+from rabbitmq import RabbitMq  # noqa: E402
 from sides import Side  # noqa: E402
 
 LANGUAGES = ("C", "Rust")
@@ -33,7 +35,7 @@ LANGUAGES = ("C", "Rust")
 
 def peers(built: Path, proton: Optional[Path]) -> list[Peer]:
     """The peers, in the order of the table."""
-    return [GnuSasl(), CyrusSasl(built), PostgreSql(), QpidProton(), ProtonWithCyrus(proton)]
+    return [GnuSasl(), CyrusSasl(built), PostgreSql(), QpidProton(), ProtonWithCyrus(proton), RabbitMq()]
 
 
 def sides(built: Path, folder: Path) -> list[Side]:
@@ -45,19 +47,22 @@ def sides(built: Path, folder: Path) -> list[Side]:
     return [in_c, in_rust]
 
 
+def one(cell: Cell, side: Side) -> str:
+    """A login of a cell: nothing where it ended as it is to end, and else how it ended."""
+    try:
+        ending = cell.login(side)
+    except Exception as why:  # noqa: BLE001 (whatever a login runs into is told, and the next one is made)
+        return f"{type(why).__name__}: {why}"
+    return "" if ending == cell.ends else str(ending)
+
+
 def counted(cell: Cell, side: Side, logins: int) -> tuple[str, bool]:
     """The result of a cell, and whether each login ended as it is to end."""
     if cell.login is None:
         return f"none: {cell.reason}", True
-    right, other = 0, ""
-    for _ in range(logins):
-        try:
-            ending = cell.login(side)
-            fits = ending == cell.ends
-        except Exception as why:  # noqa: BLE001 (whatever a login runs into is told, and the next one is made)
-            ending, fits = f"{type(why).__name__}: {why}", False
-        right += fits
-        other = other if fits else str(ending)
+    with ThreadPool(logins if cell.at_once else 1) as pool:
+        endings = pool.map(lambda _: one(cell, side), range(logins))
+    right, other = endings.count(""), next(filter(None, endings), "")
     result = f"{right} of {logins}"
     return (result, True) if right == logins else (f"{result}, one of them {other}", False)
 

@@ -4,6 +4,9 @@ from __future__ import annotations
 
 import base64
 import contextlib
+import os
+import pwd
+import re
 import socket
 import subprocess
 import threading
@@ -85,18 +88,31 @@ def dialled(port: int) -> socket.socket:
     return channel
 
 
+def unprivileged(*owned: Path) -> dict[str, object]:
+    """How a program is started as a user who is not root, whose these files become; nothing changes for another user
+    than root."""
+    if os.geteuid() != 0:
+        return {}
+    user = pwd.getpwnam("nobody")
+    for path in owned:
+        os.chown(path, user.pw_uid, user.pw_gid)
+    return {"user": user.pw_uid, "group": user.pw_gid, "extra_groups": []}
+
+
 def free_port() -> int:
+    """A port of the loopback that was free a moment ago."""
     with socket.create_server(("127.0.0.1", 0)) as listener:
         return listener.getsockname()[1]
 
 
 def marred(came: bytes) -> bytes:
     """What a server sent, with another signature if one begins in it, on a line or in a frame."""
-    for head in (b"dj0", b"v="):
-        if (found := came.find(head)) >= 0 and (head == b"v=" or came[found - 1 : found] in (b"", b"\n")):
-            at = found + 8
-            return came[:at] + (b"B" if came[at : at + 1] == b"A" else b"A") + came[at + 1 :]
-    return came
+    # (a line is `v=` in base64; in a frame one byte of a size stands before it)
+    found = re.search(rb"(?:\A|\n)dj[0-3]|\xa0.v=", came, re.DOTALL)
+    if found is None:
+        return came
+    at = found.end() + 5
+    return came[:at] + (b"B" if came[at : at + 1] == b"A" else b"A") + came[at + 1 :]
 
 
 class Tap:
