@@ -7,7 +7,7 @@ from dataclasses import dataclass
 from pathlib import Path
 from typing import Callable, Iterator, Optional
 
-from sides import Ending, Side
+from sides import Ending, Side, User
 
 
 @dataclass
@@ -21,6 +21,8 @@ class Cell:
     login: Optional[Callable[[Side], Ending]] = None
     ends: Ending = Ending("", None)
     reason: str = ""
+    #: Of which user the bytes of a login can be kept as stored vectors, where they can.
+    kept: Optional[User] = None
     #: Whether the logins are made at once, since the peer lets each wait.
     at_once: bool = False
 
@@ -35,6 +37,8 @@ class Peer:
     name = ""
     #: The packages of Debian that it is of.
     package = ""
+    #: Whether our programs speak frames to it, and not lines.
+    by_frames = False
 
     def missing(self) -> bool:
         raise NotImplementedError

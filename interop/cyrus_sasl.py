@@ -86,11 +86,11 @@ class CyrusSasl(Peer):
         done, refused = Ending("logged in: Done", True), Ending("not logged in: the other side ended", False)
         of = Client(mechanism)
 
-        def cell(what: str, login, ends: Ending) -> Cell:
-            return Cell("client", mechanism, what, login, ends)
+        def cell(what: str, login, ends: Ending, kept: Optional[User] = None) -> Cell:
+            return Cell("client", mechanism, what, login, ends, kept=kept)
 
         yield cell("a login", self.log_in(of), done)
-        yield cell("a name with `,` and `=`", self.log_in(of._replace(user=COMMA)), done)
+        yield cell("a name with `,` and `=`", self.log_in(of._replace(user=COMMA)), done, COMMA)
         yield cell("wrong password", self.log_in(of._replace(user=User("user", "pencils"))), refused)
         yield cell("unknown user", self.log_in(of._replace(user=User("nobody", "pencil"))), refused)
         yield cell("count 1", self.log_in(of._replace(least=1), 1), done)
@@ -115,11 +115,12 @@ class CyrusSasl(Peer):
     def our_servers(self, mechanism: str) -> Iterator[Cell]:
         done, refused = Ending("logged in: user", True), Ending("not logged in: Server: Authentication failed", False)
 
-        def cell(what: str, login, ends: Ending) -> Cell:
-            return Cell("server", mechanism, what, login, ends)
+        def cell(what: str, login, ends: Ending, kept: Optional[User] = None) -> Cell:
+            return Cell("server", mechanism, what, login, ends, kept=kept)
 
         yield cell("a login", self.serve(mechanism, USER), done)
-        yield cell("a name with `,` and `=`", self.serve(mechanism, COMMA, COMMA), Ending("logged in: a,b=c", True))
+        yield cell("a name with `,` and `=`", self.serve(mechanism, COMMA, COMMA), Ending("logged in: a,b=c", True),
+                   COMMA)
         yield cell("wrong password", self.serve(mechanism, User("user", "pencils")), refused)
         yield cell("unknown user", self.serve(mechanism, User("nobody", "pencil")), refused)
         for count in (1, MOST):
@@ -131,4 +132,4 @@ class CyrusSasl(Peer):
                    Ending("logged in: user", False))
         yield cell("it may bind its channel, and sends `n,,`", self.serve(mechanism, USER, binds="may"), done)
         yield cell("it has to bind its channel, and sends `p=..,,`", self.serve(mechanism, USER, binds="must"),
-                   Ending("not logged in: Server: Cannot parse GS2-header", False))
+                   Ending("not logged in: Server: Cannot parse GS2-header", False), USER)

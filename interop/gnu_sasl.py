@@ -7,7 +7,7 @@ import re
 import shutil
 import socket
 import subprocess
-from typing import Iterator
+from typing import Iterator, Optional
 
 from cells import Cell, Peer, none
 from sides import COMMA, PATIENCE, SALT, USER, Client, Ending, Side, User, marred
@@ -82,11 +82,11 @@ class GnuSasl(Peer):
         done, of = Ending("logged in: Done", True), Client(mechanism)
         past = User("user", "p\u00e4ss")
 
-        def cell(what: str, login, ends: Ending) -> Cell:
-            return Cell("client", mechanism, what, login, ends)
+        def cell(what: str, login, ends: Ending, kept: Optional[User] = None) -> Cell:
+            return Cell("client", mechanism, what, login, ends, kept=kept)
 
         yield cell("a login", server(of, "pencil"), done)
-        yield cell("a name with `,` and `=`", server(of._replace(user=COMMA), COMMA.password), done)
+        yield cell("a name with `,` and `=`", server(of._replace(user=COMMA), COMMA.password), done, COMMA)
         yield cell("wrong password", server(of, "pencils"), Ending(ENDED, False))
         yield none("client", mechanism, "unknown user", "its server takes any name")
         yield cell("count 1", server(of._replace(least=1), "pencil", 1), done)
@@ -104,11 +104,11 @@ class GnuSasl(Peer):
         refused = Ending("not logged in: Server: Authentication failed", False)
         past = User("user", "p\u00e4ss")
 
-        def cell(what: str, login, ends: Ending) -> Cell:
-            return Cell("server", mechanism, what, login, ends)
+        def cell(what: str, login, ends: Ending, kept: Optional[User] = None) -> Cell:
+            return Cell("server", mechanism, what, login, ends, kept=kept)
 
         yield cell("a login", client(mechanism, USER, USER), Ending("logged in: user", True))
-        yield cell("a name with `,` and `=`", client(mechanism, COMMA, COMMA), Ending("logged in: a,b=c", True))
+        yield cell("a name with `,` and `=`", client(mechanism, COMMA, COMMA), Ending("logged in: a,b=c", True), COMMA)
         yield cell("wrong password", client(mechanism, User("user", "pencils"), USER), refused)
         yield cell("unknown user", client(mechanism, User("nobody", "pencil"), USER), refused)
         for count in (1, 100_000):

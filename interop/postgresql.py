@@ -291,12 +291,12 @@ class PostgreSql(Peer):
         done, refused = Ending("logged in: Done", True), Ending("not logged in: the other side ended", False)
         of = Client(MECHANISM)
 
-        def cell(what: str, login, ends: Ending) -> Cell:
-            return Cell("client", MECHANISM, what, login, ends)
+        def cell(what: str, login, ends: Ending, kept: Optional[User] = None) -> Cell:
+            return Cell("client", MECHANISM, what, login, ends, kept=kept)
 
         yield cell("a login", self.log_in(of, "pencil"), done)
         yield cell("a login under TLS, where -PLUS is offered too", self.log_in(of, "pencil", by_tls=True), done)
-        yield cell("a name with `,` and `=`", self.log_in(of._replace(user=COMMA), COMMA.password), done)
+        yield cell("a name with `,` and `=`", self.log_in(of._replace(user=COMMA), COMMA.password), done, COMMA)
         yield cell("wrong password", self.log_in(of, "pencils"), refused)
         yield cell("unknown user", self.log_in(of._replace(user=User("nobody", "pencil"))), refused)
         yield cell("count 1", self.log_in(of._replace(least=1), "pencil", count=1), done)
@@ -314,10 +314,10 @@ class PostgreSql(Peer):
     def our_servers(self) -> Iterator[Cell]:
         done, refused = Ending("logged in:", True), Ending("not logged in: Server: Authentication failed", False)
 
-        def cell(what: str, login, ends: Ending) -> Cell:
-            return Cell("server", MECHANISM, what, login, ends)
+        def cell(what: str, login, ends: Ending, kept: Optional[User] = None) -> Cell:
+            return Cell("server", MECHANISM, what, login, ends, kept=kept)
 
-        yield cell("a login", self.serve(USER, USER), done)
+        yield cell("a login", self.serve(USER, USER), done, User("", USER.password))
         yield none("server", MECHANISM, "a name with `,` and `=`", "libpq sends no name in SCRAM")
         yield cell("wrong password", self.serve(User("user", "pencils"), USER), refused)
         yield none("server", MECHANISM, "unknown user", "libpq sends no name in SCRAM")
@@ -326,7 +326,7 @@ class PostgreSql(Peer):
         yield cell("our signature, altered on the way", self.serve(USER, USER, mar=marred), Ending("logged in:", False))
         yield cell("password past ASCII, of its own record", self.serve(PAST, PAST, of_server=True), done)
         yield cell("`y,,`, under TLS", self.serve(USER, USER, tls=True),
-                   Ending("not logged in: Server: Cannot parse GS2-header", False))
+                   Ending("not logged in: Server: Cannot parse GS2-header", False), User("", USER.password))
         yield cell("`rolpassword` read, the password", self.read(USER.password), Ending("verified: Done", None))
         yield cell("`rolpassword` read, another password", self.read("pencils"),
                    Ending("not verified: The password is not that of the record", None))

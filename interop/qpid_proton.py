@@ -22,6 +22,7 @@ REFUSED = Ending("not logged in: Connection: The login is refused", False)
 class QpidProton(Peer):
     name = "Qpid Proton"
     package = "python3-qpid-proton"
+    by_frames = True
 
     def __init__(self) -> None:
         self.worker: Optional[subprocess.Popen] = None
@@ -90,10 +91,10 @@ class QpidProton(Peer):
     def our_servers(self, mechanism: str) -> Iterator[Cell]:
         done = Ending("logged in: user", True)
 
-        def cell(what: str, login, ends: Ending) -> Cell:
-            return Cell("server", mechanism, what, login, ends)
+        def cell(what: str, login, ends: Ending, kept: Optional[User] = None) -> Cell:
+            return Cell("server", mechanism, what, login, ends, kept=kept)
 
-        yield cell("a login", self.serve(mechanism), done)
+        yield cell("a login", self.serve(mechanism), done, USER)
         yield cell("a name with `,` and `=`", self.serve(mechanism, COMMA, COMMA), Ending("logged in: a,b=c", True))
         yield cell("wrong password", self.serve(mechanism, User("user", "pencils")), REFUSED)
         yield cell("unknown user", self.serve(mechanism, User("nobody", "pencil")), REFUSED)
@@ -104,11 +105,11 @@ class QpidProton(Peer):
             yield cell("our signature, altered on the way: it does not look", self.serve(mechanism, mar=marred), done)
 
     def cells(self) -> Iterator[Cell]:
-        yield Cell("client", "ANONYMOUS", "a login", self.log_in("ANONYMOUS"), DONE)
+        yield Cell("client", "ANONYMOUS", "a login", self.log_in("ANONYMOUS"), DONE, kept=USER)
         for mechanism in (*SCRAM, "PLAIN"):
             yield Cell("client", mechanism, "it offers ANONYMOUS alone", self.log_in("ANONYMOUS", asked=mechanism),
                        Ending("not logged in: Connection: Not implemented", False))
-        yield Cell("server", "ANONYMOUS", "a login", self.serve("ANONYMOUS"), Ending("logged in:", True))
+        yield Cell("server", "ANONYMOUS", "a login", self.serve("ANONYMOUS"), Ending("logged in:", True), kept=USER)
         yield from self.our_servers("PLAIN")
         yield none("server", ", ".join(SCRAM), "a login", "Debian builds it without Cyrus SASL")
         for ours in ("client", "server"):
@@ -154,7 +155,8 @@ class ProtonWithCyrus(QpidProton):
         refused = "not logged in: Client: Illegal SCRAM client state"
         for what, count in (("a login", 4096), ("count 100,000", 100_000)):
             yield Cell("client", mechanism, f"{what}: it sends its signature by a challenge",
-                       self.log_in(mechanism, count=count), Ending(refused, False))
+                       self.log_in(mechanism, count=count), Ending(refused, False),
+                       kept=USER if count == 4096 else None)
         for what, user in (("wrong password", User("user", "pencils")), ("unknown user", User("nobody", "pencil"))):
             yield Cell("client", mechanism, what, self.log_in(mechanism, user), REFUSED)
         yield Cell("client", mechanism, "count below the floor", self.log_in(mechanism, count=4095),
@@ -164,6 +166,6 @@ class ProtonWithCyrus(QpidProton):
 
     def our_plain_clients(self) -> Iterator[Cell]:
         for what, user in (("a login", USER), ("a name with `,` and `=`", COMMA)):
-            yield Cell("client", "PLAIN", what, self.log_in("PLAIN", user), DONE)
+            yield Cell("client", "PLAIN", what, self.log_in("PLAIN", user), DONE, kept=user)
         for what, user in (("wrong password", User("user", "pencils")), ("unknown user", User("nobody", "pencil"))):
             yield Cell("client", "PLAIN", what, self.log_in("PLAIN", user), REFUSED)

@@ -5,7 +5,6 @@ from __future__ import annotations
 import json
 import os
 import shutil
-import socket
 import subprocess
 import time
 from pathlib import Path
@@ -26,6 +25,7 @@ REFUSED = Ending("not logged in: Connection: The login is refused", None)
 class RabbitMq(Peer):
     name = "RabbitMQ"
     package = "rabbitmq-server"
+    by_frames = True
 
     def __init__(self) -> None:
         self.started: list[subprocess.Popen] = []
@@ -110,23 +110,23 @@ class RabbitMq(Peer):
         return login
 
     def cells(self) -> Iterator[Cell]:
-        def cell(ours: str, mechanism: str, what: str, login, ends: Ending) -> Cell:
-            return Cell(ours, mechanism, what, login, ends)
+        def cell(ours: str, mechanism: str, what: str, login, ends: Ending, kept: Optional[User] = None) -> Cell:
+            return Cell(ours, mechanism, what, login, ends, kept=kept)
 
-        yield cell("client", "PLAIN", "a login", self.log_in("PLAIN"), DONE)
+        yield cell("client", "PLAIN", "a login", self.log_in("PLAIN"), DONE, USER)
         yield cell("client", "PLAIN", "a name with `,` and `=`", self.log_in("PLAIN", COMMA), DONE)
         for what, user in (("wrong password", User("user", "pencils")), ("unknown user", User("nobody", "pencil"))):
             # (it lets one wait for three seconds)
-            yield Cell("client", "PLAIN", what, self.log_in("PLAIN", user), REFUSED, at_once=True)
-        yield cell("client", "ANONYMOUS", "a login", self.log_in("ANONYMOUS"), DONE)
+            yield Cell("client", "PLAIN", what, self.log_in("PLAIN", user), REFUSED, kept=user, at_once=True)
+        yield cell("client", "ANONYMOUS", "a login", self.log_in("ANONYMOUS"), DONE, USER)
         for mechanism in (*SCRAM, "EXTERNAL"):
             yield cell("client", mechanism, "it does not offer it", self.log_in(mechanism),
                        Ending("not logged in: Connection: Not implemented", None))
         refused = Ending("not logged in: Connection: The login is refused", False)
-        yield cell("server", "PLAIN", "a login", self.serve("PLAIN"), Ending("logged in: user", True))
+        yield cell("server", "PLAIN", "a login", self.serve("PLAIN"), Ending("logged in: user", True), USER)
         yield cell("server", "PLAIN", "a name with `,` and `=`", self.serve("PLAIN", COMMA, COMMA),
                    Ending("logged in: a,b=c", True))
         yield cell("server", "PLAIN", "wrong password", self.serve("PLAIN", User("user", "pencils")), refused)
         yield cell("server", "PLAIN", "unknown user", self.serve("PLAIN", User("nobody", "pencil")), refused)
-        yield cell("server", "ANONYMOUS", "a login", self.serve("ANONYMOUS"), Ending("logged in:", True))
+        yield cell("server", "ANONYMOUS", "a login", self.serve("ANONYMOUS"), Ending("logged in:", True), USER)
         yield none("server", ", ".join((*SCRAM, "EXTERNAL")), "a login", "its client has PLAIN and ANONYMOUS alone")
