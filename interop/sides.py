@@ -105,14 +105,20 @@ def free_port() -> int:
         return listener.getsockname()[1]
 
 
+def other_signature(message: bytes) -> bytes:
+    """A server-final message with another digit in its signature."""
+    return message[:8] + (b"B" if message[8:9] == b"A" else b"A") + message[9:]
+
+
 def marred(came: bytes) -> bytes:
-    """What a server sent, with another signature if one begins in it, on a line or in a frame."""
-    # (a line is `v=` in base64; in a frame one byte of a size stands before it)
-    found = re.search(rb"(?:\A|\n)dj[0-3]|\xa0.v=", came, re.DOTALL)
-    if found is None:
-        return came
-    at = found.end() + 5
-    return came[:at] + (b"B" if came[at : at + 1] == b"A" else b"A") + came[at + 1 :]
+    """What a server sent, with another signature if one stands in it, on a line or in a frame."""
+    # (`v=` in base64 begins with `dj`; in a frame one byte of a size stands before it)
+    line = re.search(rb"^dj[0-3][A-Za-z0-9+/]+=*$", came, re.MULTILINE)
+    if line is not None:
+        message = other_signature(base64.b64decode(line[0]))
+        return came[: line.start()] + base64.b64encode(message) + came[line.end() :]
+    field = re.search(rb"\xa0.(v=.*)", came, re.DOTALL)
+    return came if field is None else came[: field.start(1)] + other_signature(field[1])
 
 
 class Tap:
