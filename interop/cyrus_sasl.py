@@ -90,7 +90,8 @@ class CyrusSasl(Peer):
             return Cell("client", mechanism, what, login, ends, kept=kept)
 
         yield cell("a login", self.log_in(of), done)
-        yield cell("a name with `,` and `=`", self.log_in(of._replace(user=COMMA)), done, COMMA)
+        yield cell("a name with `,` and `=`", self.log_in(of._replace(user=COMMA)), done,
+                   COMMA if mechanism == "SCRAM-SHA-512" else None)
         yield cell("wrong password", self.log_in(of._replace(user=User("user", "pencils"))), refused)
         yield cell("unknown user", self.log_in(of._replace(user=User("nobody", "pencil"))), refused)
         yield cell("count 1", self.log_in(of._replace(least=1), 1), done)
@@ -120,7 +121,7 @@ class CyrusSasl(Peer):
 
         yield cell("a login", self.serve(mechanism, USER), done)
         yield cell("a name with `,` and `=`", self.serve(mechanism, COMMA, COMMA), Ending("logged in: a,b=c", True),
-                   COMMA)
+                   COMMA if mechanism == "SCRAM-SHA-512" else None)
         yield cell("wrong password", self.serve(mechanism, User("user", "pencils")), refused)
         yield cell("unknown user", self.serve(mechanism, User("nobody", "pencil")), refused)
         for count in (1, MOST):
@@ -132,4 +133,5 @@ class CyrusSasl(Peer):
                    Ending("logged in: user", False))
         yield cell("it may bind its channel, and sends `n,,`", self.serve(mechanism, USER, binds="may"), done)
         yield cell("it has to bind its channel, and sends `p=..,,`", self.serve(mechanism, USER, binds="must"),
-                   Ending("not logged in: Server: Cannot parse GS2-header", False), USER)
+                   Ending("not logged in: Server: Cannot parse GS2-header", False),
+                   USER if mechanism == "SCRAM-SHA-256" else None)

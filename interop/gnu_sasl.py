@@ -79,6 +79,7 @@ class GnuSasl(Peer):
             yield none(ours, "PLAIN, ANONYMOUS, EXTERNAL", "a login", "we have these over AMQP alone")
 
     def our_clients(self, mechanism: str) -> Iterator[Cell]:
+        kept = COMMA if mechanism == "SCRAM-SHA-256" else None
         done, of = Ending("logged in: Done", True), Client(mechanism)
         past = User("user", "p\u00e4ss")
 
@@ -86,7 +87,7 @@ class GnuSasl(Peer):
             return Cell("client", mechanism, what, login, ends, kept=kept)
 
         yield cell("a login", server(of, "pencil"), done)
-        yield cell("a name with `,` and `=`", server(of._replace(user=COMMA), COMMA.password), done, COMMA)
+        yield cell("a name with `,` and `=`", server(of._replace(user=COMMA), COMMA.password), done, kept)
         yield cell("wrong password", server(of, "pencils"), Ending(ENDED, False))
         yield none("client", mechanism, "unknown user", "its server takes any name")
         yield cell("count 1", server(of._replace(least=1), "pencil", 1), done)
@@ -101,6 +102,7 @@ class GnuSasl(Peer):
         yield cell("password past ASCII", server(of._replace(user=past), past.password), Ending(refused, False))
 
     def our_servers(self, mechanism: str) -> Iterator[Cell]:
+        kept = COMMA if mechanism == "SCRAM-SHA-256" else None
         refused = Ending("not logged in: Server: Authentication failed", False)
         past = User("user", "p\u00e4ss")
 
@@ -108,7 +110,7 @@ class GnuSasl(Peer):
             return Cell("server", mechanism, what, login, ends, kept=kept)
 
         yield cell("a login", client(mechanism, USER, USER), Ending("logged in: user", True))
-        yield cell("a name with `,` and `=`", client(mechanism, COMMA, COMMA), Ending("logged in: a,b=c", True), COMMA)
+        yield cell("a name with `,` and `=`", client(mechanism, COMMA, COMMA), Ending("logged in: a,b=c", True), kept)
         yield cell("wrong password", client(mechanism, User("user", "pencils"), USER), refused)
         yield cell("unknown user", client(mechanism, User("nobody", "pencil"), USER), refused)
         for count in (1, 100_000):

@@ -317,7 +317,7 @@ class PostgreSql(Peer):
         def cell(what: str, login, ends: Ending, kept: Optional[User] = None) -> Cell:
             return Cell("server", MECHANISM, what, login, ends, kept=kept)
 
-        yield cell("a login", self.serve(USER, USER), done, User("", USER.password))
+        yield cell("a login", self.serve(USER, USER), done)
         yield none("server", MECHANISM, "a name with `,` and `=`", "libpq sends no name in SCRAM")
         yield cell("wrong password", self.serve(User("user", "pencils"), USER), refused)
         yield none("server", MECHANISM, "unknown user", "libpq sends no name in SCRAM")
