@@ -18,12 +18,12 @@ build/interop/client build/interop/server: build/interop/%: bindings/c/%.c $(HEA
 
 # (cargo knows what is to be made anew)
 build/interop/rust: build/libfe2o3_sasl.a
-	if command -v cargo > /dev/null; then cd interop/rust && FE2O3_SASL_LIB=$(abspath build) \
+	@if command -v cargo > /dev/null; then cd interop/rust && FE2O3_SASL_LIB=$(abspath build) \
 	    CARGO_TARGET_DIR=$(abspath build/interop/rust) cargo build --offline --release --quiet; fi
 
 build/interop/cyrus: interop/cyrus.c
 	@mkdir -p $(@D)
-	if [ -e /usr/include/sasl/sasl.h ]; then $(CC) -std=c99 $(WARNINGS) -O2 -o $@ $< -lsasl2; fi
+	@if [ -e /usr/include/sasl/sasl.h ]; then $(CC) -std=c99 $(WARNINGS) -O2 -o $@ $< -lsasl2; fi
 
 interop: build/interop/lines build/interop/client build/interop/server build/interop/rust build/interop/cyrus
 	python3 interop/run.py $(INTEROP)

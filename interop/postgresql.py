@@ -25,6 +25,8 @@ MECHANISM = "SCRAM-SHA-256"
 SSL_REQUEST, GSS_REQUEST, PROTOCOL = 80877103, 80877104, 196608
 SASL, SASL_CONTINUE, SASL_FINAL, OK = 10, 11, 12, 0
 FORGED = "not logged in: Client: Server signature mismatch"
+#: The header of a client that could bind its channel at a server that does not say that it could, and of one that cannot.
+BINDS_NOT, CANNOT_BIND = b"y,,", b"n,,"
 PAST = User("user", "p\u00e4ss")
 
 
@@ -177,14 +179,15 @@ def psql(port: int, name: str, password: str, more: str = "") -> subprocess.Pope
     )
 
 
-def from_psql(ours: socket.socket, user: User, context: Optional[ssl.SSLContext]) -> bool:
+def from_psql(ours: socket.socket, user: User, context: Optional[ssl.SSLContext], header: bytes) -> bool:
     """A login of `psql` at our server. Whether it is content."""
-    mode = "sslmode=require channel_binding=prefer" if context else "sslmode=disable"
+    mode = f"sslmode={'require' if context else 'disable'}"
+    mode += f" channel_binding={'prefer' if header == BINDS_NOT else 'disable'}"
     with listening() as listener:
         with ended_after(psql(listener.getsockname()[1], user.name, user.password, mode)) as client:
             channel, _ = listener.accept()
             with channel, contextlib.suppress(Ended, ConnectionError):
-                to_client(begun(channel, context), ours, b"y,," if context else b"n,,")
+                to_client(begun(channel, context), ours, header)
             return client.wait(PATIENCE) == 0
 
 
@@ -253,15 +256,16 @@ class PostgreSql(Peer):
 
         return login
 
-    def serve(self, user: User, known: User, tls: bool = False, of_server: bool = False, mar=None):
-        """A login of `psql` to our server, which knows one user: under no name, since libpq sends none in SCRAM."""
+    def serve(self, user: User, known: User, tls: bytes = b"", of_server: bool = False, mar=None):
+        """A login of `psql` to our server, which knows one user: under no name, since libpq sends none in SCRAM.
+        Under TLS, where there is a header that it is to send there."""
         context = ssl.SSLContext(ssl.PROTOCOL_TLS_SERVER)
         context.load_cert_chain(*certificate(self.folder))
 
         def login(side: Side) -> Ending:
             record = self.made(known) if of_server else side.record(MECHANISM, known)
-            begins = context if tls else None
-            return side.serve(MECHANISM, {"": record}, lambda channel: from_psql(channel, user, begins), mar)
+            words = (user, context if tls else None, tls or CANNOT_BIND)
+            return side.serve(MECHANISM, {"": record}, lambda channel: from_psql(channel, *words), mar)
 
         return login
 
@@ -325,7 +329,8 @@ class PostgreSql(Peer):
             yield cell(f"count {count:,}", self.serve(USER, USER._replace(count=count)), done)
         yield cell("our signature, altered on the way", self.serve(USER, USER, mar=marred), Ending("logged in:", False))
         yield cell("password past ASCII, of its own record", self.serve(PAST, PAST, of_server=True), done)
-        yield cell("`y,,`, under TLS", self.serve(USER, USER, tls=True),
+        yield cell("under TLS, where it sends `n,,`", self.serve(USER, USER, tls=CANNOT_BIND), done)
+        yield cell("under TLS, where it sends `y,,`", self.serve(USER, USER, tls=BINDS_NOT),
                    Ending("not logged in: Server: Cannot parse GS2-header", False), User("", USER.password))
         yield cell("`rolpassword` read, the password", self.read(USER.password), Ending("verified: Done", None))
         yield cell("`rolpassword` read, another password", self.read("pencils"),
