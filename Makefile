@@ -49,3 +49,6 @@ include bindings/callers.mk
 
 # Plugins of other libraries over it: plugin, plugin-test, plugin-logins.
 include plugins/plugins.mk
+
+# Logins to other programs, and by them: interop.
+include interop/interop.mk

@@ -1,9 +1,10 @@
 /* Serves logins of AMQP 1.0 over TCP on the loopback, by SCRAM-SHA-256 and, as if under TLS, by PLAIN:
  *
- *     server USERS LOGINS
+ *     server USERS LOGINS [MECHANISM]
  *
- * USERS is a file of users, a line for each (fe2o3_scram_line writes one). It prints the port that it listens on, serves
- * so many connections, one after another, and says of each who has logged in, or why nobody. */
+ * or by this mechanism alone. USERS is a file of users, a line for each (fe2o3_scram_line writes one). It prints the
+ * port that it listens on, serves so many connections, one after another, and says of each who has logged in, or why
+ * nobody. */
 #define _POSIX_C_SOURCE 200112L
 #include "fe2o3_sasl.h"
 
@@ -15,8 +16,30 @@
 #include <sys/socket.h>
 #include <unistd.h>
 
+/* What is offered by each mechanism, and the version of SCRAM and of the records. */
+static const struct offer {
+    const char *name;
+    uint32_t mechanisms, version;
+} offers[] = {
+    {"SCRAM-SHA-1", FE2O3_OFFER_SCRAM, FE2O3_SHA_1}, {"SCRAM-SHA-256", FE2O3_OFFER_SCRAM, FE2O3_SHA_256},
+    {"SCRAM-SHA-512", FE2O3_OFFER_SCRAM, FE2O3_SHA_512}, {"PLAIN", FE2O3_OFFER_PLAIN, FE2O3_SHA_256},
+    {"ANONYMOUS", FE2O3_OFFER_ANONYMOUS, FE2O3_SHA_256},
+    {"SCRAM-SHA-256, PLAIN", FE2O3_OFFER_SCRAM | FE2O3_OFFER_PLAIN, FE2O3_SHA_256},
+};
+
+#define OFFERS (sizeof offers / sizeof *offers)
+
+static const struct offer *offered = &offers[OFFERS - 1];
 static uint8_t users[65536], secret[32];
 static size_t users_len;
+
+/* Whether there is such a mechanism, which is offered from then on. */
+static int offer_only(const char *name)
+{
+    for (offered = offers; offered < offers + OFFERS && strcmp(offered->name, name) != 0;)
+        offered++;
+    return offered < offers + OFFERS;
+}
 
 static int random_bytes(uint8_t *bytes, size_t len)
 {
@@ -43,8 +66,8 @@ static int sent(int channel, const uint8_t *bytes, size_t len)
 static void fetch(const uint8_t *name, size_t len, struct fe2o3_scram_record *record)
 {
     size_t line = 0;
-    if (fe2o3_scram_lines_find(users, users_len, name, len, FE2O3_SHA_256, &line, record) != FE2O3_DONE)
-        fe2o3_scram_record_of_nobody(FE2O3_SHA_256, secret, sizeof secret, name, len, 16, 4096, record);
+    if (fe2o3_scram_lines_find(users, users_len, name, len, offered->version, &line, record) != FE2O3_DONE)
+        fe2o3_scram_record_of_nobody(offered->version, secret, sizeof secret, name, len, 16, 4096, record);
 }
 
 /* Reads and answers until a client is logged in or the connection is to be closed. Answers the number of a call that is
@@ -55,8 +78,7 @@ static int64_t serve(int channel, struct fe2o3_sasl_server *server)
     size_t len = 0, at = 0, taken = 0, out_len = 0, name_len = 0;
     while (server->connection.standing == FE2O3_WANTING) {
         struct fe2o3_scram_record record = {0};
-        struct fe2o3_sasl_host host = {FE2O3_OFFER_SCRAM | FE2O3_OFFER_PLAIN, FE2O3_SHA_256, 4096, name, 0, &record,
-            FE2O3_NONE};
+        struct fe2o3_sasl_host host = {offered->mechanisms, offered->version, 4096, name, 0, &record, FE2O3_NONE};
         uint32_t status;
         if (at == len) {
             ssize_t some = recv(channel, came, sizeof came, 0);
@@ -88,7 +110,9 @@ static void told(int64_t answer, const struct fe2o3_sasl_server *server)
     struct fe2o3_text text = FE2O3_TEXT_INIT;
     uint8_t user[256];
     size_t len = 0;
-    if (answer == FE2O3_DONE && fe2o3_scram_server_logged_in(&server->scram, user, sizeof user, &len) == FE2O3_DONE) {
+    if (answer == FE2O3_DONE && server->connection.standing == FE2O3_LOGGED_IN) {
+        /* (by ANONYMOUS it names nobody) */
+        fe2o3_scram_server_logged_in(&server->scram, user, sizeof user, &len);
         printf("logged in: %.*s\n", (int)len, (const char *)user);
         return;
     }
@@ -104,10 +128,10 @@ int main(int count, char **words)
 {
     struct sockaddr_in address;
     socklen_t size = sizeof address;
-    int listener, logins = count == 3 ? atoi(words[2]) : 0;
-    FILE *file = count == 3 ? fopen(words[1], "rb") : NULL;
-    if (file == NULL || logins <= 0 || !random_bytes(secret, sizeof secret)) {
-        fputs("server USERS LOGINS\n", stderr);
+    int listener, logins = count == 3 || (count == 4 && offer_only(words[3])) ? atoi(words[2]) : 0;
+    FILE *file = logins > 0 ? fopen(words[1], "rb") : NULL;
+    if (file == NULL || !random_bytes(secret, sizeof secret)) {
+        fputs("server USERS LOGINS [MECHANISM]\n", stderr);
         return 2;
     }
     users_len = fread(users, 1, sizeof users, file);

@@ -1,0 +1,170 @@
+/* A login by libsasl2 over standard input and output, a message a line, as lines.c has it:
+ *
+ *     cyrus client PLUGINS MECHANISM USER PASSWORD [may | must]
+ *     cyrus server PLUGINS MECHANISM SASLDB COUNT
+ *     cyrus version
+ *
+ * PLUGINS is a folder of plugins, and SASLDB a file of users in the realm localhost. With a last word the client has a
+ * binding of its channel, made up, which it may use, or must. The status is 0 where the login is done; standard error
+ * says why it is not. */
+#define _POSIX_C_SOURCE 200112L
+#include <sasl/sasl.h>
+#include <sasl/saslutil.h>
+
+#include <stdio.h>
+#include <string.h>
+
+static char **words;
+
+static int get_path(void *context, const char **path)
+{
+    (void)context;
+    *path = words[2];
+    return SASL_OK;
+}
+
+static int get_name(void *context, int id, const char **name, unsigned *len)
+{
+    (void)context;
+    *name = id == SASL_CB_USER ? "" : words[4];
+    if (len != NULL)
+        *len = (unsigned)strlen(*name);
+    return SASL_OK;
+}
+
+static int get_password(sasl_conn_t *connection, void *context, int id, sasl_secret_t **secret)
+{
+    static union {
+        sasl_secret_t secret;
+        char room[1024];
+    } kept;
+    size_t len = strlen(words[5]);
+    (void)connection;
+    (void)context;
+    (void)id;
+    if (len >= sizeof kept - sizeof kept.secret)
+        return SASL_FAIL;
+    kept.secret.len = len;
+    memcpy(kept.secret.data, words[5], len + 1);
+    *secret = &kept.secret;
+    return SASL_OK;
+}
+
+static int get_option(void *context, const char *plugin, const char *name, const char **value, unsigned *len)
+{
+    const char *const options[][2] = {{"auxprop_plugin", "sasldb"}, {"sasldb_path", words[4]},
+        {"scram_iteration_counter", words[5]}, {"mech_list", words[3]}};
+    size_t at;
+    (void)context;
+    (void)plugin;
+    for (at = 0; at < sizeof options / sizeof *options; at++)
+        if (strcmp(name, options[at][0]) == 0) {
+            *value = options[at][1];
+            if (len != NULL)
+                *len = (unsigned)strlen(*value);
+            return SASL_OK;
+        }
+    return SASL_FAIL;
+}
+
+static int say_nothing(void *context, int level, const char *words_of_log)
+{
+    (void)context;
+    (void)level;
+    (void)words_of_log;
+    return SASL_OK;
+}
+
+#define CALL(function) (int (*)(void))(void (*)(void))(function)
+
+static const sasl_callback_t of_client[] = {{SASL_CB_GETPATH, CALL(get_path), NULL},
+    {SASL_CB_LOG, CALL(say_nothing), NULL}, {SASL_CB_USER, CALL(get_name), NULL},
+    {SASL_CB_AUTHNAME, CALL(get_name), NULL}, {SASL_CB_PASS, CALL(get_password), NULL},
+    {SASL_CB_LIST_END, NULL, NULL}};
+static const sasl_callback_t of_server[] = {{SASL_CB_GETPATH, CALL(get_path), NULL},
+    {SASL_CB_LOG, CALL(say_nothing), NULL}, {SASL_CB_GETOPT, CALL(get_option), NULL}, {SASL_CB_LIST_END, NULL, NULL}};
+
+static char message[4096];
+static unsigned message_len;
+
+static int hear(void)
+{
+    char line[4096];
+    if (fgets(line, sizeof line, stdin) == NULL)
+        return 0;
+    line[strcspn(line, "\r\n")] = '\0';
+    return sasl_decode64(line, (unsigned)strlen(line), message, sizeof message, &message_len) == SASL_OK;
+}
+
+static int say(const char *bytes, unsigned len)
+{
+    char line[8192];
+    unsigned written = 0;
+    if (len > 0 && sasl_encode64(bytes, len, line, sizeof line, &written) != SASL_OK)
+        return 0;
+    return printf("%.*s\n", (int)written, line) > 0 && fflush(stdout) == 0;
+}
+
+static int ended(sasl_conn_t *connection, int status)
+{
+    if (status != SASL_OK)
+        fprintf(stderr, "%s\n", connection == NULL ? sasl_errstring(status, NULL, NULL) : sasl_errdetail(connection));
+    return status != SASL_OK;
+}
+
+static int run_client(const char *binds)
+{
+    const sasl_channel_binding_t binding = {"tls-unique", strcmp(binds, "must") == 0, 4, (const unsigned char *)"made"};
+    sasl_conn_t *connection = NULL;
+    const char *out = NULL, *mechanism = NULL;
+    unsigned len = 0;
+    int status = sasl_client_init(of_client);
+    if (status == SASL_OK)
+        status = sasl_client_new("amqp", "localhost", NULL, NULL, of_client, SASL_SUCCESS_DATA, &connection);
+    if (status == SASL_OK && *binds != '\0')
+        status = sasl_setprop(connection, SASL_CHANNEL_BINDING, &binding);
+    if (status == SASL_OK)
+        status = sasl_client_start(connection, words[3], NULL, &out, &len, &mechanism);
+    if (status == SASL_CONTINUE)
+        printf("%s\n", mechanism);
+    while (status == SASL_CONTINUE && say(out, len) && hear())
+        status = sasl_client_step(connection, message, message_len, NULL, &out, &len);
+    if (status == SASL_OK && !(say("", 0) && hear()))
+        status = SASL_FAIL;
+    return ended(connection, status);
+}
+
+static int run_server(void)
+{
+    sasl_conn_t *connection = NULL;
+    const char *out = NULL;
+    unsigned len = 0;
+    int status = sasl_server_init(of_server, "interop");
+    if (status == SASL_OK)
+        status = sasl_server_new(
+            "amqp", "localhost", "localhost", NULL, NULL, of_server, SASL_SUCCESS_DATA, &connection);
+    printf("%s\n\n", words[3]);
+    fflush(stdout);
+    if (status == SASL_OK)
+        status = hear() ? sasl_server_start(connection, words[3], message, message_len, &out, &len) : SASL_FAIL;
+    while (status == SASL_CONTINUE && say(out, len) && hear())
+        status = sasl_server_step(connection, message, message_len, &out, &len);
+    if (status == SASL_OK && !(say(out, len) && hear() && say("", 0)))
+        status = SASL_FAIL;
+    return ended(connection, status);
+}
+
+int main(int count, char **given)
+{
+    const char *what = count > 1 ? given[1] : "";
+    words = given;
+    if (strcmp(what, "version") == 0) {
+        const char *version = "";
+        sasl_version_info(NULL, &version, NULL, NULL, NULL, NULL);
+        puts(version);
+        return 0;
+    }
+    if (strcmp(what, "client") == 0 && (count == 6 || count == 7))
+        return run_client(count == 7 ? given[6] : "");
+    return strcmp(what, "server") == 0 && count == 6 ? run_server() : 2;
+}

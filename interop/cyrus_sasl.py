@@ -1,0 +1,137 @@
+"""Cyrus SASL with its own plugin of SCRAM: the program of `cyrus.c`, whose standard input and output are a socket."""
+
+from __future__ import annotations
+
+import os
+import socket
+import subprocess
+from pathlib import Path
+from typing import Iterator, Optional
+
+from cells import Cell, Peer, none
+from sides import COMMA, PATIENCE, SCRAM, USER, Client, Ending, Side, User, marred
+
+PLUGINS = [Path("/usr/lib/x86_64-linux-gnu/sasl2"), Path("/usr/lib/aarch64-linux-gnu/sasl2"), Path("/usr/lib/sasl2")]
+#: The highest count that its client answers.
+MOST = 65_536
+PAST = User("user", "p\u00e4ss")
+
+
+def make_user(file: Path, user: User, records: bool = False, realm: str = "localhost") -> None:
+    """Puts a user into a file of users: the password, or in its place the record of SHA-1."""
+    settings = file.parent / "settings"
+    settings.mkdir(exist_ok=True)
+    (settings / "saslpasswd.conf").write_text(f"scram_secret_generate: {'yes' if records else 'no'}\n")
+    words = ["saslpasswd2", "-p", "-c", *(["-n"] if records else []), "-f", file, "-u", realm, user.name]
+    subprocess.run(
+        words, input=user.password.encode(), env={**os.environ, "SASL_CONF_PATH": str(settings)}, check=True,
+        capture_output=True, timeout=PATIENCE,
+    )
+
+
+class CyrusSasl(Peer):
+    name = "Cyrus SASL"
+    package = "libsasl2-dev, libsasl2-modules, sasl2-bin"
+
+    def __init__(self, built: Path) -> None:
+        self.program = built / "cyrus"
+        self.plugins = next((folder for folder in PLUGINS if (folder / "libscram.so").exists()), None)
+
+    def missing(self) -> bool:
+        return not self.program.exists() or self.plugins is None
+
+    def version(self) -> str:
+        return subprocess.run([self.program, "version"], capture_output=True, text=True, check=True).stdout.strip()
+
+    def start(self, folder: Path) -> None:
+        self.passwords, self.records = folder / "passwords", folder / "records"
+        for user in (USER, COMMA):
+            make_user(self.passwords, user)
+        make_user(self.records, USER, records=True)
+
+    def run(self, channel: socket.socket, side: str, *words: str) -> bool:
+        done = subprocess.run(
+            [self.program, side, self.plugins, *words], stdin=channel, stdout=channel, stderr=subprocess.DEVNULL,
+            timeout=PATIENCE, check=False,
+        )
+        return done.returncode == 0
+
+    def log_in(self, client: Client, count: int = 4096, users: Optional[Path] = None, mar=None):
+        """A login of our client to a server of libsasl2."""
+
+        def login(side: Side) -> Ending:
+            words = ["server", client.mechanism, str(users or self.passwords), str(count)]
+            return side.log_in(client, lambda channel: self.run(channel, *words), mar)
+
+        return login
+
+    def serve(self, mechanism: str, user: User, known: User = USER, binds: str = "", mar=None):
+        """A login of a client of libsasl2 to our server, which knows one user."""
+        words = ["client", mechanism, user.name, user.password, *([binds] if binds else [])]
+
+        def login(side: Side) -> Ending:
+            records = {known.name: side.record(mechanism, known)}
+            return side.serve(mechanism, records, lambda channel: self.run(channel, *words), mar)
+
+        return login
+
+    def cells(self) -> Iterator[Cell]:
+        for mechanism in SCRAM:
+            yield from self.our_clients(mechanism)
+            yield from self.our_servers(mechanism)
+        for ours in ("client", "server"):
+            yield none(ours, "PLAIN, ANONYMOUS, EXTERNAL", "a login", "we have these over AMQP alone: see Qpid Proton")
+
+    def our_clients(self, mechanism: str) -> Iterator[Cell]:
+        done, refused = Ending("logged in: Done", True), Ending("not logged in: the other side ended", False)
+        of = Client(mechanism)
+
+        def cell(what: str, login, ends: Ending, kept: Optional[User] = None) -> Cell:
+            return Cell("client", mechanism, what, login, ends, kept=kept)
+
+        yield cell("a login", self.log_in(of), done)
+        yield cell("a name with `,` and `=`", self.log_in(of._replace(user=COMMA)), done,
+                   COMMA if mechanism == "SCRAM-SHA-512" else None)
+        yield cell("wrong password", self.log_in(of._replace(user=User("user", "pencils"))), refused)
+        yield cell("unknown user", self.log_in(of._replace(user=User("nobody", "pencil"))), refused)
+        yield cell("count 1", self.log_in(of._replace(least=1), 1), done)
+        yield cell("count 100,000", self.log_in(of, 100_000), done)
+        small, large = (f"not logged in: Client: Iteration count too {size}" for size in ("small", "large"))
+        yield cell("count below the floor", self.log_in(of, 4095), Ending(small, False))
+        yield cell("count above the limit", self.log_in(of._replace(most=99_999), 100_000), Ending(large, False))
+        again = of._replace(again=True)
+        if mechanism == "SCRAM-SHA-1":
+            yield cell("kept keys, of a record that it made", self.log_in(again, users=self.records),
+                       Ending("logged in: Done; logged in by keys: Done", True))
+        else:
+            yield none("client", mechanism, "kept keys, of a record that it made",
+                       "its file of users keeps one record of a user, that of SHA-1")
+        other = "logged in: Done; not logged in by keys: Client: The keys are of another salt or iteration count"
+        yield cell("kept keys, where it has the password", self.log_in(again), Ending(other, False))
+        yield cell("its signature, altered on the way", self.log_in(of, mar=marred),
+                   Ending("not logged in: Client: Server signature mismatch", False))
+        yield cell("password past ASCII", self.log_in(of._replace(user=PAST)),
+                   Ending("not logged in: Client: Error normalizing password", False))
+
+    def our_servers(self, mechanism: str) -> Iterator[Cell]:
+        done, refused = Ending("logged in: user", True), Ending("not logged in: Server: Authentication failed", False)
+
+        def cell(what: str, login, ends: Ending, kept: Optional[User] = None) -> Cell:
+            return Cell("server", mechanism, what, login, ends, kept=kept)
+
+        yield cell("a login", self.serve(mechanism, USER), done)
+        yield cell("a name with `,` and `=`", self.serve(mechanism, COMMA, COMMA), Ending("logged in: a,b=c", True),
+                   COMMA if mechanism == "SCRAM-SHA-512" else None)
+        yield cell("wrong password", self.serve(mechanism, User("user", "pencils")), refused)
+        yield cell("unknown user", self.serve(mechanism, User("nobody", "pencil")), refused)
+        for count in (1, MOST):
+            yield cell(f"count {count:,}", self.serve(mechanism, USER, USER._replace(count=count)), done)
+        for count in (MOST + 1, 100_000):
+            yield cell(f"count {count:,}, above its limit", self.serve(mechanism, USER, USER._replace(count=count)),
+                       Ending("not logged in: the other side ended", False))
+        yield cell("our signature, altered on the way", self.serve(mechanism, USER, mar=marred),
+                   Ending("logged in: user", False))
+        yield cell("it may bind its channel, and sends `n,,`", self.serve(mechanism, USER, binds="may"), done)
+        yield cell("it has to bind its channel, and sends `p=..,,`", self.serve(mechanism, USER, binds="must"),
+                   Ending("not logged in: Server: Cannot parse GS2-header", False),
+                   USER if mechanism == "SCRAM-SHA-256" else None)

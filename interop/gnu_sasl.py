@@ -1,0 +1,122 @@
+"""GNU SASL: the program `gsasl`, whose standard input and output are a socket."""
+
+from __future__ import annotations
+
+import base64
+import re
+import shutil
+import socket
+import subprocess
+from typing import Iterator, Optional
+
+from cells import Cell, Peer, none
+from sides import COMMA, PATIENCE, SALT, USER, Client, Ending, Side, User, marred
+
+MECHANISMS = ("SCRAM-SHA-1", "SCRAM-SHA-256")
+FORGED = "not logged in: Client: Server signature mismatch"
+ENDED = "not logged in: the other side ended"
+
+
+def gsasl(channel: socket.socket, words: list[str]) -> bool:
+    """Whether the program ends well over a connection."""
+    words = ["gsasl", *words, "--quiet", "--no-cb"]
+    done = subprocess.run(
+        words, stdin=channel, stdout=channel, stderr=subprocess.DEVNULL, timeout=PATIENCE, check=False
+    )
+    return done.returncode == 0
+
+
+def server(client: Client, password: str, count: int = 4096, mar=None):
+    """A server of gsasl, which takes any name and has one password."""
+    salt = base64.b64encode(SALT).decode()
+    words = ["--server", "-m", client.mechanism, f"--password={password}", f"--iteration-count={count}"]
+
+    def login(side: Side) -> Ending:
+        return side.log_in(client, lambda channel: gsasl(channel, [*words, f"--salt={salt}"]), mar)
+
+    return login
+
+
+def client(mechanism: str, user: User, known: User, record_of=None, mar=None):
+    """A client of gsasl, to a server of ours that knows one user."""
+    words = ["--client", "-m", mechanism, f"--authentication-id={user.name}", f"--password={user.password}"]
+
+    def login(side: Side) -> Ending:
+        record = record_of(mechanism, known) if record_of else side.record(mechanism, known)
+        return side.serve(mechanism, {known.name: record}, lambda channel: gsasl(channel, words), mar)
+
+    return login
+
+
+def made_by_gsasl(mechanism: str, user: User) -> str:
+    """The text of a record that gsasl makes."""
+    salt = base64.b64encode(SALT).decode()
+    words = [f"--password={user.password}", f"--iteration-count={user.count}", f"--salt={salt}"]
+    done = subprocess.run(
+        ["gsasl", "--mkpasswd", "-m", mechanism, *words], capture_output=True, text=True, timeout=PATIENCE, check=True
+    )
+    count, salt, stored, of_server = re.fullmatch(r"\{.*\}(.*),(.*),(.*),(.*)", done.stdout.strip()).groups()
+    return f"{mechanism}${count}:{salt}${stored}:{of_server}"
+
+
+class GnuSasl(Peer):
+    name = "GNU SASL"
+    package = "gsasl"
+
+    def missing(self) -> bool:
+        return shutil.which("gsasl") is None
+
+    def version(self) -> str:
+        told = subprocess.run(["gsasl", "--version"], capture_output=True, text=True, check=True).stdout
+        return told.split("\n")[0].split()[-1]
+
+    def cells(self) -> Iterator[Cell]:
+        for mechanism in MECHANISMS:
+            yield from self.our_clients(mechanism)
+            yield from self.our_servers(mechanism)
+        for ours in ("client", "server"):
+            yield none(ours, "SCRAM-SHA-512", "a login", "it has SHA-1 and SHA-256 alone")
+            yield none(ours, "PLAIN, ANONYMOUS, EXTERNAL", "a login", "we have these over AMQP alone")
+
+    def our_clients(self, mechanism: str) -> Iterator[Cell]:
+        kept = COMMA if mechanism == "SCRAM-SHA-256" else None
+        done, of = Ending("logged in: Done", True), Client(mechanism)
+        past = User("user", "p\u00e4ss")
+
+        def cell(what: str, login, ends: Ending, kept: Optional[User] = None) -> Cell:
+            return Cell("client", mechanism, what, login, ends, kept=kept)
+
+        yield cell("a login", server(of, "pencil"), done)
+        yield cell("a name with `,` and `=`", server(of._replace(user=COMMA), COMMA.password), done, kept)
+        yield cell("wrong password", server(of, "pencils"), Ending(ENDED, False))
+        yield none("client", mechanism, "unknown user", "its server takes any name")
+        yield cell("count 1", server(of._replace(least=1), "pencil", 1), done)
+        yield cell("count 100,000", server(of, "pencil", 100_000), done)
+        small, large = ("not logged in: Client: Iteration count too " + size for size in ("small", "large"))
+        yield cell("count below the floor", server(of, "pencil", 4095), Ending(small, False))
+        yield cell("count above the limit", server(of._replace(most=99_999), "pencil", 100_000), Ending(large, False))
+        yield cell("kept keys", server(of._replace(again=True), "pencil"),
+                   Ending("logged in: Done; logged in by keys: Done", True))
+        yield cell("its signature, altered on the way", server(of, "pencil", mar=marred), Ending(FORGED, False))
+        refused = "not logged in: Client: Error normalizing password"
+        yield cell("password past ASCII", server(of._replace(user=past), past.password), Ending(refused, False))
+
+    def our_servers(self, mechanism: str) -> Iterator[Cell]:
+        kept = COMMA if mechanism == "SCRAM-SHA-256" else None
+        refused = Ending("not logged in: Server: Authentication failed", False)
+        past = User("user", "p\u00e4ss")
+
+        def cell(what: str, login, ends: Ending, kept: Optional[User] = None) -> Cell:
+            return Cell("server", mechanism, what, login, ends, kept=kept)
+
+        yield cell("a login", client(mechanism, USER, USER), Ending("logged in: user", True))
+        yield cell("a name with `,` and `=`", client(mechanism, COMMA, COMMA), Ending("logged in: a,b=c", True), kept)
+        yield cell("wrong password", client(mechanism, User("user", "pencils"), USER), refused)
+        yield cell("unknown user", client(mechanism, User("nobody", "pencil"), USER), refused)
+        for count in (1, 100_000):
+            known = USER._replace(count=count)
+            yield cell(f"count {count:,}", client(mechanism, USER, known), Ending("logged in: user", True))
+        yield cell("our signature, altered on the way", client(mechanism, USER, USER, mar=marred),
+                   Ending("logged in: user", False))
+        yield cell("password past ASCII, of its own record", client(mechanism, past, past, made_by_gsasl),
+                   Ending("logged in: user", True))

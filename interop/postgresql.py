@@ -1,0 +1,338 @@
+"""PostgreSQL: a server of its own, and `psql`, which is a client of libpq. SCRAM's messages stand in messages of its
+protocol (its documentation, "Message Formats"), which are read and written here; the texts are our programs'."""
+
+from __future__ import annotations
+
+import base64
+import contextlib
+import os
+import shutil
+import socket
+import ssl
+import struct
+import subprocess
+import time
+from pathlib import Path
+from typing import Iterator, Optional
+
+from cells import Cell, Peer, certificate, none
+from sides import (
+    COMMA, PATIENCE, USER, Client, Ending, Side, User, dialled, ended_after, free_port, listening, marred,
+    unprivileged,
+)
+
+MECHANISM = "SCRAM-SHA-256"
+SSL_REQUEST, GSS_REQUEST, PROTOCOL = 80877103, 80877104, 196608
+SASL, SASL_CONTINUE, SASL_FINAL, OK = 10, 11, 12, 0
+FORGED = "not logged in: Client: Server signature mismatch"
+#: The header of a client that could bind its channel at a server that does not say that it could, and of one that cannot.
+BINDS_NOT, CANNOT_BIND = b"y,,", b"n,,"
+PAST = User("user", "p\u00e4ss")
+
+
+class Ended(Exception):
+    """The other side ended the exchange, or refused it."""
+
+
+class Lines:
+    """Our program's end of a connection, a message a line."""
+
+    def __init__(self, channel: socket.socket) -> None:
+        self.channel, self.file = channel, channel.makefile("rb")
+
+    def say(self, message: bytes) -> None:
+        self.channel.sendall(base64.b64encode(message) + b"\n")
+
+    def hear(self) -> bytes:
+        line = self.file.readline()
+        if not line:
+            raise Ended
+        return base64.b64decode(line)
+
+
+class Messages:
+    """PostgreSQL's end, a message at a time."""
+
+    def __init__(self, channel: socket.socket) -> None:
+        self.channel, self.file = channel, channel.makefile("rb")
+
+    def take(self, count: int) -> bytes:
+        data = self.file.read(count)
+        if len(data) < count:
+            raise Ended
+        return data
+
+    def say(self, kind: bytes, data: bytes) -> None:
+        self.channel.sendall(kind + struct.pack(">I", len(data) + 4) + data)
+
+    def hear(self) -> tuple[bytes, bytes]:
+        kind = self.take(1)
+        return kind, self.take(struct.unpack(">I", self.take(4))[0] - 4)
+
+    def startup(self) -> int:
+        """The code of a first message, which has no kind."""
+        length, code = struct.unpack(">II", self.take(8))
+        self.take(length - 8)
+        return code
+
+    def challenge(self, code: int) -> bytes:
+        """The data of an authentication message of this code."""
+        kind, data = self.hear()
+        if kind != b"R" or struct.unpack(">I", data[:4])[0] != code:
+            raise Ended
+        return data[4:]
+
+    def response(self) -> bytes:
+        kind, data = self.hear()
+        if kind != b"p":
+            raise Ended
+        return data
+
+    def session_user(self) -> Optional[str]:
+        """Whom the server takes the client for."""
+        self.say(b"Q", b"select session_user\0")
+        name = None
+        while (message := self.hear())[0] != b"Z" or name is None:
+            if message[0] == b"D":
+                name = message[1][6:].decode()
+        self.say(b"X", b"")
+        return name
+
+
+def to_server(port: int, ours: socket.socket, name: str, by_tls: bool) -> bool:
+    """Hands the messages of our client to PostgreSQL and back. Whether PostgreSQL takes it for the user."""
+    lines = Lines(ours)
+    with dialled(port) as plain, (in_tls(plain) if by_tls else plain) as channel:
+        server = Messages(channel)
+        words = b"user\0" + name.encode() + b"\0database\0postgres\0\0"
+        channel.sendall(struct.pack(">II", len(words) + 8, PROTOCOL) + words)
+        try:
+            offered = server.challenge(SASL).split(b"\0")
+            assert MECHANISM.encode() in offered and (MECHANISM.encode() + b"-PLUS" in offered) == by_tls
+            ours.sendall(MECHANISM.encode() + b"\n\n")
+            first = lines.hear()
+            server.say(b"p", MECHANISM.encode() + b"\0" + struct.pack(">I", len(first)) + first)
+            lines.say(server.challenge(SASL_CONTINUE))
+            server.say(b"p", lines.hear())
+            lines.say(server.challenge(SASL_FINAL))
+            server.challenge(OK)
+            lines.hear()
+            lines.say(b"")
+            return server.session_user() == name
+        except Ended:
+            return False
+
+
+def in_tls(channel: socket.socket) -> socket.socket:
+    """The connection under TLS, as PostgreSQL begins it."""
+    channel.sendall(struct.pack(">II", 8, SSL_REQUEST))
+    assert channel.recv(1) == b"S"
+    context = ssl.create_default_context()
+    context.check_hostname, context.verify_mode = False, ssl.CERT_NONE
+    return context.wrap_socket(channel)
+
+
+def begun(channel: socket.socket, context: Optional[ssl.SSLContext]) -> Messages:
+    """The connection of a client up to its startup message, under TLS where there is a context."""
+    while True:
+        client = Messages(channel)
+        code = client.startup()
+        if code == PROTOCOL:
+            return client
+        channel.sendall(b"S" if code == SSL_REQUEST and context else b"N")
+        if code == SSL_REQUEST and context:
+            channel = context.wrap_socket(channel, server_side=True)
+
+
+def to_client(client: Messages, ours: socket.socket, header: bytes) -> None:
+    """Hands the messages of a client of libpq to our server and back, and answers a query by nothing. The first one has
+    to begin with this header."""
+    lines = Lines(ours)
+    client.say(b"R", struct.pack(">I", SASL) + MECHANISM.encode() + b"\0\0")
+    first = client.response().split(b"\0", 1)[1][4:]
+    assert first.startswith(header)
+    ours.sendall(MECHANISM.encode() + b"\n")
+    try:
+        lines.say(first)
+        client.say(b"R", struct.pack(">I", SASL_CONTINUE) + lines.hear())
+        lines.say(client.response())
+        client.say(b"R", struct.pack(">I", SASL_FINAL) + lines.hear())
+    except Ended:
+        client.say(b"E", b"SFATAL\0C28P01\0Mnot logged in\0\0")
+        return
+    client.say(b"R", struct.pack(">I", OK))
+    client.say(b"Z", b"I")
+    lines.say(b"")
+    while client.hear()[0] == b"Q":
+        client.say(b"I", b"")
+        client.say(b"Z", b"I")
+
+
+def psql(port: int, name: str, password: str, more: str = "") -> subprocess.Popen:
+    """The client of libpq, which logs in and asks for nothing."""
+    words = name.replace("\\", "\\\\").replace("'", "\\'")
+    wanted = f"host=127.0.0.1 port={port} user='{words}' dbname=postgres connect_timeout={PATIENCE} {more}"
+    environment = {"PATH": os.environ["PATH"], "PGPASSWORD": password, "HOME": "/nonexistent", "LC_ALL": "C.UTF-8"}
+    return subprocess.Popen(
+        ["psql", "-X", "-At", "-c", "", "-d", wanted], env=environment, stdin=subprocess.DEVNULL,
+        stdout=subprocess.DEVNULL, stderr=subprocess.DEVNULL,
+    )
+
+
+def from_psql(ours: socket.socket, user: User, context: Optional[ssl.SSLContext], header: bytes) -> bool:
+    """A login of `psql` at our server. Whether it is content."""
+    mode = f"sslmode={'require' if context else 'disable'}"
+    mode += f" channel_binding={'prefer' if header == BINDS_NOT else 'disable'}"
+    with listening() as listener:
+        with ended_after(psql(listener.getsockname()[1], user.name, user.password, mode)) as client:
+            channel, _ = listener.accept()
+            with channel, contextlib.suppress(Ended, ConnectionError):
+                to_client(begun(channel, context), ours, header)
+            return client.wait(PATIENCE) == 0
+
+
+class PostgreSql(Peer):
+    name = "PostgreSQL"
+    package = "postgresql"
+
+    def __init__(self) -> None:
+        found = sorted(Path("/usr/lib/postgresql").glob("*/bin/initdb"), key=lambda path: float(path.parts[-3]))
+        self.programs = found[-1].parent if found else None
+        self.server: Optional[subprocess.Popen] = None
+
+    def missing(self) -> bool:
+        return self.programs is None or shutil.which("psql") is None
+
+    def version(self) -> str:
+        told = subprocess.run([self.programs / "postgres", "--version"], capture_output=True, text=True, check=True)
+        return told.stdout.split()[2]
+
+    def start(self, folder: Path) -> None:
+        """A server, which refuses to run as root."""
+        self.folder, (shown, key), data = folder, certificate(folder), folder / "data"
+        who = unprivileged(folder, key)
+        words = ["-D", data, "-U", "admin", "-E", "UTF8", "--locale=C", "--no-sync"]
+        rules = ["--auth-local=trust", "--auth-host=scram-sha-256"]
+        quiet = {"stdout": subprocess.DEVNULL, "stderr": subprocess.DEVNULL, "cwd": folder, **who}
+        subprocess.run([self.programs / "initdb", *words, *rules], check=True, **quiet)
+        self.port = free_port()
+        settings = {"listen_addresses": "127.0.0.1", "port": self.port, "unix_socket_directories": folder,
+                    "fsync": "off", "password_encryption": "scram-sha-256", "ssl": "on", "ssl_cert_file": shown,
+                    "ssl_key_file": key}
+        options = [word for name, value in settings.items() for word in ("-c", f"{name}={value}")]
+        self.server = subprocess.Popen([self.programs / "postgres", "-D", data, *options], **quiet)
+        for _ in range(100):
+            if self.sql("select 1", check=False) == "1":
+                return
+            time.sleep(0.1)
+        raise TimeoutError("PostgreSQL does not start")
+
+    def stop(self) -> None:
+        if self.server is not None:
+            with ended_after(self.server):
+                pass
+
+    def sql(self, words: str, check: bool = True) -> str:
+        """What the administrator is answered."""
+        where = ["-h", str(self.folder), "-p", str(self.port), "-U", "admin", "-d", "postgres"]
+        done = subprocess.run(
+            ["psql", "-X", "-At", *where], input=words, capture_output=True, text=True, timeout=PATIENCE, check=check
+        )
+        return done.stdout.strip()
+
+    def role(self, name: str, password: str) -> None:
+        """Makes a user anew, whose password may be the text of a record."""
+        quoted, secret = name.replace('"', '""'), password.replace("'", "''")
+        self.sql(f"drop role if exists \"{quoted}\"; create role \"{quoted}\" login password '{secret}';")
+
+    def log_in(self, client: Client, password: Optional[str] = None, by_tls: bool = False, count: int = 4096, mar=None):
+        """A login of our client to the server, where the user has this password, or none is made."""
+
+        def login(side: Side) -> Ending:
+            if password is not None:
+                known = User(client.user.name, password, count)
+                self.role(known.name, password if count == 4096 else side.record(MECHANISM, known))
+            return side.log_in(client, lambda channel: to_server(self.port, channel, client.user.name, by_tls), mar)
+
+        return login
+
+    def serve(self, user: User, known: User, tls: bytes = b"", of_server: bool = False, mar=None):
+        """A login of `psql` to our server, which knows one user: under no name, since libpq sends none in SCRAM.
+        Under TLS, where there is a header that it is to send there."""
+        context = ssl.SSLContext(ssl.PROTOCOL_TLS_SERVER)
+        context.load_cert_chain(*certificate(self.folder))
+
+        def login(side: Side) -> Ending:
+            record = self.made(known) if of_server else side.record(MECHANISM, known)
+            words = (user, context if tls else None, tls or CANNOT_BIND)
+            return side.serve(MECHANISM, {"": record}, lambda channel: from_psql(channel, *words), mar)
+
+        return login
+
+    def made(self, user: User) -> str:
+        """The record that the server makes of a password."""
+        self.role(user.name, user.password)
+        return self.sql(f"select rolpassword from pg_authid where rolname = '{user.name}'")
+
+    def read(self, typed: str):
+        """A record of the server's, and a password that is typed."""
+        return lambda side: Ending(side.said(["verify", self.made(USER)], typed), None)
+
+    def written(self, side: Side) -> Ending:
+        """A record of ours, which the server is given."""
+        self.role(USER.name, side.record(MECHANISM, USER))
+        with ended_after(psql(self.port, USER.name, USER.password)) as client:
+            return Ending("", client.wait(PATIENCE) == 0)
+
+    def cells(self) -> Iterator[Cell]:
+        yield from self.our_clients()
+        yield from self.our_servers()
+        for ours in ("client", "server"):
+            yield none(ours, "SCRAM-SHA-1, SCRAM-SHA-512", "a login", "it has SCRAM-SHA-256 alone")
+            yield none(ours, "PLAIN, ANONYMOUS, EXTERNAL", "a login", "it has none of them by SASL")
+
+    def our_clients(self) -> Iterator[Cell]:
+        done, refused = Ending("logged in: Done", True), Ending("not logged in: the other side ended", False)
+        of = Client(MECHANISM)
+
+        def cell(what: str, login, ends: Ending, kept: Optional[User] = None) -> Cell:
+            return Cell("client", MECHANISM, what, login, ends, kept=kept)
+
+        yield cell("a login", self.log_in(of, "pencil"), done)
+        yield cell("a login under TLS, where -PLUS is offered too", self.log_in(of, "pencil", by_tls=True), done)
+        yield cell("a name with `,` and `=`", self.log_in(of._replace(user=COMMA), COMMA.password), done, COMMA)
+        yield cell("wrong password", self.log_in(of, "pencils"), refused)
+        yield cell("unknown user", self.log_in(of._replace(user=User("nobody", "pencil"))), refused)
+        yield cell("count 1", self.log_in(of._replace(least=1), "pencil", count=1), done)
+        yield cell("count 100,000", self.log_in(of, "pencil", count=100_000), done)
+        small, large = (f"not logged in: Client: Iteration count too {size}" for size in ("small", "large"))
+        yield cell("count below the floor", self.log_in(of, "pencil", count=4095), Ending(small, False))
+        yield cell("count above the limit", self.log_in(of._replace(most=99_999), "pencil", count=100_000),
+                   Ending(large, False))
+        yield cell("kept keys", self.log_in(of._replace(again=True), "pencil"),
+                   Ending("logged in: Done; logged in by keys: Done", True))
+        yield cell("its signature, altered on the way", self.log_in(of, "pencil", mar=marred), Ending(FORGED, False))
+        yield cell("password past ASCII", self.log_in(of._replace(user=PAST), PAST.password),
+                   Ending("not logged in: Client: Error normalizing password", False))
+
+    def our_servers(self) -> Iterator[Cell]:
+        done, refused = Ending("logged in:", True), Ending("not logged in: Server: Authentication failed", False)
+
+        def cell(what: str, login, ends: Ending, kept: Optional[User] = None) -> Cell:
+            return Cell("server", MECHANISM, what, login, ends, kept=kept)
+
+        yield cell("a login", self.serve(USER, USER), done)
+        yield none("server", MECHANISM, "a name with `,` and `=`", "libpq sends no name in SCRAM")
+        yield cell("wrong password", self.serve(User("user", "pencils"), USER), refused)
+        yield none("server", MECHANISM, "unknown user", "libpq sends no name in SCRAM")
+        for count in (1, 100_000):
+            yield cell(f"count {count:,}", self.serve(USER, USER._replace(count=count)), done)
+        yield cell("our signature, altered on the way", self.serve(USER, USER, mar=marred), Ending("logged in:", False))
+        yield cell("password past ASCII, of its own record", self.serve(PAST, PAST, of_server=True), done)
+        yield cell("under TLS, where it sends `n,,`", self.serve(USER, USER, tls=CANNOT_BIND), done)
+        yield cell("under TLS, where it sends `y,,`", self.serve(USER, USER, tls=BINDS_NOT),
+                   Ending("not logged in: Server: Cannot parse GS2-header", False), User("", USER.password))
+        yield cell("`rolpassword` read, the password", self.read(USER.password), Ending("verified: Done", None))
+        yield cell("`rolpassword` read, another password", self.read("pencils"),
+                   Ending("not verified: The password is not that of the record", None))
+        yield cell("`rolpassword` written, and a login of `psql`", self.written, Ending("", True))

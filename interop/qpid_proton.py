@@ -1,0 +1,173 @@
+"""Qpid Proton over frames of AMQP 1.0: as Debian builds it, with SASL of its own, and as built with Cyrus SASL."""
+
+from __future__ import annotations
+
+import json
+import os
+import socket
+import subprocess
+from pathlib import Path
+from typing import Iterator, Optional
+
+from cells import Cell, Peer, none
+from cyrus_sasl import make_user
+from sides import COMMA, SCRAM, USER, Ending, Side, User, ended_after, marred
+
+PYTHON = "/usr/bin/python3"
+#: The mechanisms of which bytes are kept.
+KEPT = ("SCRAM-SHA-256", "PLAIN")
+PAST = User("user", "p\u00e4ss")
+DONE = Ending("logged in: Done", True)
+REFUSED = Ending("not logged in: Connection: The login is refused", False)
+
+
+class QpidProton(Peer):
+    name = "Qpid Proton"
+    package = "python3-qpid-proton"
+    by_frames = True
+
+    def __init__(self) -> None:
+        self.worker: Optional[subprocess.Popen] = None
+        self.environment = dict(os.environ)
+
+    def missing(self) -> bool:
+        try:
+            self.version()
+        except (OSError, subprocess.CalledProcessError):
+            return True
+        return False
+
+    def asked(self, words: str) -> str:
+        """What Proton's module says of itself."""
+        words = [PYTHON, "-c", f"import proton; print({words})"]
+        return subprocess.run(
+            words, env=self.environment, capture_output=True, text=True, check=True
+        ).stdout.strip()
+
+    def version(self) -> str:
+        return self.asked("*proton.VERSION, sep='.'")
+
+    def start(self, folder: Path) -> None:
+        self.folder = folder
+        words = [PYTHON, "-B", str(Path(__file__).resolve().parent / "proton_worker.py")]
+        self.worker = subprocess.Popen(
+            words, env=self.environment, stdin=subprocess.PIPE, stdout=subprocess.PIPE, text=True
+        )
+
+    def stop(self) -> None:
+        if self.worker is not None:
+            with ended_after(self.worker):
+                pass
+
+    def ask(self, **job: object) -> None:
+        self.worker.stdin.write(json.dumps(job) + "\n")
+        self.worker.stdin.flush()
+
+    def told(self) -> dict:
+        return json.loads(self.worker.stdout.readline())
+
+    def log_in(self, mechanism: str, user: User = USER, count: int = 4096, asked: str = ""):
+        """A login of our client to a server of Proton that offers a mechanism. It asks for that, or for another one."""
+
+        def login(side: Side) -> Ending:
+            self.ask(side="server", mechanisms=mechanism, settings=str(self.folder / str(count)))
+            ours = side.log_in_by_frames(self.told()["port"], asked or mechanism, user)
+            return Ending(ours, self.told()["in"])
+
+        return login
+
+    def serve(self, mechanism: str, user: User = USER, known: User = USER, mar=None):
+        """A login of a client of Proton to our server, which knows one user."""
+
+        def by(port: int) -> bool:
+            words = {"mechanism": mechanism, "user": user.name, "password": user.password}
+            self.ask(side="client", port=port, **words)
+            return self.told()["in"]
+
+        def login(side: Side) -> Ending:
+            of = mechanism if mechanism in SCRAM else "SCRAM-SHA-256"
+            return side.serve_frames(mechanism, {known.name: side.record(of, known)}, by, mar)
+
+        return login
+
+    def our_servers(self, mechanism: str) -> Iterator[Cell]:
+        done = Ending("logged in: user", True)
+
+        def cell(what: str, login, ends: Ending, kept: Optional[User] = None) -> Cell:
+            return Cell("server", mechanism, what, login, ends, kept=kept)
+
+        yield cell("a login", self.serve(mechanism), done, USER if mechanism in KEPT else None)
+        yield cell("a name with `,` and `=`", self.serve(mechanism, COMMA, COMMA), Ending("logged in: a,b=c", True))
+        yield cell("wrong password", self.serve(mechanism, User("user", "pencils")), REFUSED)
+        yield cell("unknown user", self.serve(mechanism, User("nobody", "pencil")), REFUSED)
+        if mechanism in SCRAM:
+            for count in (1, 65_536):
+                known = USER._replace(count=count)
+                yield cell(f"count {count:,}", self.serve(mechanism, known=known), done)
+            yield cell("our signature, altered on the way: it does not look", self.serve(mechanism, mar=marred), done)
+
+    def cells(self) -> Iterator[Cell]:
+        yield Cell("client", "ANONYMOUS", "a login", self.log_in("ANONYMOUS"), DONE, kept=USER)
+        for mechanism in (*SCRAM, "PLAIN"):
+            yield Cell("client", mechanism, "it offers ANONYMOUS alone", self.log_in("ANONYMOUS", asked=mechanism),
+                       Ending("not logged in: Connection: Not implemented", False))
+        yield Cell("server", "ANONYMOUS", "a login", self.serve("ANONYMOUS"), Ending("logged in:", True), kept=USER)
+        yield from self.our_servers("PLAIN")
+        yield none("server", ", ".join(SCRAM), "a login", "Debian builds it without Cyrus SASL")
+        for ours in ("client", "server"):
+            yield none(ours, "EXTERNAL", "a login", "it takes the name from TLS, which our programs do not speak")
+
+
+class ProtonWithCyrus(QpidProton):
+    name = "Qpid Proton with Cyrus SASL"
+    package = "python3-qpid-proton, and a libqpid-proton-core of the same version that --proton names"
+
+    def __init__(self, library: Optional[Path]) -> None:
+        super().__init__()
+        self.library = library
+        if library is not None:
+            self.environment["LD_LIBRARY_PATH"] = str(library.resolve())
+
+    def missing(self) -> bool:
+        return self.library is None or super().missing() or self.asked("proton.SASL.extended()") != "True"
+
+    def start(self, folder: Path) -> None:
+        super().start(folder)
+        users = folder / "users"
+        for user in (USER, COMMA):
+            # (Proton's server has the host's name for a realm, in one of its forms)
+            for realm in {"localhost", socket.gethostname(), socket.getfqdn()}:
+                make_user(users, user, realm=realm)
+        for count in (4095, 4096, 100_000):
+            (folder / str(count)).mkdir()
+            settings = f"auxprop_plugin: sasldb\nsasldb_path: {users}\nscram_iteration_counter: {count}\n"
+            (folder / str(count) / "proton-server.conf").write_text(settings)
+
+    def cells(self) -> Iterator[Cell]:
+        for mechanism in SCRAM:
+            yield from self.our_scram_clients(mechanism)
+            yield from self.our_servers(mechanism)
+        yield from self.our_plain_clients()
+        yield from self.our_servers("PLAIN")
+        yield Cell("client", "ANONYMOUS", "a login", self.log_in("ANONYMOUS"), DONE)
+        yield Cell("server", "ANONYMOUS", "a login", self.serve("ANONYMOUS"), Ending("logged in:", True))
+
+    def our_scram_clients(self, mechanism: str) -> Iterator[Cell]:
+        """It sends its signature by one more challenge, which our client refuses."""
+        refused = "not logged in: Connection: The frame is out of turn"
+        for what, count in (("a login", 4096), ("count 100,000", 100_000)):
+            yield Cell("client", mechanism, f"{what}: it sends its signature by a challenge",
+                       self.log_in(mechanism, count=count), Ending(refused, False),
+                       kept=USER if count == 4096 and mechanism in KEPT else None)
+        for what, user in (("wrong password", User("user", "pencils")), ("unknown user", User("nobody", "pencil"))):
+            yield Cell("client", mechanism, what, self.log_in(mechanism, user), REFUSED)
+        yield Cell("client", mechanism, "count below the floor", self.log_in(mechanism, count=4095),
+                   Ending("not logged in: Client: Iteration count too small", False))
+        yield Cell("client", mechanism, "password past ASCII", self.log_in(mechanism, PAST),
+                   Ending("not logged in: Client: Error normalizing password", False))
+
+    def our_plain_clients(self) -> Iterator[Cell]:
+        for what, user in (("a login", USER), ("a name with `,` and `=`", COMMA)):
+            yield Cell("client", "PLAIN", what, self.log_in("PLAIN", user), DONE, kept=USER if user == USER else None)
+        for what, user in (("wrong password", User("user", "pencils")), ("unknown user", User("nobody", "pencil"))):
+            yield Cell("client", "PLAIN", what, self.log_in("PLAIN", user), REFUSED)

@@ -1,0 +1,88 @@
+"""The bytes of a login as rows of stored vectors in crates/sasl_vectors/data: of one over lines as in peer-runs.txt,
+whose frames are made here around real messages, and of one over frames as in peer-streams.txt."""
+
+from __future__ import annotations
+
+import base64
+import re
+import sys
+from pathlib import Path
+
+from sides import SALT, Tap, User
+
+sys.path.insert(0, str(Path(__file__).resolve().parent.parent / "bindings" / "python"))
+from peers import CHALLENGE, INIT, OUTCOME, RESPONSE, frame_of, mechanisms_frame, short  # noqa: E402
+
+ZEROS = "00" * 32
+REFUSED = b"\x50\x01"
+
+
+def hexed(data: bytes) -> str:
+    return data.hex() or "-"
+
+
+def body(code: int, *fields: bytes) -> str:
+    """The body of a frame in hexadecimal digits."""
+    return frame_of(code, *fields)[4:].hex()
+
+
+def data(message: bytes) -> bytes:
+    return short(0xA0, message)
+
+
+def messages(tap: Tap, whose: str) -> list[bytes]:
+    """The messages that one side sent, a line each."""
+    lines = b"".join(came for side, came in tap.kept if side == whose).split(b"\n")
+    return [base64.b64decode(line) for line in lines if re.fullmatch(rb"[A-Za-z0-9+/]+=*", line)]
+
+
+def nonce_of(message: bytes, behind: int = 0) -> str:
+    """The 32 bytes of which a nonce is, behind so many characters of the other side's."""
+    nonce = next(part for part in message.split(b",") if part.startswith(b"r="))[2 + behind :]
+    return base64.b64decode(nonce).hex()
+
+
+def client_run(mechanism: str, user: User, tap: Tap) -> list[str]:
+    """A run of our client."""
+    first, last = messages(tap, "client")[:2]
+    challenge, *finals = messages(tap, "server")
+    offer = mechanisms_frame(mechanism)[4:].hex()
+    init = body(INIT, short(0xA3, mechanism.encode()), data(first))
+    rows = [f"client {mechanism} {hexed(user.name.encode())} {hexed(user.password.encode())}",
+            f"{nonce_of(first)} {offer} => Init {init}",
+            f"{ZEROS} {body(CHALLENGE, data(challenge))} => Response {body(RESPONSE, data(last))}"]
+    outcome = body(OUTCOME, b"\x50\0", data(finals[0]))
+    return [*rows, f"{ZEROS} {outcome} => Outcome:Ok {outcome}"]
+
+
+def server_run(mechanism: str, user: User, tap: Tap) -> list[str]:
+    """A run of our server: a login, or one whose first message is refused."""
+    first, *lasts = messages(tap, "client")
+    answers = messages(tap, "server")
+    words = (user.name.encode(), user.password.encode(), SALT)
+    init = body(INIT, short(0xA3, mechanism.encode()), data(first))
+    rows = [f"server {mechanism} {' '.join(map(hexed, words))}"]
+    if not answers:
+        return [*rows, f"{ZEROS} {init} => Outcome:Auth {body(OUTCOME, REFUSED)}"]
+    theirs = next(part for part in first.split(b",") if part.startswith(b"r="))
+    nonce = nonce_of(answers[0], len(theirs) - 2)
+    outcome = body(OUTCOME, b"\x50\0", data(answers[1]))
+    return [*rows, f"{nonce} {init} => Challenge {body(CHALLENGE, data(answers[0]))}",
+            f"{ZEROS} {body(RESPONSE, data(lasts[0]))} => Outcome:Ok {outcome}"]
+
+
+def stream(side: str, mechanism: str, user: User, tap: Tap) -> list[str]:
+    """What came to our side, and what it sent, in order."""
+    name, password = hexed(user.name.encode()), hexed(user.password.encode())
+    if side == "client":
+        rows = [f"client {mechanism} {name} {password} 1000000 {b'127.0.0.1'.hex()}"]
+    elif mechanism.startswith("SCRAM"):
+        rows = [f"server {mechanism} {name} {password} {SALT.hex()} {user.count}"]
+    else:
+        rows = [f"server {mechanism}" + ("" if mechanism == "ANONYMOUS" else f" {name} {password}")]
+    sent = b"".join(came for whose, came in tap.kept if whose == side)
+    found = re.search(rb"\xa0.(n,,n=[^,]*,r=[A-Za-z0-9+/]{43}=)" if side == "client" else
+                      rb"\xa0.(r=[^,]*,s=[^,]*,i=\d+)", sent, re.DOTALL)
+    if found:
+        rows.append("nonce " + nonce_of(found[1], 0 if side == "client" else found[1].index(b",s=") - 2 - 44))
+    return rows + [f"{'sent' if whose == side else 'came'} {came.hex()}" for whose, came in tap.kept]

@@ -1,0 +1,181 @@
+#!/usr/bin/env python3
+"""Logs in to other programs and lets them log in, through the library's bindings for C and for Rust.
+
+    run.py [--only PEER] [--what WORDS] [--logins N] [--table FILE] [--record FILE] [--proton FOLDER]
+
+Makes twenty fresh logins a cell, prints the table, and ends with 1 where a cell has another count. A peer whose
+package is not there is told, and is no failure. Everything stands in a temporary folder and on the loopback at free
+ports, and is gone after the run. The programs of ours are those that `make interop` builds in `build/interop`.
+"""
+
+from __future__ import annotations
+
+import argparse
+import os
+import platform
+import sys
+import tempfile
+import time
+from multiprocessing.pool import ThreadPool
+from pathlib import Path
+from typing import Optional
+
+sys.dont_write_bytecode = True
+sys.path.insert(0, str(Path(__file__).resolve().parent))
+import record  # noqa: E402
+from cells import Cell, Peer  # noqa: E402
+from cyrus_sasl import CyrusSasl  # noqa: E402
+from gnu_sasl import GnuSasl  # noqa: E402
+from postgresql import PostgreSql  # noqa: E402
+from qpid_proton import ProtonWithCyrus, QpidProton  # noqa: E402
+from rabbitmq import RabbitMq  # noqa: E402
+from sides import Side  # noqa: E402
+
+#: Behind this line a page has the table of a run.
+MARK = "<!-- Written by interop/run.py --table. -->"
+
+
+def peers(built: Path, proton: Optional[Path]) -> list[Peer]:
+    """The peers, in the order of the table."""
+    return [GnuSasl(), CyrusSasl(built), PostgreSql(), QpidProton(), ProtonWithCyrus(proton), RabbitMq()]
+
+
+def sides(built: Path, folder: Path) -> list[Side]:
+    """Our side in C and in Rust."""
+    in_c = Side("C", built / "lines", [str(built / "client")], [str(built / "server")], folder)
+    rust = built / "rust" / "release"
+    frames = str(rust / "frames")
+    in_rust = Side("Rust", rust / "lines", [frames, "client"], [frames, "server"], folder)
+    if not (rust / "lines").exists():
+        print("- our programs in Rust: not here (cargo makes them)")
+        return [in_c]
+    return [in_c, in_rust]
+
+
+def one(cell: Cell, side: Side) -> str:
+    """A login of a cell: nothing where it ended as it is to end, and else how it ended."""
+    try:
+        ending = cell.login(side)
+    except Exception as why:  # noqa: BLE001 (whatever a login runs into is told, and the next one is made)
+        return f"{type(why).__name__}: {why}"
+    return "" if ending == cell.ends else str(ending)
+
+
+def counted(cell: Cell, side: Side, logins: int) -> tuple[str, bool]:
+    """The result of a cell, and whether each login ended as it is to end."""
+    if cell.login is None:
+        return f"none: {cell.reason}", True
+    with ThreadPool(logins if cell.at_once else 1) as pool:
+        endings = pool.map(lambda _: one(cell, side), range(logins))
+    right, other = endings.count(""), next(filter(None, endings), "")
+    result = f"{right} of {logins}"
+    return (result, True) if right == logins else (f"{result}, one of them {other}", False)
+
+
+def recorded(cell: Cell, peer: Peer, side: Side) -> str:
+    """The rows of one more login of a cell, or nothing where its bytes are not kept."""
+    if cell.kept is None:
+        return ""
+    side.taps = []
+    ending, tap, side.taps = one(cell, side), side.taps[0] if side.taps else None, None
+    if ending or tap is None:
+        return ""
+    other = "server" if cell.ours == "client" else "client"
+    head = f"# {peer.name} {peer.version()} as the {other}: {cell.what}"
+    if peer.by_frames:
+        rows = record.stream(cell.ours, cell.mechanism, cell.kept, tap)
+    else:
+        run = record.client_run if cell.ours == "client" else record.server_run
+        rows = run(cell.mechanism, cell.kept, tap)
+    return "\n".join(["", head, *rows, ""])
+
+
+def wanted(cell: Cell) -> list[str]:
+    """How the logins of a cell end, for our program and for the peer; or why there is none."""
+    if cell.login is None:
+        return [f"none: {cell.reason}", ""]
+    return [cell.ends.ours, {None: "", True: "yes", False: "no"}[cell.ends.peer]]
+
+
+def run_peer(peer: Peer, ours: list[Side], told: argparse.Namespace) -> tuple[list[list[str]], bool]:
+    """The rows of a peer, and whether all are right."""
+    rows, all_right = [], True
+    for cell in peer.cells():
+        if told.what and told.what not in f"{cell.ours} {cell.mechanism} {cell.what}":
+            continue
+        results = []
+        for side in ours:
+            began = time.monotonic()
+            result, right = counted(cell, side, told.logins)
+            results.append(result)
+            if told.record and side.language == "C":
+                with told.record.open("a") as file:
+                    file.write(recorded(cell, peer, side))
+            all_right &= right
+            took = "" if cell.login is None else f" ({time.monotonic() - began:.1f} s)"
+            words = (peer.name, f"ours is {cell.ours}", side.language, cell.mechanism, cell.what, result)
+            print(" | ".join(words) + took, flush=True)
+        results = ["none"] * len(ours) if cell.login is None else results
+        rows.append([peer.name, cell.ours, cell.mechanism, cell.what, *wanted(cell), *results])
+    return rows, all_right
+
+
+def table(rows: list[list[str]], versions: list[str], languages: list[str]) -> str:
+    """The page's part that a run writes: a line for the mechanisms of which all else is the same."""
+    merged: dict[tuple[str, ...], list[str]] = {}
+    for peer, ours, mechanism, *rest in rows:
+        merged.setdefault((peer, ours, *rest), []).append(mechanism)
+    head = ["peer", "ours is the", "mechanisms", "what", "our program says", "the peer says yes", *languages]
+    body = [[peer, ours, ", ".join(names), *rest] for (peer, ours, *rest), names in merged.items()]
+    lines = ["| " + " | ".join(row) + " |" for row in [head, ["---"] * len(head), *body]]
+    when = f"Run on {time.strftime('%-d %B %Y')}, {platform.platform()}, with"
+    return "\n".join([when, "", *versions, "", *lines]) + "\n"
+
+
+def write_table(page: Path, text: str) -> None:
+    """Puts the table in the place of what stands behind the mark of a page."""
+    before = page.read_text().partition(MARK)[0]
+    page.write_text(f"{before}{MARK}\n\n{text}")
+
+
+def main() -> int:
+    words = argparse.ArgumentParser(description=__doc__, formatter_class=argparse.RawDescriptionHelpFormatter)
+    words.add_argument("--only", default="", help="this peer alone")
+    words.add_argument("--what", default="", help="only the cells whose words have these in them")
+    words.add_argument("--logins", type=int, default=20, help="how many logins a cell has")
+    words.add_argument("--table", type=Path, help="a file whose table is written anew")
+    words.add_argument("--record", type=Path, help="a file to which rows of stored vectors are added")
+    words.add_argument("--built", type=Path, default=Path("build/interop"), help="the folder of our programs")
+    words.add_argument("--proton", type=Path, help="the folder of a libqpid-proton-core that is built with Cyrus SASL")
+    told = words.parse_args()
+    rows, versions, all_right = [], [], True
+    with tempfile.TemporaryDirectory(prefix="interop-") as folder:
+        os.chmod(folder, 0o755)
+        ours = sides(told.built.resolve(), Path(folder))
+        for peer in peers(told.built.resolve(), told.proton):
+            if told.only.lower() not in peer.name.lower():
+                continue
+            if peer.missing():
+                versions.append(f"- {peer.name}: not here (Debian: {peer.package})")
+                print(versions[-1])
+                continue
+            versions.append(f"- {peer.name} {peer.version()} (Debian: {peer.package})")
+            print(versions[-1])
+            place = Path(folder) / type(peer).__name__
+            place.mkdir()
+            try:
+                peer.start(place)
+                found, right = run_peer(peer, ours, told)
+            finally:
+                peer.stop()
+            rows += found
+            all_right &= right
+    text = table(rows, versions, [side.language for side in ours])
+    print(f"\n{text}")
+    if told.table:
+        write_table(told.table, text)
+    return 0 if all_right else 1
+
+
+if __name__ == "__main__":
+    sys.exit(main())

@@ -1,0 +1,107 @@
+//! Logins of AMQP 1.0 over TCP on the loopback, by the crate for Rust: what `bindings/c/client.c` and
+//! `bindings/c/server.c` do in C.
+//!
+//! ```text
+//! frames client HOST PORT MECHANISM USER
+//! frames server USERS LOGINS MECHANISM
+//! ```
+//!
+//! The client takes the password from standard input. The server offers the mechanism alone.
+
+use fe2o3_sasl_proved::{
+    ClientNegotiation, Offers, SaslProfile, ScramClient, ScramVersion, ServerNegotiation, Standing,
+};
+use interop::{password, told, version_of, Failure, Users};
+use std::io::{Read, Write};
+use std::net::{TcpListener, TcpStream};
+
+fn profile(mechanism: &str, user: &str) -> Result<SaslProfile, Failure> {
+    Ok(match mechanism {
+        "PLAIN" => SaslProfile::Plain { username: user.to_owned(), password: password()? },
+        "ANONYMOUS" => SaslProfile::Anonymous,
+        "EXTERNAL" => SaslProfile::External,
+        _ => ScramClient::new(user, password()?, version_of(mechanism).ok_or("no such mechanism")?)
+            .with_least_iterations(4096)
+            .with_iteration_limit(1_000_000)
+            .into(),
+    })
+}
+
+fn offers(mechanism: &str) -> Offers {
+    Offers {
+        scram: version_of(mechanism).is_some(),
+        plain: mechanism == "PLAIN",
+        anonymous: mechanism == "ANONYMOUS",
+        external: mechanism == "EXTERNAL",
+    }
+}
+
+/// What came of the connection, and an error where the other side ends it first.
+fn came(channel: &mut TcpStream, room: &mut [u8]) -> Result<usize, Failure> {
+    match channel.read(room) {
+        Ok(len) if len > 0 => Ok(len),
+        _ => Err("the other side ended".into()),
+    }
+}
+
+fn ended(standing: Standing) -> Result<(), Failure> {
+    match standing {
+        Standing::Closed(why) => Err(why.into()),
+        _ => Ok(()),
+    }
+}
+
+fn log_in(host: &str, port: u16, profile: SaslProfile) -> Result<(), Failure> {
+    let mut side = ClientNegotiation::new(profile, Some(host));
+    let mut channel = TcpStream::connect((host, port))?;
+    let mut room = [0; 4096];
+    channel.write_all(&ClientNegotiation::open())?;
+    while side.standing() == Standing::Wanting {
+        let len = came(&mut channel, &mut room)?;
+        let received = side.receive(&room[..len])?;
+        channel.write_all(&received.sent)?;
+    }
+    ended(side.standing())
+}
+
+fn run_client(words: &[&str]) -> Result<i32, Failure> {
+    let profile = profile(words[2], words[3])?;
+    Ok(told("logged in", &log_in(words[0], words[1].parse()?, profile)))
+}
+
+fn serve(mut channel: TcpStream, users: Users, mechanism: &str) -> Result<String, Failure> {
+    let mut side = ServerNegotiation::new(users.authenticator(), offers(mechanism)).with_peer("user");
+    let mut room = [0; 4096];
+    while side.standing() == Standing::Wanting {
+        let len = came(&mut channel, &mut room)?;
+        let received = side.receive(&room[..len])?;
+        channel.write_all(&received.sent)?;
+    }
+    ended(side.standing())?;
+    Ok(side.user().unwrap_or_default())
+}
+
+fn run_server(words: &[&str]) -> Result<i32, Failure> {
+    let version = version_of(words[2]).unwrap_or(ScramVersion::Sha256);
+    let listener = TcpListener::bind(("127.0.0.1", 0))?;
+    println!("{}", listener.local_addr()?.port());
+    for _ in 0..words[1].parse()? {
+        let (channel, _) = listener.accept()?;
+        match serve(channel, Users::read(words[0], version)?, words[2]) {
+            Ok(name) => println!("logged in: {name}"),
+            Err(why) => println!("not logged in: {why}"),
+        }
+    }
+    Ok(0)
+}
+
+fn main() -> Result<(), Failure> {
+    let words: Vec<String> = std::env::args().skip(1).collect();
+    let words: Vec<&str> = words.iter().map(String::as_str).collect();
+    let status = match (words.first().copied(), words.len()) {
+        (Some("client"), 5) => run_client(&words[1..])?,
+        (Some("server"), 4) => run_server(&words[1..])?,
+        _ => 2,
+    };
+    std::process::exit(status)
+}

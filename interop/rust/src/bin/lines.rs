@@ -1,0 +1,130 @@
+//! The program of `../lines.c`, by the crate for Rust: the same words, the same lines.
+
+use fe2o3_sasl_proved::{ScramClient, ScramRecord, ScramVersion};
+use interop::{from_base64, password, to_base64, told, version_of, Failure, Users};
+use std::io::{BufRead, BufReader, Write};
+use std::net::{TcpListener, TcpStream};
+
+const ENDED: &str = "the other side ended";
+
+/// A connection, a line at a time.
+struct Lines {
+    channel: BufReader<TcpStream>,
+}
+
+impl Lines {
+    fn line(&mut self) -> Result<String, Failure> {
+        let mut line = String::new();
+        match self.channel.read_line(&mut line) {
+            Ok(len) if len > 0 => Ok(line.trim_end_matches(['\r', '\n']).to_owned()),
+            _ => Err(ENDED.into()),
+        }
+    }
+
+    fn message(&mut self) -> Result<Vec<u8>, Failure> {
+        from_base64(&self.line()?).ok_or_else(|| ENDED.into())
+    }
+
+    fn say(&mut self, message: &[u8]) -> Result<(), Failure> {
+        let line = to_base64(message) + "\n";
+        self.channel.get_mut().write_all(line.as_bytes()).map_err(|_| ENDED.into())
+    }
+}
+
+fn log_in(port: u16, client: &mut ScramClient) -> Result<(), Failure> {
+    let mut lines = Lines { channel: BufReader::new(TcpStream::connect(("127.0.0.1", port))?) };
+    lines.line()?;
+    lines.line()?;
+    let first = client.compute_client_first_message();
+    lines.say(&first)?;
+    let challenge = lines.message()?;
+    let last = client.compute_client_final_message(std::str::from_utf8(&challenge)?)?;
+    lines.say(&last)?;
+    client.validate_server_final(&lines.message()?)?;
+    lines.say(b"")
+}
+
+fn run_client(words: &[&str]) -> Result<i32, Failure> {
+    let (port, user) = (words[0].parse()?, words[2]);
+    let (least, most) = (words[3].parse()?, words[4].parse()?);
+    let mut client = ScramClient::new(user, password()?, version_of(words[1]).ok_or("no such mechanism")?)
+        .with_least_iterations(least)
+        .with_iteration_limit(most);
+    let ended = log_in(port, &mut client);
+    let status = told("logged in", &ended);
+    if ended.is_err() || words.get(5).is_none() {
+        return Ok(status);
+    }
+    let again = match client.keys() {
+        Some(keys) => log_in(port, &mut ScramClient::with_keys(user, keys)),
+        None => Err("no keys".into()),
+    };
+    Ok(told("logged in by keys", &again))
+}
+
+fn serve(channel: TcpStream, users: Users, mechanism: &str) -> Result<String, Failure> {
+    let mut server = users.authenticator();
+    let mut lines = Lines { channel: BufReader::new(channel) };
+    if lines.line()? != mechanism {
+        return Err(ENDED.into());
+    }
+    let first = lines.message()?;
+    let challenge = server.compute_server_first_message(&first)?.ok_or("no such user")?;
+    lines.say(&challenge)?;
+    let last = lines.message()?;
+    let answer = server.compute_server_final_message(&last)?.ok_or("no such user")?;
+    lines.say(&answer)?;
+    // (whether the client believes it is no matter of the server's)
+    let _ = lines.line().and_then(|_| lines.say(b""));
+    server.user().ok_or_else(|| "no name".into())
+}
+
+fn run_server(words: &[&str]) -> Result<i32, Failure> {
+    let version = version_of(words[1]).ok_or("no such mechanism")?;
+    let listener = TcpListener::bind(("127.0.0.1", 0))?;
+    println!("{}", listener.local_addr()?.port());
+    for _ in 0..words[2].parse()? {
+        let (channel, _) = listener.accept()?;
+        match serve(channel, Users::read(words[0], version)?, words[1]) {
+            Ok(name) => println!("logged in: {name}"),
+            Err(why) => println!("not logged in: {why}"),
+        }
+    }
+    Ok(0)
+}
+
+fn record_of(version: ScramVersion, salt: &str, count: &str) -> Result<ScramRecord, Failure> {
+    let salt = from_base64(salt).ok_or("no base64")?;
+    Ok(ScramRecord::from_password(version, &password()?, &salt, count.parse()?)?)
+}
+
+fn run_record(words: &[&str]) -> Result<i32, Failure> {
+    match record_of(version_of(words[0]).ok_or("no such mechanism")?, words[1], words[2]) {
+        Ok(record) => println!("{record}"),
+        Err(why) => println!("no record: {why}"),
+    }
+    Ok(0)
+}
+
+fn run_verify(words: &[&str]) -> Result<i32, Failure> {
+    let password = password()?;
+    let ended: Result<(), Failure> = match ScramRecord::parse(words[0]) {
+        Ok(record) if record.verify_password(&password) => Ok(()),
+        Ok(_) => Err("The password is not that of the record".into()),
+        Err(why) => Err(why.into()),
+    };
+    Ok(told("verified", &ended))
+}
+
+fn main() -> Result<(), Failure> {
+    let words: Vec<String> = std::env::args().skip(1).collect();
+    let words: Vec<&str> = words.iter().map(String::as_str).collect();
+    let status = match (words.first().copied(), words.len()) {
+        (Some("client"), 6 | 7) => run_client(&words[1..])?,
+        (Some("server"), 4) => run_server(&words[1..])?,
+        (Some("record"), 4) => run_record(&words[1..])?,
+        (Some("verify"), 2) => run_verify(&words[1..])?,
+        _ => 2,
+    };
+    std::process::exit(status)
+}

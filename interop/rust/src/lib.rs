@@ -1,0 +1,98 @@
+//! What the two programs share: base64, users' lines, and how a login is told.
+
+use fe2o3_sasl_proved::StoredPassword;
+use fe2o3_sasl_proved::{generate_nonce, ScramAuthenticator, ScramCredentialProvider, ScramRecord, ScramVersion};
+use std::io::BufRead;
+use std::sync::Arc;
+
+/// What goes wrong, in words.
+pub type Failure = Box<dyn std::error::Error>;
+
+const DIGITS: &[u8; 64] = b"ABCDEFGHIJKLMNOPQRSTUVWXYZabcdefghijklmnopqrstuvwxyz0123456789+/";
+
+/// The base64 of bytes.
+pub fn to_base64(bytes: &[u8]) -> String {
+    let mut text = String::new();
+    for group in bytes.chunks(3) {
+        let number = (0..3).fold(0, |sum, at| sum << 8 | u32::from(*group.get(at).unwrap_or(&0)));
+        for at in 0..4 {
+            let digit = DIGITS[(number >> (18 - 6 * at) & 63) as usize];
+            text.push(if at <= group.len() { digit as char } else { '=' });
+        }
+    }
+    text
+}
+
+/// The bytes of a base64; `None` where it is none.
+pub fn from_base64(text: &str) -> Option<Vec<u8>> {
+    let (mut number, mut bits, mut bytes) = (0, 0, Vec::new());
+    for digit in text.trim_end_matches('=').bytes() {
+        number = (number << 6 | DIGITS.iter().position(|known| *known == digit)? as u32) & 0xff_ffff;
+        bits += 6;
+        if bits >= 8 {
+            bits -= 8;
+            bytes.push((number >> bits) as u8);
+        }
+    }
+    Some(bytes)
+}
+
+/// The first line of standard input, which is the password.
+pub fn password() -> Result<String, Failure> {
+    let mut line = String::new();
+    std::io::stdin().lock().read_line(&mut line)?;
+    Ok(line.trim_end_matches('\n').to_owned())
+}
+
+/// The version of a mechanism.
+pub fn version_of(mechanism: &str) -> Option<ScramVersion> {
+    [ScramVersion::Sha1, ScramVersion::Sha256, ScramVersion::Sha512]
+        .into_iter()
+        .find(|version| version.mechanism() == mechanism)
+}
+
+/// The users of a file, and their records of one version.
+pub struct Users {
+    version: ScramVersion,
+    records: Vec<(String, ScramRecord)>,
+}
+
+impl Users {
+    /// Reads a file of users' lines: an escaped name, a space, a record.
+    pub fn read(file: &str, version: ScramVersion) -> Result<Self, Failure> {
+        let mut records = Vec::new();
+        for line in std::fs::read_to_string(file)?.lines() {
+            let (name, record) = line.rsplit_once(' ').ok_or("a line without a record")?;
+            let record = ScramRecord::parse(record)?;
+            if record.version() == version {
+                records.push((name.replace("=2C", ",").replace("=3D", "="), record));
+            }
+        }
+        Ok(Users { version, records })
+    }
+
+    /// A server over these users, which hides whom it does not know.
+    pub fn authenticator(self) -> ScramAuthenticator<Arc<Users>> {
+        ScramAuthenticator::new(Arc::new(self)).hiding_unknown_users(generate_nonce(), 16, 4096)
+    }
+}
+
+impl ScramCredentialProvider for Users {
+    fn scram_version(&self) -> &ScramVersion {
+        &self.version
+    }
+
+    fn get_stored_password<'a>(&'a self, username: &str) -> Option<StoredPassword<'a>> {
+        let (_, record) = self.records.iter().find(|(name, _)| name == username)?;
+        Some(record.as_stored_password())
+    }
+}
+
+/// Says how a login ended, and answers the status of the program.
+pub fn told(what: &str, ended: &Result<(), Failure>) -> i32 {
+    match ended {
+        Ok(()) => println!("{what}: Done"),
+        Err(why) => println!("not {what}: {why}"),
+    }
+    i32::from(ended.is_err())
+}
