@@ -26,7 +26,7 @@ DIST = fe2o3_sasl-$(VERSION)-$(CPU)
 
 WARNINGS = -Wall -Wextra -Wpedantic
 SANITIZERS = -g -O1 -fsanitize=address,undefined -fno-sanitize-recover=all
-PROGRAMS = fits scram steps threads
+PROGRAMS = fits scram steps threads random
 KINDS = plain shared sanitized
 
 .PHONY: lib header header-check callers rust python install dist build/fe2o3_sasl.pc

@@ -8,7 +8,7 @@
 SOURCES is a folder of .rt files, that of the crate where none is named. It reads the structs under `#[repr(C)]`, the
 functions under `#[unsafe(no_mangle)]`, and the numbers of `enum Status`; the docs of the kinds of refusals stand in
 the libraries. It rests on the layout of `rt fmt`. What it does not know it refuses, with file and line, and so it does
-an export without a doc, or with a condition, of which C would learn nothing.
+an export without a doc, or with a condition, of which C would learn nothing, and a status without a text of its own.
 
 A slice is a pointer and a length behind it (`_len`; `_room` where it is written, `_count` where it is of structs), an
 array or a struct behind a reference a pointer, and `Global` nothing.
@@ -32,6 +32,9 @@ EXPORT = re.compile(r"#\[unsafe\(no_mangle\)\]\n(?:#\[tactic\([^\n]*\n)?pub exte
                     r"\(([^()]*)\)(?: -> (u32|usize))?(?: \{|((?:\n    [^\n]*)+)\n\{)\n")
 VARIANT = re.compile(r"\s*(?:(?:///|#\[)[^\n]*\n\s*)*(\w+)(?:\((\w+)\))?,\n")
 ARM = re.compile(r"\s*(\w+)::(\w+)(?:\((why)\))? => (?:(\d+)|(\w+)\(why\)),\n")
+TEXTS = re.compile(r"\bfn text_of\(status: u32\) [^\n]*\n    match status \{\n(.*?)^        _ => (b\"[^\n]*),\n    \}$",
+                   re.M | re.S)
+TEXT = re.compile(r"\s*(\d+) => (b\"[^\"\\]+\\0\"),\n")
 
 Part = namedtuple("Part", "name form kind count")  # form: value, array, const or mut; count: that of an array
 Export = namedtuple("Export", "doc name parts answer")
@@ -111,6 +114,10 @@ class Reader:
         for source in self.sources:
             if "\npub enum Status {\n" in source.text:
                 self.read_statuses(source)
+        texts = [(source, found) for source in self.sources if (found := TEXTS.search(source.text))]
+        if not texts:
+            sys.exit(f"{folder}: no `text_of` that is known")
+        self.compare_texts(*texts[0])
 
     def parts(self, source, at, name, kind, is_field):
         """What a parameter or a field is in C."""
@@ -167,6 +174,16 @@ class Reader:
         if not arm[4] or int(arm[4]) in {status.number for status in self.statuses}:
             source.refuse(arm.start(1), f"`{arm[2]}` has no number of its own")
         self.statuses.append(Status(doc, name, int(arm[4])))
+
+    def compare_texts(self, source, texts):
+        """That each status has a text, and no two have one. What no status has is the last text's."""
+        numbers, said = {status.number: status.name for status in self.statuses}, {texts[2]}
+        for one in source.rows(*texts.span(1), TEXT, "text"):
+            if not numbers.pop(int(one[1]), None) or one[2] in said:
+                source.refuse(one.start(1), f"{one[1]} is no status, or has the text of another")
+            said.add(one[2])
+        if numbers:
+            source.refuse(texts.start(), f"{', '.join(numbers.values())}: without a text")
 
 
 def comment(doc, indent=""):

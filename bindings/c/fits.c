@@ -1,9 +1,30 @@
-/* Whether this header is that of the library: each struct is as long in both, and each status of the header has a text.
- * Prints what does not fit, and the version of the library, and ends with 1 where something does not. */
+/* Whether this header is that of the library: each struct is as long in both, each status of the header has a text, and
+ * no two have one. Prints what does not fit, and the version of the library, and ends with 1 where something does not. */
 #include "fe2o3_sasl.h"
 
 #include <stdio.h>
 #include <string.h>
+
+static int same(const struct fe2o3_text *one, const struct fe2o3_text *other)
+{
+    return one->bytes_len == other->bytes_len && memcmp(one->bytes, other->bytes, one->bytes_len) == 0;
+}
+
+/* How many statuses below this one have its text, where it has one. */
+static int shared(uint32_t status, const struct fe2o3_text *unknown)
+{
+    struct fe2o3_text text = FE2O3_TEXT_INIT, other = FE2O3_TEXT_INIT;
+    int found = 0;
+    fe2o3_status_text(status, &text);
+    for (uint32_t below = 0; below < status && !same(&text, unknown); below++) {
+        fe2o3_status_text(below, &other);
+        if (same(&text, &other)) {
+            printf("statuses %u and %u have one text\n", (unsigned)below, (unsigned)status);
+            found++;
+        }
+    }
+    return found;
+}
 
 int main(void)
 {
@@ -37,6 +58,8 @@ int main(void)
             differences++;
         }
     }
+    for (uint32_t status = 0; status < 256; status++)
+        differences += shared(status, &unknown);
     printf("version %u.%u.%u\n", (unsigned)(version / 10000), (unsigned)(version / 100 % 100),
         (unsigned)(version % 100));
     return differences != 0;

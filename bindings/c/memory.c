@@ -59,15 +59,19 @@ static struct {
     struct fe2o3_client_keys keys;
     struct fe2o3_scram_client client;
     struct fe2o3_scram_server server;
-    struct fe2o3_sasl_client side;
-    struct text out, client_first, server_first, client_final, server_final, user;
-    size_t taken;
+    struct fe2o3_sasl_client client_side;
+    struct fe2o3_sasl_server server_side;
+    struct text out, client_first, server_first, client_final, server_final, user, line;
+    size_t taken, line_number;
 } all;
 
 static struct fe2o3_client_keys no_keys;
 static const uint8_t nonce[32] = {1}, salt[16] = {4}, secret[32] = {3};
 static struct fe2o3_login login;
+
+/* The two sides of a connection, and what has come to the one that is called. */
 static struct fe2o3_sasl_login sasl_login;
+static struct fe2o3_sasl_host host;
 static struct text came;
 
 static int differences;
@@ -95,11 +99,17 @@ static void tried(const char *name, uint32_t (*call)(void))
     differences += !holds;
 }
 
-static uint32_t make(void) { return fe2o3_scram_record_make(FE2O3_SHA_256, TEXT("pencil"), salt, 16, 4096, &all.record); }
+static uint32_t make(void)
+{
+    return fe2o3_scram_record_make(FE2O3_SHA_256, TEXT("pencil"), salt, 16, 4096, &all.record);
+}
 static uint32_t spell(void) { return fe2o3_scram_record_text(&all.record, ROOM(all.out)); }
 static uint32_t parse(void) { return fe2o3_scram_record_parse(GIVEN(all.out), &all.read); }
 static uint32_t verify_password(void) { return fe2o3_scram_record_verify(&all.record, TEXT("pencil")); }
-static uint32_t make_keys(void) { return fe2o3_scram_keys_make(FE2O3_SHA_256, TEXT("pencil"), salt, 16, 4096, &all.keys); }
+static uint32_t make_keys(void)
+{
+    return fe2o3_scram_keys_make(FE2O3_SHA_256, TEXT("pencil"), salt, 16, 4096, &all.keys);
+}
 static uint32_t make_up(void)
 {
     return fe2o3_scram_record_of_nobody(FE2O3_SHA_256, secret, 32, TEXT("who"), 16, 4096, &all.nobody);
@@ -119,38 +129,78 @@ static uint32_t conclude(void)
     return fe2o3_scram_server_final(&all.record, &all.server, GIVEN(all.client_final), ROOM(all.server_final));
 }
 static uint32_t verify(void) { return fe2o3_scram_client_verify(&login, &all.client, GIVEN(all.server_final)); }
-static uint32_t receive(void)
+static uint32_t spell_line(void) { return fe2o3_scram_line(TEXT("us,er"), &all.record, ROOM(all.line)); }
+static uint32_t find(void)
 {
-    return fe2o3_sasl_client_receive(&sasl_login, &all.side, GIVEN(came), nonce, &all.taken, ROOM(all.out));
+    return fe2o3_scram_lines_find(
+        GIVEN(all.line), TEXT("us,er"), FE2O3_SHA_256, &all.line_number, &all.read);
+}
+static uint32_t begin(void) { return fe2o3_sasl_client_open(ROOM(all.out)); }
+static uint32_t client_takes(void)
+{
+    return fe2o3_sasl_client_receive(&sasl_login, &all.client_side, GIVEN(came), nonce, &all.taken, ROOM(all.out));
+}
+static uint32_t name(void) { return fe2o3_sasl_server_user(&all.server_side, GIVEN(came), ROOM(all.user)); }
+static uint32_t server_takes(void)
+{
+    return fe2o3_sasl_server_receive(&host, &all.server_side, GIVEN(came), nonce, &all.taken, ROOM(all.out));
 }
 
-/* A frame of one binary, behind what stands in front of it (AMQP 1.0, part 5, section 5.3.3). */
-static void frame_comes(uint8_t code, const char *before, size_t before_len, const struct text *message)
+/* A side takes what has come to it, and what it sends is what comes to the other. */
+static void side_takes(const char *who, uint32_t (*call)(void), const uint32_t *standing)
 {
-    uint8_t head[] = {0, 0, 0, 0, 2, 1, 0, 0, 0, 0x53, 0, 0xc0, 0, 0};
-    came.len = sizeof head + before_len + 2 + message->len;
-    head[3] = (uint8_t)came.len;
-    head[10] = code;
-    head[12] = (uint8_t)(came.len - 13);
-    head[13] = before_len == 0 ? 1 : 2;
-    memcpy(came.bytes, head, sizeof head);
-    memcpy(came.bytes + sizeof head, before, before_len);
-    came.bytes[sizeof head + before_len] = 0xa0;
-    came.bytes[sizeof head + before_len + 1] = (uint8_t)message->len;
-    memcpy(came.bytes + sizeof head + before_len + 2, message->bytes, message->len);
+    struct text sent = {{0}, 0};
+    do {
+        tried(who, call);
+        came.len -= all.taken;
+        memmove(came.bytes, came.bytes + all.taken, came.len);
+        memcpy(sent.bytes + sent.len, all.out.bytes, all.out.len);
+        sent.len += all.out.len;
+    } while (came.len > 0 && all.taken > 0 && *standing == FE2O3_WANTING);
+    came = sent;
+}
+
+/* A login over the bytes of a connection by this mechanism, whose server learns this user. */
+static void connection(uint32_t mechanism, const char *user_name)
+{
+    struct text told = {{0}, 0};
+    memset(&all.client_side, 0, sizeof all.client_side);
+    memset(&all.server_side, 0, sizeof all.server_side);
+    sasl_login.mechanism = mechanism;
+    host.username_len = 0;
+    tried("client_open", begin);
+    came = all.out;
+    while (came.len > 0 && all.server_side.connection.standing == FE2O3_WANTING && differences == 0) {
+        /* (of the frames that come to a server those of these mechanisms name a user) */
+        if (came.bytes[0] == 0 && (mechanism == FE2O3_SCRAM || mechanism == FE2O3_PLAIN)) {
+            tried("server_user", name);
+            host.username = all.user.bytes;
+            host.username_len = all.user.len;
+        }
+        side_takes("server_receive", server_takes, &all.server_side.connection.standing);
+        side_takes("client_receive", client_takes, &all.client_side.connection.standing);
+    }
+    differences += all.client_side.connection.standing != FE2O3_LOGGED_IN
+        || all.server_side.connection.standing != FE2O3_LOGGED_IN
+        || (fe2o3_scram_server_logged_in(&all.server_side.scram, ROOM(told)) == FE2O3_DONE) != (user_name != NULL)
+        || (user_name != NULL && (told.len != strlen(user_name) || memcmp(told.bytes, user_name, told.len) != 0));
 }
 
 int main(void)
 {
-    static const char offer[] = "\0\0\0\x20\2\1\0\0\0\x53\x40\xc0\x13\1\xe0\x10\1\xa3\rSCRAM-SHA-256";
     login = (struct fe2o3_login){.version = FE2O3_SHA_256, .least_iterations = 4096, .most_iterations = 4096,
         .username = TEXT("us,er"), .password = TEXT("pencil"), .keys = &no_keys};
-    sasl_login = (struct fe2o3_sasl_login){.mechanism = FE2O3_SCRAM, .hostname = TEXT("host"), .login = login};
+    sasl_login = (struct fe2o3_sasl_login){.hostname = TEXT("host"), .login = login};
+    host = (struct fe2o3_sasl_host){.mechanisms = FE2O3_OFFER_SCRAM | FE2O3_OFFER_PLAIN | FE2O3_OFFER_ANONYMOUS
+            | FE2O3_OFFER_EXTERNAL, .version = FE2O3_SHA_256, .iterations = 4096, .username = FE2O3_NONE,
+        .record = &all.record, .peer = TEXT("pe,er")};
     tried("record_make", make);
     tried("record_text", spell);
     tried("record_parse", parse);
     tried("record_verify", verify_password);
     tried("record_of_nobody", make_up);
+    tried("line", spell_line);
+    tried("lines_find", find);
     tried("keys_make", make_keys);
     tried("client_first", first);
     tried("server_user", user);
@@ -158,17 +208,13 @@ int main(void)
     tried("client_final", answer);
     tried("server_final", conclude);
     tried("client_verify", verify);
-
-    /* The same login over a connection, whose nonces are the same, and so its texts. */
-    came.len = 8;
-    memcpy(came.bytes, "AMQP\3\1\0\0", 8);
-    tried("client_receive, the header", receive);
-    came.len = sizeof offer - 1;
-    memcpy(came.bytes, offer, came.len);
-    tried("client_receive, the mechanisms", receive);
-    frame_comes(0x42, "", 0, &all.server_first);
-    tried("client_receive, the challenge", receive);
-    frame_comes(0x44, "\x50\0", 2, &all.server_final);
-    tried("client_receive, the outcome", receive);
-    return differences != 0 || all.side.connection.standing != FE2O3_LOGGED_IN;
+    puts("a connection, SCRAM-SHA-256");
+    connection(FE2O3_SCRAM, "us,er");
+    puts("a connection, PLAIN");
+    connection(FE2O3_PLAIN, "us,er");
+    puts("a connection, ANONYMOUS");
+    connection(FE2O3_ANONYMOUS, NULL);
+    puts("a connection, EXTERNAL");
+    connection(FE2O3_EXTERNAL, "pe,er");
+    return differences != 0;
 }

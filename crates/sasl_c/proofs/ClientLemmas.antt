@@ -1,25 +1,32 @@
 -- That what a client answers has room: its message behind a bound that the challenge tells, its signature in a struct.
 use Rattle.std.proofs.Common.{rules, arith, refl, sym, inl, inr, ap, ◌≢◌, ◌∙◌, ◌≡◌, ◌≤◌, ◌<◌, ◌+◌, ◌++◌, ◌∷◌, [], ℕ, List, length}
-use Rattle.std.specs.Prelude.{Option, Some, Ok, Err, codes, slice_get, bit_xor}
+use Rattle.fe2o3_scram.specs.Readings.{NoneHolds}
+use Rattle.std.specs.Prelude.{Option, Some, Result, Ok, Err, IfOk, IfErr, codes, slice_get, bit_xor}
 use Rattle.std.specs.List.{zip}
 use Rattle.std.proofs.lemmas.List.{length-append, length-map}
 use Rattle.std.proofs.lemmas.Slice.Zip.{length-zip}
 use Rattle.fe2o3_scram.specs.declared.hmac.ScramVersion.{ScramVersion}
 use Rattle.fe2o3_scram.specs.ClientFinal.{Answer, client_final_of, keys_for, without_proof}
+use Rattle.fe2o3_scram.specs.ClientFirst.{client_first_bare}
 use Rattle.fe2o3_scram.specs.ClientKeys.{ClientKeys}
+use Rattle.fe2o3_scram.specs.ClientSecret.{Secret}
 use Rattle.fe2o3_scram.specs.Hmac.{exclusive_or}
 use Rattle.fe2o3_scram.specs.Keys.{client_proof, client_signature, server_signature, stored_key, auth_message}
 use Rattle.fe2o3_scram.specs.ScramClient.{AnswersIn, BelievesIn, ClientSide, ClientState, Initial, ClientFirstSent, ClientFinalSent, Complete, with_state}
-use Rattle.fe2o3_scram.specs.ServerFirst.{Client, NamesServerFirst, ReadsServerFirst, ServerFirst}
+use Rattle.fe2o3_scram.specs.ServerFirst.{Client, NamesServerFirst, ReadsServerFirst, ServerFirst, client_of}
+use Rattle.fe2o3_scram.specs.ServerFirstAnswers.{AnswersServerFirst}
+use Rattle.fe2o3_scram.specs.declared.client_secret.IterationLimits.{IterationLimits}
 use Rattle.fe2o3_scram.specs.Texts.{Part, base64_text, joined}
 use Rattle.fe2o3_scram.specs.declared.scram_messages.error.ScramErrorKind.{ScramErrorKind}
-use Rattle.fe2o3_scram.specs.declared.scram_messages.error.ScramErrorKind.TheVariants.{Utf8Error, OutOfMemory as NoMemory}
+use Rattle.fe2o3_scram.specs.declared.scram_messages.error.ScramErrorKind.TheVariants.{IllegalClientState, Utf8Error, OutOfMemory as NoMemory}
 use Rattle.std.specs.Str.{IsUtf8}
 use Rattle.sasl_c.specs.declared.status.Status.{Status}
 use Rattle.sasl_c.specs.declared.status.Status.TheVariants as statuses
 use Rattle.sasl_c.specs.declared.client.Login.{Login}
 use Rattle.sasl_c.specs.declared.client.ScramClient.{ScramClient as Struct}
-use Rattle.sasl_c.specs.Client.{Answered, Believes, Holds, IsLogin, IsNoLogin, IsSide, IsState, NotAnswered, Responds}
+use Rattle.sasl_c.specs.Client.{Answered, Believes, Holds, IsAnswer, IsLogin, IsNoLogin, IsNoSecret, IsReached, IsSecret, IsSide, IsState, NotAnswered, Responds, name_tests}
+use Rattle.sasl_c.specs.Records.{IsVersion}
+use Rattle.sasl_c.proofs.LoginLemmas.{neither_keys, neither_password, no_keys, no_password, other_secret}
 use Rattle.sasl_c.proofs.StatusLemmas.{carried, client_not_room}
 use Rattle.sasl_c.proofs.TextLemmas.{short, short_text, text_length}
 use Rattle.sasl_c.specs.Status.{client_status}
@@ -123,37 +130,121 @@ answering_login login Initial side next text message held is = absurd held
 answering_login login (ClientFinalSent signature keys) side next text message held is = absurd held
 answering_login login (Complete keys) side next text message held is = absurd held
 
-pub answered : (login : Login) (before : Struct) (side next : ClientSide) (text message : List ℕ)
-    → IsSide login before side → AnswersIn side.state side text (Ok message) next
-    → Answered login before text message next
+-- a client of a login that has sent its client-first message, as its struct shows it
+abbrev limits_of : Login → IterationLimits
+limits_of login = record { least = login.least_iterations; most = login.most_iterations }
+
+abbrev first_side : Login → Struct → ScramVersion → Secret → ClientSide
+first_side login before version secret = record {
+  user = login.username.now;
+  secret = secret;
+  version = version;
+  limits = limits_of login;
+  state =
+      ClientFirstSent (base64_text before.nonce) (client_first_bare login.username.now (base64_text before.nonce));
+}
+
+is_first_side : (login : Login) (before : Struct) (version : ScramVersion) (secret : Secret)
+    → IsVersion login.version version → IsSecret login secret → before.sent ≡ 1
+    → IsSide login before (first_side login before version secret)
+is_first_side login before version secret known has sent = (
+  record {
+    version = known;
+    user = refl;
+    secret = has;
+    least = refl;
+    most = refl;
+  },
+  (sent, refl, refl),
+)
+
+-- what is held against a text is what that client holds
+as_sent : (login : Login) (before : Struct) (version : ScramVersion) (secret : Secret) (nonce bare text : List ℕ)
+    (answer : Result Answer ScramErrorKind) → nonce ≡ base64_text before.nonce
+    → bare ≡ client_first_bare login.username.now nonce
+    → AnswersServerFirst version (client_of nonce secret (limits_of login)) bare text answer
+    → AnswersServerFirst version (client_of (base64_text before.nonce) secret (limits_of login))
+    (client_first_bare login.username.now (base64_text before.nonce)) text answer
+as_sent login before version secret nonce bare text answer spelled first held =
+    let user = login.username.now in
+    let whole = first ∙ ap (client_first_bare user) spelled in
+    carried (λ given. AnswersServerFirst version (client_of (base64_text before.nonce) secret (limits_of login)) given text
+    answer) bare (client_first_bare user (base64_text before.nonce)) whole
+    (carried (λ given. AnswersServerFirst version (client_of given secret (limits_of login)) bare text answer) nonce
+    (base64_text before.nonce) spelled held)
+
+-- what it answers by a secret, and what it refuses
+pub answered_by : (login : Login) (before : Struct) (version : ScramVersion) (secret : Secret) (nonce bare text : List ℕ)
+    (answer : Answer) → IsVersion login.version version → IsSecret login secret → before.sent ≡ 1
+    → nonce ≡ base64_text before.nonce → bare ≡ client_first_bare login.username.now nonce
+    → AnswersServerFirst version
+    (client_of nonce secret (record { least = login.least_iterations; most = login.most_iterations })) bare text
+    (Ok answer)
+    → IsAnswer login before text answer
 unfolding Answered
-answered login before side next text message is held = (side, is, held)
+answered_by login before version secret nonce bare text answer known has sent spelled first held =
+    let side = first_side login before version secret in (
+      with_state side (ClientFinalSent answer.signature (Some answer.keys)),
+      (
+        side,
+        is_first_side login before version secret known has sent,
+        (answer, as_sent login before version secret nonce bare text (Ok answer) spelled first held, refl, refl),
+      ),
+      refl,
+    )
+
+pub refused_by : (login : Login) (before : Struct) (version : ScramVersion) (secret : Secret) (nonce bare text : List ℕ)
+    (why : ScramErrorKind) (status : Status) → IsVersion login.version version → IsSecret login secret
+    → before.sent ≡ 1 → nonce ≡ base64_text before.nonce → bare ≡ client_first_bare login.username.now nonce
+    → (why ≢ NoMemory → AnswersServerFirst version
+    (client_of nonce secret (record { least = login.least_iterations; most = login.most_iterations })) bare text
+    (Err why)) → status ≡ client_status why → status ≢ statuses.OutOfMemory
+    → NotAnswered login before text status
+unfolding NotAnswered
+refused_by login before version secret nonce bare text why status known has sent spelled first held gives other =
+    let told : why ≢ NoMemory = λ same. other (gives ∙ ap client_status same) in
+    let refuses = as_sent login before version secret nonce bare text (Err why) spelled first (held told) in
+    let side = first_side login before version secret in
+    inr (why, gives, (side, is_first_side login before version secret known has sent, (refuses, refl)))
+
+-- a client that has sent another message last
+not_due_in : (user : List ℕ) (before : Struct) (state : ClientState) (side : ClientSide) (text : List ℕ)
+    → IsState user before state → before.sent ≢ 1 → AnswersIn state side text (Err IllegalClientState) side
+not_due_in user before Initial side text is other = (refl, refl)
+not_due_in user before (ClientFirstSent nonce bare) side text is other = absurd (other is.0)
+not_due_in user before (ClientFinalSent signature keys) side text is other = (refl, refl)
+not_due_in user before (Complete keys) side text is other = (refl, refl)
+
+pub not_due : (login : Login) (before : Struct) (side : ClientSide) (text : List ℕ) → IsSide login before side
+    → before.sent ≢ 1 → NotAnswered login before text (statuses.Client IllegalClientState)
+unfolding NotAnswered
+not_due login before side text is other =
+    inr (IllegalClientState, refl, (side, is, not_due_in side.user before side.state side text is.1 other))
 
 -- the message has room behind the bound
-pub answer_has_room : (login : Login) (before : Struct) (next : ClientSide) (text message : List ℕ)
-    → Answered login before text message next → length message ≤ length text + 128
+pub answer_has_room : (login : Login) (before : Struct) (text message signature : List ℕ) (keys : ClientKeys)
+    → (next : ClientSide) × Answered login before text message next
+    × (next.state ≡ ClientFinalSent signature (Some keys))
+    → length message ≤ length text + 128
 unfolding Answered
-answer_has_room login before next text message held =
-    omega (arith, (answer_fits held.0.state held.0 next text message held.2).0)
+answer_has_room login before text message signature keys held =
+    let given = held.1.0 in
+    omega (arith, (answer_fits given.state given held.0 text message held.1.2).0)
 
 -- the struct of a client that waits is that of the client behind the answer
-pub responds : (login : Login) (before after : Struct) (next : ClientSide) (text message : List ℕ)
-    → Answered login before text message next → ((user : List ℕ) → IsState user after next.state)
+pub responds : (login : Login) (before after : Struct) (text message signature : List ℕ) (keys : ClientKeys)
+    → (next : ClientSide) × Answered login before text message next
+    × (next.state ≡ ClientFinalSent signature (Some keys))
+    → ((user : List ℕ) → IsState user after (ClientFinalSent signature (Some keys)))
     → Responds login text before after (Ok message)
 unfolding Responds Answered
-responds login before after next text message held waits =
-    (next, held, (answering_login login held.0.state held.0 next text message held.2 held.1.0, waits next.user))
-
--- a refusal of the library
-pub refused : (login : Login) (before : Struct) (side next : ClientSide) (text : List ℕ) (why : ScramErrorKind)
-    (status : Status) → IsSide login before side → next ≡ side
-    → (why ≢ NoMemory → AnswersIn side.state side text (Err why) next) → status ≡ client_status why
-    → status ≢ statuses.OutOfMemory → NotAnswered login before text status
-unfolding NotAnswered
-refused login before side next text why status is stays held gives other =
-    let told : why ≢ NoMemory = λ same. other (gives ∙ ap client_status same) in
-    let refuses = carried (AnswersIn side.state side text (Err why)) next side stays (held told) in
-    inr (why, gives, (side, is, refuses))
+responds login before after text message signature keys held waits =
+    let next = held.0 in
+    let given = held.1.0 in
+    let state = carried (IsState next.user after) (ClientFinalSent signature (Some keys)) next.state (sym held.2)
+    (waits next.user) in
+    let is = answering_login login given.state given next text message held.1.2 held.1.1.0 in
+    (next, held.1, (is, state))
 
 -- other refusals
 pub no_text : (login : Login) (before : Struct) (text : List ℕ) → ¬ IsUtf8 text
@@ -172,14 +263,18 @@ unfolding Responds
 not_answered login before text status utf8 wrong = inr (utf8, wrong)
 
 -- a client that has answered always waits for a signature that has room
-pub always_waits : (login : Login) (before : Struct) (next : ClientSide) (text message : List ℕ)
-    → Answered login before text message next
-    → ((signature : List ℕ) (keys : Option ClientKeys) → next.state ≡ ClientFinalSent signature keys
-    → 64 < length signature) → Responds login text before before (Err statuses.TooLong)
+pub always_waits : (login : Login) (before : Struct) (text message signature : List ℕ) (keys : ClientKeys)
+    → (next : ClientSide) × Answered login before text message next
+    × (next.state ≡ ClientFinalSent signature (Some keys))
+    → 64 < length signature → Responds login text before before (Err statuses.TooLong)
 unfolding Answered
-always_waits login before next text message held none =
-    let fits = answer_fits held.0.state held.0 next text message held.2 in
-    absurd (omega (arith, none fits.1.0 fits.1.1 fits.1.2, fits.1.3))
+always_waits login before text message signature keys held long =
+    let given = held.1.0 in
+    let fits = answer_fits given.state given held.0 text message held.1.2 in
+    let moved = sym fits.1.2 ∙ held.2 in
+    let few = carried (IsReached []) (ClientFinalSent fits.1.0 fits.1.1) (ClientFinalSent signature (Some keys)) moved
+    fits.1.3 in
+    absurd (omega (arith, few, long))
 
 -- ---- whether the server is believed
 
@@ -236,6 +331,26 @@ unfolding Believes
 no_believer login before text status wrong = (refl, λ other. inl (wrong other))
 
 -- what the client's answer takes
-pub ruleset answers = (answered, refused, no_login, client_not_room)
+-- why a client whose login has a version and a user has no secret
+pub unanswered : (login : Login) (before : Struct) (text : List ℕ) (known : ScramVersion) (status : Status)
+    → IsVersion login.version known → NoneHolds (name_tests login) → IsNoSecret login status
+    → NotAnswered login before text status
+unfolding NotAnswered
+unanswered login before text known status is none wrong = inl (inr (none, wrong))
+
+-- what holds of an answer of a call
+pub mapped_ok : {A F : Type 0} (P Q : A → Type 0) (result : Result A F) → IfOk result P → ((a : A) → P a → Q a)
+    → IfOk result Q
+mapped_ok P Q (Ok a) held map = map a held
+mapped_ok P Q (Err fault) held map = held
+
+pub mapped_err : {A F : Type 0} (P Q : F → Type 0) (result : Result A F) → IfErr result P
+    → ((fault : F) → P fault → Q fault) → IfErr result Q
+mapped_err P Q (Ok a) held map = held
+mapped_err P Q (Err fault) held map = map fault held
+
+pub ruleset secrets = (unanswered, no_password, no_keys, neither_password, neither_keys, other_secret)
+
+pub ruleset answers = (answered_by, refused_by, no_login, not_due, client_not_room)
 
 pub ruleset sent = (responds, always_waits, answer_has_room, no_text, not_answered)

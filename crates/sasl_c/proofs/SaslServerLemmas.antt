@@ -1,6 +1,6 @@
 -- What structs show of a server of a connection, and of which server they are (AMQP 1.0, part 5, section 5.3.2).
 use Rattle.std.proofs.Common.{rules, arith, refl, sym, ap, inl, inr, ◌∙◌, ◌≡◌, ◌≢◌, ◌≤◌, ◌<◌, ◌⊎◌, ◌∷◌, ℕ, List, [], length}
-use Rattle.std.specs.Prelude.{Bool, true, false, Option, Some, None, Err, take}
+use Rattle.std.specs.Prelude.{Bool, true, false, MatchOption, Option, Some, None, Err, take}
 use Rattle.std.specs.Str.{IsUtf8}
 use Rattle.std.proofs.lemmas.List.{length-take-le, length-take}
 use Rattle.fe2o3_scram.specs.declared.hmac.ScramVersion.{ScramVersion}
@@ -11,6 +11,7 @@ use Rattle.fe2o3_scram.specs.ScramServer.{ServerState, Initial, ServerFirstSent,
 use Rattle.fe2o3_scram.specs.ServerFirst.{Challenge}
 use Rattle.fe2o3_sasl.specs.declared.one_of.Part.{Part}
 use Rattle.fe2o3_sasl.specs.declared.one_of.Part.TheVariants.{First}
+use Rattle.fe2o3_sasl_negotiation.specs.declared.server.ServerNegotiation.{ServerNegotiation}
 use Rattle.fe2o3_sasl_negotiation.specs.declared.set_down.SetDown.{SetDown}
 use Rattle.fe2o3_sasl_negotiation.specs.declared.standing.ClosedBecause.{ClosedBecause}
 use Rattle.fe2o3_sasl_negotiation.specs.declared.standing.Standing.{Standing}
@@ -27,7 +28,7 @@ use Rattle.sasl_c.specs.declared.status.Status.{Status}
 use Rattle.sasl_c.specs.declared.status.Status.TheVariants as statuses
 use Rattle.sasl_c.specs.Connection.{Keeps}
 use Rattle.sasl_c.specs.Records.{IsVersion, Shows, SpellsStruct}
-use Rattle.sasl_c.specs.SaslServer.{All, Comes, HasNoWords, HasNoStruct, HasRecords, IsAll, IsNoHost, IsOf, IsServer, ShowsOpen, ShowsSide, ShowsState, ShowsUser, Stands, State, allowed_of, all_of, host_tests, one_where, open_in, server_of, state_names, sum_of, user_in}
+use Rattle.sasl_c.specs.SaslServer.{All, Code, Comes, HasNoWords, HasNoStruct, HasRecords, IsAll, IsNoHost, IsOf, IsServer, HasNone, ShowsBy, ShowsOpen, ShowsSide, ShowsStanding, ShowsState, ShowsUser, Stands, State, allowed_of, all_of, host_tests, one_where, open_in, server_of, side_in, state_names, state_of, sum_of, user_in}
 use Rattle.sasl_c.specs.Server.{HasLoggedIn, HasRoom, IsOpen}
 use Rattle.sasl_c.specs.Status.{version_number}
 use Rattle.sasl_c.proofs.StatusLemmas.{carried}
@@ -247,57 +248,59 @@ user_room scram user is =
     omega (arith, length-take scram.user_len scram.user) in
     omega (arith, ap length is.2, long, is.1)
 
--- what is shown of a side that stands so
-stands_so : (scram : ScramStruct) (standing other : Standing) (server : State) → standing ≡ other
-    → ShowsState scram other server → ShowsState scram standing server
-stands_so scram standing other server same shows =
-    carried (λ s. ShowsState scram s server) other standing (sym same) shows
+-- what is shown of a login that stands so
+stands_so : (scram : ScramStruct) (standing other : Standing) (opened last : Option Challenge)
+    (user name : Option (List ℕ)) → standing ≡ other → opened ≡ last → user ≡ name
+    → ShowsStanding scram other last name → ShowsStanding scram standing opened user
+stands_so scram standing other opened last user name same is named shows =
+    carried (λ s. ShowsStanding scram s opened user) other standing (sym same)
+    (carried (λ o. ShowsStanding scram other o user) last opened (sym is)
+    (carried (λ (u : Option (List ℕ)). ShowsStanding scram other last u) name user (sym named) shows))
 
-pub shows_challenge : (scram : ScramStruct) (standing : Standing) (server : State) (shown : Option Challenge)
-    (challenge : Challenge) → standing ≡ Wanting → shown ≡ open_in server → shown ≡ Some challenge
-    → IsOpen scram challenge → ShowsState scram standing server
-shows_challenge scram standing server shown challenge wants same some is =
-    stands_so scram standing Wanting server wants (shows_it scram server (Some challenge) (sym same ∙ some) is)
+pub shows_challenge : (scram : ScramStruct) (standing : Standing) (opened : Option Challenge)
+    (user : Option (List ℕ)) (challenge : Challenge) → standing ≡ Wanting → opened ≡ Some challenge
+    → IsOpen scram challenge → ShowsStanding scram standing opened user
+shows_challenge scram standing opened user challenge wants some is =
+    stands_so scram standing Wanting opened (Some challenge) user user wants some refl is
 
-pub shows_no_challenge : (scram : ScramStruct) (standing : Standing) (server : State) (shown : Option Challenge)
-    → standing ≡ Wanting → shown ≡ open_in server → shown ≡ None → scram.stands ≡ 0
-    → ShowsState scram standing server
-shows_no_challenge scram standing server shown wants same none fresh =
-    stands_so scram standing Wanting server wants (shows_it scram server None (sym same ∙ none)
-    (λ challenge is. let one : ◌≡◌ {A = ℕ} 0 1 = sym fresh ∙ is.0 in absurd (omega (arith, one))))
+pub shows_no_challenge : (scram : ScramStruct) (standing : Standing) (opened : Option Challenge)
+    (user : Option (List ℕ)) → standing ≡ Wanting → opened ≡ None → scram.stands ≡ 0
+    → ShowsStanding scram standing opened user
+shows_no_challenge scram standing opened user wants none fresh =
+    stands_so scram standing Wanting opened None user user wants none refl
+    (λ challenge is. let one : ◌≡◌ {A = ℕ} 0 1 = sym fresh ∙ is.0 in absurd (omega (arith, one)))
 
-pub no_challenge_room : (standing : Standing) (server : State) (shown : Option Challenge) (challenge : Challenge)
-    → standing ≡ Wanting → shown ≡ open_in server → shown ≡ Some challenge → ¬ HasRoom challenge
-    → (scram : ScramStruct) → ¬ ShowsState scram standing server
-no_challenge_room standing server shown challenge wants same some wide scram shows =
-    let wanting = carried (λ s. ShowsState scram s server) standing Wanting wants shows in
-    let is = carried (ShowsOpen scram) (open_in server) (Some challenge) (sym same ∙ some) wanting in
+pub no_challenge_room : (standing : Standing) (opened : Option Challenge) (user : Option (List ℕ))
+    (challenge : Challenge) → standing ≡ Wanting → opened ≡ Some challenge → ¬ HasRoom challenge
+    → (scram : ScramStruct) → ¬ ShowsStanding scram standing opened user
+no_challenge_room standing opened user challenge wants some wide scram shows =
+    let is = stands_so scram Wanting standing (Some challenge) opened user user (sym wants) (sym some) refl shows in
     wide (open_room scram challenge is)
 
-pub shows_user : (scram : ScramStruct) (standing : Standing) (server : State) (shown : Option (List ℕ))
-    (user : List ℕ) → standing ≡ LoggedIn → shown ≡ user_in server → shown ≡ Some user → HasLoggedIn scram user
-    → ShowsState scram standing server
-shows_user scram standing server shown user in_is same some is = stands_so scram standing LoggedIn server in_is
-    (carried (ShowsUser scram) (Some user) (user_in server) (sym some ∙ same) is)
+pub shows_user : (scram : ScramStruct) (standing : Standing) (opened : Option Challenge) (user : Option (List ℕ))
+    (name : List ℕ) → standing ≡ LoggedIn → user ≡ Some name → HasLoggedIn scram name
+    → ShowsStanding scram standing opened user
+shows_user scram standing opened user name in_is some is =
+    stands_so scram standing LoggedIn opened opened user (Some name) in_is refl some is
 
-pub shows_nobody : (scram : ScramStruct) (standing : Standing) (server : State) (shown : Option (List ℕ))
-    → standing ≡ LoggedIn → shown ≡ user_in server → shown ≡ None → scram.stands ≡ 0
-    → ShowsState scram standing server
-shows_nobody scram standing server shown in_is same none fresh = stands_so scram standing LoggedIn server in_is
-    (carried (ShowsUser scram) None (user_in server) (sym none ∙ same) fresh)
+pub shows_nobody : (scram : ScramStruct) (standing : Standing) (opened : Option Challenge)
+    (user : Option (List ℕ)) → standing ≡ LoggedIn → user ≡ None → scram.stands ≡ 0
+    → ShowsStanding scram standing opened user
+shows_nobody scram standing opened user in_is none fresh =
+    stands_so scram standing LoggedIn opened opened user None in_is refl none fresh
 
-pub no_user_room : (standing : Standing) (server : State) (shown : Option (List ℕ)) (user : List ℕ)
-    → standing ≡ LoggedIn → shown ≡ user_in server → shown ≡ Some user → 256 < length user
-    → (scram : ScramStruct) → ¬ ShowsState scram standing server
-no_user_room standing server shown user in_is same some long scram shows =
-    let logged = carried (λ s. ShowsState scram s server) standing LoggedIn in_is shows in
-    let is = carried (ShowsUser scram) (user_in server) (Some user) (sym same ∙ some) logged in
-    absurd (omega (arith, user_room scram user is, long))
+pub no_user_room : (standing : Standing) (opened : Option Challenge) (user : Option (List ℕ)) (name : List ℕ)
+    → standing ≡ LoggedIn → user ≡ Some name → 256 < length name
+    → (scram : ScramStruct) → ¬ ShowsStanding scram standing opened user
+no_user_room standing opened user name in_is some long scram shows =
+    let is = stands_so scram LoggedIn standing opened opened (Some name) user (sym in_is) refl (sym some) shows in
+    absurd (omega (arith, user_room scram name is, long))
 
-pub shows_closed : (scram : ScramStruct) (standing : Standing) (server : State) (why : ClosedBecause)
-    → standing ≡ Closed why → scram.stands ≡ 0 → ShowsState scram standing server
-shows_closed scram standing server why closed fresh =
-    stands_so scram standing (Closed why) server closed fresh
+pub shows_closed : (scram : ScramStruct) (standing : Standing) (opened : Option Challenge)
+    (user : Option (List ℕ)) (why : ClosedBecause) → standing ≡ Closed why → scram.stands ≡ 0
+    → ShowsStanding scram standing opened user
+shows_closed scram standing opened user why closed fresh =
+    stands_so scram standing (Closed why) opened opened user user closed refl refl fresh
 
 pub ruleset shown = (
   shows_challenge,
@@ -309,22 +312,35 @@ pub ruleset shown = (
   shows_closed,
 )
 
+-- so it is of a server whose challenge and user these are
+pub shows_as : (standing : Standing) (server : State) (opened : Option Challenge) (user : Option (List ℕ))
+    (answer : Option ScramStruct) → opened ≡ open_in server → user ≡ user_in server
+    → MatchOption answer ((scram : ScramStruct) → ¬ ShowsStanding scram standing opened user)
+    (λ scram. ShowsStanding scram standing opened user)
+    → MatchOption answer ((scram : ScramStruct) → ¬ ShowsState scram standing server)
+    (λ scram. ShowsState scram standing server)
+shows_as standing server opened user answer is named held =
+    carried (λ (u : Option (List ℕ)).
+    MatchOption answer ((scram : ScramStruct) → ¬ ShowsStanding scram standing (open_in server) u)
+    (λ scram. ShowsStanding scram standing (open_in server) u)) user (user_in server) named
+    (carried (λ (o : Option Challenge).
+    MatchOption answer ((scram : ScramStruct) → ¬ ShowsStanding scram standing o user)
+    (λ scram. ShowsStanding scram standing o user)) opened (open_in server) is held)
+
 -- ---- the structs of a side
 
-pub shows_side : (connection : Connection) (scram : ScramStruct) (side : Side State)
-    → Keeps connection side.standing side.due side.held → ShowsState scram side.standing side.state
-    → ShowsSide (record { connection = connection; scram = scram }) side
+-- what a struct of SCRAM shows of an acceptor
+abbrev pub Shown : ScramStruct → Standing → Code → Type 0
+Shown scram standing acceptor = ShowsState scram standing (state_of acceptor)
+
+pub shows_side : (server : Struct) (next : ServerNegotiation Code) → ShowsBy state_of Shown server next
+    → ShowsSide server (side_in next)
 unfolding ShowsSide
-shows_side connection scram side keeps shows = (keeps, shows)
+shows_side server next shows = shows
 
-pub holds_more : (side : Side State) → 512 < length side.held → HasNoStruct side
+pub shows_nothing : (next : ServerNegotiation Code) → HasNone state_of Shown next → HasNoStruct (side_in next)
 unfolding HasNoStruct
-holds_more side many = inl many
-
-pub shows_nothing : (side : Side State) → ((scram : ScramStruct) → ¬ ShowsState scram side.standing side.state)
-    → HasNoStruct side
-unfolding HasNoStruct
-shows_nothing side none = inr none
+shows_nothing next none = none
 
 pub is_server : (host : Host) (server : Struct) (side : Side State) → ShowsSide server side
     → Comes host side.standing side.state → side.limit ≡ 512 → IsServer host server side

@@ -24,6 +24,7 @@ use Rattle.fe2o3_sasl.specs.OneOf.{Parts, PartReplies, part_for}
 use Rattle.fe2o3_sasl.specs.PlainAuthenticator.{PlainServer, plain_machine}
 use Rattle.fe2o3_sasl.specs.Runs.{AcceptorGives, server_says}
 use Rattle.fe2o3_sasl.specs.SaslAcceptor.{Acceptor, ScramAcceptor, AnonymousAcceptor, acceptor_machine, acceptor_names, ends_with, server_frame}
+use Rattle.fe2o3_sasl_negotiation.specs.declared.server.ServerNegotiation.{ServerNegotiation}
 use Rattle.fe2o3_sasl_negotiation.specs.declared.set_down.SetDown.{SetDown}
 use Rattle.fe2o3_sasl_negotiation.specs.declared.standing.ClosedBecause.{ClosedBecause}
 use Rattle.fe2o3_sasl_negotiation.specs.declared.standing.ClosedBecause.TheVariants.{FrameSize, OtherHeader, ReplyTooLarge}
@@ -45,9 +46,9 @@ use Rattle.sasl_c.specs.declared.sasl_server.SaslServer.{SaslServer as Struct}
 use Rattle.sasl_c.specs.declared.status.Status.{Status}
 use Rattle.sasl_c.specs.declared.status.Status.TheVariants as statuses
 use Rattle.sasl_c.specs.Connection.{Keeps, KeepsNoPart, side_tests}
-use Rattle.sasl_c.specs.SaslServer.{All, Comes, HasNoStruct, IsNoHost, IsNoServer, IsOf, IsServer, Last, NotReceived, Others, Received, ShowsSide, ShowsState, State, all_machine, all_names, external_names, last_machine, last_names, other_machine, other_names, plain_names, server_of, state_machine, state_names}
+use Rattle.sasl_c.specs.SaslServer.{All, Code, Comes, HasNone, IsNoHost, IsNoServer, IsOf, IsServer, Last, NotReceived, Others, Received, ShowsBy, ShowsSide, ShowsState, State, all_machine, all_names, external_names, last_machine, last_names, other_machine, other_names, plain_names, server_of, side_in, state_machine, state_names, state_of}
 use Rattle.sasl_c.proofs.SaslClientLemmas.{one_due, part_short}
-use Rattle.sasl_c.proofs.SaslServerLemmas.{is_server, no_server}
+use Rattle.sasl_c.proofs.SaslServerLemmas.{Shown, is_server, no_server, shows_nothing, shows_side}
 use Rattle.sasl_c.proofs.StatusLemmas.{carried}
 
 -- ---- a reply ends the login, or is a challenge of SCRAM
@@ -494,24 +495,40 @@ not_kept host bytes nonce before kept state status keeps wants limit comes (is, 
     host_has (inr (challenge, waits)) = (ServerFirstSent challenge, Some First, state, waits)
 
 -- what comes of a side that was taken up
-module _ (host : Host) (bytes nonce : List ℕ) (before : Struct) (kept : SetDown) (state : State) (next : Side State)
-    (taken : ℕ) (sent : List ℕ) (keeps : Keeps before.connection kept.standing kept.due kept.held.now)
-    (wants : kept.standing ≡ Wanting) (limit : kept.limit ≡ 512)
-    (known : Comes host Wanting state × ShowsState before.scram Wanting state)
-    (held : ServerReceives state_names state_machine (side_of kept state) bytes nonce taken sent next) where
-  is : IsServer host before (side_of kept state)
+module _ (host : Host) (bytes nonce : List ℕ) (before : Struct) (kept : SetDown) (state : State)
+    (keeps : Keeps before.connection kept.standing kept.due kept.held.now) (wants : kept.standing ≡ Wanting)
+    (limit : kept.limit ≡ 512) (known : Comes host Wanting state × ShowsState before.scram Wanting state) where
+  abbrev taken_side : Side State
+  taken_side = side_of kept state
+
+  is : IsServer host before taken_side
   is = taken_up host before kept state keeps wants limit known.0 known.1
 
-  pub answered : (after : Struct) → ShowsSide after next → Received host bytes nonce before after taken sent
-  answered after shows = received host bytes nonce before after (side_of kept state) next taken sent is wants held
-      (is_server host after next shows
-      (behind_comes host before (side_of kept state) next bytes nonce taken sent is wants held)
-      (behind_limit host before (side_of kept state) next bytes nonce taken sent is wants held))
+  -- a side that it can be behind these bytes
+  abbrev Follows : ℕ → List ℕ → ServerNegotiation Code → Type 0
+  Follows taken sent next =
+      ServerReceives state_names state_machine taken_side bytes nonce taken sent (side_in next)
 
-  pub unanswered : HasNoStruct next → NotReceived host bytes nonce before statuses.TooLong
-  unanswered none = too_long host bytes nonce before (side_of kept state) next taken sent is wants held
-      (no_server host next none
-      (behind_held host before (side_of kept state) next bytes nonce taken sent is wants held))
+  pub answered : (after : Struct) (taken : ℕ) (sent : List ℕ)
+      → (next : ServerNegotiation Code) × Follows taken sent next × ShowsBy state_of Shown after next
+      → Received host bytes nonce before after taken sent
+  answered after taken sent (next, held, shows) =
+      received host bytes nonce before after taken_side (side_in next) taken sent is wants held
+      (is_server host after (side_in next) (shows_side after next shows)
+      (behind_comes host before taken_side (side_in next) bytes nonce taken sent is wants held)
+      (behind_limit host before taken_side (side_in next) bytes nonce taken sent is wants held))
 
-  pub short_answer : length sent ≤ 520
-  short_answer = behind_short host before (side_of kept state) next bytes nonce taken sent is wants held
+  pub short_answer : (after : Struct) (taken : ℕ) (sent : List ℕ)
+      → (next : ServerNegotiation Code) × Follows taken sent next × ShowsBy state_of Shown after next → length sent ≤ 520
+  short_answer after taken sent (next, held, shows) =
+      behind_short host before taken_side (side_in next) bytes nonce taken sent is wants held
+
+  pub unanswered : (status : Status) → ((status ≡ statuses.NotKept) × ¬ IsKept kept)
+      ⊎ ((status ≡ statuses.TooLong) × ((next : ServerNegotiation Code) × (taken : ℕ) × (sent : List ℕ)
+      × Follows taken sent next × HasNone state_of Shown next)) → NotReceived host bytes nonce before status
+  unanswered status (inl wrong) = not_kept host bytes nonce before kept state status keeps wants limit known.0 wrong
+  unanswered status (inr (same, (next, taken, sent, held, none))) =
+      carried (NotReceived host bytes nonce before) statuses.TooLong status (sym same)
+      (too_long host bytes nonce before taken_side (side_in next) taken sent is wants held
+      (no_server host (side_in next) (shows_nothing next none)
+      (behind_held host before taken_side (side_in next) bytes nonce taken sent is wants held)))

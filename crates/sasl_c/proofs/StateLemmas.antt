@@ -1,9 +1,9 @@
 -- That a struct is that of the client whose values it was made of.
-use Rattle.std.proofs.Common.{arith, refl, sym, ap, ◌≡◌, ◌≢◌, ◌<◌, ℕ, List, length}
-use Rattle.std.specs.Prelude.{Option, Some, None, MatchOption, true, false}
+use Rattle.std.proofs.Common.{arith, refl, sym, ap, ◌∙◌, ◌≡◌, ◌≢◌, ◌<◌, ℕ, List, length}
+use Rattle.std.specs.Prelude.{Option, Some, None, MatchOption, option_map, true, false}
 use Rattle.std.proofs.lemmas.List.{length-take}
 use Rattle.fe2o3_scram.specs.ClientKeys.{ClientKeys}
-use Rattle.fe2o3_scram.specs.ScramClient.{ClientState, Initial, ClientFirstSent, ClientFinalSent, Complete, is_complete, login_keys}
+use Rattle.fe2o3_scram.specs.ScramClient.{ClientState, Initial, ClientFirstSent, ClientFinalSent, Complete, answer_keys, is_complete, login_keys}
 use Rattle.fe2o3_scram.specs.Texts.{base64_text}
 use Rattle.sasl_c.specs.declared.client.ScramClient.{ScramClient as Struct}
 use Rattle.sasl_c.specs.Client.{Holds, IsReached, IsState}
@@ -41,6 +41,34 @@ pub never_too_long : (user : List ℕ) (state : ClientState) (signature : List �
 never_too_long user state signature keys is reached long =
     let few = carried (IsReached user) state (ClientFinalSent signature keys) is reached in
     absurd (omega (arith, few, long signature keys is))
+
+-- the keys that were found are those that are expected
+found_keys : {A : Type 0} (view : A → ClientKeys) (found : Option A) (expected : Option ClientKeys)
+    → MatchOption found (expected ≡ None) (λ one. expected ≡ Some (view one)) → expected ≡ option_map view found
+found_keys view None expected held = held
+found_keys view (Some one) expected held = held
+
+IsLong : ClientState → Type 0
+IsLong (ClientFinalSent signature keys) = 64 < length signature
+IsLong state = Unit {0}
+
+-- the struct of a signature and of keys that were found is that of the state which has them
+pub waits : {A : Type 0} (view : A → ClientKeys) (found : Option A) (state : ClientState) (answer : Option Struct)
+    (signature : List ℕ) (keys : Option ClientKeys) → state ≡ ClientFinalSent signature keys
+    → MatchOption found (answer_keys state ≡ None) (λ one. answer_keys state ≡ Some (view one))
+    → MatchOption answer (64 < length signature)
+    (λ client. (user : List ℕ) → IsState user client (ClientFinalSent signature (option_map view found)))
+    → MatchOption answer ((signature : List ℕ) (keys : Option ClientKeys) → state ≡ ClientFinalSent signature keys
+    → 64 < length signature) (λ client. (user : List ℕ) → IsState user client state)
+unfolding IsLong
+waits view found state None signature keys is given held = λ other others same.
+    carried IsLong state (ClientFinalSent other others) same
+    (carried IsLong (ClientFinalSent signature keys) state (sym is) held)
+waits view found state (Some client) signature keys is given held =
+    let same : keys ≡ option_map view found =
+    sym (ap answer_keys is) ∙ found_keys view found (answer_keys state) given in
+    let moved = is ∙ ap (ClientFinalSent signature) same in
+    λ user. carried (IsState user client) (ClientFinalSent signature (option_map view found)) state (sym moved) (held user)
 
 -- so a client that waits for a signature always has a struct
 pub waiting : (user : List ℕ) (state : ClientState) (answer : Option Struct) (signature : List ℕ)

@@ -1,9 +1,15 @@
--- What a refusal of a client or a server is not: want of room, and want of memory only where that is its kind.
+-- What a refusal is not: want of room, and want of memory only where that is its kind.
 use Rattle.std.proofs.Common.{ap, sym, ◌≡◌, ◌≢◌}
 use Rattle.fe2o3_scram.specs.declared.scram_messages.error.ScramErrorKind.{ScramErrorKind}
 use Rattle.fe2o3_scram.specs.declared.scram_messages.error.ScramErrorKind.TheVariants as client
 use Rattle.fe2o3_scram.specs.declared.scram_messages.error.ServerScramErrorKind.{ServerScramErrorKind}
 use Rattle.fe2o3_scram.specs.declared.scram_messages.error.ServerScramErrorKind.TheVariants as server
+use Rattle.std.specs.Prelude.{Result, Ok, Err, IfOk, IfErr}
+use Rattle.fe2o3_sasl_wire.specs.declared.sasl_frames.error.Error.{Error}
+use Rattle.fe2o3_sasl_wire.specs.declared.sasl_frames.error.Error.TheVariants as faults
+use Rattle.fe2o3_sasl.specs.declared.sasl_profile.error.ProfileError.{ProfileError}
+use Rattle.fe2o3_sasl.specs.declared.sasl_profile.error.ProfileError.TheVariants as profile
+use Rattle.sasl_c.specs.Connection.{frame_status, profile_status}
 use Rattle.sasl_c.specs.Status.{client_status, server_status}
 use Rattle.sasl_c.specs.declared.status.Status.TheVariants.{OutOfMemory, RoomTooSmall}
 
@@ -49,6 +55,30 @@ client_memory why other same = other (ap client_status same)
 
 pub server_memory : (why : ServerScramErrorKind) → server_status why ≢ OutOfMemory → why ≢ server.OutOfMemory
 server_memory why other same = other (ap server_status same)
+
+pub frame_not_room : (fault : Error) → frame_status fault ≢ RoomTooSmall
+frame_not_room faults.DecodeError = λ same. absurd (cc)
+frame_not_room faults.NotImplemented = λ same. absurd (cc)
+frame_not_room faults.TooLarge = λ same. absurd (cc)
+frame_not_room faults.OutOfMemory = λ same. absurd (cc)
+
+pub profile_not_room : (fault : ProfileError) → profile_status fault ≢ RoomTooSmall
+profile_not_room profile.NotImplemented = λ same. absurd (cc)
+profile_not_room (profile.Scram kind) = client_not_room kind
+profile_not_room profile.OtherKeys = λ same. absurd (cc)
+profile_not_room (profile.Frame fault) = frame_not_room fault
+profile_not_room profile.OutOfMemory = λ same. absurd (cc)
+
+-- what holds of an answer's value, and of its refusal, where it says more
+pub ok_so : {A E : Type 0} (answer : Result A E) (P Q : A → Type 0) → ((x : A) → P x → Q x) → IfOk answer P
+    → IfOk answer Q
+ok_so (Ok x) P Q says held = says x held
+ok_so (Err e) P Q says held = held
+
+pub err_so : {A E : Type 0} (answer : Result A E) (P Q : E → Type 0) → ((e : E) → P e → Q e) → IfErr answer P
+    → IfErr answer Q
+err_so (Ok x) P Q says held = held
+err_so (Err e) P Q says held = says e held
 
 -- what holds of one holds of its equal
 pub carried : {A : Type 0} (P : A → Type 0) (x y : A) → x ≡ y → P x → P y

@@ -19,9 +19,10 @@ use Rattle.sasl_c.specs.declared.status.Status.{Status}
 use Rattle.sasl_c.specs.declared.status.Status.TheVariants as statuses
 use Rattle.sasl_c.specs.Connection.{profile_status}
 use Rattle.sasl_c.specs.SaslClient.{Comes as LoginComes, HasNoHostname, IsHostname, IsNoProfile, IsProfile}
-use Rattle.sasl_c.specs.SaslServer.{Comes, IsNoHost, ShowsState, State, state_machine}
-use Rattle.sasl_c.specs.Steps.{ClientHides, ClientNotStepped, ClientStepped, ClientTells, ServerHides, ServerNotStepped, ServerStepped, ServerTells, Serves, behind_code, standing_number}
+use Rattle.sasl_c.specs.SaslServer.{Comes, IsNoHost, State, state_machine, state_of}
+use Rattle.sasl_c.specs.Steps.{ClientHides, ClientNotStepped, ClientStepped, ClientTells, IsStepped, NotStepped, ProfileNotStepped, ProfileStepped, ServerNotStepped, ServerStepped, ServerTells, Serves, behind_code, standing_number}
 use Rattle.sasl_c.proofs.SaslClientLemmas.{gives_comes as profile_gives, profile_comes}
+use Rattle.sasl_c.proofs.SaslServerLemmas.{Shown}
 use Rattle.sasl_c.proofs.ServerCallLemmas.{gives_comes as acceptor_gives}
 use Rattle.sasl_c.proofs.StatusLemmas.{carried}
 
@@ -31,7 +32,7 @@ no_longer body sent same few = omega (arith, ap length same, few)
 
 -- ---- a client
 
-pub client_short : (says : ClientSays) (sent : List ℕ) (stands : Standing) → ClientTells says sent stands
+client_short : (says : ClientSays) (sent : List ℕ) (stands : Standing) → ClientTells says sent stands
     → length sent ≤ 508
 client_short (Started body) sent stands is = no_longer body sent is.0.0 is.0.1
 client_short (Answered body) sent stands is = no_longer body sent is.0.0 is.0.1
@@ -39,20 +40,44 @@ client_short (Reported code more) sent stands is = omega (arith, ap length is.0)
 client_short (Refused fault) sent stands is = absurd is
 
 -- the profile behind a step is one that the login comes to
-pub client_comes : (login : Login) (before : ClientStruct) (hostname : Option (List ℕ)) (profile next : Profile)
+client_comes : (login : Login) (before : ClientStruct) (hostname : Option (List ℕ)) (profile next : Profile)
     (event : Given) (says : ClientSays) → IsProfile login before profile
     → ProfileSteps hostname profile event says next → LoginComes login next
 client_comes login before hostname profile next event says is steps =
     profile_gives login hostname profile event steps.0 says next steps.2 (profile_comes login before profile is)
 
-pub client_stepped : (login : Login) (event : Given) (before after : ClientStruct) (hostname : Option (List ℕ))
-    (profile next : Profile) (says : ClientSays) (stands : Standing) (sent : List ℕ) → IsHostname login hostname
-    → IsProfile login before profile → ProfileSteps hostname profile event says next
-    → ClientTells says sent stands → IsProfile login after next
+-- the hostname of a login is the one that is shown
+abbrev Names : Login → Option (List ℕ) → Option (List ℕ) → Type 0
+Names login hostname shown = (shown ≡ hostname) × IsHostname login hostname
+
+named_so : (login : Login) (hostname shown : Option (List ℕ)) → Names login hostname shown → IsHostname login shown
+named_so login hostname shown is = carried (IsHostname login) hostname shown (sym is.0) is.1
+
+pub client_stepped : (login : Login) (event : Given) (before after : ClientStruct) (hostname shown : Option (List ℕ))
+    (profile : Profile) (stands : Standing) (sent : List ℕ) → Names login hostname shown
+    → IsProfile login before profile → ProfileStepped shown profile event after stands sent
     → ClientStepped login event before after (standing_number stands) sent
 unfolding ClientStepped
-client_stepped login event before after hostname profile next says stands sent named is steps tells last =
-    (hostname, profile, next, says, stands, named, is, steps, tells, refl, last)
+client_stepped login event before after hostname shown profile stands sent named is
+    (next, says, steps, tells, shows) = (
+      shown,
+      profile,
+      next,
+      says,
+      stands,
+      named_so login hostname shown named,
+      is,
+      steps,
+      tells,
+      refl,
+      shows login (client_comes login before shown profile next event says is steps),
+    )
+
+pub client_steps_short : (hostname : Option (List ℕ)) (profile : Profile) (event : Given) (after : ClientStruct)
+    (stands : Standing) (sent : List ℕ) → ProfileStepped hostname profile event after stands sent
+    → length sent ≤ 508
+client_steps_short hostname profile event after stands sent (next, says, steps, tells, shows) =
+    client_short says sent stands tells
 
 pub client_no_hostname : (login : Login) (event : Given) (before : ClientStruct) (status : Status)
     → (status ≡ statuses.NotUtf8) × HasNoHostname login → ClientNotStepped login event before status
@@ -64,13 +89,15 @@ pub client_no_profile : (login : Login) (event : Given) (before : ClientStruct) 
 unfolding ClientNotStepped
 client_no_profile login event before status named wrong = inr (named, inl wrong)
 
-pub client_refused : (login : Login) (event : Given) (before : ClientStruct) (hostname : Option (List ℕ))
-    (profile next : Profile) (says : ClientSays) (status : Status) → ¬ HasNoHostname login
-    → IsHostname login hostname → IsProfile login before profile → ProfileSteps hostname profile event says next
-    → ClientHides says status → ClientNotStepped login event before status
+pub client_not_stepped : (login : Login) (event : Given) (before : ClientStruct) (hostname shown : Option (List ℕ))
+    (profile : Profile) (status : Status) → ¬ HasNoHostname login → Names login hostname shown
+    → IsProfile login before profile → ProfileNotStepped shown profile event status
+    → ClientNotStepped login event before status
 unfolding ClientNotStepped
-client_refused login event before hostname profile next says status can named is steps hides =
-    inr (can, inr (hostname, profile, next, says, named, is, steps, hides))
+client_not_stepped login event before hostname shown profile status can named is (next, says, steps, inl hides) =
+    inr (can, inr (shown, profile, next, says, named_so login hostname shown named, is, steps, hides))
+client_not_stepped login event before hostname shown profile status can named is (next, says, steps, inr none) =
+    absurd (none login (client_comes login before shown profile next event says is steps))
 
 pub client_hides : (fault : ProfileError) (status : Status) → status ≡ profile_status fault
     → ClientHides (Refused (client_fault fault)) status
@@ -78,7 +105,7 @@ client_hides fault status same = (fault, refl, same)
 
 -- ---- a server
 
-pub server_short : (says : ServerSays) (sent : List ℕ) (stands : Standing) → ServerTells says sent stands
+server_short : (says : ServerSays) (sent : List ℕ) (stands : Standing) → ServerTells says sent stands
     → length sent ≤ 508
 server_short (Challenged body) sent stands is = no_longer body sent is.0.0 is.0.1
 server_short (Concluded code body) sent stands is = no_longer body sent is.0.0 is.0.1
@@ -102,46 +129,44 @@ server_comes host event server next (Concluded code body) sent stands comes step
     carried (λ (s : Standing). Comes host s next) (behind_code code) stands (sym tells.1) (code_comes host code next)
 server_comes host event server next (Failed fault) sent stands comes steps tells = absurd tells
 
-pub server_stepped : (host : Host) (event : Given) (before after : ServerStruct) (server next : State)
-    (says : ServerSays) (sent : List ℕ) (stands : Standing) → Serves host before Wanting server
-    → AcceptorSteps state_machine server event says next → ServerTells says sent stands
-    → ShowsState after stands next → ServerStepped host event before after (standing_number stands) sent
+pub server_stepped : (host : Host) (event : Given) (before after : ServerStruct) (server : State)
+    (stands : Standing) (sent : List ℕ) → Serves host before Wanting server
+    → IsStepped state_of state_machine Shown server event after stands sent
+    → ServerStepped host event before after (standing_number stands) sent
 unfolding ServerStepped
-server_stepped host event before after server next says sent stands serves steps tells shows = (
+server_stepped host event before after server stands sent serves (next, says, steps, tells, shows) = (
   server,
-  next,
-  says,
   stands,
   serves,
-  steps,
-  tells,
+  (
+    state_of next,
+    says,
+    steps,
+    tells,
+    (server_comes host event server (state_of next) says sent stands serves.0 steps tells, shows),
+  ),
   refl,
-  (server_comes host event server next says sent stands serves.0 steps tells, shows),
 )
+
+pub server_steps_short : (server : State) (event : Given) (after : ServerStruct) (stands : Standing) (sent : List ℕ)
+    → IsStepped state_of state_machine Shown server event after stands sent → length sent ≤ 508
+server_steps_short server event after stands sent (next, says, steps, tells, shows) =
+    server_short says sent stands tells
 
 pub server_no_host : (host : Host) (event : Given) (before : ServerStruct) (status : Status) → IsNoHost host status
     → ServerNotStepped host event before status
 unfolding ServerNotStepped
 server_no_host host event before status wrong = inl wrong
 
-pub server_refused : (host : Host) (event : Given) (before : ServerStruct) (server next : State) (says : ServerSays)
-    (status : Status) → Serves host before Wanting server → AcceptorSteps state_machine server event says next
-    → ServerHides says status → ServerNotStepped host event before status
+pub server_not_stepped : (host : Host) (event : Given) (before : ServerStruct) (server : State) (status : Status)
+    → Serves host before Wanting server → NotStepped state_of state_machine Shown server event status
+    → ServerNotStepped host event before status
 unfolding ServerNotStepped
-server_refused host event before server next says status serves steps hides =
-    inr (server, next, says, serves, steps, inl hides)
-
-pub server_no_room : (host : Host) (event : Given) (before : ServerStruct) (server next : State) (says : ServerSays)
-    (sent : List ℕ) (stands : Standing) → Serves host before Wanting server
-    → AcceptorSteps state_machine server event says next → ServerTells says sent stands
-    → ((scram : ServerStruct) → ¬ ShowsState scram stands next)
-    → ServerNotStepped host event before statuses.TooLong
-unfolding ServerNotStepped
-server_no_room host event before server next says sent stands serves steps tells none = inr (
-  server,
-  next,
-  says,
-  serves,
-  steps,
-  inr (refl, (stands, sent, tells, λ other is. none other is.1)),
-)
+server_not_stepped host event before server status serves (next, says, steps, inl hides) =
+    inr (server, serves, (state_of next, says, steps, inl hides))
+server_not_stepped host event before server status serves
+    (next, says, steps, inr (is, (stands, sent, tells, none))) = inr (
+      server,
+      serves,
+      (state_of next, says, steps, inr (is, (stands, sent, tells, λ after shows. none after shows.1))),
+    )

@@ -4,6 +4,7 @@ use Rattle.std.specs.Str.{IsUtf8}
 use Rattle.fe2o3_scram.specs.declared.hmac.ScramVersion.{ScramVersion}
 use Rattle.fe2o3_scram.specs.declared.scram_messages.error.ScramErrorKind.{ScramErrorKind}
 use Rattle.fe2o3_scram.specs.declared.scram_messages.error.ScramErrorKind.TheVariants.{IllegalClientState, Utf8Error}
+use Rattle.fe2o3_scram.specs.ClientFinal.{Answer}
 use Rattle.fe2o3_scram.specs.ClientFirst.{client_first, client_first_bare}
 use Rattle.fe2o3_scram.specs.ClientKeys.{ClientKeys}
 use Rattle.fe2o3_scram.specs.ClientSecret.{Secret, Password, Keys, Both}
@@ -108,6 +109,12 @@ Refuses login before Because status = (why : ScramErrorKind) × (status ≡ clie
 unfoldable pub Answered : Login → Struct → List ℕ → List ℕ → ClientSide → Type 0
 Answered login before text message next = (side : ClientSide) × IsSide login before side
     × AnswersIn side.state side text (Ok message) next
+
+-- an answer to a text: its message is the one by which the struct's client answers, and its signature and its keys are
+-- those of the client behind it
+abbrev pub IsAnswer : Login → Struct → List ℕ → Answer → Type 0
+IsAnswer login before text answer = (next : ClientSide) × Answered login before text answer.message next
+    × (next.state ≡ ClientFinalSent answer.signature (Some answer.keys))
 
 -- why a text is not answered: there is no such login, or its client refuses the text
 unfoldable pub NotAnswered : Login → Struct → List ℕ → Status → Type 0

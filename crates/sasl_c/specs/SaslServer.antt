@@ -33,7 +33,7 @@ use Rattle.fe2o3_sasl_negotiation.specs.declared.standing.Turn.{Turn}
 use Rattle.fe2o3_sasl_negotiation.specs.declared.standing.Turn.TheVariants as turns
 use Rattle.fe2o3_sasl_negotiation.specs.Negotiations.{Completes, Side}
 use Rattle.fe2o3_sasl_negotiation.specs.ServerNegotiation.{ServerReceives}
-use Rattle.fe2o3_sasl_negotiation.specs.Sides.{server_side}
+use Rattle.fe2o3_sasl_negotiation.specs.Sides.{acceptor_in, server_side}
 use Rattle.sasl_c.specs.declared.sasl_server.Choice.{Choice}
 use Rattle.sasl_c.specs.declared.sasl_server.SaslHost.{SaslHost as Host}
 use Rattle.sasl_c.specs.declared.sasl_server.SaslServer.{SaslServer as Struct}
@@ -198,18 +198,34 @@ abbrev pub ShowsUser : ScramStruct → Option (List ℕ) → Type 0
 ShowsUser scram None = scram.stands ≡ 0
 ShowsUser scram (Some user) = HasLoggedIn scram user
 
--- the struct of SCRAM shows how far the server is: its challenge, who has logged in, or nothing once it is closed
-abbrev pub ShowsState : ScramStruct → Standing → State → Type 0
-ShowsState scram Wanting server = ShowsOpen scram (open_in server)
-ShowsState scram LoggedIn server = ShowsUser scram (user_in server)
-ShowsState scram (Closed why) server = scram.stands ≡ 0
+-- the struct of SCRAM shows how far a login is that stands so: the challenge that is open, who has logged in, or nothing
+-- once it is closed
+abbrev pub ShowsStanding : ScramStruct → Standing → Option Challenge → Option (List ℕ) → Type 0
+ShowsStanding scram Wanting opened user = ShowsOpen scram opened
+ShowsStanding scram LoggedIn opened user = ShowsUser scram user
+ShowsStanding scram (Closed why) opened user = scram.stands ≡ 0
 
--- the structs show a side
+-- so it shows a server
+abbrev pub ShowsState : ScramStruct → Standing → State → Type 0
+ShowsState scram standing server = ShowsStanding scram standing (open_in server) (user_in server)
+
+-- the structs show a side, where this says what the one of SCRAM shows of its acceptor
+abbrev pub ShowsBy : {A S : Type 0} → (A → S) → (ScramStruct → Standing → A → Type 0) → Struct → ServerNegotiation A
+    → Type 0
+ShowsBy state shows server next = let side = server_side state next in
+    Keeps server.connection side.standing side.due side.held × shows server.scram side.standing (acceptor_in next)
+
+-- no structs do: more is held than has room in one, or none shows how far the acceptor is
+abbrev pub HasNone : {A S : Type 0} → (A → S) → (ScramStruct → Standing → A → Type 0) → ServerNegotiation A → Type 0
+HasNone state shows next = let side = server_side state next in
+    (512 < length side.held) ⊎ ((scram : ScramStruct) → ¬ shows scram side.standing (acceptor_in next))
+
+-- the structs show a side of the library's acceptor
 unfoldable pub ShowsSide : Struct → Side State → Type 0
 ShowsSide server side = Keeps server.connection side.standing side.due side.held
     × ShowsState server.scram side.standing side.state
 
--- no structs do: more is held than has room in one, or none shows how far the server is
+-- or none does
 unfoldable pub HasNoStruct : Side State → Type 0
 HasNoStruct side = (512 < length side.held) ⊎ ((scram : ScramStruct) → ¬ ShowsState scram side.standing side.state)
 

@@ -3,6 +3,7 @@
 use Rattle.std.specs.Prelude.{◌≡◌, ◌≢◌, ◌<◌, ◌≤◌, ◌⊎◌, ℕ, Option, Some, None, List, [], length, Result, Ok, Err}
 use Rattle.fe2o3_sasl_wire.specs.declared.amqp_types.SaslCode.{SaslCode}
 use Rattle.fe2o3_sasl_wire.specs.declared.amqp_types.SaslCode.TheVariants as outcomes
+use Rattle.fe2o3_sasl_wire.specs.SaslFrames.{SaslFrame}
 use Rattle.fe2o3_sasl.specs.declared.sasl_profile.error.ProfileError.{ProfileError}
 use Rattle.fe2o3_sasl.specs.Events.{Given, ClientSays, Started, Answered, Reported, Refused, ServerSays, Challenged, Concluded, Failed}
 use Rattle.fe2o3_sasl.specs.ProfileFaults.{client_fault}
@@ -20,8 +21,8 @@ use Rattle.sasl_c.specs.declared.server.ScramServer.{ScramServer as ServerStruct
 use Rattle.sasl_c.specs.declared.status.Status.{Status}
 use Rattle.sasl_c.specs.declared.status.Status.TheVariants as statuses
 use Rattle.sasl_c.specs.Connection.{closed_status, frame_status, profile_status}
-use Rattle.sasl_c.specs.SaslClient.{HasNoHostname, IsHostname, IsNoProfile, IsProfile}
-use Rattle.sasl_c.specs.SaslServer.{BodyNames, BodyNamesNobody, Comes, IsNoHost, ShowsState, State, state_machine, state_names}
+use Rattle.sasl_c.specs.SaslClient.{Comes, HasNoHostname, IsHostname, IsNoProfile, IsProfile}
+use Rattle.sasl_c.specs.SaslServer.{BodyNames, BodyNamesNobody, Comes as HostComes, IsNoHost, ShowsState, State, state_machine, state_names}
 use Rattle.sasl_c.specs.Status.{status_number}
 
 -- how a login stands behind an outcome of this code (part 5, section 5.3.3.6)
@@ -60,6 +61,18 @@ ClientHides (Answered body) status = IsUnsent body status
 ClientHides (Reported code more) status = ⊥
 ClientHides (Refused fault) status = (why : ProfileError) × (fault ≡ client_fault why) × (status ≡ profile_status why)
 
+-- a profile makes a step over a body, after which it is, for each login that comes to it, the one of the struct
+abbrev pub ProfileStepped : Option (List ℕ) → Profile → Given → ClientStruct → Standing → List ℕ → Type 0
+ProfileStepped hostname profile event after stands sent = (next : Profile) × (says : ClientSays)
+    × ProfileSteps hostname profile event says next × ClientTells says sent stands
+    × ((login : Login) → Comes login next → IsProfile login after next)
+
+-- or none: it refuses the body, or no login comes to the one behind it
+abbrev pub ProfileNotStepped : Option (List ℕ) → Profile → Given → Status → Type 0
+ProfileNotStepped hostname profile event status = (next : Profile) × (says : ClientSays)
+    × ProfileSteps hostname profile event says next
+    × (ClientHides says status ⊎ ((login : Login) → ¬ Comes login next))
+
 -- a step between two structs: the one that the library's profile makes over the body
 unfoldable pub ClientStepped : Login → Given → ClientStruct → ClientStruct → ℕ → List ℕ → Type 0
 ClientStepped login event before after standing sent = (hostname : Option (List ℕ)) × (profile next : Profile)
@@ -83,13 +96,13 @@ ClientSteps login event before after standing (Err status) = ClientNotStepped lo
 
 -- the struct is that of this server of a host, whose login stands so
 abbrev pub Serves : Host → ServerStruct → Standing → State → Type 0
-Serves host scram stands server = Comes host stands server × ShowsState scram stands server
+Serves host scram stands server = HostComes host stands server × ShowsState scram stands server
 
 -- the body with which a server offers its mechanisms (part 5, section 5.3.3.1), or why there is none
 abbrev pub Offers : Host → Result (List ℕ) Status → Type 0
-Offers host (Ok body) = (server : State) × Comes host Wanting server × (offer_body (state_names server) ≡ Some body)
+Offers host (Ok body) = (server : State) × HostComes host Wanting server × (offer_body (state_names server) ≡ Some body)
 Offers host (Err status) = IsNoHost host status ⊎ ((status ≡ statuses.FrameTooLarge)
-    × ((server : State) × Comes host Wanting server × (offer_body (state_names server) ≡ None)))
+    × ((server : State) × HostComes host Wanting server × (offer_body (state_names server) ≡ None)))
 
 -- what it tells with what it says: a challenge and an outcome are sent
 abbrev pub ServerTells : ServerSays → List ℕ → Standing → Type 0
@@ -103,19 +116,32 @@ ServerHides (Challenged body) status = IsUnsent body status
 ServerHides (Concluded code body) status = IsUnsent body status
 ServerHides (Failed fault) status = status ≡ frame_status fault
 
--- a step between two structs: the one that the library's acceptor makes over the body
-unfoldable pub ServerStepped : Host → Given → ServerStruct → ServerStruct → ℕ → List ℕ → Type 0
-ServerStepped host event before after standing sent = (server next : State) × (says : ServerSays) × (stands : Standing)
-    × Serves host before Wanting server × AcceptorSteps state_machine server event says next
-    × ServerTells says sent stands × (standing ≡ standing_number stands) × Serves host after stands next
+-- an acceptor makes a step over a body, after which the struct shows it
+abbrev pub IsStepped : {A S : Type 0} → (A → S) → (S → List ℕ → SaslFrame → SaslFrame → S → Type 0)
+    → (ServerStruct → Standing → A → Type 0) → S → Given → ServerStruct → Standing → List ℕ → Type 0
+IsStepped {A} state machine shows server event after stands sent = (next : A) × (says : ServerSays)
+    × AcceptorSteps machine server event says (state next) × ServerTells says sent stands × shows after stands next
 
--- or none: the host has no acceptor, it refuses the body, or no struct has room for what it keeps behind the step
+-- or none: it refuses the body, or no struct shows it
+abbrev pub NotStepped : {A S : Type 0} → (A → S) → (S → List ℕ → SaslFrame → SaslFrame → S → Type 0)
+    → (ServerStruct → Standing → A → Type 0) → S → Given → Status → Type 0
+NotStepped {A} state machine shows server event status = (next : A) × (says : ServerSays)
+    × AcceptorSteps machine server event says (state next) × (ServerHides says status
+    ⊎ ((status ≡ statuses.TooLong) × ((stands : Standing) × (sent : List ℕ) × ServerTells says sent stands
+    × ((after : ServerStruct) → ¬ shows after stands next))))
+
+-- a step between two structs: the one that the library's acceptor of the host makes over the body
+unfoldable pub ServerStepped : Host → Given → ServerStruct → ServerStruct → ℕ → List ℕ → Type 0
+ServerStepped host event before after standing sent = (server : State) × (stands : Standing)
+    × Serves host before Wanting server
+    × IsStepped (λ (next : State). next) state_machine (Serves host) server event after stands sent
+    × (standing ≡ standing_number stands)
+
+-- or none: the host has no acceptor, or it makes none
 unfoldable pub ServerNotStepped : Host → Given → ServerStruct → Status → Type 0
 ServerNotStepped host event before status = IsNoHost host status
-    ⊎ ((server next : State) × (says : ServerSays) × Serves host before Wanting server
-    × AcceptorSteps state_machine server event says next × (ServerHides says status
-    ⊎ ((status ≡ statuses.TooLong) × ((stands : Standing) × (sent : List ℕ) × ServerTells says sent stands
-    × ((other : ServerStruct) → ¬ Serves host other stands next)))))
+    ⊎ ((server : State) × Serves host before Wanting server
+    × NotStepped (λ (next : State). next) state_machine (Serves host) server event status)
 
 -- what a call makes of a body
 abbrev pub ServerSteps : Host → Given → ServerStruct → ServerStruct → ℕ → Result (List ℕ) Status → Type 0

@@ -1,13 +1,16 @@
 //! A SCRAM client, which stands in a struct between its calls.
 
-ghost use Rattle.std.specs.Prelude.{◌≡◌, ◌≢◌, ◌<◌, ◌≤◌, ◌⊎◌, ◌+◌, ◌^◌, length, IfOk, OnErr, IfErr, MatchOption, Option, List, ℕ, Ok, Err, option_map};
+ghost use Rattle.std.specs.Prelude.{◌≡◌, ◌≢◌, ◌<◌, ◌≤◌, ◌⊎◌, ◌+◌, ◌^◌, length, IfOk, OnErr, IfErr, MatchOption, Option, Some, List, ℕ, Ok, Err, option_map};
 ghost use Rattle.std.specs.Str.{IsUtf8};
 ghost use Rattle.std.specs.String.{string_bytes};
 ghost use Rattle.fe2o3_scram.specs.ScramClient.{ClientFinalSent, Initial};
-ghost use Rattle.fe2o3_scram.specs.Readings.{IsFirst};
+ghost use Rattle.fe2o3_scram.specs.Readings.{IsFirst, NoneHolds, Reads};
 ghost use Rattle.sasl_c.specs.Records.{IsVersion};
 ghost use Rattle.fe2o3_scram.specs.ClientKeys.{ClientKeys as Keys};
-ghost use Rattle.sasl_c.specs.Client.{Answered, Believes, HandsOut, Holds, HoldsNone, Responds, IsLogin, IsNoLogin, IsNoSecret, IsSecret, IsReached, IsSide, IsState, NotAnswered, Started, Starts, keys_tests};
+ghost use Rattle.fe2o3_scram.specs.ClientFinal.{answer_values};
+ghost use Rattle.fe2o3_scram.specs.ClientSecret.{secret_of};
+ghost use Rattle.fe2o3_scram.specs.Texts.{base64_text};
+ghost use Rattle.sasl_c.specs.Client.{Believes, HandsOut, Holds, HoldsNone, Responds, IsAnswer, IsLogin, IsNoLogin, IsNoSecret, IsSecret, IsReached, IsSide, IsState, NotAnswered, Started, Starts, keys_tests, name_tests};
 ghost use Rattle.sasl_c.specs.Keys.{ShowsKeys};
 ghost use Rattle.sasl_c.specs.Status.{Answers, Fills, FillsWithin, Makes};
 ghost use Rattle.sasl_c.specs.declared.status.Status.TheVariants.{OutOfMemory as StatusOutOfMemory, NotUtf8 as StatusNotUtf8, RoomTooSmall};
@@ -15,7 +18,11 @@ ghost use Rattle.sasl_c.specs.declared.status.Status.TheVariants.{OutOfMemory as
 use crate::arrays::{head, padded, put};
 use crate::keys::ClientKeys;
 use crate::status::{Status, number, text, version_of};
-use fe2o3_scram::{Meter, ScramClient as Machine, ScramClientKeys, ScramErrorKind, ScramVersion};
+use base64::engine::general_purpose::STANDARD;
+use fe2o3_scram::{
+    ClientAnswer, ClientSecret, IterationLimits, Meter, ScramClient as Machine, ScramClientKeys,
+    ScramErrorKind, ScramVersion,
+};
 use std::alloc::Global;
 
 /// Who logs in: lent for each call of an exchange, and the same for all of them.
@@ -145,6 +152,29 @@ impl ScramClient {
         }
     }
 
+    /// The struct of a client that waits for this signature, with the keys of its answer where they have room, or
+    /// `None` where the signature has none.
+    fn waiting_for(signature: &[u8], keys: Option<&ScramClientKeys>) -> Option<ScramClient>
+        ensures { MatchOption result (64 < length signature.now) (λ client. (user : List ℕ)
+            → IsState user client (ClientFinalSent signature.now (option_map (λ held. held.now) keys.entry))) }
+    {
+        Some(ScramClient {
+            sent: 2,
+            signature: padded(signature)?,
+            signature_len: signature.len() as u32,
+            nonce: [0; 32],
+            keys: held(keys),
+        })
+    }
+
+    /// The struct of a client that has sent this answer, or `None` where the signature that it waits for has no room.
+    fn answered(answer: &ClientAnswer) -> Option<ScramClient>
+        ensures { MatchOption result (64 < length answer.now.signature.items) (λ client. (user : List ℕ)
+            → IsState user client (ClientFinalSent answer.now.signature.items (Some answer.now.keys))) }
+    {
+        ScramClient::waiting_for(&answer.signature, Some(&answer.keys))
+    }
+
     /// The struct of a client that has sent its client-final message, or `None` where it has not, or where the
     /// signature that it waits for has no room.
     fn waiting(machine: &Machine) -> Option<ScramClient>
@@ -152,14 +182,7 @@ impl ScramClient {
             ((signature : List ℕ) (keys : Option Keys) → machine.now.state ≡ ClientFinalSent signature keys
             → 64 < length signature) (λ client. (user : List ℕ) → IsState user client machine.now.state) }
     {
-        let signature = machine.server_signature()?;
-        Some(ScramClient {
-            sent: 2,
-            signature: padded(signature)?,
-            signature_len: signature.len() as u32,
-            nonce: [0; 32],
-            keys: held(machine.answer_keys()),
-        })
+        ScramClient::waiting_for(machine.server_signature()?, machine.answer_keys())
     }
 
     /// The client that the struct is, of this login.
@@ -208,6 +231,27 @@ impl Login<'_> {
         ensures room { IfErr result (λ status. status ≢ RoomTooSmall) }
     {
         Ok(text(self.password)?.to_string(alloc)?)
+    }
+
+    /// The iteration counts that are answered.
+    fn limits(&self) -> IterationLimits
+        ensures { result ≡ record { least = self.now.least_iterations; most = self.now.most_iterations } }
+    {
+        IterationLimits {
+            least: self.least_iterations,
+            most: self.most_iterations,
+        }
+    }
+
+    /// The version, where it is known and the user's name is a text.
+    fn named_version(&self) -> Result<ScramVersion, Status>
+        ensures { Reads (name_tests self.now) (λ version. IsVersion self.now.version version) result }
+    {
+        let Some(version) = version_of(self.version) else {
+            return Err(Status::NoSuchVersion);
+        };
+        text(self.username)?;
+        Ok(version)
     }
 
     /// The keys, which are of the login's version.
@@ -317,7 +361,122 @@ pub extern "C" fn fe2o3_scram_client_first(
 /// How many bytes more than a server-first message its answer has at most.
 const ANSWER_MORE: usize = 128;
 
-/// The client-final message, and the client that has sent it.
+/// The text of a nonce: its 44 symbols of base64.
+fn nonce_text<'a>(nonce: &[u8; 32], room: &'a mut [u8; 44]) -> &'a str
+    ensures { result.now ≡ base64_text nonce.now }
+{
+    // 32 bytes take 44 symbols, so neither can fail.
+    let _ = STANDARD.encode_slice(nonce, room);
+    match str::from_utf8(room) {
+        Ok(text) => text,
+        Err(_) => unreachable!(),
+    }
+}
+
+/// The answer of a client that has sent its client-first message, by this secret.
+#[tactic(auto, using(crate::proofs::ClientLemmas::answers))]
+fn answered_by(
+    alloc: Global,
+    login: &Login<'_>,
+    version: ScramVersion,
+    secret: ClientSecret<'_>,
+    client: &ScramClient,
+    server_first: &str,
+    meter: &mut Meter,
+) -> Result<ClientAnswer, Status>
+    requires { meter.old ≤ 2 ^ 63 }
+    ensures ok { IfOk result (λ answer. IsVersion login.now.version version → IsSecret login.now (secret_of secret.entry)
+        → client.now.sent ≡ 1 → IsAnswer login.now client.now server_first.now (answer_values answer)) }
+    ensures err { IfErr result (λ status. status ≢ StatusOutOfMemory → IsVersion login.now.version version
+        → IsSecret login.now (secret_of secret.entry) → client.now.sent ≡ 1
+        → NotAnswered login.now client.now server_first.now status) }
+    ensures room { IfErr result (λ status. status ≢ RoomTooSmall) }
+{
+    let mut room = [0; 44];
+    let nonce = nonce_text(&client.nonce, &mut room);
+    let (_, bare) = version.client_first_message(alloc, login.username, nonce.as_bytes())?;
+    match version.answer_server_first(
+        alloc,
+        nonce,
+        secret,
+        server_first,
+        bare.as_slice(),
+        login.limits(),
+        meter,
+    ) {
+        Ok(answer) => Ok(answer),
+        Err(why) => Err(Status::from(why)),
+    }
+}
+
+/// The answer of a client that has sent its client-first message, by the secret of its login.
+#[tactic(auto, using(crate::proofs::ClientLemmas::secrets))]
+fn answered_of(
+    alloc: Global,
+    login: &Login<'_>,
+    version: ScramVersion,
+    client: &ScramClient,
+    server_first: &str,
+    meter: &mut Meter,
+) -> Result<ClientAnswer, Status>
+    requires { meter.old ≤ 2 ^ 63 }
+    ensures ok { IfOk result (λ answer. IsVersion login.now.version version → client.now.sent ≡ 1
+        → IsAnswer login.now client.now server_first.now (answer_values answer)) }
+    ensures err { IfErr result (λ status. status ≢ StatusOutOfMemory → NoneHolds (name_tests login.now)
+        → IsVersion login.now.version version → client.now.sent ≡ 1
+        → NotAnswered login.now client.now server_first.now status) }
+    ensures room { IfErr result (λ status. status ≢ RoomTooSmall) }
+{
+    match login.secret {
+        0 => {
+            let password = match text(login.password) {
+                Ok(password) => password,
+                Err(status) => return Err(status),
+            };
+            let secret = ClientSecret::Password(password);
+            answered_by(alloc, login, version, secret, client, server_first, meter)
+        }
+        1 => {
+            let keys = match login.keys(alloc) {
+                Ok(keys) => keys,
+                Err(status) => return Err(status),
+            };
+            let secret = ClientSecret::Keys(&keys);
+            answered_by(alloc, login, version, secret, client, server_first, meter)
+        }
+        2 => {
+            let password = match text(login.password) {
+                Ok(password) => password,
+                Err(status) => return Err(status),
+            };
+            let keys = match login.keys(alloc) {
+                Ok(keys) => keys,
+                Err(status) => return Err(status),
+            };
+            let secret = ClientSecret::Both {
+                password,
+                keys: &keys,
+            };
+            answered_by(alloc, login, version, secret, client, server_first, meter)
+        }
+        _ => Err(Status::NoSuchSecret),
+    }
+}
+
+/// Why a client that has not sent its client-first message last does not answer.
+fn not_due(alloc: Global, login: &Login<'_>, client: &ScramClient) -> Status
+    ensures why { result ≢ StatusOutOfMemory → client.now.sent ≢ 1 → (text : List ℕ)
+        → NotAnswered login.now client.now text result }
+    ensures room { result ≢ RoomTooSmall }
+{
+    let _client = match client.read(alloc, login) {
+        Ok(client) => client,
+        Err(status) => return status,
+    };
+    Status::Client(ScramErrorKind::IllegalClientState)
+}
+
+/// The answer to a server-first message.
 #[tactic(auto, using(crate::proofs::ClientLemmas::answers))]
 fn answered(
     alloc: Global,
@@ -325,21 +484,18 @@ fn answered(
     client: &ScramClient,
     server_first: &str,
     meter: &mut Meter,
-) -> Result<(Vec<u8>, Machine), Status>
+) -> Result<ClientAnswer, Status>
     requires { meter.old ≤ 2 ^ 63 }
-    ensures ok { IfOk result (λ answered. Answered login.now client.now server_first.now answered.0.items answered.1) }
+    ensures ok { IfOk result (λ answer. IsAnswer login.now client.now server_first.now (answer_values answer)) }
     ensures err { IfErr result (λ status. status ≢ StatusOutOfMemory
         → NotAnswered login.now client.now server_first.now status) }
     ensures room { IfErr result (λ status. status ≢ RoomTooSmall) }
 {
-    let mut machine = match client.read(alloc, login) {
-        Ok(machine) => machine,
-        Err(status) => return Err(status),
-    };
-    match machine.compute_client_final_message_metered(alloc, server_first, meter) {
-        Ok(message) => Ok((message, machine)),
-        Err(why) => Err(Status::from(why)),
+    if client.sent != 1 {
+        return Err(not_due(alloc, login, client));
     }
+    let version = login.named_version()?;
+    answered_of(alloc, login, version, client, server_first, meter)
 }
 
 /// Writes the client-final message.
@@ -368,11 +524,11 @@ fn answer(
     let Ok(text) = str::from_utf8(server_first) else {
         return Err(Status::Client(ScramErrorKind::Utf8Error));
     };
-    let (message, machine) = answered(alloc, login, client, text, meter)?;
-    let Some(waiting) = ScramClient::waiting(&machine) else {
+    let answer = answered(alloc, login, client, text, meter)?;
+    let Some(waiting) = ScramClient::answered(&answer) else {
         return Err(Status::TooLong);
     };
-    put(&message, out, len)?;
+    put(&answer.message, out, len)?;
     *client = waiting;
     Ok(())
 }

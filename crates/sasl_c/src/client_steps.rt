@@ -3,8 +3,9 @@
 ghost use Rattle.std.specs.Prelude.{◌≡◌, ◌≢◌, ◌≤◌, ◌^◌, length, option_map, string_bytes, IfOk, IfErr, OnErr, MatchResult};
 ghost use Rattle.fe2o3_sasl_wire.specs.FrameView.{shown};
 ghost use Rattle.fe2o3_sasl.specs.Runs.{client_reply};
+ghost use Rattle.fe2o3_sasl.specs.SaslProfile.{profile_of};
 ghost use Rattle.sasl_c.specs.Status.{Answers, FillsWithin};
-ghost use Rattle.sasl_c.specs.Steps.{ClientHides, ClientNotStepped, ClientStepped, ClientSteps, ClientTells, standing_number};
+ghost use Rattle.sasl_c.specs.Steps.{ClientHides, ClientNotStepped, ClientStepped, ClientSteps, ClientTells, ProfileNotStepped, ProfileStepped, standing_number};
 ghost use Rattle.sasl_c.specs.declared.status.Status.TheVariants.{OutOfMemory as StatusOutOfMemory, RoomTooSmall};
 
 use crate::arrays::put;
@@ -13,14 +14,14 @@ use crate::connection::of_profile;
 use crate::sasl_client::{SaslLogin, scram_of};
 use crate::status::{Status, number};
 use crate::steps::{BODY_MOST, behind, number_of, sendable};
-use fe2o3_sasl::{ClientReply, profile_body_step};
+use fe2o3_sasl::{ClientReply, SaslProfile, profile_body_step};
 use fe2o3_sasl_negotiation::Standing;
 use fe2o3_scram::Meter;
 use std::alloc::Global;
 
 /// The body that a reply sends, and how the login stands behind it.
 fn told(alloc: Global, reply: ClientReply) -> Result<(Vec<u8>, Standing), Status>
-    ensures { MatchResult result (λ told. ClientTells (client_reply reply) told.0.items told.1)
+    ensures told { MatchResult result (λ told. ClientTells (client_reply reply) told.0.items told.1)
         (λ status. ClientHides (client_reply reply) status) }
     ensures room { IfErr result (λ status. status ≢ RoomTooSmall) }
 {
@@ -54,8 +55,42 @@ struct Made {
     next: ScramClient,
 }
 
+/// The step of a profile over the body of a frame, and the struct of its client then.
+fn stepped(
+    alloc: Global,
+    profile: &mut SaslProfile,
+    hostname: Option<&str>,
+    body: &[u8],
+    nonce: &[u8; 32],
+    meter: &mut Meter,
+) -> Result<Made, Status>
+    requires { meter.old ≤ 2 ^ 63 }
+    ensures ok { IfOk result (λ made. ProfileStepped (shown hostname.entry) (profile_of profile.old)
+        (record { body = body.now; nonce = nonce.now }) made.next made.standing made.sent.items) }
+    ensures err { IfErr result (λ status. status ≢ StatusOutOfMemory → ProfileNotStepped (shown hostname.entry)
+        (profile_of profile.old) (record { body = body.now; nonce = nonce.now }) status) }
+    ensures room { IfErr result (λ status. status ≢ RoomTooSmall) }
+{
+    let reply = match profile_body_step(alloc, profile, body, nonce, hostname, meter) {
+        Ok(reply) => reply,
+        Err(fault) => return Err(of_profile(fault)),
+    };
+    let (sent, standing) = match told(alloc, reply) {
+        Ok(told) => told,
+        Err(status) => return Err(status),
+    };
+    let Some(next) = scram_of(profile) else {
+        return Err(Status::NotKept);
+    };
+    Ok(Made {
+        sent,
+        standing,
+        next,
+    })
+}
+
 /// What a client makes of a body.
-fn made(
+fn answered(
     alloc: Global,
     login: &SaslLogin<'_>,
     client: &ScramClient,
@@ -80,22 +115,7 @@ fn made(
         Err(status) => return Err(status),
     };
     let name = shown_name(&hostname);
-    let reply = match profile_body_step(alloc, &mut profile, body, nonce, name, meter) {
-        Ok(reply) => reply,
-        Err(fault) => return Err(of_profile(fault)),
-    };
-    let (sent, standing) = match told(alloc, reply) {
-        Ok(told) => told,
-        Err(status) => return Err(status),
-    };
-    let Some(next) = scram_of(&profile) else {
-        return Err(Status::NotKept);
-    };
-    Ok(Made {
-        sent,
-        standing,
-        next,
-    })
+    stepped(alloc, &mut profile, name, body, nonce, meter)
 }
 
 /// Takes the body of a frame, and writes the body that is to be sent.
@@ -121,7 +141,7 @@ fn step(
         *len = BODY_MOST;
         return Err(Status::RoomTooSmall);
     }
-    let made = match made(alloc, login, client, body, nonce, meter) {
+    let made = match answered(alloc, login, client, body, nonce, meter) {
         Ok(made) => made,
         Err(status) => return Err(status),
     };

@@ -18,10 +18,15 @@ use fe2o3_scram::ScramErrorKind;
 #[repr(C)]
 #[derive(Drop)]
 pub struct Connection {
-    /// 0 while more bytes are wanted, 1 once the client is logged in, and 2 once the connection is to be closed.
+    /// 0 while more bytes are wanted, 1 once the client is logged in, and 2 once the connection is to be closed. So
+    /// behind an outcome a client stands at 1 where its code is Ok and, by SCRAM, it shows the signature that is
+    /// waited for; by the other mechanisms the server's word is all that there is. Behind an outcome of another code
+    /// it stands at 2, and so it does behind one that is Ok and does not show the signature. A server stands at 1 with
+    /// the outcome Ok that it writes, and at 2 with any other.
     pub standing: u32,
 
-    /// Why it is to be closed: a status.
+    /// Why it is to be closed: a status, as `REFUSED_AUTH` of an outcome that says so, or
+    /// `CLIENT_SERVER_SIGNATURE_MISMATCH` of a server that a client does not believe.
     pub why: u32,
 
     /// What is due: 0 the other side's header, 1 the mechanisms, 2 the init, 3 the challenge, or at once the outcome,

@@ -1,14 +1,14 @@
 //! The server's side of a connection, which stands in a struct between its calls.
 
-ghost use Rattle.std.specs.Prelude.{◌≡◌, ◌≢◌, ◌<◌, ◌≤◌, ◌+◌, ◌^◌, ℕ, List, Ok, Err, length, map, string_bytes, IfOk, IfErr, OnErr, MatchOption};
+ghost use Rattle.std.specs.Prelude.{◌≡◌, ◌≢◌, ◌<◌, ◌≤◌, ◌⊎◌, ◌+◌, ◌^◌, ℕ, List, Ok, length, map, option_map, string_bytes, IfOk, IfErr, OnErr, MatchOption};
 ghost use Rattle.std.specs.Str.{IsUtf8};
-ghost use Rattle.fe2o3_scram.specs.ScramServer.{provider_in, state_in};
+ghost use Rattle.fe2o3_scram.specs.ScramServer.{challenge_kept, provider_in, state_in};
+ghost use Rattle.fe2o3_sasl_negotiation.specs.declared.standing.Standing.{Standing as StandingOf};
 ghost use Rattle.fe2o3_sasl_negotiation.specs.declared.standing.Standing.TheVariants.{Wanting};
 ghost use Rattle.fe2o3_sasl_negotiation.specs.ServerNegotiation.{ServerReceives};
 ghost use Rattle.fe2o3_sasl_negotiation.specs.SetDown.{IsKept, side_of};
 ghost use Rattle.fe2o3_sasl_negotiation.specs.Sides.{server_side};
-ghost use Rattle.sasl_c.specs.Connection.{Keeps};
-ghost use Rattle.sasl_c.specs.SaslServer.{BodyNames, BodyNamesNobody, Comes, FrameNames, InitNames, Named, Names, NotNamed, HasNoWords, HasNoStruct, HasRecords, IsAll, IsNoHost, NotReceived, Received, Receives, ResponseNames, ShowsSide, ShowsState, Stands, all_in, all_of, allowed_of, name_where, one_where, side_in, state_of, sum_of};
+ghost use Rattle.sasl_c.specs.SaslServer.{BodyNames, BodyNamesNobody, Comes, FrameNames, InitNames, HasNoWords, HasNone, HasRecords, IsAll, IsNoHost, Named, Names, NotNamed, NotReceived, Received, Receives, ResponseNames, ShowsBy, ShowsStanding, ShowsState, Stands, all_in, all_of, allowed_of, name_where, one_where, state_of, sum_of};
 ghost use Rattle.sasl_c.specs.declared.sasl_server.Choice.{Choice as Choices};
 ghost use Rattle.sasl_c.specs.declared.server.ScramServer.{ScramServer as ScramStruct};
 ghost use Rattle.fe2o3_sasl_wire.specs.FrameView.{shown, viewed_frame};
@@ -16,7 +16,7 @@ ghost use Rattle.fe2o3_scram.specs.ClientFirst.{ClientFirst as FirstValues, Read
 ghost use Rattle.fe2o3_scram.specs.ServerFirst.{Challenge};
 ghost use Rattle.sasl_c.specs.Server.{IsOpen};
 ghost use Rattle.sasl_c.specs.Status.{Answers, Fills, FillsWithin};
-ghost use Rattle.sasl_c.specs.declared.status.Status.TheVariants.{OutOfMemory as StatusOutOfMemory, NotKept as StatusNotKept, NotUtf8 as StatusNotUtf8, RoomTooSmall};
+ghost use Rattle.sasl_c.specs.declared.status.Status.TheVariants.{OutOfMemory as StatusOutOfMemory, NotKept as StatusNotKept, NotUtf8 as StatusNotUtf8, RoomTooSmall, TooLong as StatusTooLong};
 
 use crate::arrays::put;
 use crate::connection::Connection;
@@ -31,7 +31,9 @@ use fe2o3_sasl::{
 };
 use fe2o3_sasl_negotiation::{Due, ServerNegotiation, SetDown, Standing, TakeUpError, Turn};
 use fe2o3_sasl_wire::{FrameView, view_frame};
-use fe2o3_scram::{ClientFirst, Meter, ScramAuthenticator, ScramVersion, ServerScramErrorKind};
+use fe2o3_scram::{
+    ClientFirst, Meter, OpenChallenge, ScramAuthenticator, ScramVersion, ServerScramErrorKind,
+};
 use std::alloc::Global;
 
 /// What a server offers, and whose record it has: lent for each call.
@@ -287,18 +289,24 @@ fn take_up<A: NamesUser + Drop>(
     })
 }
 
-/// The struct of SCRAM that shows how far an acceptor is whose login stands so, or `None` where a text has no room in it.
+/// The struct of SCRAM that shows how far a login is that stands so, or `None` where a text has no room in it.
 #[tactic(auto, using(crate::proofs::SaslServerLemmas::shown))]
-pub fn shown(standing: Standing, acceptor: &Acceptor) -> Option<ScramServer>
-    ensures { MatchOption result ((scram : ScramStruct) → ¬ ShowsState scram standing (state_of acceptor.now))
-        (λ scram. ShowsState scram standing (state_of acceptor.now)) }
+fn shown(
+    standing: Standing,
+    challenge: Option<OpenChallenge<'_>>,
+    user: Option<&str>,
+) -> Option<ScramServer>
+    ensures { MatchOption result
+        ((scram : ScramStruct) → ¬ ShowsStanding scram standing (option_map challenge_kept challenge.entry)
+        (option_map (λ user. user.now) user.entry)) (λ scram. ShowsStanding scram standing (option_map challenge_kept challenge.entry)
+        (option_map (λ user. user.now) user.entry)) }
 {
     match standing {
-        Standing::Wanting => match acceptor.acceptor().first().open_challenge() {
+        Standing::Wanting => match challenge {
             Some(challenge) => ScramServer::of(&challenge),
             None => Some(ScramServer::fresh()),
         },
-        Standing::LoggedIn => match acceptor.user() {
+        Standing::LoggedIn => match user {
             Some(user) => ScramServer::logged_in(user),
             None => Some(ScramServer::fresh()),
         },
@@ -306,24 +314,38 @@ pub fn shown(standing: Standing, acceptor: &Acceptor) -> Option<ScramServer>
     }
 }
 
-/// The struct of a connection's side, or `None` where more is held than has room in it.
-fn kept_in<A: NamesUser>(side: &ServerNegotiation<A>) -> Option<Connection>
-    ensures { MatchOption result (512 < length (server_side A.state side.now).held)
-        (λ kept. Keeps kept (server_side A.state side.now).standing (server_side A.state side.now).due
-        (server_side A.state side.now).held) }
-{
-    Connection::of(&side.set_down())
+/// An acceptor of which a struct of SCRAM shows how far it is.
+pub trait Shows: NamesUser {
+    ghost shows: { ScramStruct → StandingOf → Self → Type 0 };
+
+    /// The struct that shows it where the login stands so, or `None` where a text has no room in it.
+    fn shown(&self, standing: Standing) -> Option<ScramServer>
+        ensures { MatchOption result ((scram : ScramStruct) → ¬ shows scram standing self.now)
+            (λ scram. shows scram standing self.now) };
+}
+
+impl Shows for Acceptor {
+    ghost shows = { λ scram standing acceptor. ShowsState scram standing (state_of acceptor) };
+
+    fn shown(&self, standing: Standing) -> Option<ScramServer> {
+        shown(
+            standing,
+            self.acceptor().first().open_challenge(),
+            self.user(),
+        )
+    }
 }
 
 impl SaslServer {
     /// The structs of a side, or `None` where a text has no room in them.
-    fn of(side: &ServerNegotiation<Acceptor>) -> Option<SaslServer>
-        ensures { MatchOption result (HasNoStruct (side_in side.now)) (λ server. ShowsSide server (side_in side.now)) }
+    fn of<A: Shows>(side: &ServerNegotiation<A>) -> Option<SaslServer>
+        ensures { MatchOption result (HasNone A.state A.shows side.now)
+            (λ server. ShowsBy A.state A.shows server side.now) }
     {
-        let Some(connection) = kept_in(side) else {
+        let Some(connection) = Connection::of(&side.set_down()) else {
             return None;
         };
-        let Some(scram) = shown(side.standing(), side.acceptor()) else {
+        let Some(scram) = side.acceptor().shown(side.standing()) else {
             return None;
         };
         Some(SaslServer { connection, scram })
@@ -341,6 +363,39 @@ struct Made {
 
     /// The structs then.
     next: SaslServer,
+}
+
+/// Takes up a side, which takes bytes, and sets it down.
+fn taken<A: Shows + Drop>(
+    alloc: Global,
+    acceptor: A,
+    kept: &SetDown<'_>,
+    bytes: &[u8],
+    nonce: &[u8; 32],
+    meter: &mut Meter,
+) -> Result<Made, Status>
+    requires { meter.old ≤ 2 ^ 63 }
+    ensures ok { IfOk result (λ made. (next : ServerNegotiation A) × ServerReceives A.names A.machine
+        (side_of kept.now (A.state acceptor)) bytes.now nonce.now made.taken made.sent.items (server_side A.state next)
+        × ShowsBy A.state A.shows made.next next) }
+    ensures err { IfErr result (λ status. status ≢ StatusOutOfMemory → ((status ≡ StatusNotKept) × ¬ IsKept kept.now)
+        ⊎ ((status ≡ StatusTooLong) × ((next : ServerNegotiation A) × (taken : ℕ) × (sent : List ℕ)
+        × ServerReceives A.names A.machine (side_of kept.now (A.state acceptor)) bytes.now nonce.now taken sent
+        (server_side A.state next) × HasNone A.state A.shows next))) }
+    ensures room { IfErr result (λ status. status ≢ RoomTooSmall) }
+{
+    let call = match take_up(alloc, acceptor, kept, bytes, nonce, meter) {
+        Ok(call) => call,
+        Err(status) => return Err(status),
+    };
+    let Some(next) = SaslServer::of(&call.side) else {
+        return Err(Status::TooLong);
+    };
+    Ok(Made {
+        taken: call.taken,
+        sent: call.sent,
+        next,
+    })
 }
 
 /// What a server makes of bytes.
@@ -368,18 +423,10 @@ fn received(
         Ok(acceptor) => acceptor,
         Err(status) => return Err(status),
     };
-    let call = match take_up(alloc, acceptor, &kept, bytes, nonce, meter) {
-        Ok(call) => call,
-        Err(status) => return Err(status),
-    };
-    let Some(next) = SaslServer::of(&call.side) else {
-        return Err(Status::TooLong);
-    };
-    Ok(Made {
-        taken: call.taken,
-        sent: call.sent,
-        next,
-    })
+    match taken(alloc, acceptor, &kept, bytes, nonce, meter) {
+        Ok(made) => Ok(made),
+        Err(status) => Err(status),
+    }
 }
 
 /// The most bytes that a server sends at once: its header, and behind it a frame.

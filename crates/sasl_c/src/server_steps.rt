@@ -7,24 +7,24 @@ ghost use Rattle.fe2o3_sasl_negotiation.specs.ServerNegotiation.{offer_body};
 ghost use Rattle.fe2o3_sasl_negotiation.specs.declared.standing.Turn.TheVariants.{Init, Response};
 ghost use Rattle.sasl_c.specs.SaslServer.{BodyNames, BodyNamesNobody};
 ghost use Rattle.sasl_c.specs.Status.{Answers, Fills, FillsWithin};
-ghost use Rattle.sasl_c.specs.Steps.{Offers, ServerHides, ServerNotStepped, ServerStepped, ServerSteps, ServerTells, StepNames, standing_number};
+ghost use Rattle.sasl_c.specs.Steps.{IsStepped, NotStepped, Offers, ServerHides, ServerNotStepped, ServerStepped, ServerSteps, ServerTells, StepNames, standing_number};
 ghost use Rattle.sasl_c.specs.declared.status.Status.TheVariants.{FrameTooLarge, OutOfMemory as StatusOutOfMemory, RoomTooSmall};
 
 use crate::arrays::put;
 use crate::connection::of_frame;
-use crate::sasl_server::{SaslHost, body_user, shown};
+use crate::sasl_server::{SaslHost, Shows, body_user};
 use crate::server::ScramServer;
 use crate::status::{Status, number};
 use crate::steps::{BODY_MOST, behind, number_of, sendable};
 use bytes::BytesMut;
-use fe2o3_sasl::{NamesUser, SaslAcceptor, SaslAcceptorExt, ServerReply, acceptor_body_step};
+use fe2o3_sasl::{SaslAcceptor, SaslAcceptorExt, ServerReply, acceptor_body_step};
 use fe2o3_sasl_negotiation::{Standing, Turn};
 use fe2o3_sasl_wire::{Error, Frame, FrameCodec};
 use fe2o3_scram::Meter;
 use std::alloc::Global;
 
 /// The body with which an acceptor offers its mechanisms.
-fn offer_of<A: SaslAcceptor>(alloc: Global, acceptor: &A) -> Result<Vec<u8>, Status>
+fn offer_of<A: SaslAcceptor>(alloc: Global, acceptor: &A) -> Result<BytesMut, Status>
     ensures ok { IfOk result (λ body. offer_body (A.names (A.state acceptor.now)) ≡ Some body.items) }
     ensures err { IfErr result (λ status. status ≢ StatusOutOfMemory
         → (status ≡ FrameTooLarge) × (offer_body (A.names (A.state acceptor.now)) ≡ None)) }
@@ -33,15 +33,15 @@ fn offer_of<A: SaslAcceptor>(alloc: Global, acceptor: &A) -> Result<Vec<u8>, Sta
     let mechanisms = acceptor.sasl_mechanisms(alloc)?;
     let mut body = BytesMut::new(alloc);
     match (FrameCodec {}).encode(Frame::Mechanisms(mechanisms), &mut body) {
-        Ok(()) => Ok(body.into_vec()?),
+        Ok(()) => Ok(body),
         Err(Error::OutOfMemory) => Err(Status::OutOfMemory),
         Err(_) => Err(Status::FrameTooLarge),
     }
 }
 
 /// The body with which a host offers its mechanisms.
-fn offered(alloc: Global, host: &SaslHost<'_>) -> Result<Vec<u8>, Status>
-    ensures { MatchResult result (λ body. Offers host.now (Ok body.items))
+fn offered(alloc: Global, host: &SaslHost<'_>) -> Result<BytesMut, Status>
+    ensures offers { MatchResult result (λ body. Offers host.now (Ok body.items))
         (λ status. status ≢ StatusOutOfMemory → Offers host.now (Err status)) }
     ensures room { IfErr result (λ status. status ≢ RoomTooSmall) }
 {
@@ -80,7 +80,7 @@ pub extern "C" fn fe2o3_sasl_server_offer(
 
 /// The body that a reply sends, and how the login stands behind it.
 fn told(reply: ServerReply) -> Result<(Vec<u8>, Standing), Status>
-    ensures { MatchResult result (λ told. ServerTells (server_reply reply) told.0.items told.1)
+    ensures told { MatchResult result (λ told. ServerTells (server_reply reply) told.0.items told.1)
         (λ status. ServerHides (server_reply reply) status) }
     ensures room { IfErr result (λ status. status ≢ RoomTooSmall) }
 {
@@ -88,52 +88,6 @@ fn told(reply: ServerReply) -> Result<(Vec<u8>, Standing), Status>
         ServerReply::Challenge { body } => Ok((sendable(body)?, Standing::Wanting)),
         ServerReply::Outcome { code, body } => Ok((sendable(body)?, behind(code))),
     }
-}
-
-/// An acceptor behind a step.
-#[derive(Drop)]
-struct Stepped<A> {
-    /// The acceptor then.
-    acceptor: A,
-
-    /// The body that is to be sent.
-    sent: Vec<u8>,
-
-    /// How the login stands then.
-    standing: Standing,
-}
-
-/// Takes the body of a frame.
-fn stepped<A: NamesUser + Drop>(
-    alloc: Global,
-    acceptor: A,
-    body: &[u8],
-    nonce: &[u8; 32],
-    meter: &mut Meter,
-) -> Result<Stepped<A>, Status>
-    requires { meter.old ≤ 2 ^ 63 }
-    ensures ok { IfOk result (λ step. (says : ServerSays) × AcceptorSteps A.machine (A.state acceptor)
-        (record { body = body.now; nonce = nonce.now }) says (A.state step.acceptor)
-        × ServerTells says step.sent.items step.standing) }
-    ensures err { IfErr result (λ status. status ≢ StatusOutOfMemory → (says : ServerSays) × (next : A)
-        × AcceptorSteps A.machine (A.state acceptor) (record { body = body.now; nonce = nonce.now }) says
-        (A.state next) × ServerHides says status) }
-    ensures room { IfErr result (λ status. status ≢ RoomTooSmall) }
-{
-    let mut acceptor = acceptor;
-    let reply = match acceptor_body_step(alloc, &mut acceptor, body, nonce, meter) {
-        Ok(reply) => reply,
-        Err(fault) => return Err(of_frame(fault)),
-    };
-    let (sent, standing) = match told(reply) {
-        Ok(told) => told,
-        Err(status) => return Err(status),
-    };
-    Ok(Stepped {
-        acceptor,
-        sent,
-        standing,
-    })
 }
 
 /// What a call makes of a body.
@@ -149,8 +103,42 @@ struct Made {
     next: ScramServer,
 }
 
+/// The step of an acceptor over the body of a frame, and the struct that shows it then.
+fn stepped<A: Shows + Drop>(
+    alloc: Global,
+    acceptor: A,
+    body: &[u8],
+    nonce: &[u8; 32],
+    meter: &mut Meter,
+) -> Result<Made, Status>
+    requires { meter.old ≤ 2 ^ 63 }
+    ensures ok { IfOk result (λ made. IsStepped A.state A.machine A.shows (A.state acceptor)
+        (record { body = body.now; nonce = nonce.now }) made.next made.standing made.sent.items) }
+    ensures err { IfErr result (λ status. status ≢ StatusOutOfMemory → NotStepped A.state A.machine A.shows (A.state acceptor)
+        (record { body = body.now; nonce = nonce.now }) status) }
+    ensures room { IfErr result (λ status. status ≢ RoomTooSmall) }
+{
+    let mut acceptor = acceptor;
+    let reply = match acceptor_body_step(alloc, &mut acceptor, body, nonce, meter) {
+        Ok(reply) => reply,
+        Err(fault) => return Err(of_frame(fault)),
+    };
+    let (sent, standing) = match told(reply) {
+        Ok(told) => told,
+        Err(status) => return Err(status),
+    };
+    let Some(next) = acceptor.shown(standing) else {
+        return Err(Status::TooLong);
+    };
+    Ok(Made {
+        sent,
+        standing,
+        next,
+    })
+}
+
 /// What a server makes of a body.
-fn made(
+fn answered(
     alloc: Global,
     host: &SaslHost<'_>,
     server: &ScramServer,
@@ -170,18 +158,10 @@ fn made(
         Ok(acceptor) => acceptor,
         Err(status) => return Err(status),
     };
-    let step = match stepped(alloc, acceptor, body, nonce, meter) {
-        Ok(step) => step,
-        Err(status) => return Err(status),
-    };
-    let Some(next) = shown(step.standing, &step.acceptor) else {
-        return Err(Status::TooLong);
-    };
-    Ok(Made {
-        sent: step.sent,
-        standing: step.standing,
-        next,
-    })
+    match stepped(alloc, acceptor, body, nonce, meter) {
+        Ok(made) => Ok(made),
+        Err(status) => Err(status),
+    }
 }
 
 /// Takes the body of a frame, and writes the body that is to be sent.
@@ -207,7 +187,7 @@ fn step(
         *len = BODY_MOST;
         return Err(Status::RoomTooSmall);
     }
-    let made = match made(alloc, host, server, body, nonce, meter) {
+    let made = match answered(alloc, host, server, body, nonce, meter) {
         Ok(made) => made,
         Err(status) => return Err(status),
     };
@@ -249,7 +229,7 @@ pub extern "C" fn fe2o3_sasl_server_step(
 
 /// The name of the user whom a body names.
 fn named(alloc: Global, server: &ScramServer, body: &[u8]) -> Result<Vec<u8>, Status>
-    ensures { MatchResult result (λ name. StepNames server.now body.now (Ok name.items))
+    ensures names { MatchResult result (λ name. StepNames server.now body.now (Ok name.items))
         (λ status. status ≢ StatusOutOfMemory → StepNames server.now body.now (Err status)) }
     ensures room { IfErr result (λ status. status ≢ RoomTooSmall) }
 {

@@ -2,7 +2,7 @@
 
 use fe2o3_sasl::credentials::ScramCredentials;
 use fe2o3_sasl::hmac::{Meter, ScramVersion};
-use fe2o3_sasl::plain_authenticator::PlainAuthenticator;
+use fe2o3_sasl::plain_authenticator::{PlainAuthenticator, plain_user};
 use fe2o3_sasl::sasl_acceptor::{NamesUser, SaslAcceptor, SaslServerFrame};
 use fe2o3_sasl_wire::{Binary, SaslCode, SaslInit, Symbol};
 use std::alloc::Global;
@@ -109,6 +109,24 @@ fn no_longer_password_is_hashed(rt: HostRuntime) -> Result<(), Fail> {
         let init = init(alloc, "PLAIN", &message_of_len(alloc, len)?)?;
         plain.on_init_metered(alloc, init, &[7; 32], &mut meter)?;
         assert!(rt; meter.count() == cost, "{len}");
+    }
+    Ok(())
+}
+
+#[test]
+fn a_message_names_its_user(rt: HostRuntime) -> Result<(), Fail> {
+    for &(message, user) in &[
+        (b"\0user\0crayon".as_slice(), Some("user")),
+        (b"user\0user\0pencil", Some("user")),
+        (b"\0nobody\0pencil", Some("nobody")),
+        (b"other\0user\0pencil", None),
+        (b"\0nobody\0", None),
+        (b"\0user\0pencil\0", None),
+        (b"user\0pencil", None),
+        (b"", None),
+        (b"\0\xff\0pencil", None),
+    ] {
+        assert!(rt; plain_user(message) == user, "{message:?}");
     }
     Ok(())
 }

@@ -98,6 +98,29 @@ fn a_server_of_two_mechanisms(rt: HostRuntime) -> Result<(), Fail> {
     Ok(())
 }
 
+/// Whether a server that has sent its challenge and is set down answers the response so, taken up with the part that it
+/// tells as the one that was asked, or with none.
+fn taken_up(alloc: Global, told: bool, wanted: &str, user: Option<&str>) -> Result<bool, Fail> {
+    let login = &LOGINS[1];
+    let second = plain(alloc, USER, PASSWORD)?;
+    let mut both = OneOf::new(ScramAuthenticator::new(credential(alloc, login)?), second);
+    if !says(alloc, &mut both, login.init, login.challenge)? {
+        return Ok(false);
+    }
+    let asked = if told { both.asked() } else { None };
+    let second = both.second().clone()?;
+    let mut other = OneOf::with_asked(both.first().clone()?, second, asked);
+    answers(alloc, &mut other, &[(login.response, wanted, user)])
+}
+
+#[test]
+fn a_server_that_was_set_down_knows_whom_it_asked(rt: HostRuntime) -> Result<(), Fail> {
+    let alloc = rt.alloc();
+    assert!(rt; taken_up(alloc, true, LOGINS[1].outcome, Some("user"))?);
+    assert!(rt; taken_up(alloc, false, OUTCOME_AUTH, None)?);
+    Ok(())
+}
+
 /// Whether a server that may offer only PLAIN of two mechanisms answers so.
 fn cut_down(alloc: Global) -> Result<bool, Fail> {
     let login = &LOGINS[1];

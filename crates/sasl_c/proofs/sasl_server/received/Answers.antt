@@ -1,5 +1,5 @@
-use Rattle.sasl_c.specs.SaslServer.{side_in, state_of}
-use Rattle.sasl_c.proofs.ServerCallLemmas.{answered, no_connection, no_host, not_kept, short_answer, unanswered}
+use Rattle.sasl_c.specs.SaslServer.{state_of}
+use Rattle.sasl_c.proofs.ServerCallLemmas.{answered, no_connection, no_host, short_answer, unanswered}
 use Rattle.sasl_c.proofs.sasl_server.received.Goals as goal
 
 pub returns-in-Err-clause-err : goal.returns-in-Err-clause-err
@@ -7,29 +7,24 @@ returns-in-Err-clause-err c = λ _. no_connection c.args.host.now c.args.bytes.n
     c.in-Err.status c.in-Err.ensures.err
 
 pub returns-in-Err-acceptor-clause-err : goal.returns-in-Err-acceptor-clause-err
-returns-in-Err-acceptor-clause-err c = λ other. no_host c.args.host.now c.args.bytes.now c.args.nonce.now c.args.server.now c.in-Ok.kept
-    c.in-Err-acceptor.status c.in-Ok.ensures.kept c.in-Ok.ensures.wanting.0 (c.in-Err-acceptor.ensures.err other)
+returns-in-Err-acceptor-clause-err c = λ other. no_host c.args.host.now c.args.bytes.now c.args.nonce.now
+    c.args.server.now c.in-Ok.kept c.in-Err-acceptor.status c.in-Ok.ensures.kept c.in-Ok.ensures.wanting.0
+    (c.in-Err-acceptor.ensures.err other)
 
-pub returns-in-Err-take_up-clause-err : goal.returns-in-Err-take_up-clause-err
-returns-in-Err-take_up-clause-err c = λ other. not_kept c.args.host.now c.args.bytes.now c.args.nonce.now c.args.server.now c.in-Ok.kept
-    (state_of c.in-Ok-acceptor.acceptor) c.in-Err-take_up.status c.in-Ok.ensures.kept c.in-Ok.ensures.wanting.0
-    c.in-Ok.ensures.wanting.1 c.in-Ok-acceptor.ensures.ok.0 (c.in-Err-take_up.ensures.err other)
+pub returns-in-Err-taken-clause-err : goal.returns-in-Err-taken-clause-err
+returns-in-Err-taken-clause-err c = λ other. unanswered c.args.host.now c.args.bytes.now c.args.nonce.now
+    c.args.server.now c.in-Ok.kept (state_of c.in-Ok-acceptor.acceptor) c.in-Ok.ensures.kept
+    c.in-Ok.ensures.wanting.0 c.in-Ok.ensures.wanting.1 c.in-Ok-acceptor.ensures.ok c.in-Err-taken.status
+    (c.in-Err-taken.ensures.err other)
 
-pub returns-in_default-clause-err : goal.returns-in_default-clause-err
-returns-in_default-clause-err c = λ _. unanswered c.args.host.now c.args.bytes.now c.args.nonce.now c.args.server.now c.in-Ok.kept
-    (state_of c.in-Ok-acceptor.acceptor) (side_in c.in-Ok-take_up.call.side) c.in-Ok-take_up.call.taken
-    c.in-Ok-take_up.call.sent.items c.in-Ok.ensures.kept c.in-Ok.ensures.wanting.0 c.in-Ok.ensures.wanting.1
-    c.in-Ok-acceptor.ensures.ok c.in-Ok-take_up.ensures.ok.1
-    c.in_default.ensures
+pub returns-in-Ok-taken-clause-ok : goal.returns-in-Ok-taken-clause-ok
+returns-in-Ok-taken-clause-ok c = answered c.args.host.now c.args.bytes.now c.args.nonce.now c.args.server.now
+    c.in-Ok.kept (state_of c.in-Ok-acceptor.acceptor) c.in-Ok.ensures.kept c.in-Ok.ensures.wanting.0
+    c.in-Ok.ensures.wanting.1 c.in-Ok-acceptor.ensures.ok c.in-Ok-taken.made.next c.in-Ok-taken.made.taken
+    c.in-Ok-taken.made.sent.items c.in-Ok-taken.ensures.ok
 
-pub returns-clause-ok : goal.returns-clause-ok
-returns-clause-ok c = answered c.args.host.now c.args.bytes.now c.args.nonce.now c.args.server.now c.in-Ok.kept
-    (state_of c.in-Ok-acceptor.acceptor) (side_in c.in-Ok-take_up.call.side) c.in-Ok-take_up.call.taken
-    c.in-Ok-take_up.call.sent.items c.in-Ok.ensures.kept c.in-Ok.ensures.wanting.0 c.in-Ok.ensures.wanting.1
-    c.in-Ok-acceptor.ensures.ok c.in-Ok-take_up.ensures.ok.1 c.in-Some.next c.in-Some.ensures
-
-pub returns-clause-fits : goal.returns-clause-fits
-returns-clause-fits c = short_answer c.args.host.now c.args.bytes.now c.args.nonce.now c.args.server.now c.in-Ok.kept
-    (state_of c.in-Ok-acceptor.acceptor) (side_in c.in-Ok-take_up.call.side) c.in-Ok-take_up.call.taken
-    c.in-Ok-take_up.call.sent.items c.in-Ok.ensures.kept c.in-Ok.ensures.wanting.0 c.in-Ok.ensures.wanting.1
-    c.in-Ok-acceptor.ensures.ok c.in-Ok-take_up.ensures.ok.1
+pub returns-in-Ok-taken-clause-fits : goal.returns-in-Ok-taken-clause-fits
+returns-in-Ok-taken-clause-fits c = short_answer c.args.host.now c.args.bytes.now c.args.nonce.now c.args.server.now
+    c.in-Ok.kept (state_of c.in-Ok-acceptor.acceptor) c.in-Ok.ensures.kept c.in-Ok.ensures.wanting.0
+    c.in-Ok.ensures.wanting.1 c.in-Ok-acceptor.ensures.ok c.in-Ok-taken.made.next c.in-Ok-taken.made.taken
+    c.in-Ok-taken.made.sent.items c.in-Ok-taken.ensures.ok

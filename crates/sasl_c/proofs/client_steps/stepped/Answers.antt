@@ -1,0 +1,44 @@
+use Rattle.std.proofs.Common.{inl, inr, sym, ◌∙◌}
+use Rattle.fe2o3_sasl.specs.Events.{Refused}
+use Rattle.fe2o3_sasl.specs.ProfileFaults.{client_fault}
+use Rattle.fe2o3_sasl.specs.Runs.{client_reply}
+use Rattle.fe2o3_sasl.specs.SaslProfile.{profile_of}
+use Rattle.sasl_c.proofs.StatusLemmas.{profile_not_room}
+use Rattle.sasl_c.proofs.StepLemmas.{client_hides}
+use Rattle.sasl_c.proofs.client_steps.stepped.Goals as goal
+
+pub returns-in-Err-clause-err : goal.returns-in-Err-clause-err
+returns-in-Err-clause-err c = λ other. (
+  profile_of c.profile_body_step.new.profile,
+  Refused (client_fault c.in-Err.fault),
+  c.in-Err.ensures.step,
+  inl (client_hides c.in-Err.fault c.of_profile.result c.of_profile.ensures),
+)
+
+pub returns-in-Err-clause-room : goal.returns-in-Err-clause-room
+returns-in-Err-clause-room c = λ same. profile_not_room c.in-Err.fault (sym c.of_profile.ensures ∙ same)
+
+pub returns-in-Err-told-clause-err : goal.returns-in-Err-told-clause-err
+returns-in-Err-told-clause-err c = λ other. (
+  profile_of c.profile_body_step.new.profile,
+  client_reply c.in-Ok.reply,
+  c.in-Ok.ensures.step,
+  inl c.in-Err-told.ensures.told,
+)
+
+pub returns-in_default-clause-err : goal.returns-in_default-clause-err
+returns-in_default-clause-err c = λ other. (
+  profile_of c.profile_body_step.new.profile,
+  client_reply c.in-Ok.reply,
+  c.in-Ok.ensures.step,
+  inr c.in_default.ensures,
+)
+
+pub returns-clause-ok : goal.returns-clause-ok
+returns-clause-ok c = (
+  profile_of c.profile_body_step.new.profile,
+  client_reply c.in-Ok.reply,
+  c.in-Ok.ensures.step,
+  c.in-Ok-told.ensures.told,
+  c.in-Some.ensures,
+)
