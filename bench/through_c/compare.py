@@ -1,8 +1,8 @@
 """What the calls take through C, beside the library's own: compare.py DUMPS STORED.
 
-DUMPS is the callgrind file of ../through_c/calls.c, STORED the counts of the driver. It prints a table, and ends with 1
-where two counts of one call differ, or where one is above its goal: 3 % more for a client-final, 5 % for a
-server-final, and 60 instructions for a view."""
+DUMPS is the callgrind file of calls.c, STORED the counts of the driver. It prints a table, and ends with 1 where two
+counts of one call differ, or where one is above its goal: at SHA-256 3 % more for a client-final, also by keys, and 5 %
+for a server-final, and 60 instructions for a view."""
 import sys
 from pathlib import Path
 
@@ -29,10 +29,9 @@ def most(job, own):
     """The most that a call may take, or None."""
     if job.startswith("view"):
         return own + 60
-    for name, share in (("client-final", 1.03), ("server-final", 1.05)):
-        if job.startswith(name):
-            return own * share
-    return None
+    if job.startswith("client-final") and job.endswith("-sha256"):
+        return own * 1.03
+    return own * 1.05 if job == "server-final-sha256" else None
 
 
 def read_counts(path):

@@ -8,14 +8,14 @@ use Rattle.std.proofs.lemmas.Slice.Eq.{bytes_eq-Decides}
 use Rattle.std.specs.Cmp.Lexicographic.{pointwise}
 use Rattle.std.specs.Prelude.{cond, nat_eq, true}
 use Rattle.fe2o3_scram.proofs.lemmas.messages.OneValueLemmas.{one_client_first_value}
-use Rattle.fe2o3_scram.specs.ClientFinal.{Server}
+use Rattle.fe2o3_scram.specs.ClientFinal.{Server, server_of}
 use Rattle.fe2o3_scram.specs.ClientFirst.{ClientFirst, ReadsClientFirst}
 use Rattle.fe2o3_scram.specs.Keys.{auth_message, server_signature}
 use Rattle.fe2o3_scram.specs.ServerFinal.{AnswersClientFinal}
 use Rattle.fe2o3_scram.proofs.lemmas.hashes.DigestLemmas.{length-hmac_of}
 use Rattle.sasl_c.proofs.TextLemmas.{short, short_text}
-use Rattle.fe2o3_scram.specs.Credentials.{Provider, VersionedRecord}
-use Rattle.fe2o3_scram.specs.ScramServer.{ChallengesFrom, ConcludesFrom, ServerState, ServerFinalSent, ServerFirstSent}
+use Rattle.fe2o3_scram.specs.Credentials.{Provider, VersionedRecord, record_at}
+use Rattle.fe2o3_scram.specs.ScramServer.{ChallengesFrom, ServerState, ServerFirstSent}
 use Rattle.fe2o3_scram.specs.ServerFirst.{AnswersClientFirst, Challenge}
 use Rattle.fe2o3_scram.specs.Texts.{base64_text}
 use Rattle.sasl_c.specs.declared.records.ScramRecord.{ScramRecord as Kept}
@@ -94,43 +94,30 @@ short_final server text message held =
       short_text signature long,
     )
 
+-- the one user's record is found
+found : (user : List ℕ) (shown : VersionedRecord) → record_at (one_user user shown).records user ≡ Some shown.stored
+found user shown = ap (λ test. cond test (Some shown.stored) None) ((bytes_eq-Decides user user).1 refl)
+
 pub concluded : (kept : Kept) (before : Struct) (text message : List ℕ) (challenge : Challenge)
-    (shown : VersionedRecord) (provider : Provider) (state next : ServerState) → IsOpen before challenge → Shows kept shown
-    → provider ≡ one_user challenge.user shown → state ≡ ServerFirstSent challenge
-    → ConcludesFrom state provider text (Ok (Some message)) next
+    (shown : VersionedRecord) → IsOpen before challenge → Shows kept shown
+    → AnswersClientFinal (server_of shown.version challenge.bare challenge.first challenge.nonce shown.stored) text
+    (Ok message)
     → Concluded kept before text message challenge.user × (length message ≤ 90)
 unfolding Concluded
-concluded kept before text message challenge shown provider state next is shows same stands held =
-    let opened = carried (λ s. ConcludesFrom s provider text (Ok (Some message)) next) state (ServerFirstSent challenge)
-    stands held in
-    let given = carried (λ p. ConcludesFrom (ServerFirstSent challenge) p text (Ok (Some message)) next) provider
-    (one_user challenge.user shown) same opened in
-    let last = carried (λ s. ConcludesFrom (ServerFirstSent challenge) (one_user challenge.user shown) text
-    (Ok (Some message)) s) next (ServerFinalSent challenge.user) given.3 given in
-    ((challenge, shown, is, shows, refl, last), short_final _ text message given.2)
-
-pub never_nothing : (kept : Kept) (before : Struct) (text : List ℕ) (challenge : Challenge) (provider : Provider)
-    (state next : ServerState) (status : Status) → state ≡ ServerFirstSent challenge
-    → ConcludesFrom state provider text (Ok None) next → Concludes kept text before before (Err status)
-never_nothing kept before text challenge provider state next status stands held =
-    absurd (carried (λ s. ConcludesFrom s provider text (Ok None) next) state (ServerFirstSent challenge) stands held)
+concluded kept before text message challenge shown is shows held = (
+  (challenge, shown, is, shows, refl, (shown.stored, found challenge.user shown, held, refl)),
+  short_final _ text message held,
+)
 
 pub refuses : (kept : Kept) (before : Struct) (text : List ℕ) (challenge : Challenge) (shown : VersionedRecord)
-    (provider : Provider) (state next : ServerState) (why : ServerScramErrorKind) (status : Status)
-    → IsOpen before challenge → Shows kept shown → provider ≡ one_user challenge.user shown
-    → state ≡ ServerFirstSent challenge → (why ≢ NoMemory → ConcludesFrom state provider text (Err why) next)
-    → next ≡ state → status ≡ server_status why → status ≢ statuses.OutOfMemory
-    → Concludes kept text before before (Err status)
+    (why : ServerScramErrorKind) (status : Status) → IsOpen before challenge → Shows kept shown
+    → (why ≢ NoMemory → AnswersClientFinal
+    (server_of shown.version challenge.bare challenge.first challenge.nonce shown.stored) text (Err why))
+    → status ≡ server_status why → status ≢ statuses.OutOfMemory → Concludes kept text before before (Err status)
 unfolding Concludes
-refuses kept before text challenge shown provider state next why status is shows same stands held stays gives other =
+refuses kept before text challenge shown why status is shows held gives other =
     let told = held (λ memory. other (gives ∙ ap server_status memory)) in
-    let opened = carried (λ s. ConcludesFrom s provider text (Err why) next) state (ServerFirstSent challenge) stands
-    told in
-    let given = carried (λ p. ConcludesFrom (ServerFirstSent challenge) p text (Err why) next) provider
-    (one_user challenge.user shown) same opened in
-    let last = carried (λ s. ConcludesFrom (ServerFirstSent challenge) (one_user challenge.user shown) text (Err why) s)
-    next (ServerFirstSent challenge) (stays ∙ stands) given in
-    inr (inr (why, gives, (challenge, shown, is, shows, last)))
+    inr (inr (why, gives, (challenge, shown, is, shows, (inl (shown.stored, found challenge.user shown, told), refl))))
 
 pub not_open : (kept : Kept) (before : Struct) (text : List ℕ)
     → ((challenge : Challenge) → ¬ IsOpen before challenge)

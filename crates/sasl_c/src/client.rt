@@ -1,6 +1,6 @@
 //! A SCRAM client, which stands in a struct between its calls.
 
-ghost use Rattle.std.specs.Prelude.{◌≡◌, ◌≢◌, ◌<◌, ◌≤◌, ◌⊎◌, ◌+◌, ◌^◌, length, IfOk, OnErr, IfErr, MatchOption, Option, Some, List, ℕ, Ok, Err, option_map};
+ghost use Rattle.std.specs.Prelude.{◌≡◌, ◌≢◌, ◌<◌, ◌≤◌, ◌+◌, ◌^◌, length, IfOk, OnErr, IfErr, MatchOption, Option, Some, List, ℕ, Ok, Err, option_map};
 ghost use Rattle.std.specs.Str.{IsUtf8};
 ghost use Rattle.std.specs.String.{string_bytes};
 ghost use Rattle.fe2o3_scram.specs.ScramClient.{ClientFinalSent, Initial};

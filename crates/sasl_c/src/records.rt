@@ -2,15 +2,16 @@
 
 ghost use Rattle.std.specs.Prelude.{◌≡◌, ◌≢◌, MatchOption, IfOk, IfErr, Err};
 ghost use Rattle.fe2o3_scram.specs.Readings.{Gives, NoneHolds};
+ghost use Rattle.fe2o3_scram.specs.Credentials.{kept, versioned};
 ghost use Rattle.fe2o3_scram.specs.RecordText.{ReachesValues};
 ghost use Rattle.sasl_c.specs.Status.{Answers, Fills, Makes};
 ghost use Rattle.sasl_c.specs.Records.{HasRoom, Shows, struct_of, making_tests, MakesStruct, MakesUp, nobody_tests, ParsesStruct, SpellsStruct, Verifies};
 ghost use Rattle.sasl_c.specs.declared.records.ScramRecord.{ScramRecord as Struct};
-ghost use Rattle.sasl_c.specs.declared.status.Status.TheVariants.{OutOfMemory as StatusOutOfMemory};
+ghost use Rattle.sasl_c.specs.declared.status.Status.TheVariants.{OutOfMemory as StatusOutOfMemory, RoomTooSmall};
 
 use crate::arrays::{head, padded, put};
 use crate::status::{Status, digest_len, number, number_of, text, version_of};
-use fe2o3_scram::{RecordTextError, saslprep};
+use fe2o3_scram::{RecordTextError, ScramVersion, StoredPassword, saslprep};
 use std::alloc::Global;
 
 /// What a server keeps of a password.
@@ -54,6 +55,25 @@ impl ScramRecord {
             stored_key: padded(stored.stored_key)?,
             server_key: padded(stored.server_key)?,
         })
+    }
+
+    /// The record that the struct shows, where it stands, with its version. `NoSuchVersion`, and `TooLong` where
+    /// `salt_len` is above 128.
+    pub fn lent(&self) -> Result<(ScramVersion, StoredPassword<'_>), Status>
+        ensures ok { IfOk result (λ shown. Shows self.now (versioned shown.0 (kept shown.1))) }
+        ensures err { IfErr result (λ status. SpellsStruct self.now (Err status)) }
+        ensures room { IfErr result (λ status. status ≢ RoomTooSmall) }
+    {
+        let version = version_of(self.version).ok_or(Status::NoSuchVersion)?;
+        let salt = head(&self.salt, self.salt_len).ok_or(Status::TooLong)?;
+        let len = digest_len(version);
+        let stored = StoredPassword {
+            salt,
+            iterations: self.iterations,
+            stored_key: &self.stored_key[..len],
+            server_key: &self.server_key[..len],
+        };
+        Ok((version, stored))
     }
 
     /// The record that the struct shows. `NoSuchVersion`, `TooLong` where `salt_len` is above 128, and else

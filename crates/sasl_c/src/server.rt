@@ -255,16 +255,20 @@ fn concluded(
     let Some(challenge) = server.challenge() else {
         return Err(Status::Server(ServerScramErrorKind::IllegalAuthenticatorState));
     };
-    let kept = match kept.read(alloc) {
-        Ok(kept) => kept,
+    let (version, stored) = match kept.lent() {
+        Ok(shown) => shown,
         Err(status) => return Err(status),
     };
-    let username = challenge.username.to_string(alloc)?;
-    let fresh = ScramAuthenticator::new(StoredScramCredential::new(username, kept));
-    let mut machine = fresh.waiting_for(alloc, &challenge)?;
-    match machine.compute_server_final_message_metered(alloc, client_final, meter) {
-        Ok(Some(message)) => Ok(message),
-        Ok(None) => Err(Status::Server(ServerScramErrorKind::AuthenticationFailed)),
+    match version.compute_server_final_message_metered(
+        alloc,
+        client_final,
+        challenge.client_server_nonce,
+        challenge.client_first_message_bare,
+        challenge.server_first_message,
+        &stored,
+        meter,
+    ) {
+        Ok(message) => Ok(message),
         Err(why) => Err(Status::from(why)),
     }
 }
