@@ -550,7 +550,8 @@ class Steps(Case):
         ):
             side = scram()
             self.refused(status, side.on_frame, body)
-            self.assertEqual((side.standing, bytes(side._struct)), (Standing.WANTING, bytes(len(bytes(side._struct)))))
+            self.assertEqual(side.standing, Standing.WANTING)
+            self.assertEqual(bytes(side._struct), bytes(ctypes.sizeof(side._struct)))
         self.refused(Status.NOT_IMPLEMENTED, ClientSteps.anonymous().on_frame, challenge)
         self.refused(Status.NOT_UTF8, ClientSteps.anonymous(hostname=b"\xff").on_frame, challenge)
         self.refused(Status.NO_SUCH_VERSION, ClientSteps(Client(2, "a", "b")).on_frame, challenge)
@@ -571,6 +572,7 @@ class Steps(Case):
                         else:
                             self.closed(side, Status.REFUSED_AUTH)
                             self.refused(Status.SERVER_ILLEGAL_AUTHENTICATOR_STATE, side.logged_in)
+                            self.assertEqual(bytes(side._struct), bytes(ctypes.sizeof(side._struct)))
                         self.refused(Status.ENDED, side.on_frame, body_of(INIT, short(0xA3, b"PLAIN")))
 
     def test_whom_a_server_asks_for(self) -> None:
@@ -628,7 +630,8 @@ class Steps(Case):
             (b"\2\1\0", Status.FRAME_UNREAD),
         ):
             self.refused(status, side.on_frame, body)
-            self.assertEqual((side.standing, bytes(side._struct)), (Standing.WANTING, bytes(len(bytes(side._struct)))))
+            self.assertEqual(side.standing, Standing.WANTING)
+            self.assertEqual(bytes(side._struct), bytes(ctypes.sizeof(side._struct)))
         # A response without a challenge is refused by the outcome, not by the call.
         self.assertEqual(side.on_frame(body_of(RESPONSE, short(0xA0, b"c=biws"))), body_of(OUTCOME, b"\x50\1"))
         self.closed(side, Status.REFUSED_AUTH)
