@@ -350,7 +350,7 @@ static void carry(struct message *message, int which, const char *text, unsigned
 
 /* How a login went: the last code of each side, what was sent, and who it was. */
 struct run {
-    int client, server;
+    int client, server, left;
     char server_first[512], said[512], name[512];
 };
 
@@ -394,6 +394,15 @@ static void demand(sasl_conn_t *client, sasl_conn_t *server)
     }
 }
 
+/* Whether the properties that the server fetched still show a password. */
+static int password_left(sasl_conn_t *server)
+{
+    static const char *names[] = {SASL_AUX_PASSWORD, NULL};
+    struct propval found[2] = {{NULL, NULL, 0, 0}};
+    return prop_getnames(sasl_auxprop_getctx(server), names, found) > 0 && found[0].values && found[0].values[0]
+        && found[0].values[0][0] != 0;
+}
+
 static void converse(sasl_conn_t *client, sasl_conn_t *server, struct run *run)
 {
     struct message to_server = {NULL, 0}, to_client = {NULL, 0};
@@ -428,6 +437,7 @@ static void converse(sasl_conn_t *client, sasl_conn_t *server, struct run *run)
     }
     free(to_server.text);
     free(to_client.text);
+    run->left = password_left(server);
     if (run->server == SASL_OK && sasl_getprop(server, SASL_USERNAME, (const void **)&who) == SASL_OK
         && sasl_getprop(server, SASL_AUTHUSER, (const void **)&authid) == SASL_OK && strcmp(who, authid) == 0)
         snprintf(run->name, sizeof run->name, "%s", who);
@@ -565,6 +575,7 @@ int main(int count, char **words)
                 continue;
             is_so(log_in(&run), "a refused exchange goes on", &run);
             is_so(as_said(now, &run), now->what, &run);
+            is_so(!run.left, "the server's password is left", &run);
             is_so(!now->count || !ours_server || strstr(run.server_first, now->count), "the server's count", &run);
         }
         salts();
