@@ -25,7 +25,7 @@ MECHANISM = "SCRAM-SHA-256"
 SSL_REQUEST, GSS_REQUEST, PROTOCOL = 80877103, 80877104, 196608
 SASL, SASL_CONTINUE, SASL_FINAL, OK = 10, 11, 12, 0
 FORGED = "not logged in: Client: Server signature mismatch"
-#: The header of a client that could bind its channel at a server that does not say that it could, and of one that cannot.
+#: The header of a client that could bind its channel, to a server that seems not to; and of one that could not.
 BINDS_NOT, CANNOT_BIND = b"y,,", b"n,,"
 PAST = User("user", "p\u00e4ss")
 

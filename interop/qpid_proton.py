@@ -27,7 +27,8 @@ class QpidProton(Peer):
     by_frames = True
 
     def __init__(self) -> None:
-        self.worker: Optional[subprocess.Popen] = None
+        #: A program for each count of a server's settings, which libsasl2 reads once.
+        self.workers: dict[int, subprocess.Popen] = {}
         self.environment = dict(os.environ)
 
     def missing(self) -> bool:
@@ -49,30 +50,35 @@ class QpidProton(Peer):
 
     def start(self, folder: Path) -> None:
         self.folder = folder
-        words = [PYTHON, "-B", str(Path(__file__).resolve().parent / "proton_worker.py")]
-        self.worker = subprocess.Popen(
-            words, env=self.environment, stdin=subprocess.PIPE, stdout=subprocess.PIPE, text=True
-        )
 
     def stop(self) -> None:
-        if self.worker is not None:
-            with ended_after(self.worker):
+        while self.workers:
+            with ended_after(self.workers.popitem()[1]):
                 pass
 
-    def ask(self, **job: object) -> None:
-        self.worker.stdin.write(json.dumps(job) + "\n")
-        self.worker.stdin.flush()
+    def worker(self, count: int = 4096) -> subprocess.Popen:
+        if count not in self.workers:
+            words = [PYTHON, "-B", str(Path(__file__).resolve().parent / "proton_worker.py")]
+            self.workers[count] = subprocess.Popen(
+                words, env=self.environment, stdin=subprocess.PIPE, stdout=subprocess.PIPE, text=True
+            )
+        return self.workers[count]
 
-    def told(self) -> dict:
-        return json.loads(self.worker.stdout.readline())
+    def ask(self, worker: subprocess.Popen, **job: object) -> None:
+        worker.stdin.write(json.dumps(job) + "\n")
+        worker.stdin.flush()
+
+    def told(self, worker: subprocess.Popen) -> dict:
+        return json.loads(worker.stdout.readline())
 
     def log_in(self, mechanism: str, user: User = USER, count: int = 4096, asked: str = ""):
         """A login of our client to a server of Proton that offers a mechanism. It asks for that, or for another one."""
 
         def login(side: Side) -> Ending:
-            self.ask(side="server", mechanisms=mechanism, settings=str(self.folder / str(count)))
-            ours = side.log_in_by_frames(self.told()["port"], asked or mechanism, user)
-            return Ending(ours, self.told()["in"])
+            worker = self.worker(count)
+            self.ask(worker, side="server", mechanisms=mechanism, settings=str(self.folder / str(count)))
+            ours = side.log_in_by_frames(self.told(worker)["port"], asked or mechanism, user)
+            return Ending(ours, self.told(worker)["in"])
 
         return login
 
@@ -81,8 +87,8 @@ class QpidProton(Peer):
 
         def by(port: int) -> bool:
             words = {"mechanism": mechanism, "user": user.name, "password": user.password}
-            self.ask(side="client", port=port, **words)
-            return self.told()["in"]
+            self.ask(self.worker(), side="client", port=port, **words)
+            return self.told(self.worker())["in"]
 
         def login(side: Side) -> Ending:
             of = mechanism if mechanism in SCRAM else "SCRAM-SHA-256"

@@ -117,8 +117,8 @@ class RabbitMq(Peer):
         yield cell("client", "PLAIN", "a name with `,` and `=`", self.log_in("PLAIN", COMMA), DONE)
         for what, user in (("wrong password", User("user", "pencils")), ("unknown user", User("nobody", "pencil"))):
             # (it lets one wait for three seconds)
-            yield Cell("client", "PLAIN", what, self.log_in("PLAIN", user), REFUSED, kept=user if user.name == USER.name else None,
-                       at_once=True)
+            kept = user if user.name == USER.name else None
+            yield Cell("client", "PLAIN", what, self.log_in("PLAIN", user), REFUSED, kept=kept, at_once=True)
         yield cell("client", "ANONYMOUS", "a login", self.log_in("ANONYMOUS"), DONE, USER)
         for mechanism in (*SCRAM, "EXTERNAL"):
             yield cell("client", mechanism, "it does not offer it", self.log_in(mechanism),
