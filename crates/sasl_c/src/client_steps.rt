@@ -154,11 +154,13 @@ fn step(
 /// Takes the body of a frame that the server sent, behind the four bytes of the frame's size, and writes the body that
 /// is to be sent: the init to its mechanisms, the response to its challenge, and nothing (a length of 0) to its outcome.
 /// Standing is 0 while the login goes on, 1 once the client is logged in, and the number of a refusal (81 to 84) where
-/// the outcome is one. A room of 508 bytes suffices, and is asked for before any hash is made. The nonce is 32 random
-/// bytes, fresh for each call.
+/// the outcome is one; hand in no body after that. A room of 508 bytes suffices, and is asked for before any hash is
+/// made. The nonce is 32 random bytes, fresh for each call.
 ///
-/// SCRAM stands at 1 only where the server has shown that it has the verifier (RFC 5802, section 5). PLAIN, ANONYMOUS and
-/// EXTERNAL take any outcome at its word, also one before the init.
+/// It is for who reads the frames, refuses those of more than 512 bytes, and knows whose turn it is: a login takes three
+/// bodies of the server, for PLAIN, ANONYMOUS and EXTERNAL two, and a server that may send more can have a challenge
+/// hashed again and again. SCRAM stands at 1 only where the server has shown that it has the verifier (RFC 5802, section
+/// 5). The others take any outcome at its word, also one before the init.
 #[unsafe(no_mangle)]
 pub extern "C" fn fe2o3_sasl_client_step(
     alloc: Global,

@@ -107,7 +107,9 @@ fn find(
             Ok(())
         }
         Err(none) => {
-            *line = none.line;
+            if none.why != Status::OutOfMemory {
+                *line = none.line;
+            }
             Err(none.why)
         }
     }

@@ -199,10 +199,15 @@ fn step(
 
 /// Takes the body of a frame that the client sent, behind the four bytes of the frame's size, and writes the body that
 /// is to be sent: a challenge, or the outcome. Standing is 0 while the login goes on, 1 once the client is logged in, and
-/// the number of a refusal (81 to 84) where the outcome is one. A room of 508 bytes suffices, and is asked for before any
-/// hash is made. Before the call the caller fetches the record of the user whom the body names
-/// (`fe2o3_sasl_server_step_user`), if it names one. Once the client is logged in, the struct names the user of any
-/// mechanism (`fe2o3_scram_server_logged_in`); ANONYMOUS names nobody. The nonce is 32 random bytes, fresh for each call.
+/// the number of a refusal (81 to 84) where the outcome is one, which is to be sent too; hand in no body after that. A
+/// room of 508 bytes suffices, and is asked for before any hash is made. Before the call the caller fetches the record
+/// of the user whom the body names (`fe2o3_sasl_server_step_user`), if it names one. Once the client is logged in, the
+/// struct names the user of any mechanism (`fe2o3_scram_server_logged_in`); ANONYMOUS names nobody. The nonce is 32
+/// random bytes, fresh for each call.
+///
+/// It is for who reads the frames, refuses those of more than 512 bytes, and knows whose turn it is: a login takes an
+/// init and for SCRAM one response, and a client that may send more can try again and again. A response without a
+/// challenge is answered by an outcome that refuses, and a frame that no client sends is refused by `NO_SASL_FRAME`.
 /// Where a name or a message has no room in the struct, the call is refused by `TOO_LONG`, and the connection is to be
 /// closed.
 #[unsafe(no_mangle)]
