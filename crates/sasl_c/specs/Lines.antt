@@ -58,6 +58,7 @@ Finds lines name version line (Err status) =
 abbrev pub FindsInto : List ℕ → List ℕ → ℕ → ℕ → ℕ → Struct → Struct → Result (Unit {0}) Status → Type 0
 FindsInto lines name version line told before after (Ok done) = Finds lines name version 0 (Ok after) × (told ≡ line)
 FindsInto lines name version line told before after (Err status) = (after ≡ before)
+    × (status ≡ statuses.OutOfMemory → told ≡ line)
     × (status ≢ statuses.OutOfMemory → Finds lines name version told (Err status))
 
 -- the line of a user and of the record that a struct shows, or why there is none

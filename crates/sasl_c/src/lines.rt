@@ -107,6 +107,9 @@ fn find(
             Ok(())
         }
         Err(none) => {
+            if let Status::OutOfMemory = none.why {
+                return Err(Status::OutOfMemory);
+            }
             *line = none.line;
             Err(none.why)
         }
