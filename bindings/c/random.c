@@ -292,7 +292,7 @@ static void with_a_record(void)
 static void to_client(uint32_t mechanism, const struct fe2o3_sasl_client *side, struct text *came)
 {
     struct text body = {{0}, 0}, message;
-    uint8_t code = (uint8_t)(mechanism == FE2O3_SCRAM ? below(6) : 1 + below(4));
+    uint8_t code = (uint8_t)(mechanism != FE2O3_SCRAM ? 1 + below(4) : below(4) ? 0 : below(6));
     switch (side->connection.due) {
     case 0:
         ADD(came, "AMQP\3\1\0\0");
@@ -394,7 +394,7 @@ static void one_round(void)
     fill(nonce, sizeof nonce);
     all = drawn;
     login = (struct fe2o3_login){.version = below(4) ? drawn.keys.version : ONE_OF(1, 2, 256, 512),
-        .secret = below(4), .least_iterations = below(3), .most_iterations = 5 + below(4), .username = TEXT("user"),
+        .secret = below(2) ? 0 : below(4), .least_iterations = below(3), .most_iterations = 5 + below(4), .username = TEXT("user"),
         .password = TEXT("pencil"), .keys = &drawn.keys};
     with_a_client();
     with_a_server();
@@ -406,7 +406,7 @@ static void one_round(void)
 /* How often a call answered a status, which these structs have to come to. */
 static void reached(const char *name, uint32_t status)
 {
-    if (seen(name)->of[status] < 50) {
+    if (seen(name)->of[status] < 10) {
         printf("%s answered %u only %ld times\n", name, (unsigned)status, seen(name)->of[status]);
         differences++;
     }
