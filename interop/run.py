@@ -13,6 +13,7 @@ from __future__ import annotations
 import argparse
 import os
 import platform
+import signal
 import sys
 import tempfile
 import time
@@ -93,8 +94,8 @@ def recorded(cell: Cell, peer: Peer, side: Side) -> str:
 def wanted(cell: Cell) -> list[str]:
     """How the logins of a cell end, for our program and for the peer; or why there is none."""
     if cell.login is None:
-        return [f"none: {cell.reason}", ""]
-    return [cell.ends.ours, {None: "", True: "yes", False: "no"}[cell.ends.peer]]
+        return [f"none: {cell.reason}", "none"]
+    return [cell.ends.ours, {None: "not seen", True: "yes", False: "no"}[cell.ends.peer]]
 
 
 def run_peer(peer: Peer, ours: list[Side], told: argparse.Namespace) -> tuple[list[list[str]], bool]:
@@ -148,6 +149,8 @@ def main() -> int:
     words.add_argument("--built", type=Path, default=Path("build/interop"), help="the folder of our programs")
     words.add_argument("--proton", type=Path, help="the folder of a libqpid-proton-core that is built with Cyrus SASL")
     told = words.parse_args()
+    # (so that what was started is ended)
+    signal.signal(signal.SIGTERM, lambda *_: sys.exit(1))
     rows, versions, all_right = [], [], True
     with tempfile.TemporaryDirectory(prefix="interop-") as folder:
         os.chmod(folder, 0o755)
