@@ -280,9 +280,10 @@ class PostgreSql(Peer):
 
     def written(self, side: Side) -> Ending:
         """A record of ours, which the server is given."""
-        self.role(USER.name, side.record(MECHANISM, USER))
+        record = side.record(MECHANISM, USER)
+        self.role(USER.name, record)
         with ended_after(psql(self.port, USER.name, USER.password)) as client:
-            return Ending("", client.wait(PATIENCE) == 0)
+            return Ending(record.partition(":")[0], client.wait(PATIENCE) == 0)
 
     def cells(self) -> Iterator[Cell]:
         yield from self.our_clients()
@@ -335,4 +336,5 @@ class PostgreSql(Peer):
         yield cell("`rolpassword` read, the password", self.read(USER.password), Ending("verified: Done", None))
         yield cell("`rolpassword` read, another password", self.read("pencils"),
                    Ending("not verified: The password is not that of the record", None))
-        yield cell("`rolpassword` written, and a login of `psql`", self.written, Ending("", True))
+        yield cell("`rolpassword` written, and a login of `psql`", self.written,
+                   Ending(f"{MECHANISM}$4096", True))

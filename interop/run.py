@@ -13,6 +13,7 @@ from __future__ import annotations
 import argparse
 import os
 import platform
+import signal
 import sys
 import tempfile
 import time
@@ -93,8 +94,8 @@ def recorded(cell: Cell, peer: Peer, side: Side) -> str:
 def wanted(cell: Cell) -> list[str]:
     """How the logins of a cell end, for our program and for the peer; or why there is none."""
     if cell.login is None:
-        return [f"none: {cell.reason}", ""]
-    return [cell.ends.ours, {None: "", True: "yes", False: "no"}[cell.ends.peer]]
+        return [f"none: {cell.reason}", "none"]
+    return [cell.ends.ours, {None: "not seen", True: "yes", False: "no"}[cell.ends.peer]]
 
 
 def run_peer(peer: Peer, ours: list[Side], told: argparse.Namespace) -> tuple[list[list[str]], bool]:
@@ -138,7 +139,8 @@ def write_table(page: Path, text: str) -> None:
     page.write_text(f"{before}{MARK}\n\n{text}")
 
 
-def main() -> int:
+def given() -> argparse.Namespace:
+    """The words of the command line."""
     words = argparse.ArgumentParser(description=__doc__, formatter_class=argparse.RawDescriptionHelpFormatter)
     words.add_argument("--only", default="", help="this peer alone")
     words.add_argument("--what", default="", help="only the cells whose words have these in them")
@@ -147,29 +149,39 @@ def main() -> int:
     words.add_argument("--record", type=Path, help="a file to which rows of stored vectors are added")
     words.add_argument("--built", type=Path, default=Path("build/interop"), help="the folder of our programs")
     words.add_argument("--proton", type=Path, help="the folder of a libqpid-proton-core that is built with Cyrus SASL")
-    told = words.parse_args()
+    return words.parse_args()
+
+
+def visited(peer: Peer, ours: list[Side], told: argparse.Namespace, place: Path) -> tuple[str, list[list[str]], bool]:
+    """The line of a peer's version, its rows, and whether all are right."""
+    if peer.missing():
+        version = f"- {peer.name}: not here (Debian: {peer.package})"
+        print(version)
+        return version, [], True
+    version = f"- {peer.name} {peer.version()} (Debian: {peer.package})"
+    print(version)
+    place.mkdir()
+    try:
+        peer.start(place)
+        return version, *run_peer(peer, ours, told)
+    finally:
+        peer.stop()
+
+
+def main() -> int:
+    told = given()
+    # (so that what was started is ended)
+    signal.signal(signal.SIGTERM, lambda *_: sys.exit(1))
     rows, versions, all_right = [], [], True
     with tempfile.TemporaryDirectory(prefix="interop-") as folder:
         os.chmod(folder, 0o755)
         ours = sides(told.built.resolve(), Path(folder))
         for peer in peers(told.built.resolve(), told.proton):
-            if told.only.lower() not in peer.name.lower():
-                continue
-            if peer.missing():
-                versions.append(f"- {peer.name}: not here (Debian: {peer.package})")
-                print(versions[-1])
-                continue
-            versions.append(f"- {peer.name} {peer.version()} (Debian: {peer.package})")
-            print(versions[-1])
-            place = Path(folder) / type(peer).__name__
-            place.mkdir()
-            try:
-                peer.start(place)
-                found, right = run_peer(peer, ours, told)
-            finally:
-                peer.stop()
-            rows += found
-            all_right &= right
+            if told.only.lower() in peer.name.lower():
+                version, found, right = visited(peer, ours, told, Path(folder) / type(peer).__name__)
+                versions.append(version)
+                rows += found
+                all_right &= right
     text = table(rows, versions, [side.language for side in ours])
     print(f"\n{text}")
     if told.table:
