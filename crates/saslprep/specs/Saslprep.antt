@@ -49,15 +49,17 @@ abbrev pub first_unassigned : Unassigned → List ℕ → Option ℕ
 first_unassigned Allowed cs = None
 first_unassigned Refused cs = find is_unassigned cs
 
--- why a text is refused, if it is: the rules in the RFC's order. Unassigned code points are looked for in the text as
--- it came and in what it is prepared to.
-unfoldable pub refusal : Unassigned → List ℕ → Option SaslprepError
-refusal unassigned cs =
-    let out = prepared cs in
+-- why a text is refused that is prepared to `out`, if it is: the rules in the RFC's order. Unassigned code points are
+-- looked for in the text as it came and in what it is prepared to.
+unfoldable pub refusal_of : Unassigned → List ℕ → List ℕ → Option SaslprepError
+refusal_of unassigned cs out =
     let prohibited = option_map ProhibitedCharacter (find is_prohibited out) in
     let mixed = if has_one_direction out then None else Some MixedDirections in
     let unknown = option_map UnassignedCodePoint (first_unassigned unassigned (cs ++ out)) in
     option_or prohibited (option_or mixed unknown)
+
+abbrev pub refusal : Unassigned → List ℕ → Option SaslprepError
+refusal unassigned cs = refusal_of unassigned cs (prepared cs)
 
 -- each byte is printable ASCII
 abbrev pub IsPrintable : List ℕ → Type 0

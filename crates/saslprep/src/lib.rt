@@ -1,10 +1,11 @@
 //! SASLprep (RFC 4013): how user names and passwords are prepared before they are compared.
 #![tactic(auto)]
 
-ghost use Rattle.std.specs.Prelude.{◌≡◌, ◌≢◌, chars, encode_utf8_all, find, filter_map, MatchResult, IfOk, IfErr, Some, None};
+ghost use Rattle.std.specs.Prelude.{◌≡◌, ◌≢◌, ◌++◌, chars, encode_utf8_all, MatchResult, IfOk, IfErr, Some, None};
+ghost use Rattle.std.specs.List.{find};
 ghost use Rattle.std.specs.Str.{IsAscii};
 ghost use Rattle.std.specs.Cow.{cow_str_bytes, IsBorrowedStr};
-ghost use Rattle.saslprep.specs.Saslprep.{prepared, refusal, has_one_direction, is_prohibited, first_unassigned, IsPrintable};
+ghost use Rattle.saslprep.specs.Saslprep.{prepared, refusal, refusal_of, has_one_direction, is_unassigned, IsPrintable};
 
 pub use crate::error::SaslprepError;
 use std::alloc::{AllocError, Global};
@@ -46,8 +47,7 @@ pub fn saslprep(
         };
     }
     let out = prepare(alloc, text).map_err(|_| SaslprepError::OutOfMemory)?;
-    check_output(&out)?;
-    check_assigned(text, &out, unassigned)?;
+    check(text, &out, unassigned)?;
     match out.iter().copied().collect(alloc) {
         Ok(out) => Ok(CowStr::Owned(out)),
         Err(AllocError) => Err(SaslprepError::OutOfMemory),
@@ -64,9 +64,11 @@ fn prepare(alloc: Global, text: &str) -> Result<Vec<char>, AllocError>
     Ok(out)
 }
 
-/// The rules on the prepared text: nothing prohibited in it, and one direction.
-fn check_output(out: &[char]) -> Result<(), SaslprepError>
-    ensures ok { IfOk result (λ _. (find is_prohibited out.now ≡ None) × (has_one_direction out.now ≡ true)) }
+/// The rules on `text`, which is prepared to `out`.
+fn check(text: &str, out: &[char], unassigned: Unassigned) -> Result<(), SaslprepError>
+    ensures { MatchResult result
+        (λ _. refusal_of unassigned (chars text.now) out.now ≡ None)
+        (λ error. refusal_of unassigned (chars text.now) out.now ≡ Some error) }
 {
     if let Some(c) = out.iter().copied().find(|c| tables::is_prohibited(*c)) {
         return Err(SaslprepError::ProhibitedCharacter(c));
@@ -74,5 +76,33 @@ fn check_output(out: &[char]) -> Result<(), SaslprepError>
     if !has_one_direction(out) {
         return Err(SaslprepError::MixedDirections);
     }
-    Ok(())
+    match unassigned {
+        Unassigned::Allowed => Ok(()),
+        Unassigned::Refused => match first_unassigned(text, out) {
+            Some(c) => Err(SaslprepError::UnassignedCodePoint(c)),
+            None => Ok(()),
+        },
+    }
+}
+
+/// Whether the text is of left-to-right characters, or of right-to-left ones from end to end.
+fn has_one_direction(text: &[char]) -> bool
+    ensures { result ≡ has_one_direction text.now }
+{
+    if !text.iter().any(|c| tables::is_right_to_left(*c)) {
+        return true;
+    }
+    !text.iter().any(|c| tables::is_left_to_right(*c))
+        && text.first().is_some_and(|c| tables::is_right_to_left(*c))
+        && text.last().is_some_and(|c| tables::is_right_to_left(*c))
+}
+
+/// The first code point of the text or of what it is prepared to that Unicode 3.2 does not assign.
+fn first_unassigned(text: &str, out: &[char]) -> Option<char>
+    ensures { result ≡ find is_unassigned (chars text.now ++ out.now) }
+{
+    if let Some(c) = text.chars().find(|c| tables::is_unassigned(*c)) {
+        return Some(c);
+    }
+    out.iter().copied().find(|c| tables::is_unassigned(*c))
 }
