@@ -1,11 +1,12 @@
 //! SASLprep (RFC 4013): how user names and passwords are prepared before they are compared.
 #![tactic(auto)]
 
-ghost use Rattle.std.specs.Prelude.{◌≡◌, ◌≢◌, ◌++◌, chars, encode_utf8_all, MatchResult, IfOk, IfErr, Some, None};
-ghost use Rattle.std.specs.List.{find};
+ghost use Rattle.std.specs.Prelude.{◌≡◌, ◌≢◌, ◌++◌, chars, string_bytes, encode_utf8_all, false, MatchResult, IfOk, IfErr, Some, None};
+ghost use Rattle.std.specs.List.{find, filter_map, list_any};
+ghost use Rattle.std.specs.Option.{option_map_or};
 ghost use Rattle.std.specs.Str.{IsAscii};
 ghost use Rattle.std.specs.Cow.{cow_str_bytes, IsBorrowedStr};
-ghost use Rattle.saslprep.specs.Saslprep.{prepared, refusal, refusal_of, has_one_direction, is_unassigned, IsPrintable};
+ghost use Rattle.saslprep.specs.Saslprep.{mapping, prepared, refusal, refusal_of, has_one_direction, first_unassigned, is_prohibited, is_right_to_left, is_left_to_right, is_unassigned, IsPrintable};
 
 pub use crate::error::SaslprepError;
 use std::alloc::{AllocError, Global};
@@ -41,27 +42,37 @@ pub fn saslprep(
         (λ error. ¬ IsPrintable text.now × (error ≢ SaslprepError.OutOfMemory)) }
 {
     if text.is_ascii() {
-        return match text.chars().find(|c| tables::is_prohibited(*c)) {
+        return match prohibited_of_text(text) {
             Some(c) => Err(SaslprepError::ProhibitedCharacter(c)),
             None => Ok(CowStr::Borrowed(text)),
         };
     }
     let out = prepare(alloc, text).map_err(|_| SaslprepError::OutOfMemory)?;
     check(text, &out, unassigned)?;
-    match out.iter().copied().collect(alloc) {
-        Ok(out) => Ok(CowStr::Owned(out)),
-        Err(AllocError) => Err(SaslprepError::OutOfMemory),
-    }
+    let out = text_of(alloc, &out).map_err(|_| SaslprepError::OutOfMemory)?;
+    Ok(CowStr::Owned(out))
 }
 
 /// The text mapped and normalized.
 fn prepare(alloc: Global, text: &str) -> Result<Vec<char>, AllocError>
     ensures { IfOk result (λ out. out.items ≡ prepared (chars text.now)) }
 {
-    let mapped: Vec<char> = text.chars().filter_map(tables::mapped).collect(alloc)?;
+    let mapped = map(alloc, text)?;
     let mut out = Vec::new(alloc);
     slice::extend_nfkc(&mut out, &mapped)?;
     Ok(out)
+}
+
+fn map(alloc: Global, text: &str) -> Result<Vec<char>, AllocError>
+    ensures { IfOk result (λ mapped. mapped.items ≡ filter_map mapping (chars text.now)) }
+{
+    text.chars().filter_map(tables::mapped).collect(alloc)
+}
+
+fn text_of(alloc: Global, out: &[char]) -> Result<String, AllocError>
+    ensures { IfOk result (λ text. string_bytes text ≡ encode_utf8_all out.now) }
+{
+    out.iter().copied().collect(alloc)
 }
 
 /// The rules on `text`, which is prepared to `out`.
@@ -70,39 +81,80 @@ fn check(text: &str, out: &[char], unassigned: Unassigned) -> Result<(), Saslpre
         (λ _. refusal_of unassigned (chars text.now) out.now ≡ None)
         (λ error. refusal_of unassigned (chars text.now) out.now ≡ Some error) }
 {
-    if let Some(c) = out.iter().copied().find(|c| tables::is_prohibited(*c)) {
+    if let Some(c) = first_prohibited(out) {
         return Err(SaslprepError::ProhibitedCharacter(c));
     }
     if !has_one_direction(out) {
         return Err(SaslprepError::MixedDirections);
     }
-    match unassigned {
-        Unassigned::Allowed => Ok(()),
-        Unassigned::Refused => match first_unassigned(text, out) {
-            Some(c) => Err(SaslprepError::UnassignedCodePoint(c)),
-            None => Ok(()),
-        },
+    match first_unassigned(text, out, unassigned) {
+        Some(c) => Err(SaslprepError::UnassignedCodePoint(c)),
+        None => Ok(()),
     }
 }
 
-/// Whether the text is of left-to-right characters, or of right-to-left ones from end to end.
+fn prohibited_of_text(text: &str) -> Option<char>
+    ensures { result ≡ find is_prohibited (chars text.now) }
+{
+    text.chars().find(|c| tables::is_prohibited(*c))
+}
+
+fn first_prohibited(out: &[char]) -> Option<char>
+    ensures { result ≡ find is_prohibited out.now }
+{
+    out.iter().copied().find(|c| tables::is_prohibited(*c))
+}
+
+/// The first code point of the text or of what it is prepared to that is refused as unassigned.
+fn first_unassigned(text: &str, out: &[char], unassigned: Unassigned) -> Option<char>
+    ensures { result ≡ first_unassigned unassigned (chars text.now ++ out.now) }
+{
+    match unassigned {
+        Unassigned::Allowed => None,
+        Unassigned::Refused => unassigned_of_text(text).or(unassigned_of(out)),
+    }
+}
+
+fn unassigned_of_text(text: &str) -> Option<char>
+    ensures { result ≡ find is_unassigned (chars text.now) }
+{
+    text.chars().find(|c| tables::is_unassigned(*c))
+}
+
+fn unassigned_of(out: &[char]) -> Option<char>
+    ensures { result ≡ find is_unassigned out.now }
+{
+    out.iter().copied().find(|c| tables::is_unassigned(*c))
+}
+
+/// Whether the text has no right-to-left character, or no left-to-right one and right-to-left ones
+/// at both its ends.
 fn has_one_direction(text: &[char]) -> bool
     ensures { result ≡ has_one_direction text.now }
 {
-    if !text.iter().any(|c| tables::is_right_to_left(*c)) {
+    if !has_right_to_left(text) {
         return true;
     }
-    !text.iter().any(|c| tables::is_left_to_right(*c))
-        && text.first().is_some_and(|c| tables::is_right_to_left(*c))
-        && text.last().is_some_and(|c| tables::is_right_to_left(*c))
+    if has_left_to_right(text) {
+        return false;
+    }
+    is_right_to_left(text.first().copied()) && is_right_to_left(text.last().copied())
 }
 
-/// The first code point of the text or of what it is prepared to that Unicode 3.2 does not assign.
-fn first_unassigned(text: &str, out: &[char]) -> Option<char>
-    ensures { result ≡ find is_unassigned (chars text.now ++ out.now) }
+fn has_right_to_left(text: &[char]) -> bool
+    ensures { result ≡ list_any is_right_to_left text.now }
 {
-    if let Some(c) = text.chars().find(|c| tables::is_unassigned(*c)) {
-        return Some(c);
-    }
-    out.iter().copied().find(|c| tables::is_unassigned(*c))
+    text.iter().any(|c| tables::is_right_to_left(*c))
+}
+
+fn has_left_to_right(text: &[char]) -> bool
+    ensures { result ≡ list_any is_left_to_right text.now }
+{
+    text.iter().any(|c| tables::is_left_to_right(*c))
+}
+
+fn is_right_to_left(end: Option<char>) -> bool
+    ensures { result ≡ option_map_or is_right_to_left end false }
+{
+    end.is_some_and(tables::is_right_to_left)
 }
