@@ -79,23 +79,23 @@ find-none p [] all = refl
 find-none p (c ∷ cs) all =
     let fails : p c ≡ false = all zero 0 (suc-le-suc zero-le) in rw fails (find-none p cs (tail_of (λ c. p c ≡ false) c cs all))
 
+All-cons : (p : ℕ → Bool) (c : ℕ) (cs : List ℕ) → p c ≡ false → All (λ c. p c ≡ false) cs → All (λ c. p c ≡ false) (c ∷ cs)
+All-cons p c cs fails all zero d lt = fails
+All-cons p c cs fails all (suc k) d lt = all k d (le_of_suc-le-suc lt)
+
 pub All-find : (p : ℕ → Bool) (cs : List ℕ) → find p cs ≡ None → All (λ c. p c ≡ false) cs
-All-find p [] none k d lt = absurd (not-suc-le-zero lt)
-All-find p (c ∷ cs) none k d lt =
+All-find p [] none = λ k d lt. absurd (not-suc-le-zero lt)
+All-find p (c ∷ cs) none =
     elim (cases_Bool (p c)) [
       | inl passes ↦ let clash : Some c ≡ None = sym (ap (λ b. cond b (Some c) (find p cs)) passes) ∙ none in absurd (cc)
-      | inr fails ↦ at p c cs fails (sym (ap (λ b. cond b (Some c) (find p cs)) fails) ∙ none) k d lt
+      | inr fails ↦ All-cons p c cs fails (All-find p cs (sym (ap (λ b. cond b (Some c) (find p cs)) fails) ∙ none))
     ]
-  where
-    at : (p : ℕ → Bool) (c : ℕ) (cs : List ℕ) → p c ≡ false → find p cs ≡ None → All (λ c. p c ≡ false) (c ∷ cs)
-    at p c cs fails none zero d lt = fails
-    at p c cs fails none (suc k) d lt = All-find p cs none k d (le_of_suc-le-suc lt)
 
 first_unassigned-ascii : (u : Unassigned) (cs : List ℕ) → All (λ c. c < 128) cs → first_unassigned u (cs ++ cs) ≡ None
 first_unassigned-ascii Allowed cs all = refl
 first_unassigned-ascii Refused cs all =
     let none : find is_unassigned cs ≡ None = find-none is_unassigned cs (λ k d lt. assigned _ (all k d lt)) in
-    rw (find-append is_unassigned cs cs, none) none
+    rw (find-append is_unassigned cs cs, none) refl
 
 or-None : (o : Option SaslprepError) → option_or o None ≡ o
 or-None None = refl
