@@ -1,2 +1,3 @@
 pub mod AsciiLemmas
+pub mod KeptLemmas
 pub mod TableLemmas

@@ -14,6 +14,7 @@ use std::borrow::CowStr;
 use unicode_normalization::slice;
 
 mod error;
+pub mod laws;
 mod table_runs;
 mod tables;
 
