@@ -24,12 +24,10 @@ DATA = os.path.join(ROOT, "crates", "saslprep_vectors", "data")
 OLD = unicodedata.ucd_3_2_0
 CODE_POINTS = [c for c in range(0x110000) if not 0xD800 <= c < 0xE000]
 
-# What Unicode decomposes since the version that this Python knows, 14: no answer from outside is at hand, but that it is
-# another than in Unicode 3.2.
+# What Unicode since the version that this Python knows, 14, changes by NFKC: no answer from outside is at hand, but that
+# it is another than in Unicode 3.2.
 LATER = [
-    (0x0558, 0x0558), (0x058B, 0x058C), (0x209D, 0x209F), (0xA7F1, 0xA7F1), (0x105C9, 0x105C9), (0x105E4, 0x105E4),
-    (0x107BB, 0x107BF), (0x11383, 0x11383), (0x11385, 0x11385), (0x1138E, 0x1138E), (0x11391, 0x11391),
-    (0x113C5, 0x113C5), (0x113C7, 0x113C8), (0x16121, 0x16128), (0x16D68, 0x16D6A), (0x1B123, 0x1B126),
+    (0x0558, 0x0558), (0x058B, 0x058C), (0x209D, 0x209F), (0xA7F1, 0xA7F1), (0x107BB, 0x107BF), (0x1B123, 0x1B126),
     (0x1CCD6, 0x1CCF9), (0x1D6A6, 0x1D6A6), (0x1DF95, 0x1DF95), (0x1DFCD, 0x1DFFF), (0x1E030, 0x1E06D),
 ]
 
@@ -121,6 +119,10 @@ def changed(text):
     return new if new != OLD.normalize("NFKC", text) else None
 
 
+# The code points that Unicode 3.2 assigns and whose normal form was corrected since.
+CORRECTED = [c for c in CODE_POINTS if not stringprep.in_table_a1(chr(c)) and changed(chr(c))]
+
+
 def code_points():
     """The rows of single code points."""
     text = [
@@ -128,11 +130,14 @@ def code_points():
         "#     FIRST-LAST => ANSWER",
         "# where the answer is `kept`, `prohibited`, `mixed`, `nothing`, what the text is prepared to, or `unassigned`:",
         "# refused in stored texts, and kept in queries. `unassigned, changed` are those that a later Unicode decomposes, so",
-        "# that a query is changed (differences.txt). Written by tools/saslprep/answers.py.",
+        "# that a query is changed; those and five others, which are left out here, stand in differences.txt. Written by",
+        "# tools/saslprep/answers.py.",
         "",
     ]
     rows = []
     for c in CODE_POINTS:
+        if c in CORRECTED:
+            continue
         stored, query = agreed(chr(c), True), agreed(chr(c), False)
         if stored is None or query is None:
             sys.exit(f"U+{c:04X} is answered in two ways")
@@ -162,8 +167,7 @@ def differences():
         "",
         "# Assigned in Unicode 3.2, corrected since (Corrigendum 4)",
     ]
-    assigned = [c for c in CODE_POINTS if not stringprep.in_table_a1(chr(c)) and changed(chr(c))]
-    for c in assigned:
+    for c in CORRECTED:
         text.append(f"{c:04X} stored, not {word_of(chr(c), agreed(chr(c), True))} => {points(changed(chr(c)))}")
     text += ["", "# Sequences that GNU libidn composes and the others do not (Corrigendum 5)"]
     for sequence in ["\u0B47\u0300\u0B3E", "\u1100\u0300\u1161", "\u1100\u0323\u1161", "\u1025\u0300\u102E"]:
