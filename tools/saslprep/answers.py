@@ -119,6 +119,11 @@ def changed(text):
     return new if new != OLD.normalize("NFKC", text) else None
 
 
+def is_later(c):
+    """Whether a later Unicode than this Python knows changes the code point."""
+    return any(first <= c <= last for first, last in LATER)
+
+
 # The code points that Unicode 3.2 assigns and whose normal form was corrected since.
 CORRECTED = [c for c in CODE_POINTS if not stringprep.in_table_a1(chr(c)) and changed(chr(c))]
 
@@ -145,7 +150,7 @@ def code_points():
         asked = word_of(chr(c), query).split(" ")[0]
         if asked != ("kept" if word == "unassigned" else word):
             sys.exit(f"U+{c:04X} is {word} and {asked}")
-        if word == "unassigned" and (changed(chr(c)) or any(first <= c <= last for first, last in LATER)):
+        if word == "unassigned" and (changed(chr(c)) or is_later(c)):
             word = "unassigned, changed"
         if rows and rows[-1][2] == word and rows[-1][1] + 1 in (c, 0xD800) and word.islower():
             rows[-1][1] = c
@@ -221,8 +226,7 @@ def texts():
             made = "".join(chr(letter()) for _ in range(chance.randint(2, 6)))
             refused = chance.random() < 0.7
             answer = agreed(made, refused)
-            prepared = OLD.normalize("NFKC", made)
-            if answer is not None and not changed(made) and not changed(prepared):
+            if answer is not None and not changed(made) and not any(is_later(ord(c)) for c in made):
                 rows.add(f"{points(made)} {'stored' if refused else 'query'} => {word_of(made, answer)}")
         text += sorted(rows)
     return "\n".join(text) + "\n"
