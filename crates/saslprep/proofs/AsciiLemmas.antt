@@ -1,11 +1,10 @@
 -- SASLprep on ASCII: printable characters stay, and controls are refused.
-use Rattle.std.proofs.Common.{◌≡◌, ◌≢◌, ℕ, zero, suc, ◌<◌, ◌≤◌, Bool, true, false, not, ◌&&◌, ◌||◌, nat_le, nat_lt, List, [], ◌∷◌, ◌++◌, length, get_or, All, Option, Some, None, refl, sym, ap, ap₂, ◌∙◌, arith, cond, chars, encode_utf8, encode_utf8_all, inl, inr, not-suc-le-zero, le_of_suc-le-suc, suc-le-suc, zero-le}
-use Rattle.std.proofs.lemmas.Bool.{not-true, and_parts, cases_Bool}
+use Rattle.std.proofs.Common.{◌≡◌, ℕ, zero, ◌<◌, ◌≤◌, Bool, true, false, not, ◌&&◌, nat_le, List, [], ◌∷◌, ◌++◌, All, Option, Some, None, refl, sym, ap, ◌∙◌, arith, chars, encode_utf8, encode_utf8_all, suc-le-suc, zero-le}
+use Rattle.std.proofs.lemmas.Bool.{not-true}
 use Rattle.std.proofs.lemmas.Bool.Decides.{nat_tests}
-use Rattle.std.proofs.lemmas.List.Folds.{find-append, list_any_none}
+use Rattle.std.proofs.lemmas.List.Folds.{list_any_none}
 use Rattle.std.proofs.lemmas.Str.{chars-IsAscii, encode_ascii}
 use Rattle.std.proofs.lemmas.Str.Ascii.{All-from_ascii}
-use Rattle.unicode_normalization.proofs.ComposeLemmas.{cases_Option}
 use Rattle.std.specs.Bool.{beq}
 use Rattle.std.specs.List.{find, filter_map, list_any}
 use Rattle.std.specs.Option.{option_map, option_or}
@@ -20,6 +19,7 @@ use Rattle.saslprep.specs.declared.error.SaslprepError.TheVariants.{ProhibitedCh
 use Rattle.saslprep.specs.declared.Unassigned.{Unassigned}
 use Rattle.saslprep.specs.declared.Unassigned.TheVariants.{Allowed, Refused}
 use Rattle.saslprep.specs.Saslprep.{mapping, prepared, is_prohibited, is_right_to_left, is_unassigned, has_one_direction, first_unassigned, refusal, refusal_of, IsPrintable}
+use Rattle.saslprep.proofs.ListLemmas.{find_either, find-none, All-find, tail_of}
 use Rattle.saslprep.specs.Tables.{b_1, c_1_2}
 use Rattle.saslprep.proofs.TableLemmas.{spaces_stepped, nothing_stepped, union_stepped, is_prohibited_stepped, is_right_to_left_stepped, is_unassigned_stepped}
 
@@ -55,9 +55,6 @@ mapping-ascii c lt =
     let some : in_ranges b_1 c ≡ false = not_nothing c lt in
     rw (none, some) refl
 
-abbrev tail_of : (P : ℕ → Type 0) (x : ℕ) (xs : List ℕ) → All P (x ∷ xs) → All P xs
-tail_of P x xs all = λ k d lt. all (suc k) d (suc-le-suc lt)
-
 filter_map-ascii : (cs : List ℕ) → All (λ c. c < 128) cs → filter_map mapping cs ≡ cs
 filter_map-ascii [] all = refl
 filter_map-ascii (c ∷ cs) all =
@@ -74,28 +71,11 @@ one_direction-ascii cs all =
     let none : list_any is_right_to_left cs ≡ false = list_any_none is_right_to_left cs (λ k d lt. not_right_to_left _ (all k d lt)) in
     rw none refl
 
-pub find-none : (p : ℕ → Bool) (cs : List ℕ) → All (λ c. p c ≡ false) cs → find p cs ≡ None
-find-none p [] all = refl
-find-none p (c ∷ cs) all =
-    let fails : p c ≡ false = all zero 0 (suc-le-suc zero-le) in rw fails (find-none p cs (tail_of (λ c. p c ≡ false) c cs all))
-
-All-cons : (p : ℕ → Bool) (c : ℕ) (cs : List ℕ) → p c ≡ false → All (λ c. p c ≡ false) cs → All (λ c. p c ≡ false) (c ∷ cs)
-All-cons p c cs fails all zero d lt = fails
-All-cons p c cs fails all (suc k) d lt = all k d (le_of_suc-le-suc lt)
-
-pub All-find : (p : ℕ → Bool) (cs : List ℕ) → find p cs ≡ None → All (λ c. p c ≡ false) cs
-All-find p [] none = λ k d lt. absurd (not-suc-le-zero lt)
-All-find p (c ∷ cs) none =
-    elim (cases_Bool (p c)) [
-      | inl passes ↦ let clash : Some c ≡ None = sym (ap (λ b. cond b (Some c) (find p cs)) passes) ∙ none in absurd (cc)
-      | inr fails ↦ All-cons p c cs fails (All-find p cs (sym (ap (λ b. cond b (Some c) (find p cs)) fails) ∙ none))
-    ]
-
 first_unassigned-ascii : (u : Unassigned) (cs : List ℕ) → All (λ c. c < 128) cs → first_unassigned u (cs ++ cs) ≡ None
 first_unassigned-ascii Allowed cs all = refl
 first_unassigned-ascii Refused cs all =
     let none : find is_unassigned cs ≡ None = find-none is_unassigned cs (λ k d lt. assigned _ (all k d lt)) in
-    rw (find-append is_unassigned cs cs, none) refl
+    rw (find_either is_unassigned cs cs, none) refl
 
 or-None : (o : Option SaslprepError) → option_or o None ≡ o
 or-None None = refl

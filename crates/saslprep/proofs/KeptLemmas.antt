@@ -1,9 +1,8 @@
 -- What is prepared is accepted again, and prepared to itself: normalization brings back nothing that the mapping took
 -- out.
-use Rattle.std.proofs.Common.{◌≡◌, ◌≢◌, ℕ, zero, suc, ◌+◌, ◌-◌, ◌*◌, ◌/◌, ◌%◌, ◌<◌, ◌≤◌, Bool, true, false, not, ◌&&◌, ◌||◌, ◌==◌, nat_le, nat_lt, List, [], ◌∷◌, ◌++◌, All, Option, Some, None, if◌then◌else◌, refl, sym, ap, ◌∙◌, arith, inl, inr, cond, suc-le-suc, zero-le}
+use Rattle.std.proofs.Common.{◌≡◌, ℕ, zero, suc, ◌+◌, ◌-◌, ◌/◌, ◌%◌, ◌≤◌, Bool, true, false, not, ◌&&◌, ◌||◌, nat_lt, List, [], ◌∷◌, ◌++◌, All, Option, Some, None, if◌then◌else◌, refl, sym, ap, ◌∙◌, arith, inl, inr, suc-le-suc, zero-le}
 use Rattle.std.proofs.lemmas.Bool.{and_parts, and_from, cases_Bool, cases_eq, not-true, not_from_false}
 use Rattle.std.proofs.lemmas.Bool.Decides.{nat_tests}
-use Rattle.std.proofs.lemmas.List.Folds.{find-append}
 use Rattle.std.specs.List.{find, filter_map, list_all}
 use Rattle.std.specs.Option.{option_map, option_or}
 use Rattle.ucd_normal.specs.declared.forms.Form.TheVariants.{Nfd, Nfkc}
@@ -11,7 +10,6 @@ use Rattle.ucd_normal.specs.CanonicalCombiningClass.{canonical_combining_class}
 use Rattle.ucd_normal.specs.Binary.{is_full_composition_exclusion}
 use Rattle.ucd_normal.specs.Compositions.{compositions}
 use Rattle.ucd_normal.specs.Decomposition.{decomposition, expand}
-use Rattle.ucd_normal.specs.QuickCheck.{quick_check}
 use Rattle.ucd_normal.proofs.CompositionLemmas.{is_empty}
 use Rattle.ucd_normal.proofs.DecompositionLemmas.{decomposition_stepped}
 use Rattle.ucd_table.specs.Rows.{in_ranges}
@@ -33,7 +31,7 @@ use Rattle.saslprep.specs.declared.Unassigned.{Unassigned}
 use Rattle.saslprep.specs.declared.Unassigned.TheVariants.{Allowed, Refused}
 use Rattle.saslprep.specs.Saslprep.{mapping, prepared, is_prohibited, is_unassigned, has_one_direction, first_unassigned, refusal, refusal_of}
 use Rattle.saslprep.specs.Tables.{b_1, c_1_2}
-use Rattle.saslprep.proofs.AsciiLemmas.{All-find}
+use Rattle.saslprep.proofs.ListLemmas.{All-find, find_either}
 use Rattle.saslprep.proofs.TableLemmas.{nothing_stepped}
 
 -- the character is not one of those that are mapped to nothing
@@ -222,8 +220,8 @@ none-from_Passes u cs out h =
 known-again : (u : Unassigned) (cs out : List ℕ) → first_unassigned u (cs ++ out) ≡ None → first_unassigned u (out ++ out) ≡ None
 known-again Allowed cs out h = refl
 known-again Refused cs out h =
-    let none : find is_unassigned out ≡ None = or-None_numbers _ _ (sym (find-append is_unassigned cs out) ∙ h) in
-    rw (find-append is_unassigned out out, none) refl
+    let none : find is_unassigned out ≡ None = or-None_numbers _ _ (sym (find_either is_unassigned cs out) ∙ h) in
+    rw (find_either is_unassigned out out, none) refl
 
 nfkc-prepared : (cs : List ℕ) → normalize Nfkc (prepared cs) ≡ prepared cs
 unfolding prepared

@@ -1,3 +1,4 @@
 pub mod AsciiLemmas
 pub mod KeptLemmas
+pub mod ListLemmas
 pub mod TableLemmas

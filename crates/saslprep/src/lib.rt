@@ -55,6 +55,7 @@ pub fn saslprep(
 }
 
 /// The text mapped and normalized.
+#[tactic(auto, unfolding(crate::specs::Saslprep::prepared))]
 fn prepare(alloc: Global, text: &str) -> Result<Vec<char>, AllocError>
     ensures { IfOk result (λ out. out.items ≡ prepared (chars text.now)) }
 {
@@ -77,6 +78,7 @@ fn text_of(alloc: Global, out: &[char]) -> Result<String, AllocError>
 }
 
 /// The rules on `text`, which is prepared to `out`.
+#[tactic(auto, unfolding(crate::specs::Saslprep::refusal_of))]
 fn check(text: &str, out: &[char], unassigned: Unassigned) -> Result<(), SaslprepError>
     ensures { MatchResult result
         (λ _. refusal_of unassigned (chars text.now) out.now ≡ None)
@@ -107,6 +109,7 @@ fn first_prohibited(out: &[char]) -> Option<char>
 }
 
 /// The first code point of the text or of what it is prepared to that is refused as unassigned.
+#[tactic(auto, using(crate::proofs::ListLemmas::find_either))]
 fn first_unassigned(text: &str, out: &[char], unassigned: Unassigned) -> Option<char>
     ensures { result ≡ first_unassigned unassigned (chars text.now ++ out.now) }
 {
@@ -130,6 +133,7 @@ fn unassigned_of(out: &[char]) -> Option<char>
 
 /// Whether the text has no right-to-left character, or no left-to-right one and right-to-left ones
 /// at both its ends.
+#[tactic(auto, unfolding(crate::specs::Saslprep::has_one_direction))]
 fn has_one_direction(text: &[char]) -> bool
     ensures { result ≡ has_one_direction text.now }
 {

@@ -1,4 +1,4 @@
-use Rattle.std.proofs.Common.{◌≡◌, sym, ap, ◌∙◌, Some, None, refl}
+use Rattle.std.proofs.Common.{sym, ap, ◌∙◌, refl}
 use Rattle.std.specs.Option.{option_map}
 use Rattle.saslprep.specs.declared.error.SaslprepError.TheVariants.{ProhibitedCharacter}
 use Rattle.saslprep.proofs.AsciiLemmas.{refusal-of_ascii, value-of_ascii, printable-of_ascii, not_printable-of_ascii}
