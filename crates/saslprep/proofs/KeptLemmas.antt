@@ -32,6 +32,7 @@ use Rattle.saslprep.specs.declared.Unassigned.TheVariants.{Allowed, Refused}
 use Rattle.saslprep.specs.Saslprep.{mapping, prepared, is_prohibited, is_unassigned, has_one_direction, first_unassigned, refusal, refusal_of}
 use Rattle.saslprep.specs.Tables.{b_1, c_1_2}
 use Rattle.saslprep.proofs.ListLemmas.{All-find, find_either}
+use Rattle.saslprep.proofs.RuleLemmas.{Passes, Passes-from_none, none-from_Passes, or-None_numbers}
 use Rattle.saslprep.proofs.TableLemmas.{nothing_stepped}
 
 -- the character is not one of those that are mapped to nothing
@@ -179,43 +180,6 @@ filter_map-kept (c ∷ cs) clean stay =
     rw kept (ap (λ l. c ∷ l) (filter_map-kept cs (λ k d lt. clean (suc k) d (suc-le-suc lt)) parts.1))
 
 -- ---- the rules
-
-pub record Passes (u : Unassigned) (cs out : List ℕ) : Type 0 where
-  pub clean : find is_prohibited out ≡ None
-  pub straight : has_one_direction out ≡ true
-  pub known : first_unassigned u (cs ++ out) ≡ None
-
-or-None_parts : (a b : Option SaslprepError) → option_or a b ≡ None → (a ≡ None) × (b ≡ None)
-or-None_parts None b h = (refl, h)
-or-None_parts (Some x) b h = absurd (cc)
-
-or-None_numbers : (a b : Option ℕ) → option_or a b ≡ None → b ≡ None
-or-None_numbers None b h = h
-or-None_numbers (Some x) b h = absurd (cc)
-
-map-None : (f : ℕ → SaslprepError) (o : Option ℕ) → option_map f o ≡ None → o ≡ None
-map-None f None h = refl
-map-None f (Some x) h = absurd (cc)
-
-straight-from_none : (b : Bool) → (if b then None else Some MixedDirections) ≡ None → b ≡ true
-straight-from_none true h = refl
-straight-from_none false h = absurd (cc)
-
-pub Passes-from_none : (u : Unassigned) (cs out : List ℕ) → refusal_of u cs out ≡ None → Passes u cs out
-unfolding refusal_of
-Passes-from_none u cs out h =
-    let first = or-None_parts _ _ h in
-    let second = or-None_parts _ _ first.1 in
-    record {
-      clean = map-None ProhibitedCharacter _ first.0;
-      straight = straight-from_none _ second.0;
-      known = map-None UnassignedCodePoint _ second.1;
-    }
-
-none-from_Passes : (u : Unassigned) (cs out : List ℕ) → Passes u cs out → refusal_of u cs out ≡ None
-unfolding refusal_of
-none-from_Passes u cs out h =
-    let clean = h.clean in let straight = h.straight in let known = h.known in rw (clean, straight, known) refl
 
 known-again : (u : Unassigned) (cs out : List ℕ) → first_unassigned u (cs ++ out) ≡ None → first_unassigned u (out ++ out) ≡ None
 known-again Allowed cs out h = refl

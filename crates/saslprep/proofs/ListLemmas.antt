@@ -16,7 +16,7 @@ find-none p [] all = refl
 find-none p (c ∷ cs) all =
     let fails : p c ≡ false = all zero 0 (suc-le-suc zero-le) in rw fails (find-none p cs (tail_of (λ c. p c ≡ false) c cs all))
 
-All-cons : (p : ℕ → Bool) (c : ℕ) (cs : List ℕ) → p c ≡ false → All (λ c. p c ≡ false) cs → All (λ c. p c ≡ false) (c ∷ cs)
+pub All-cons : (p : ℕ → Bool) (c : ℕ) (cs : List ℕ) → p c ≡ false → All (λ c. p c ≡ false) cs → All (λ c. p c ≡ false) (c ∷ cs)
 All-cons p c cs fails all zero d lt = fails
 All-cons p c cs fails all (suc k) d lt = all k d (le_of_suc-le-suc lt)
 
