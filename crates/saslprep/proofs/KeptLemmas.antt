@@ -1,10 +1,9 @@
 -- What is prepared is accepted again, and prepared to itself: normalization brings back nothing that the mapping took
 -- out.
-use Rattle.std.proofs.Common.{◌≡◌, ℕ, zero, suc, ◌+◌, ◌-◌, ◌/◌, ◌%◌, ◌≤◌, Bool, true, false, not, ◌&&◌, ◌||◌, nat_lt, List, [], ◌∷◌, ◌++◌, All, Option, Some, None, if◌then◌else◌, refl, sym, ap, ◌∙◌, arith, inl, inr, suc-le-suc, zero-le}
+use Rattle.std.proofs.Common.{◌≡◌, ℕ, zero, suc, ◌+◌, ◌-◌, ◌/◌, ◌%◌, ◌≤◌, Bool, true, false, not, ◌&&◌, ◌||◌, nat_lt, List, [], ◌∷◌, ◌++◌, All, Some, None, refl, sym, ap, ◌∙◌, arith, inl, inr, suc-le-suc, zero-le}
 use Rattle.std.proofs.lemmas.Bool.{and_parts, and_from, cases_Bool, cases_eq, not-true, not_from_false}
 use Rattle.std.proofs.lemmas.Bool.Decides.{nat_tests}
 use Rattle.std.specs.List.{find, filter_map, list_all}
-use Rattle.std.specs.Option.{option_map, option_or}
 use Rattle.ucd_normal.specs.declared.forms.Form.TheVariants.{Nfd, Nfkc}
 use Rattle.ucd_normal.specs.CanonicalCombiningClass.{canonical_combining_class}
 use Rattle.ucd_normal.specs.Binary.{is_full_composition_exclusion}
@@ -25,11 +24,9 @@ use Rattle.unicode_normalization.proofs.FormsLemmas.{normalize_idem}
 use Rattle.unicode_normalization.proofs.HangulLemmas.{decompose_hangul-two, decompose_hangul-three, is_among-true}
 use Rattle.unicode_normalization.proofs.KeptLemmas.{list_all-normalize}
 use Rattle.unicode_normalization.proofs.TableFacts.{Tables, Entry, pick, full, by_rows}
-use Rattle.saslprep.specs.declared.error.SaslprepError.{SaslprepError}
-use Rattle.saslprep.specs.declared.error.SaslprepError.TheVariants.{ProhibitedCharacter, MixedDirections, UnassignedCodePoint}
 use Rattle.saslprep.specs.declared.Unassigned.{Unassigned}
 use Rattle.saslprep.specs.declared.Unassigned.TheVariants.{Allowed, Refused}
-use Rattle.saslprep.specs.Saslprep.{mapping, prepared, is_prohibited, is_unassigned, has_one_direction, first_unassigned, refusal, refusal_of}
+use Rattle.saslprep.specs.Saslprep.{mapping, prepared, is_prohibited, is_unassigned, first_unassigned, refusal, refusal_of}
 use Rattle.saslprep.specs.Tables.{b_1, c_1_2}
 use Rattle.saslprep.proofs.ListLemmas.{All-find, find_either}
 use Rattle.saslprep.proofs.RuleLemmas.{Passes, Passes-from_none, none-from_Passes, or-None_numbers}

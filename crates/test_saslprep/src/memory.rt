@@ -13,6 +13,13 @@ struct Prepared {
     wanted: &'static str,
 }
 
+fn answer_of(alloc: Global, text: &str, wanted: &str) -> Answer {
+    match saslprep(alloc, text, Unassigned::Refused) {
+        Ok(out) => right(out.as_str() == wanted),
+        Err(fault) => told(Err(fault), SaslprepError::OutOfMemory),
+    }
+}
+
 impl Call for Prepared {
     type Subject = ();
 
@@ -21,10 +28,7 @@ impl Call for Prepared {
     }
 
     fn answer(&self, alloc: Global, _subject: &mut ()) -> Answer {
-        match saslprep(alloc, self.text, Unassigned::Refused) {
-            Ok(out) => right(out.as_str() == self.wanted),
-            Err(fault) => told(Err(fault), SaslprepError::OutOfMemory),
-        }
+        answer_of(alloc, self.text, self.wanted)
     }
 }
 
