@@ -1,4 +1,9 @@
-//! SASLprep (RFC 4013): how user names and passwords are prepared before they are compared.
+//! SASLprep (RFC 4013): what a user name or a password is prepared to before it is compared or hashed.
+//! Characters are mapped and the text is normalized with form KC; the result is refused where it
+//! holds what the RFC prohibits, where it mixes directions, and, if the caller says so, for a code
+//! point that Unicode 3.2 does not assign. The tables are those of RFC 3454, of Unicode 3.2; the
+//! normalization is that of `unicode_normalization`, of a later Unicode, and `CALLING.md` lists where
+//! the two differ.
 #![tactic(auto)]
 
 ghost use Rattle.std.specs.Prelude.{◌≡◌, ◌≢◌, ◌++◌, chars, string_bytes, encode_utf8_all, false, MatchResult, IfOk, IfErr, Some, None};
@@ -27,7 +32,8 @@ pub enum Unassigned {
     Refused,
 }
 
-/// The text as SASLprep prepares it. ASCII text is borrowed, and asks for no memory.
+/// The text as SASLprep prepares it, or the first rule of the RFC that refuses it. ASCII text is
+/// borrowed, and asks for no memory.
 pub fn saslprep(
     alloc: Global,
     text: &str,
@@ -37,7 +43,7 @@ pub fn saslprep(
     ensures accepted { IfOk result (λ _. refusal unassigned (chars text.now) ≡ None) }
     ensures refused { IfErr result (λ error. error ≢ SaslprepError.OutOfMemory → refusal unassigned (chars text.now) ≡ Some error) }
 
-    // On ASCII alone: printable text stays, and any other is refused.
+    // Of ASCII, printable text is borrowed as it is and any other refused, neither for want of memory.
     ensures ascii { IsAscii text.now → MatchResult result
         (λ out. IsPrintable text.now × IsBorrowedStr out × (cow_str_bytes out ≡ text.now))
         (λ error. ¬ IsPrintable text.now × (error ≢ SaslprepError.OutOfMemory)) }
@@ -109,7 +115,7 @@ fn first_prohibited(out: &[char]) -> Option<char>
 }
 
 /// The first code point of the text or of what it is prepared to that is refused as unassigned.
-#[tactic(auto, using(crate::proofs::ListLemmas::find_either))]
+#[tactic(auto, using(crate::proofs::lemmas::ListLemmas::find_either))]
 fn first_unassigned(text: &str, out: &[char], unassigned: Unassigned) -> Option<char>
     ensures { result ≡ first_unassigned unassigned (chars text.now ++ out.now) }
 {

@@ -1,7 +1,7 @@
 use Rattle.std.proofs.Common.{sym, ap, ◌∙◌, refl}
 use Rattle.std.specs.Option.{option_map}
 use Rattle.saslprep.specs.declared.error.SaslprepError.TheVariants.{ProhibitedCharacter}
-use Rattle.saslprep.proofs.AsciiLemmas.{refusal-of_ascii, value-of_ascii, printable-of_ascii, not_printable-of_ascii}
+use Rattle.saslprep.proofs.lemmas.AsciiLemmas.{refusal-of_ascii, value-of_ascii, printable-of_ascii, not_printable-of_ascii}
 use Rattle.saslprep.proofs.saslprep.Goals as goal
 
 pub returns-in-Some-clause-refused : goal.returns-in-Some-clause-refused

@@ -1,4 +1,4 @@
-use Rattle.saslprep.proofs.KeptLemmas.{refusal-again}
+use Rattle.saslprep.proofs.lemmas.KeptLemmas.{refusal-again}
 use Rattle.saslprep.proofs.laws.prepared_texts.Goals as goal
 
 pub returns : goal.returns

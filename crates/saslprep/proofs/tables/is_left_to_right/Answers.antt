@@ -1,4 +1,4 @@
-use Rattle.saslprep.proofs.TableLemmas.{LEFT_TO_RIGHT-set}
+use Rattle.saslprep.proofs.lemmas.TableLemmas.{LEFT_TO_RIGHT-set}
 use Rattle.saslprep.proofs.tables.is_left_to_right.Goals as goal
 
 pub contains-requires : goal.contains-requires

@@ -1,4 +1,4 @@
-use Rattle.saslprep.proofs.TableLemmas.{PROHIBITED-set}
+use Rattle.saslprep.proofs.lemmas.TableLemmas.{PROHIBITED-set}
 use Rattle.saslprep.proofs.tables.is_prohibited.Goals as goal
 
 pub contains-requires : goal.contains-requires

@@ -1,4 +1,4 @@
-use Rattle.saslprep.proofs.TableLemmas.{RIGHT_TO_LEFT-set}
+use Rattle.saslprep.proofs.lemmas.TableLemmas.{RIGHT_TO_LEFT-set}
 use Rattle.saslprep.proofs.tables.is_right_to_left.Goals as goal
 
 pub contains-requires : goal.contains-requires

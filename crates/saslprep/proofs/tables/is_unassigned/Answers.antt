@@ -1,4 +1,4 @@
-use Rattle.saslprep.proofs.TableLemmas.{UNASSIGNED-set}
+use Rattle.saslprep.proofs.lemmas.TableLemmas.{UNASSIGNED-set}
 use Rattle.saslprep.proofs.tables.is_unassigned.Goals as goal
 
 pub contains-requires : goal.contains-requires

@@ -2,7 +2,7 @@ use Rattle.std.proofs.Common.{◌≡◌, true, false, sym, ◌∙◌, refl}
 use Rattle.ucd_table.specs.Rows.{in_ranges}
 use Rattle.saslprep.specs.Saslprep.{mapping}
 use Rattle.saslprep.specs.Tables.{b_1, c_1_2}
-use Rattle.saslprep.proofs.TableLemmas.{SPACES-set, MAPPED_TO_NOTHING-set}
+use Rattle.saslprep.proofs.lemmas.TableLemmas.{SPACES-set, MAPPED_TO_NOTHING-set}
 use Rattle.saslprep.proofs.tables.mapped.Goals as goal
 
 pub contains-requires : goal.contains-requires

@@ -10,7 +10,7 @@ use Rattle.saslprep.specs.declared.Unassigned.{Unassigned}
 use Rattle.saslprep.specs.declared.Unassigned.TheVariants.{Allowed, Refused}
 use Rattle.saslprep.specs.Laws.{IsOneWay, IsFit}
 use Rattle.saslprep.specs.Saslprep.{prepared, is_prohibited, is_right_to_left, is_left_to_right, is_unassigned, has_one_direction, first_unassigned, refusal, refusal_of}
-use Rattle.saslprep.proofs.ListLemmas.{All-cons, All-find, find-none}
+use Rattle.saslprep.proofs.lemmas.ListLemmas.{All-cons, All-find, find-none}
 
 pub record Passes (u : Unassigned) (cs out : List ℕ) : Type 0 where
   pub clean : find is_prohibited out ≡ None

@@ -28,9 +28,9 @@ use Rattle.saslprep.specs.declared.Unassigned.{Unassigned}
 use Rattle.saslprep.specs.declared.Unassigned.TheVariants.{Allowed, Refused}
 use Rattle.saslprep.specs.Saslprep.{mapping, prepared, is_prohibited, is_unassigned, first_unassigned, refusal, refusal_of}
 use Rattle.saslprep.specs.Tables.{b_1, c_1_2}
-use Rattle.saslprep.proofs.ListLemmas.{All-find, find_either}
-use Rattle.saslprep.proofs.RuleLemmas.{Passes, Passes-from_none, none-from_Passes, or-None_numbers}
-use Rattle.saslprep.proofs.TableLemmas.{nothing_stepped}
+use Rattle.saslprep.proofs.lemmas.ListLemmas.{All-find, find_either}
+use Rattle.saslprep.proofs.lemmas.RuleLemmas.{Passes, Passes-from_none, none-from_Passes, or-None_numbers}
+use Rattle.saslprep.proofs.lemmas.TableLemmas.{nothing_stepped}
 
 -- the character is not one of those that are mapped to nothing
 abbrev stays : ℕ → Bool

@@ -19,9 +19,9 @@ use Rattle.saslprep.specs.declared.error.SaslprepError.TheVariants.{ProhibitedCh
 use Rattle.saslprep.specs.declared.Unassigned.{Unassigned}
 use Rattle.saslprep.specs.declared.Unassigned.TheVariants.{Allowed, Refused}
 use Rattle.saslprep.specs.Saslprep.{mapping, prepared, is_prohibited, is_right_to_left, is_unassigned, has_one_direction, first_unassigned, refusal, refusal_of, IsPrintable}
-use Rattle.saslprep.proofs.ListLemmas.{find_either, find-none, All-find, tail_of}
+use Rattle.saslprep.proofs.lemmas.ListLemmas.{find_either, find-none, All-find, tail_of}
 use Rattle.saslprep.specs.Tables.{b_1, c_1_2}
-use Rattle.saslprep.proofs.TableLemmas.{spaces_stepped, nothing_stepped, union_stepped, is_prohibited_stepped, is_right_to_left_stepped, is_unassigned_stepped}
+use Rattle.saslprep.proofs.lemmas.TableLemmas.{spaces_stepped, nothing_stepped, union_stepped, is_prohibited_stepped, is_right_to_left_stepped, is_unassigned_stepped}
 
 no_space : (c : ℕ) → c < 128 → in_ranges c_1_2 c ≡ false
 unfolding tables spaces_stepped
