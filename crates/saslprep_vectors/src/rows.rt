@@ -1,130 +1,70 @@
-//! The words of a row, and what a text is to be answered.
+//! The words of a row, and whether an answer is what they say.
 
 use saslprep::{SaslprepError, Unassigned};
-use std::alloc::{AllocError, AllocFailed, Global};
+use std::alloc::{AllocError, Global};
 use std::borrow::CowStr;
-use std::io;
 
-/// Why a row was not confirmed.
-#[derive(Debug, Drop)]
-pub enum Unconfirmed {
-    /// This text is answered otherwise, as the text says behind it.
-    Other(String),
-
-    /// The row is not of the file's form.
-    Malformed,
-
-    /// There was no memory.
-    OutOfMemory,
-
-    /// A file was not read, or a line not printed.
-    Io,
-}
-
-impl From<io::Error> for Unconfirmed {
-    fn from(_error: io::Error) -> Self {
-        Unconfirmed::Io
+/// Whether this is what `text` was to be answered: `kept`, `changed` to any other text, `nothing`, the
+/// text of these code points, or the word of a refusal, behind which its code point may stand.
+pub fn is_answered(words: &str, text: &str, answer: &Result<CowStr<'_>, SaslprepError>) -> bool {
+    match answer {
+        Ok(out) => is_text(words, text, out.as_str()),
+        Err(SaslprepError::ProhibitedCharacter(c)) => is_refusal(words, "prohibited", *c),
+        Err(SaslprepError::MixedDirections) => words == "mixed",
+        Err(SaslprepError::UnassignedCodePoint(c)) => is_refusal(words, "unassigned", *c),
+        Err(SaslprepError::OutOfMemory) => false,
     }
 }
 
-impl From<AllocError> for Unconfirmed {
-    fn from(_error: AllocError) -> Self {
-        Unconfirmed::OutOfMemory
+fn is_text(words: &str, text: &str, out: &str) -> bool {
+    match words {
+        "kept" => out == text,
+        "changed" => out != text,
+        "nothing" => out.is_empty(),
+        points => spells(points, out),
     }
 }
 
-impl<T: Drop> From<AllocFailed<T>> for Unconfirmed {
-    fn from(_error: AllocFailed<T>) -> Self {
-        Unconfirmed::OutOfMemory
-    }
-}
-
-/// What a text is to be answered.
-#[derive(Debug, Drop)]
-pub enum Wanted {
-    /// The text itself.
-    Kept,
-
-    /// Another text than the one that was asked.
-    Changed,
-
-    /// This text.
-    Text(String),
-
-    /// A refusal for this character, where one is named.
-    Prohibited(Option<char>),
-
-    /// A refusal for its directions.
-    Mixed,
-
-    /// A refusal for this code point, where one is named.
-    Unassigned(Option<char>),
-}
-
-impl Wanted {
-    /// What these words say.
-    pub fn parse(alloc: Global, words: &str) -> Result<Wanted, Unconfirmed> {
-        let (word, point) = match words.split_once(' ') {
-            Some((word, point)) => (word, Some(char_of(point)?)),
-            None => (words, None),
-        };
-        match word {
-            "kept" => Ok(Wanted::Kept),
-            "prohibited" => Ok(Wanted::Prohibited(point)),
-            "mixed" => Ok(Wanted::Mixed),
-            "unassigned" => Ok(Wanted::Unassigned(point)),
-            word => Ok(Wanted::Text(text_of(alloc, word)?)),
+/// Whether these are the code points of the text, with `+` between them.
+fn spells(points: &str, text: &str) -> bool {
+    let mut chars = text.chars();
+    for point in points.split('+') {
+        match (chars.next(), code_of(point)) {
+            (Some(c), Some(code)) if u32::from(c) == code => {}
+            _ => return false,
         }
     }
+    chars.next().is_none()
+}
 
-    /// Whether `text` was answered so.
-    pub fn is_met(&self, text: &str, answer: &Result<CowStr<'_>, SaslprepError>) -> bool {
-        match (self, answer) {
-            (Wanted::Kept, Ok(out)) => out.as_str() == text,
-            (Wanted::Changed, Ok(out)) => out.as_str() != text,
-            (Wanted::Text(wanted), Ok(out)) => out.as_str() == wanted.as_str(),
-            (Wanted::Prohibited(c), Err(SaslprepError::ProhibitedCharacter(found))) => {
-                c.unwrap_or(*found) == *found
-            }
-            (Wanted::Mixed, Err(SaslprepError::MixedDirections)) => true,
-            (Wanted::Unassigned(c), Err(SaslprepError::UnassignedCodePoint(found))) => {
-                c.unwrap_or(*found) == *found
-            }
-            _ => false,
-        }
+/// Whether the words are this refusal's, of this character where they name one.
+fn is_refusal(words: &str, refusal: &str, c: char) -> bool {
+    match words.split_once(' ') {
+        Some((word, point)) => word == refusal && code_of(point) == Some(u32::from(c)),
+        None => words == refusal,
     }
 }
 
-/// The text of a word: code points with `+` between them, or `nothing`.
-pub fn text_of(alloc: Global, word: &str) -> Result<String, Unconfirmed> {
+/// The text of code points with `+` between them.
+pub fn text_of(alloc: Global, points: &str) -> Result<String, AllocError> {
     let mut text = String::new(alloc);
-    if word == "nothing" {
-        return Ok(text);
-    }
-    for point in word.split('+') {
-        text.push(char_of(point)?)?;
+    for point in points.split('+') {
+        let c = code_of(point).and_then(char::from_u32);
+        text.push(c.unwrap_or(char::REPLACEMENT_CHARACTER))?;
     }
     Ok(text)
 }
 
-/// The character of a code point's digits.
-pub fn char_of(digits: &str) -> Result<char, Unconfirmed> {
-    char::from_u32(code_of(digits)?).ok_or(Unconfirmed::Malformed)
-}
-
 /// The number of hexadecimal digits.
-pub fn code_of(digits: &str) -> Result<u32, Unconfirmed> {
-    match u32::from_str_radix(digits, 16) {
-        Ok(code) => Ok(code),
-        Err(_) => Err(Unconfirmed::Malformed),
-    }
+pub fn code_of(digits: &str) -> Option<u32> {
+    u32::from_str_radix(digits, 16).ok()
 }
 
 /// Whether code points that are not assigned are refused, by the name of a row.
-pub fn mode_of(word: &str) -> Result<Unassigned, Unconfirmed> {
+pub fn mode_of(word: &str) -> Option<Unassigned> {
     match word {
-        "stored" => Ok(Unassigned::Refused),
-        "query" => Ok(Unassigned::Allowed),
-        _ => Err(Unconfirmed::Malformed),
+        "stored" => Some(Unassigned::Refused),
+        "query" => Some(Unassigned::Allowed),
+        _ => None,
     }
 }
