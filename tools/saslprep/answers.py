@@ -24,8 +24,8 @@ DATA = os.path.join(ROOT, "crates", "saslprep_vectors", "data")
 OLD = unicodedata.ucd_3_2_0
 CODE_POINTS = [c for c in range(0x110000) if not 0xD800 <= c < 0xE000]
 
-# What Unicode since the version that this Python knows, 14, changes by NFKC: no answer from outside is at hand, but that
-# it is another than in Unicode 3.2.
+# What Unicode since the version that this Python knows, 14, changes by NFKC: no answer from outside is at hand, but
+# that it is another than in Unicode 3.2.
 LATER = [
     (0x0558, 0x0558), (0x058B, 0x058C), (0x209D, 0x209F), (0xA7F1, 0xA7F1), (0x107BB, 0x107BF), (0x1B123, 0x1B126),
     (0x1CCD6, 0x1CCF9), (0x1D6A6, 0x1D6A6), (0x1DF95, 0x1DF95), (0x1DFCD, 0x1DFFF), (0x1E030, 0x1E06D),
@@ -131,12 +131,13 @@ CORRECTED = [c for c in CODE_POINTS if not stringprep.in_table_a1(chr(c)) and ch
 def code_points():
     """The rows of single code points."""
     text = [
-        "# Each code point but the surrogates as a text, by GNU libidn and by Python's `stringprep`, which agree. A row is",
+        "# Each code point but the surrogates as a text, by GNU libidn and by Python's `stringprep`, which agree. A",
+        "# row is",
         "#     FIRST-LAST => ANSWER",
         "# where the answer is `kept`, `prohibited`, `mixed`, `nothing`, what the text is prepared to, or `unassigned`:",
-        "# refused in stored texts, and kept in queries. `unassigned, changed` are those that a later Unicode decomposes, so",
-        "# that a query is changed; those and five others, which are left out here, stand in differences.txt. Written by",
-        "# tools/saslprep/answers.py.",
+        "# refused in stored texts, and kept in queries. `unassigned, changed` are those that a later Unicode",
+        "# decomposes, so that a query is changed; differences.txt has what Unicode 14 makes of them, and five others,",
+        "# which are left out here. Written by tools/saslprep/answers.py.",
         "",
     ]
     rows = []
@@ -164,8 +165,8 @@ def code_points():
 def differences():
     """The rows at which Unicode since 3.2 says otherwise, as far as this Python knows it."""
     text = [
-        "# Where GNU libidn and Python's `stringprep`, which normalize by Unicode 3.2, answer otherwise than this library,",
-        "# which normalizes by a later Unicode. A row is",
+        "# Where GNU libidn and Python's `stringprep`, which normalize by Unicode 3.2, answer otherwise than this",
+        "# library, which normalizes by a later Unicode. A row is",
         "#     TEXT MODE, NOT THEIRS => OURS",
         f"# with the answer of Python's normalization of Unicode {unicodedata.unidata_version}. Written by"
         " tools/saslprep/answers.py.",
@@ -190,7 +191,7 @@ def differences():
 # Alphabets of the texts: ranges of code points that meet in one rule or another.
 ALPHABETS = [
     [(0x20, 0x7E), (0xA0, 0xFF), (0x300, 0x345)],
-    [(0x41, 0x5A), (0xAD, 0xAD), (0x200B, 0x200B), (0x2000, 0x200A), (0xFE00, 0xFE0F), (0x180B, 0x180D), (0x3000, 0x3000)],
+    [(0x41, 0x5A), (0xAD, 0xAD), (0x2000, 0x200B), (0xFE00, 0xFE0F), (0x180B, 0x180D), (0x3000, 0x3000)],
     [(0x5D0, 0x5EA), (0x5B0, 0x5B9), (0x30, 0x39), (0xFB1D, 0xFB36)],
     [(0x627, 0x64A), (0x64B, 0x655), (0xFB50, 0xFBB1), (0x660, 0x669), (0x28, 0x29)],
     [(0x5D0, 0x5EA), (0x61, 0x7A), (0x20, 0x2F)],
@@ -210,8 +211,8 @@ def texts():
     text = [
         "# Texts of random characters, by GNU libidn and by Python's `stringprep`, which agree. A row is",
         "#     TEXT MODE => ANSWER",
-        "# with the mode `stored` or `query`, and the answer as in code-points.txt; a refusal names its code point, which",
-        "# Python alone tells. Written by tools/saslprep/answers.py.",
+        "# with the mode `stored` or `query`, and the answer as in code-points.txt; a refusal names its code point,",
+        "# which Python alone tells. Written by tools/saslprep/answers.py.",
         "",
     ]
     chance = random.Random(4013)

@@ -6,7 +6,7 @@
 The tables are those of Python's module `stringprep`, which were made of the text of RFC 3454. They are written
 twice: as lists of ranges, which the definitions cite (specs/Tables.antt), and as sorted runs, which the code
 searches (src/table_runs.rt); the proof shows that both say the same. With --check nothing is written, and the exit
-status is 1 where a file is not what would be written. `tools/saslprep/check.py` compares them with the tables of
+status is 1 where a file is not what would be written. `tools/saslprep/answers.py` compares them with the tables of
 GNU libidn.
 """
 import os

@@ -24,4 +24,5 @@ FitTextsAreAccepted =
 -- what an accepted text is prepared to is accepted, and prepared to itself
 abbrev pub PreparedIsKept : Type 0
 PreparedIsKept =
-    (unassigned : Unassigned) (cs : List ℕ) → refusal unassigned cs ≡ None → (refusal unassigned (prepared cs) ≡ None) × (prepared (prepared cs) ≡ prepared cs)
+    (unassigned : Unassigned) (cs : List ℕ) → refusal unassigned cs ≡ None →
+    (refusal unassigned (prepared cs) ≡ None) × (prepared (prepared cs) ≡ prepared cs)

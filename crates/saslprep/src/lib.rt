@@ -41,7 +41,8 @@ pub fn saslprep(
 ) -> Result<CowStr<'_>, SaslprepError>
     ensures value { IfOk result (λ out. cow_str_bytes out ≡ encode_utf8_all (prepared (chars text.now))) }
     ensures accepted { IfOk result (λ _. refusal unassigned (chars text.now) ≡ None) }
-    ensures refused { IfErr result (λ error. error ≢ SaslprepError.OutOfMemory → refusal unassigned (chars text.now) ≡ Some error) }
+    ensures refused { IfErr result (λ error.
+        error ≢ SaslprepError.OutOfMemory → refusal unassigned (chars text.now) ≡ Some error) }
 
     // Of ASCII, printable text is borrowed as it is and any other refused, neither for want of memory.
     ensures ascii { IsAscii text.now → MatchResult result

@@ -33,7 +33,8 @@ not_nothing c lt = not-true _ (Stepped-below (in_ranges b_1) nothing_stepped (λ
 
 not_right_to_left : (c : ℕ) → c < 128 → is_right_to_left c ≡ false
 unfolding tables is_right_to_left_stepped
-not_right_to_left c lt = not-true _ (Stepped-below is_right_to_left is_right_to_left_stepped (λ _ b. not b) 128 refl c lt)
+not_right_to_left c lt = not-true _ (Stepped-below is_right_to_left is_right_to_left_stepped
+    (λ _ b. not b) 128 refl c lt)
 
 assigned : (c : ℕ) → c < 128 → is_unassigned c ≡ false
 unfolding tables is_unassigned_stepped
@@ -68,7 +69,8 @@ prepared-ascii cs all = rw (filter_map-ascii cs all) (normalize-ascii Nfkc cs al
 one_direction-ascii : (cs : List ℕ) → All (λ c. c < 128) cs → has_one_direction cs ≡ true
 unfolding has_one_direction
 one_direction-ascii cs all =
-    let none : list_any is_right_to_left cs ≡ false = list_any_none is_right_to_left cs (λ k d lt. not_right_to_left _ (all k d lt)) in
+    let none : list_any is_right_to_left cs ≡ false = list_any_none is_right_to_left cs
+    (λ k d lt. not_right_to_left _ (all k d lt)) in
     rw none refl
 
 first_unassigned-ascii : (u : Unassigned) (cs : List ℕ) → All (λ c. c < 128) cs → first_unassigned u (cs ++ cs) ≡ None
@@ -81,7 +83,8 @@ or-None : (o : Option SaslprepError) → option_or o None ≡ o
 or-None None = refl
 or-None (Some e) = refl
 
-refusal_of-ascii : (u : Unassigned) (cs : List ℕ) → All (λ c. c < 128) cs → refusal_of u cs cs ≡ option_map ProhibitedCharacter (find is_prohibited cs)
+refusal_of-ascii : (u : Unassigned) (cs : List ℕ) → All (λ c. c < 128) cs →
+    refusal_of u cs cs ≡ option_map ProhibitedCharacter (find is_prohibited cs)
 unfolding refusal_of
 refusal_of-ascii u cs all = rw (one_direction-ascii cs all, first_unassigned-ascii u cs all) (or-None _)
 
@@ -93,7 +96,8 @@ encode_utf8_all-ascii (c ∷ cs) all =
 
 -- ---- a text of ASCII
 
-pub refusal-of_ascii : (u : Unassigned) (bs : List ℕ) → IsAscii bs → refusal u (chars bs) ≡ option_map ProhibitedCharacter (find is_prohibited (chars bs))
+pub refusal-of_ascii : (u : Unassigned) (bs : List ℕ) → IsAscii bs →
+    refusal u (chars bs) ≡ option_map ProhibitedCharacter (find is_prohibited (chars bs))
 refusal-of_ascii u bs ascii =
     let all = All-from_ascii bs ascii in
     rw (chars-IsAscii bs ascii, prepared-ascii bs all) (refusal_of-ascii u bs all)
@@ -101,7 +105,8 @@ refusal-of_ascii u bs ascii =
 pub value-of_ascii : (bs : List ℕ) → IsAscii bs → bs ≡ encode_utf8_all (prepared (chars bs))
 value-of_ascii bs ascii =
     let all = All-from_ascii bs ascii in
-    sym (ap (λ cs. encode_utf8_all (prepared cs)) (chars-IsAscii bs ascii) ∙ ap encode_utf8_all (prepared-ascii bs all) ∙ encode_utf8_all-ascii bs all)
+    sym (ap (λ cs. encode_utf8_all (prepared cs)) (chars-IsAscii bs ascii)
+    ∙ ap encode_utf8_all (prepared-ascii bs all) ∙ encode_utf8_all-ascii bs all)
 
 in_print : (c : ℕ) → is_control c ≡ false → (0x20 ≤ c) × (c ≤ 0x7E)
 in_print c h = grind (arith, nat_tests)
@@ -115,9 +120,11 @@ printable-of_ascii bs ascii none k d lt =
     let clean = All-find is_prohibited bs (sym (ap (find is_prohibited) (chars-IsAscii bs ascii)) ∙ none) k d lt in
     in_print _ (sym (prohibited-ascii _ (all k d lt)) ∙ clean)
 
-pub not_printable-of_ascii : (bs : List ℕ) (c : ℕ) → IsAscii bs → find is_prohibited (chars bs) ≡ Some c → ¬ (IsPrintable bs)
+pub not_printable-of_ascii : (bs : List ℕ) (c : ℕ) → IsAscii bs → find is_prohibited (chars bs) ≡ Some c →
+    ¬ (IsPrintable bs)
 not_printable-of_ascii bs c ascii some printable =
     let all = All-from_ascii bs ascii in
-    let none = find-none is_prohibited bs (λ k d lt. prohibited-ascii _ (all k d lt) ∙ not_control _ (printable k d lt)) in
+    let none = find-none is_prohibited bs (λ k d lt. prohibited-ascii _ (all k d lt)
+    ∙ not_control _ (printable k d lt)) in
     let clash : Some c ≡ None = sym some ∙ ap (find is_prohibited) (chars-IsAscii bs ascii) ∙ none in
     absurd (cc)

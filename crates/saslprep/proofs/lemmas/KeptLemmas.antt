@@ -51,7 +51,8 @@ unfolding tables points_ok nothing_stepped decomposition_stepped
 whole c h =
     ap (λ f. is_empty (pick Nfd (f c))) (tree_value-tree_of decomposition decomposition_stepped)
     ∙ Stepped-at_points (in_ranges b_1) nothing_stepped (λ b. not b)
-    (λ c _. is_empty (pick Nfd (tree_value decomposition_stepped.default (tree_of decomposition decomposition_stepped) c))) refl c (ap not h)
+    (λ c _. is_empty (pick Nfd (tree_value decomposition_stepped.default
+    (tree_of decomposition decomposition_stepped) c))) refl c (ap not h)
 
 stays-jamo : (c : ℕ) → 0x1100 ≤ c → c ≤ 0x11FF → stays c ≡ true
 stays-jamo c low high =
@@ -113,11 +114,13 @@ stays-decompose c h =
           ap (list_all stays) (decompose-syllable Nfkc c syllable)
           ∙ elim (cases_eq ((c - 0xAC00) % 28) 0) [
             | inl two ↦ ap (list_all stays) (decompose_hangul-two c two) ∙ and_from _ _ l (and_from _ _ v refl)
-            | inr three ↦ ap (list_all stays) (decompose_hangul-three c three) ∙ and_from _ _ l (and_from _ _ v (and_from _ _ t refl))
+            | inr three ↦ ap (list_all stays) (decompose_hangul-three c three)
+                ∙ and_from _ _ l (and_from _ _ v (and_from _ _ t refl))
           ]
       | inr other ↦
           elim (cases_Bool (is_empty (pick Nfkc (decomposition c)))) [
-            | inl none ↦ ap (list_all stays) (decompose-final Nfkc c (and_from _ _ none (not_from_false _ other))) ∙ and_from _ _ h refl
+            | inl none ↦ ap (list_all stays) (decompose-final Nfkc c (and_from _ _ none (not_from_false _ other)))
+                ∙ and_from _ _ h refl
             | inr some ↦ ap (list_all stays) (decompose-mapped Nfkc c other some) ∙ stays-mapped c some
           ]
     ]
@@ -125,7 +128,10 @@ stays-decompose c h =
 stays-composite : (a b c : ℕ) → stays a ≡ true → stays b ≡ true → primary_composite a b ≡ Some c → stays c ≡ true
 stays-composite a b c first second h =
     elim (primary_composite-some a b c h) [
-      | inl hangul ↦ elim hangul [ inl lv ↦ stays-syllable c (omega arith) (omega arith) | inr lvt ↦ stays-syllable c (omega arith) (omega arith) ]
+      | inl hangul ↦ elim hangul [
+        | inl lv ↦ stays-syllable c (omega arith) (omega arith)
+        | inr lvt ↦ stays-syllable c (omega arith) (omega arith)
+      ]
       | inr table ↦
           elim (cases_Bool (in_ranges b_1 c)) [
             | inl gone ↦ let clash = sym (whole c gone) ∙ ap is_empty table.mapping in absurd (cc)
@@ -139,7 +145,8 @@ stays-space : stays 0x20 ≡ true
 unfolding in_ranges b_1
 stays-space = refl
 
-stays-cons : (c : ℕ) (cs : List ℕ) → list_all stays (filter_map mapping cs) ≡ true → list_all stays (filter_map mapping (c ∷ cs)) ≡ true
+stays-cons : (c : ℕ) (cs : List ℕ) → list_all stays (filter_map mapping cs) ≡ true →
+    list_all stays (filter_map mapping (c ∷ cs)) ≡ true
 unfolding mapping
 stays-cons c cs rest =
     elim (cases_Bool (in_ranges c_1_2 c)) [
@@ -162,14 +169,19 @@ stays-prepared cs = list_all-normalize Nfkc stays stays-decompose stays-composit
 -- a space outside ASCII is prohibited
 not_space : (c : ℕ) → is_prohibited c ≡ false → in_ranges c_1_2 c ≡ false
 unfolding is_prohibited
-not_space c h = elim (cases_Bool (in_ranges c_1_2 c)) [ inl space ↦ let clash = sym (rw space at h) in absurd (cc) | inr other ↦ other ]
+not_space c h = elim (cases_Bool (in_ranges c_1_2 c)) [
+  | inl space ↦ let clash = sym (rw space at h) in absurd (cc)
+  | inr other ↦ other
+]
 
 mapping-kept : (c : ℕ) → is_prohibited c ≡ false → stays c ≡ true → mapping c ≡ Some c
 unfolding mapping
 mapping-kept c clean stay =
-    let other : in_ranges c_1_2 c ≡ false = not_space c clean in let here : in_ranges b_1 c ≡ false = not-true _ stay in rw (other, here) refl
+    let other : in_ranges c_1_2 c ≡ false = not_space c clean in
+    let here : in_ranges b_1 c ≡ false = not-true _ stay in rw (other, here) refl
 
-filter_map-kept : (cs : List ℕ) → All (λ c. is_prohibited c ≡ false) cs → list_all stays cs ≡ true → filter_map mapping cs ≡ cs
+filter_map-kept : (cs : List ℕ) → All (λ c. is_prohibited c ≡ false) cs → list_all stays cs ≡ true →
+    filter_map mapping cs ≡ cs
 filter_map-kept [] clean stay = refl
 filter_map-kept (c ∷ cs) clean stay =
     let parts = and_parts (stays c) (list_all stays cs) stay in
@@ -178,7 +190,8 @@ filter_map-kept (c ∷ cs) clean stay =
 
 -- ---- the rules
 
-known-again : (u : Unassigned) (cs out : List ℕ) → first_unassigned u (cs ++ out) ≡ None → first_unassigned u (out ++ out) ≡ None
+known-again : (u : Unassigned) (cs out : List ℕ) → first_unassigned u (cs ++ out) ≡ None →
+    first_unassigned u (out ++ out) ≡ None
 known-again Allowed cs out h = refl
 known-again Refused cs out h =
     let none : find is_unassigned out ≡ None = or-None_numbers _ _ (sym (find_either is_unassigned cs out) ∙ h) in
@@ -194,9 +207,12 @@ prepared-by_map cs = refl
 
 prepared-again : (cs : List ℕ) → find is_prohibited (prepared cs) ≡ None → prepared (prepared cs) ≡ prepared cs
 prepared-again cs clean =
-    prepared-by_map (prepared cs) ∙ ap (normalize Nfkc) (filter_map-kept (prepared cs) (All-find is_prohibited _ clean) (stays-prepared cs)) ∙ nfkc-prepared cs
+    prepared-by_map (prepared cs)
+    ∙ ap (normalize Nfkc) (filter_map-kept (prepared cs) (All-find is_prohibited _ clean) (stays-prepared cs))
+    ∙ nfkc-prepared cs
 
-pub refusal-again : (u : Unassigned) (cs : List ℕ) → refusal u cs ≡ None → (refusal u (prepared cs) ≡ None) × (prepared (prepared cs) ≡ prepared cs)
+pub refusal-again : (u : Unassigned) (cs : List ℕ) → refusal u cs ≡ None →
+    (refusal u (prepared cs) ≡ None) × (prepared (prepared cs) ≡ prepared cs)
 refusal-again u cs h =
     let passes = Passes-from_none u cs (prepared cs) h in
     let same = prepared-again cs passes.clean in

@@ -14,9 +14,11 @@ tail_of P x xs all = λ k d lt. all (suc k) d (suc-le-suc lt)
 pub find-none : (p : ℕ → Bool) (cs : List ℕ) → All (λ c. p c ≡ false) cs → find p cs ≡ None
 find-none p [] all = refl
 find-none p (c ∷ cs) all =
-    let fails : p c ≡ false = all zero 0 (suc-le-suc zero-le) in rw fails (find-none p cs (tail_of (λ c. p c ≡ false) c cs all))
+    let fails : p c ≡ false = all zero 0 (suc-le-suc zero-le) in
+    rw fails (find-none p cs (tail_of (λ c. p c ≡ false) c cs all))
 
-pub All-cons : (p : ℕ → Bool) (c : ℕ) (cs : List ℕ) → p c ≡ false → All (λ c. p c ≡ false) cs → All (λ c. p c ≡ false) (c ∷ cs)
+pub All-cons : (p : ℕ → Bool) (c : ℕ) (cs : List ℕ) → p c ≡ false → All (λ c. p c ≡ false) cs →
+    All (λ c. p c ≡ false) (c ∷ cs)
 All-cons p c cs fails all zero d lt = fails
 All-cons p c cs fails all (suc k) d lt = all k d (le_of_suc-le-suc lt)
 
@@ -24,6 +26,7 @@ pub All-find : (p : ℕ → Bool) (cs : List ℕ) → find p cs ≡ None → All
 All-find p [] none = λ k d lt. absurd (not-suc-le-zero lt)
 All-find p (c ∷ cs) none =
     elim (cases_Bool (p c)) [
-      | inl passes ↦ let clash : Some c ≡ None = sym (ap (λ b. cond b (Some c) (find p cs)) passes) ∙ none in absurd (cc)
+      | inl passes ↦ let clash : Some c ≡ None = sym (ap (λ b. cond b (Some c) (find p cs)) passes) ∙ none in
+          absurd (cc)
       | inr fails ↦ All-cons p c cs fails (All-find p cs (sym (ap (λ b. cond b (Some c) (find p cs)) fails) ∙ none))
     ]

@@ -57,7 +57,8 @@ neither false b h = (refl, h)
 
 All-list_any : (p : ℕ → Bool) (cs : List ℕ) → list_any p cs ≡ false → All (λ c. p c ≡ false) cs
 All-list_any p [] h = λ k d lt. absurd (not-suc-le-zero lt)
-All-list_any p (c ∷ cs) h = let parts = neither (p c) (list_any p cs) h in All-cons p c cs parts.0 (All-list_any p cs parts.1)
+All-list_any p (c ∷ cs) h = let parts = neither (p c) (list_any p cs) h in
+    All-cons p c cs parts.0 (All-list_any p cs parts.1)
 
 IsSomeAnd-from_map_or : (p : ℕ → Bool) (o : Option ℕ) → option_map_or p o false ≡ true → IsSomeAnd o (λ c. p c ≡ true)
 IsSomeAnd-from_map_or p None h = absurd (cc)
@@ -67,7 +68,8 @@ map_or-from_IsSomeAnd : (p : ℕ → Bool) (o : Option ℕ) → IsSomeAnd o (λ 
 map_or-from_IsSomeAnd p None h = absurd h
 map_or-from_IsSomeAnd p (Some c) h = h
 
-one_way-from_straight : (cs : List ℕ) → has_one_direction cs ≡ true → Any (λ c. is_right_to_left c ≡ true) cs → IsOneWay cs
+one_way-from_straight : (cs : List ℕ) → has_one_direction cs ≡ true → Any (λ c. is_right_to_left c ≡ true) cs →
+    IsOneWay cs
 unfolding has_one_direction
 one_way-from_straight cs h any =
     let some : list_any is_right_to_left cs ≡ true = list_any-from_Any is_right_to_left cs any in
@@ -79,24 +81,28 @@ one_way-from_straight cs h any =
       last = IsSomeAnd-from_map_or is_right_to_left _ ends.1;
     }
 
-straight-from_one_way : (cs : List ℕ) → (Any (λ c. is_right_to_left c ≡ true) cs → IsOneWay cs) → has_one_direction cs ≡ true
+straight-from_one_way : (cs : List ℕ) → (Any (λ c. is_right_to_left c ≡ true) cs → IsOneWay cs) →
+    has_one_direction cs ≡ true
 unfolding has_one_direction
 straight-from_one_way cs h =
     elim (cases_Bool (list_any is_right_to_left cs)) [
       | inl some ↦
           let way = h (Any-from_list_any is_right_to_left cs some) in
           let none : list_any is_left_to_right cs ≡ false = list_any_none is_left_to_right cs way.no_left in
-          rw (some, none) (and_from _ _ (map_or-from_IsSomeAnd is_right_to_left _ way.first) (map_or-from_IsSomeAnd is_right_to_left _ way.last))
+          rw (some, none) (and_from _ _ (map_or-from_IsSomeAnd is_right_to_left _ way.first)
+          (map_or-from_IsSomeAnd is_right_to_left _ way.last))
       | inr none ↦ rw none refl
     ]
 
 -- ---- unassigned code points
 
-assigned-from_none : (u : Unassigned) (cs : List ℕ) → first_unassigned u cs ≡ None → u ≡ Refused → All (λ c. is_unassigned c ≡ false) cs
+assigned-from_none : (u : Unassigned) (cs : List ℕ) → first_unassigned u cs ≡ None → u ≡ Refused →
+    All (λ c. is_unassigned c ≡ false) cs
 assigned-from_none Allowed cs h e = absurd (cc)
 assigned-from_none Refused cs h e = All-find is_unassigned cs h
 
-none-from_assigned : (u : Unassigned) (cs : List ℕ) → (u ≡ Refused → All (λ c. is_unassigned c ≡ false) cs) → first_unassigned u cs ≡ None
+none-from_assigned : (u : Unassigned) (cs : List ℕ) → (u ≡ Refused → All (λ c. is_unassigned c ≡ false) cs) →
+    first_unassigned u cs ≡ None
 none-from_assigned Allowed cs h = refl
 none-from_assigned Refused cs h = find-none is_unassigned cs (h refl)
 

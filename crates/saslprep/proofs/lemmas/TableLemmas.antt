@@ -17,11 +17,13 @@ abbrev pub all_rise : List (List Range) → Bool
 all_rise = list_all (λ table. rises_from 0 (range_rows table))
 
 -- the steps of a union of tables
-unfoldable pub union_stepped : (ts : List (List Range)) → all_rise ts ≡ true → Stepped (λ c. list_any (λ table. in_ranges table c) ts)
+unfoldable pub union_stepped : (ts : List (List Range)) → all_rise ts ≡ true →
+    Stepped (λ c. list_any (λ table. in_ranges table c) ts)
 union_stepped [] h = record { default = false; steps = []; gives = λ c. sym (step_value-nil false c) }
 union_stepped (t ∷ ts) h =
     let parts = and_parts (rises_from 0 (range_rows t)) (all_rise ts) h in
-    zip_stepped ◌||◌ (in_ranges t) (λ c. list_any (λ table. in_ranges table c) ts) (of_ranges t parts.0) (union_stepped ts parts.1)
+    zip_stepped ◌||◌ (in_ranges t) (λ c. list_any (λ table. in_ranges table c) ts) (of_ranges t parts.0)
+    (union_stepped ts parts.1)
 
 unfoldable pub is_prohibited_stepped : Stepped is_prohibited
 unfolding is_prohibited rises_from c_1_2 c_2_1 c_2_2 c_3 c_4 c_5 c_6 c_7 c_8 c_9

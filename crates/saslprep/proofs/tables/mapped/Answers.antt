@@ -14,18 +14,21 @@ contains-requires-else-contains c = MAPPED_TO_NOTHING-set.partition
 pub returns-then-contains : goal.returns-then-contains
 unfolding mapping
 returns-then-contains c =
-    let space : in_ranges c_1_2 c.args.c ≡ true = sym (c.contains.ensures _ SPACES-set) ∙ c.if-contains.true in rw space refl
+    let space : in_ranges c_1_2 c.args.c ≡ true = sym (c.contains.ensures _ SPACES-set) ∙ c.if-contains.true in
+    rw space refl
 
 pub returns-then-contains-2 : goal.returns-then-contains-2
 unfolding mapping
 returns-then-contains-2 c =
     let no_space : in_ranges c_1_2 c.args.c ≡ false = sym (c.contains.ensures _ SPACES-set) ∙ c.if-contains.false in
-    let nothing : in_ranges b_1 c.args.c ≡ true = sym (c.contains-else-contains.ensures _ MAPPED_TO_NOTHING-set) ∙ c.if-contains-2.true in
+    let nothing : in_ranges b_1 c.args.c ≡ true = sym (c.contains-else-contains.ensures _ MAPPED_TO_NOTHING-set)
+    ∙ c.if-contains-2.true in
     rw (no_space, nothing) refl
 
 pub returns-else-contains-2 : goal.returns-else-contains-2
 unfolding mapping
 returns-else-contains-2 c =
     let no_space : in_ranges c_1_2 c.args.c ≡ false = sym (c.contains.ensures _ SPACES-set) ∙ c.if-contains.false in
-    let something : in_ranges b_1 c.args.c ≡ false = sym (c.contains-else-contains.ensures _ MAPPED_TO_NOTHING-set) ∙ c.if-contains-2.false in
+    let something : in_ranges b_1 c.args.c ≡ false = sym (c.contains-else-contains.ensures _ MAPPED_TO_NOTHING-set)
+    ∙ c.if-contains-2.false in
     rw (no_space, something) refl
