@@ -1,0 +1,5 @@
+pub mod AsciiLemmas
+pub mod KeptLemmas
+pub mod ListLemmas
+pub mod RuleLemmas
+pub mod TableLemmas
