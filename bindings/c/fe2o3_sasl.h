@@ -542,8 +542,10 @@ uint32_t fe2o3_sasl_client_open(uint8_t *out, size_t out_room, size_t *len);
 
 /* Takes bytes of the connection as they came, to the end of the header or of the frame that is due, and writes what is
  * to be sent, of at most 512 bytes, a room that is asked for before any hash is made. The number is 0 also where these
- * bytes close the connection, whose struct says so. What is left of them is to be handed in again while more are
- * wanted; behind a login it is AMQP's. The nonce is 32 random bytes, fresh for each call. */
+ * bytes close the connection, whose struct says so. Behind an outcome the connection stands at 1 where its code is Ok
+ * and, by SCRAM, it shows the signature that is waited for; else at 2, and `why` says which. What is left of the bytes
+ * is to be handed in again while more are wanted; behind a login it is AMQP's. The nonce is 32 random bytes, fresh for
+ * each call. */
 uint32_t fe2o3_sasl_client_receive(
     const struct fe2o3_sasl_login *login,
     struct fe2o3_sasl_client *client,

@@ -557,8 +557,10 @@ extern "C" {
 
     /// Takes bytes of the connection as they came, to the end of the header or of the frame that is due, and writes
     /// what is to be sent, of at most 512 bytes, a room that is asked for before any hash is made. The number is 0 also
-    /// where these bytes close the connection, whose struct says so. What is left of them is to be handed in again
-    /// while more are wanted; behind a login it is AMQP's. The nonce is 32 random bytes, fresh for each call.
+    /// where these bytes close the connection, whose struct says so. Behind an outcome the connection stands at 1 where
+    /// its code is Ok and, by SCRAM, it shows the signature that is waited for; else at 2, and `why` says which. What
+    /// is left of the bytes is to be handed in again while more are wanted; behind a login it is AMQP's. The nonce is
+    /// 32 random bytes, fresh for each call.
     pub fn fe2o3_sasl_client_receive(
         login: *const SaslLogin,
         client: *mut SaslClient,
