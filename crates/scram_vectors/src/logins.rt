@@ -1,12 +1,15 @@
 //! Logins through both machines, call after call.
 
-use crate::rows::{Answers, Unconfirmed, bytes_of, message_text, text_of};
+use crate::rows::{
+    Answers, Unconfirmed, answer_costing, bytes_of, costing, kind_costing, message_text,
+    owned_text, text_of, verdict_words,
+};
 use fe2o3_scram::credentials::{
     ScramCredentialProvider, ScramCredentials, ScramRecord, SingleScramCredential,
 };
 use fe2o3_scram::hmac::{Meter, ScramVersion};
 use fe2o3_scram::scram_client::ScramClient;
-use fe2o3_scram::scram_messages::{ScramErrorKind, ServerScramErrorKind};
+use fe2o3_scram::scram_messages::ServerScramErrorKind;
 use fe2o3_scram::scram_server::ScramAuthenticator;
 use std::alloc::Global;
 
@@ -50,24 +53,24 @@ impl<C: ScramCredentialProvider + Drop> Sides<C> {
                 let text = text_of(alloc, text)?;
                 let client = &mut self.client;
                 let answer = client.compute_client_final_message_metered(alloc, &text, &mut meter);
-                answered(alloc, answer, &meter)
+                answer_costing(alloc, &answer, meter.count())
             }
             ["client-reads-final", text] => {
                 let text = bytes_of(alloc, text)?;
-                believed(alloc, self.client.validate_server_final(alloc, &text))
+                verdict_words(alloc, self.client.validate_server_final(alloc, &text))
             }
             ["server-reads-first", text] => {
                 let text = bytes_of(alloc, text)?;
                 let answer = self
                     .server
                     .compute_server_first_message(alloc, &text, &[2; 32]);
-                served(alloc, answer, &meter)
+                served(alloc, &answer, meter.count())
             }
             ["server-reads-final", text] => {
                 let text = bytes_of(alloc, text)?;
                 let server = &mut self.server;
                 let answer = server.compute_server_final_message_metered(alloc, &text, &mut meter);
-                served(alloc, answer, &meter)
+                served(alloc, &answer, meter.count())
             }
             _ => Err(Unconfirmed::Malformed),
         }
@@ -90,52 +93,27 @@ impl<C: ScramCredentialProvider + Drop> Answers for Sides<C> {
 /// The client's first message.
 fn start(alloc: Global, client: &mut ScramClient) -> Result<String, Unconfirmed> {
     let message = client.compute_client_first_message(alloc, &[1; 32])?;
-    Ok(message_text(&message)?.to_string(alloc)?)
-}
-
-/// What the client answers, and the HMAC values that it cost.
-fn answered(
-    alloc: Global,
-    answer: Result<Vec<u8>, ScramErrorKind>,
-    meter: &Meter,
-) -> Result<String, Unconfirmed> {
-    let cost = meter.count();
-    match answer {
-        Ok(message) => Ok(format!(in alloc; "{} {cost}", message_text(&message)?)?),
-        Err(kind) => Ok(format!(in alloc; "{kind:?} {cost}")?),
-    }
-}
-
-/// Whether the client believes the server.
-fn believed(alloc: Global, verdict: Result<(), ScramErrorKind>) -> Result<String, Unconfirmed> {
-    match verdict {
-        Ok(()) => Ok(String::from_str(alloc, "believed")?),
-        Err(kind) => Ok(format!(in alloc; "{kind:?}")?),
-    }
+    owned_text(alloc, &message)
 }
 
 /// What the server answers, and the HMAC values that it cost.
 fn served(
     alloc: Global,
-    answer: Result<Option<Vec<u8>>, ServerScramErrorKind>,
-    meter: &Meter,
+    answer: &Result<Option<Vec<u8>>, ServerScramErrorKind>,
+    cost: u64,
 ) -> Result<String, Unconfirmed> {
-    let cost = meter.count();
     match answer {
-        Ok(Some(message)) => Ok(format!(in alloc; "{} {cost}", message_text(&message)?)?),
-        Ok(None) => Ok(format!(in alloc; "unknown user {cost}")?),
-        Err(kind) => Ok(format!(in alloc; "{kind:?} {cost}")?),
+        Ok(Some(message)) => costing(alloc, message_text(message)?, cost),
+        Ok(None) => costing(alloc, "unknown user", cost),
+        Err(kind) => kind_costing(alloc, kind, cost),
     }
 }
 
 /// The credential of `user` with the salt of 32 bytes 03.
 pub fn credential(alloc: Global) -> Result<SingleScramCredential, Unconfirmed> {
-    let user = "user".to_string(alloc)?;
-    let version = ScramVersion::Sha256;
-    match SingleScramCredential::new(alloc, user, "pencil", version, [3; 32]) {
-        Ok(credential) => Ok(credential),
-        Err(_) => Err(Unconfirmed::Malformed),
-    }
+    let (user, version) = ("user".to_string(alloc)?, ScramVersion::Sha256);
+    let credential = SingleScramCredential::new(alloc, user, "pencil", version, [3; 32]);
+    credential.ok().ok_or(Unconfirmed::Malformed)
 }
 
 /// The same user behind another, and before a further record of the name.
@@ -156,13 +134,8 @@ fn add(
     salt: &[u8],
     iterations: u32,
 ) -> Result<(), Unconfirmed> {
-    let name = name.to_string(alloc)?;
-    let version = ScramVersion::Sha256;
-    let Ok(record) = ScramRecord::from_password(alloc, version, password, salt, iterations) else {
-        return Err(Unconfirmed::Malformed);
-    };
-    match users.add(name, record) {
-        Ok(()) => Ok(()),
-        Err(_) => Err(Unconfirmed::Malformed),
-    }
+    let (name, version) = (name.to_string(alloc)?, ScramVersion::Sha256);
+    let record = ScramRecord::from_password(alloc, version, password, salt, iterations);
+    let record = record.ok().ok_or(Unconfirmed::Malformed)?;
+    users.add(name, record).ok().ok_or(Unconfirmed::Malformed)
 }

@@ -1,12 +1,15 @@
 //! The four messages of an exchange, as those who read them answer or refuse them.
 
-use crate::rows::{Unconfirmed, base64_of, bytes_of, message_text, number_of, text_of, version_of};
+use crate::rows::{
+    Unconfirmed, answer_costing, base64_of, bytes_of, costing, kind_costing, kind_words,
+    message_text, number_of, push_word, text_of, verdict_words, version_of,
+};
 use base64::engine::general_purpose::STANDARD;
 use fe2o3_scram::client_keys::ScramClientKeys;
 use fe2o3_scram::client_secret::{ClientSecret, IterationLimits};
 use fe2o3_scram::credentials::{ScramCredentials, StoredPassword};
 use fe2o3_scram::hmac::{Meter, ScramVersion};
-use fe2o3_scram::scram_messages::ServerFirstMessage;
+use fe2o3_scram::scram_messages::{ClientAnswer, ServerFirstMessage};
 use std::alloc::Global;
 
 /// What a server says that keeps these lines of users: `VERSION LINES SERVER-NONCE MESSAGE`.
@@ -15,15 +18,34 @@ pub fn client_first(alloc: Global, words: &[&str]) -> Result<String, Unconfirmed
         return Err(Unconfirmed::Malformed);
     };
     let version = version_of(version)?;
-    let lines = text_of(alloc, lines)?;
-    let Ok(users) = ScramCredentials::parse_lines(alloc, version, &lines) else {
-        return Err(Unconfirmed::Malformed);
-    };
     let message = bytes_of(alloc, message)?;
-    match version.compute_server_first_message(alloc, &message, server_nonce, &users) {
+    let users = users_of(alloc, version, lines)?;
+    challenged(alloc, version, &message, server_nonce, &users)
+}
+
+/// The users of these lines.
+fn users_of(
+    alloc: Global,
+    version: ScramVersion,
+    lines: &str,
+) -> Result<ScramCredentials, Unconfirmed> {
+    let lines = text_of(alloc, lines)?;
+    let users = ScramCredentials::parse_lines(alloc, version, &lines);
+    users.ok().ok_or(Unconfirmed::Malformed)
+}
+
+/// What a server of these users says to a message.
+fn challenged(
+    alloc: Global,
+    version: ScramVersion,
+    message: &[u8],
+    server_nonce: &str,
+    users: &ScramCredentials,
+) -> Result<String, Unconfirmed> {
+    match version.compute_server_first_message(alloc, message, server_nonce, users) {
         Ok(Some(first)) => challenge_words(alloc, &first),
         Ok(None) => Ok(String::from_str(alloc, "unknown user")?),
-        Err(kind) => Ok(format!(in alloc; "{kind:?}")?),
+        Err(kind) => kind_words(alloc, &kind),
     }
 }
 
@@ -42,9 +64,14 @@ fn answer_words(
     signature: &[u8],
     cost: u64,
 ) -> Result<String, Unconfirmed> {
-    let signature = STANDARD.encode(alloc, signature)?;
-    let client_final = message_text(client_final)?;
-    Ok(format!(in alloc; "{client_final} {signature} {cost}")?)
+    let mut words = message_text(client_final)?.to_string(alloc)?;
+    push_base64(alloc, &mut words, signature)?;
+    costing(alloc, &words, cost)
+}
+
+/// Adds a space, and bytes in base64.
+fn push_base64(alloc: Global, words: &mut String, bytes: &[u8]) -> Result<(), Unconfirmed> {
+    Ok(push_word(words, &STANDARD.encode(alloc, bytes)?)?)
 }
 
 /// What a client of `user` says that has a password: `VERSION NONCE PASSWORD LIMIT MESSAGE`.
@@ -52,26 +79,34 @@ pub fn server_first(alloc: Global, words: &[&str]) -> Result<String, Unconfirmed
     let [version, nonce, password, limit, message] = words else {
         return Err(Unconfirmed::Malformed);
     };
-    let bare = format!(in alloc; "n=user,r={nonce}")?;
+    let (version, limit) = (version_of(version)?, number_of(limit)?);
     let password = text_of(alloc, password)?;
+    answered_limited(alloc, version, nonce, &password, message, limit)
+}
+
+/// What a client says by this password up to this count, and the HMAC values that it costs.
+fn answered_limited(
+    alloc: Global,
+    version: ScramVersion,
+    nonce: &str,
+    password: &str,
+    message: &str,
+    limit: u32,
+) -> Result<String, Unconfirmed> {
+    let bare = format!(in alloc; "n=user,r={nonce}")?;
     let mut meter = Meter::new();
-    let answer = version_of(version)?.compute_client_final_message_limited(
+    let answer = version.compute_client_final_message_limited(
         alloc,
         nonce,
-        &password,
+        password,
         message,
         bare.as_bytes(),
-        number_of(limit)?,
+        limit,
         &mut meter,
     );
-    match answer {
-        Ok((client_final, signature)) => answer_words(
-            alloc,
-            &client_final,
-            &signature,
-            meter.count(),
-        ),
-        Err(kind) => Ok(format!(in alloc; "{kind:?} {}", meter.count())?),
+    match &answer {
+        Ok((message, signature)) => answer_words(alloc, message, signature, meter.count()),
+        Err(kind) => kind_costing(alloc, kind, meter.count()),
     }
 }
 
@@ -134,16 +169,18 @@ impl Asked<'_> {
             self.limits,
             &mut meter,
         );
-        match answer {
-            Ok(answer) => {
-                let (message, signature) = (&answer.message, &answer.signature);
-                let words = answer_words(alloc, message, signature, meter.count())?;
-                let keys = keys_words(alloc, &answer.keys)?;
-                Ok(format!(in alloc; "{words} {keys}")?)
-            }
-            Err(kind) => Ok(format!(in alloc; "{kind:?} {}", meter.count())?),
+        match &answer {
+            Ok(answer) => keyed_words(alloc, answer, meter.count()),
+            Err(kind) => kind_costing(alloc, kind, meter.count()),
         }
     }
+}
+
+/// A client's answer, the HMAC values, and the keys of the answer.
+fn keyed_words(alloc: Global, answer: &ClientAnswer, cost: u64) -> Result<String, Unconfirmed> {
+    let mut words = answer_words(alloc, &answer.message, &answer.signature, cost)?;
+    push_keys(alloc, &mut words, &answer.keys)?;
+    Ok(words)
 }
 
 /// Kept keys: `VERSION SALT COUNT CLIENT-KEY SERVER-KEY`.
@@ -151,24 +188,21 @@ fn keys_of(alloc: Global, words: &[&str]) -> Result<ScramClientKeys, Unconfirmed
     let [version, salt, count, client_key, server_key] = words else {
         return Err(Unconfirmed::Malformed);
     };
-    let version = version_of(version)?;
-    let salt = base64_of(alloc, salt)?;
+    let (version, count) = (version_of(version)?, number_of(count)?);
     let client_key = base64_of(alloc, client_key)?;
     let server_key = base64_of(alloc, server_key)?;
-    match ScramClientKeys::from_parts(version, salt, number_of(count)?, &client_key, &server_key) {
-        Ok(keys) => Ok(keys),
-        Err(_) => Err(Unconfirmed::Malformed),
-    }
+    let salt = base64_of(alloc, salt)?;
+    let keys = ScramClientKeys::from_parts(version, salt, count, &client_key, &server_key);
+    keys.ok().ok_or(Unconfirmed::Malformed)
 }
 
-/// The words of kept keys.
-fn keys_words(alloc: Global, keys: &ScramClientKeys) -> Result<String, Unconfirmed> {
-    let version = keys.scram_version().mechanism();
-    let count = keys.iterations();
-    let salt = STANDARD.encode(alloc, keys.salt())?;
-    let client_key = STANDARD.encode(alloc, keys.client_key())?;
-    let server_key = STANDARD.encode(alloc, keys.server_key())?;
-    Ok(format!(in alloc; "{version} {salt} {count} {client_key} {server_key}")?)
+/// Adds the words of kept keys, each behind a space.
+fn push_keys(alloc: Global, words: &mut String, keys: &ScramClientKeys) -> Result<(), Unconfirmed> {
+    push_word(words, keys.scram_version().mechanism())?;
+    push_base64(alloc, words, keys.salt())?;
+    push_word(words, &keys.iterations().to_string(alloc)?)?;
+    push_base64(alloc, words, keys.client_key())?;
+    push_base64(alloc, words, keys.server_key())
 }
 
 /// What a server says, and the HMAC values that it costs:
@@ -186,30 +220,53 @@ pub fn client_final(alloc: Global, words: &[&str]) -> Result<String, Unconfirmed
     else {
         return Err(Unconfirmed::Malformed);
     };
+    let opened = Opened {
+        version: version_of(version)?,
+        nonce,
+        client_first_bare,
+        server_first,
+    };
     let stored_key = base64_of(alloc, stored_key)?;
     let server_key = base64_of(alloc, server_key)?;
     let message = bytes_of(alloc, message)?;
-    let stored_password = StoredPassword {
-        salt: b"",
-        iterations: 4096,
-        stored_key: &stored_key,
-        server_key: &server_key,
-    };
-    let mut meter = Meter::new();
-    let answer = version_of(version)?.compute_server_final_message_metered(
-        alloc,
-        &message,
-        nonce.as_bytes(),
-        client_first_bare.as_bytes(),
-        server_first.as_bytes(),
-        &stored_password,
-        &mut meter,
-    );
-    match answer {
-        Ok(server_final) => {
-            Ok(format!(in alloc; "{} {}", message_text(&server_final)?, meter.count())?)
-        }
-        Err(kind) => Ok(format!(in alloc; "{kind:?} {}", meter.count())?),
+    opened.conclude(alloc, &stored_key, &server_key, &message)
+}
+
+/// What a server keeps of the two first messages.
+#[derive(Clone, Copy)]
+struct Opened<'a> {
+    version: ScramVersion,
+    nonce: &'a str,
+    client_first_bare: &'a str,
+    server_first: &'a str,
+}
+
+impl Opened<'_> {
+    /// What the server says to a client-final message, and the HMAC values that it costs.
+    fn conclude(
+        &self,
+        alloc: Global,
+        stored_key: &[u8],
+        server_key: &[u8],
+        message: &[u8],
+    ) -> Result<String, Unconfirmed> {
+        let stored_password = StoredPassword {
+            salt: b"",
+            iterations: 4096,
+            stored_key,
+            server_key,
+        };
+        let mut meter = Meter::new();
+        let answer = self.version.compute_server_final_message_metered(
+            alloc,
+            message,
+            self.nonce.as_bytes(),
+            self.client_first_bare.as_bytes(),
+            self.server_first.as_bytes(),
+            &stored_password,
+            &mut meter,
+        );
+        answer_costing(alloc, &answer, meter.count())
     }
 }
 
@@ -218,10 +275,11 @@ pub fn server_final(alloc: Global, words: &[&str]) -> Result<String, Unconfirmed
     let [version, signature, message] = words else {
         return Err(Unconfirmed::Malformed);
     };
+    let version = version_of(version)?;
     let signature = base64_of(alloc, signature)?;
     let message = bytes_of(alloc, message)?;
-    match version_of(version)?.validate_server_final(alloc, &message, &signature) {
-        Ok(()) => Ok(String::from_str(alloc, "believed")?),
-        Err(kind) => Ok(format!(in alloc; "{kind:?}")?),
-    }
+    verdict_words(
+        alloc,
+        version.validate_server_final(alloc, &message, &signature),
+    )
 }

@@ -1,10 +1,10 @@
 //! Names of mechanisms and of users, and passwords.
 
-use crate::rows::{Unconfirmed, message_text, text_of};
+use crate::rows::{Unconfirmed, kind_words, owned_text, text_of};
 use fe2o3_scram::credentials::SingleScramCredential;
 use fe2o3_scram::hmac::ScramVersion;
 use fe2o3_scram::saslprep_ascii::saslprep;
-use fe2o3_scram::scram_messages::{escape_username, unescape_username};
+use fe2o3_scram::scram_messages::{ServerScramErrorKind, escape_username, unescape_username};
 use std::alloc::Global;
 use std::borrow::CowStr;
 
@@ -36,18 +36,19 @@ pub fn password(alloc: Global, words: &[&str]) -> Result<String, Unconfirmed> {
         Ok(_) => "another",
         Err(_) => "NormalizeError",
     };
-    let user = "user".to_string(alloc)?;
-    let credential = SingleScramCredential::new(
-        alloc,
-        user,
-        &password,
-        ScramVersion::Sha1,
-        [3; 32],
-    );
-    match credential.err() {
+    match credential_fault(alloc, &password)? {
         Some(kind) => Ok(format!(in alloc; "{prepared}, {kind:?}")?),
         None => Ok(format!(in alloc; "{prepared}, a credential")?),
     }
+}
+
+/// Why no credential is made of a password, if none is.
+fn credential_fault(
+    alloc: Global,
+    password: &str,
+) -> Result<Option<ServerScramErrorKind>, Unconfirmed> {
+    let (user, version) = ("user".to_string(alloc)?, ScramVersion::Sha1);
+    Ok(SingleScramCredential::new(alloc, user, password, version, [3; 32]).err())
 }
 
 /// How a name is sent: `NAME`.
@@ -57,7 +58,7 @@ pub fn user_name(alloc: Global, words: &[&str]) -> Result<String, Unconfirmed> {
     };
     let name = text_of(alloc, name)?;
     let sent = escape_username(alloc, name.as_bytes())?;
-    Ok(message_text(&sent)?.to_string(alloc)?)
+    owned_text(alloc, &sent)
 }
 
 /// The name that is read of what is sent, and whether it is borrowed: `NAME`.
@@ -66,9 +67,9 @@ pub fn sent_name(alloc: Global, words: &[&str]) -> Result<String, Unconfirmed> {
         return Err(Unconfirmed::Malformed);
     };
     let sent = text_of(alloc, sent)?;
-    match unescape_username(alloc, &sent) {
+    match &unescape_username(alloc, &sent) {
         Ok(CowStr::Borrowed(name)) => Ok(format!(in alloc; "borrowed {name}")?),
         Ok(CowStr::Owned(name)) => Ok(format!(in alloc; "owned {name}")?),
-        Err(error) => Ok(format!(in alloc; "{error:?}")?),
+        Err(error) => kind_words(alloc, error),
     }
 }

@@ -1,6 +1,9 @@
 //! Logins by records that no password gives, and of users with odd names.
 
-use crate::rows::{Unconfirmed, base64_of, message_text, number_of, text_of, version_of};
+use crate::rows::{
+    Unconfirmed, base64_of, kind_words, message_text, number_of, owned_text, push_word, text_of,
+    version_of,
+};
 use fe2o3_scram::credentials::{
     ScramCredentialProvider, ScramCredentials, ScramRecord, StoredScramCredential,
 };
@@ -60,8 +63,7 @@ pub fn odd_record(alloc: Global, words: &[&str]) -> Result<String, Unconfirmed> 
 impl Odd<'_> {
     /// The record.
     fn record(&self, alloc: Global) -> Result<ScramRecord, Unconfirmed> {
-        let version = version_of(self.version)?;
-        let iterations = number_of(self.count)?;
+        let (version, iterations) = (version_of(self.version)?, number_of(self.count)?);
         let salt = base64_of(alloc, self.salt)?;
         let stored_key = base64_of(alloc, self.stored_key)?;
         let server_key = base64_of(alloc, self.server_key)?;
@@ -76,12 +78,16 @@ impl Odd<'_> {
 
     /// The user as one of many.
     fn credentials(&self, alloc: Global) -> Result<ScramCredentials, Unconfirmed> {
-        let name = text_of(alloc, self.name)?;
         let mut users = ScramCredentials::new(alloc, version_of(self.version)?);
-        match users.add(name, self.record(alloc)?) {
-            Ok(()) => Ok(users),
-            Err(_) => Err(Unconfirmed::Malformed),
-        }
+        self.add_to(alloc, &mut users)?;
+        Ok(users)
+    }
+
+    /// Adds the user.
+    fn add_to(&self, alloc: Global, users: &mut ScramCredentials) -> Result<(), Unconfirmed> {
+        let record = self.record(alloc)?;
+        let added = users.add(text_of(alloc, self.name)?, record);
+        added.ok().ok_or(Unconfirmed::Malformed)
     }
 
     /// A client of the user.
@@ -111,21 +117,31 @@ fn play<C: ScramCredentialProvider + Drop>(
     server: &mut ScramAuthenticator<C>,
     instead: &str,
 ) -> Result<String, Unconfirmed> {
-    let Ok(first) = client.compute_client_first_message(alloc, &[1; 32]) else {
-        return Err(Unconfirmed::OutOfMemory);
-    };
-    let Ok(Some(server_first)) = server.compute_server_first_message(alloc, &first, &[2; 32]) else {
-        return Err(Unconfirmed::Malformed);
-    };
-    let (first, server_first) = (message_text(&first)?, message_text(&server_first)?);
-    let answer = answer(alloc, client, server_first)?;
+    let first = client.compute_client_first_message(alloc, &[1; 32])?;
+    let mut words = owned_text(alloc, &first)?;
+    let server_first = challenge(alloc, server, &first)?;
+    push_word(&mut words, &server_first)?;
+    let answer = answer(alloc, client, &server_first)?;
+    push_word(&mut words, &answer)?;
     let sent = if instead.is_empty() {
         answer.as_str()
     } else {
         instead
     };
-    let end = conclude(alloc, client, server, sent)?;
-    Ok(format!(in alloc; "{first} {server_first} {answer} {end}")?)
+    push_word(&mut words, &conclude(alloc, client, server, sent)?)?;
+    Ok(words)
+}
+
+/// The server's challenge.
+fn challenge<C: ScramCredentialProvider + Drop>(
+    alloc: Global,
+    server: &mut ScramAuthenticator<C>,
+    client_first: &[u8],
+) -> Result<String, Unconfirmed> {
+    match &server.compute_server_first_message(alloc, client_first, &[2; 32]) {
+        Ok(Some(server_first)) => owned_text(alloc, server_first),
+        _ => Err(Unconfirmed::Malformed),
+    }
 }
 
 /// What the client answers to the challenge.
@@ -134,9 +150,9 @@ fn answer(
     client: &mut ScramClient,
     server_first: &str,
 ) -> Result<String, Unconfirmed> {
-    match client.compute_client_final_message(alloc, server_first) {
-        Ok(client_final) => Ok(message_text(&client_final)?.to_string(alloc)?),
-        Err(kind) => Ok(format!(in alloc; "{kind:?}")?),
+    match &client.compute_client_final_message(alloc, server_first) {
+        Ok(client_final) => owned_text(alloc, client_final),
+        Err(kind) => kind_words(alloc, kind),
     }
 }
 
@@ -147,16 +163,22 @@ fn conclude<C: ScramCredentialProvider + Drop>(
     server: &mut ScramAuthenticator<C>,
     client_final: &str,
 ) -> Result<String, Unconfirmed> {
-    match server.compute_server_final_message(alloc, client_final.as_bytes()) {
-        Ok(Some(server_final)) => {
-            let verdict = client.validate_server_final(alloc, &server_final);
-            let message = message_text(&server_final)?;
-            match verdict {
-                Ok(()) => Ok(format!(in alloc; "{message} believed")?),
-                Err(kind) => Ok(format!(in alloc; "{message} {kind:?}")?),
-            }
-        }
+    match &server.compute_server_final_message(alloc, client_final.as_bytes()) {
+        Ok(Some(server_final)) => verdict(alloc, client, server_final),
         Ok(None) => Err(Unconfirmed::Malformed),
-        Err(kind) => Ok(format!(in alloc; "{kind:?}")?),
+        Err(kind) => kind_words(alloc, kind),
+    }
+}
+
+/// The server-final message, and what the client says of it.
+fn verdict(
+    alloc: Global,
+    client: &mut ScramClient,
+    server_final: &[u8],
+) -> Result<String, Unconfirmed> {
+    let message = message_text(server_final)?;
+    match client.validate_server_final(alloc, server_final) {
+        Ok(()) => Ok(format!(in alloc; "{message} believed")?),
+        Err(kind) => Ok(format!(in alloc; "{message} {kind:?}")?),
     }
 }
