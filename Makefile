@@ -1,6 +1,6 @@
 # All of this needs the Rattle kit's `rt` on the PATH, and Python 3. CONTRIBUTING.md says how long
 # each takes. `tools/progress` tells the minutes, the stage and the crate on standard error.
-.PHONY: demo prove check test quiet
+.PHONY: demo prove check test quiet install-program
 
 # The example of RFC 7677, beside what the standard prints, and a whole login over frame bodies. Nothing
 # is proved by it.
@@ -43,6 +43,17 @@ quiet:
 	@log=$$(mktemp "$${TMPDIR:-/tmp}/gate.XXXXXX"); echo "log: $$log"; \
 	$(MAKE) --no-print-directory test > $$log 2>&1; status=$$?; \
 	grep -v '^make' $$log | tail -n 1; exit $$status
+
+# The program `scram` with the licences, under PREFIX and DESTDIR; where there is none yet it is proved
+# and built.
+PROVED_PROGRAM ?= crates/scram/out/scram
+install-program: $(PROVED_PROGRAM)
+	install -d $(DESTDIR)$(PREFIX)/bin $(DESTDIR)$(PREFIX)/share/doc/scram
+	install -m 755 $(PROVED_PROGRAM) $(DESTDIR)$(PREFIX)/bin/scram
+	install -m 644 LICENSE-APACHE LICENSE-MIT $(DESTDIR)$(PREFIX)/share/doc/scram/
+
+crates/scram/out/scram:
+	cd crates/scram && rt run -- --version
 
 # The library for callers in C and in Rust: lib, header, callers, install, dist.
 include bindings/callers.mk

@@ -1,0 +1,32 @@
+//! The program `scram`: `scram_commands` over the words and the streams that it is given.
+#![tactic(auto)]
+
+use scram_commands::stop::Stop;
+use std::io::BufReader;
+use std::process::ExitCode;
+use std::rt::Env;
+use std::{env, io};
+
+/// The program's words, with its own name first.
+fn words<R: Env + AllocGlobal>(rt: &R) -> Result<Vec<String>, Stop> {
+    let mut words = Vec::new(rt.alloc());
+    for word in env::args(rt).map_err(Stop::of_input)? {
+        words.push(word)?;
+    }
+    Ok(words)
+}
+
+/// Runs the program.
+fn run(rt: &HostRuntime) -> Result<u8, Stop> {
+    let words = words(rt)?;
+    let mut input = BufReader::new(rt.alloc(), rt.reader()).map_err(Stop::of_input)?;
+    let (mut output, mut errors) = (io::writer(rt), rt.stderr());
+    Ok(scram_commands::run(rt, &words, &mut input, &mut output, &mut errors))
+}
+
+fn main(rt: HostRuntime) -> ExitCode {
+    match run(&rt) {
+        Ok(status) => ExitCode::from(status),
+        Err(stop) => ExitCode::from(scram_commands::tell(stop, &mut rt.stderr())),
+    }
+}

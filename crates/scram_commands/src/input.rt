@@ -1,0 +1,38 @@
+//! What is read of the input.
+
+use crate::stop::Stop;
+use std::alloc::Global;
+use std::io::{BufRead, Read};
+
+/// The longest line that is read, in bytes.
+const LONGEST: usize = 65536;
+
+/// The next line of the input without its line feed, or `None` where the input has ended.
+pub fn next_line<I: BufRead>(alloc: Global, input: &mut I) -> Result<Option<String>, Stop> {
+    let mut line = Vec::new(alloc);
+    input
+        .by_ref()
+        .take(LONGEST as u64 + 1)
+        .read_until(b'\n', &mut line)
+        .map_err(Stop::of_input)?;
+    if line.is_empty() {
+        return Ok(None);
+    }
+    if line.last() == Some(&b'\n') {
+        let _ = line.pop();
+    } else if line.len() > LONGEST {
+        return Err(Stop::LongLine);
+    }
+    match String::from_utf8(line) {
+        Ok(line) => Ok(Some(line)),
+        Err(_) => Err(Stop::Input(std::io::ErrorKind::InvalidData)),
+    }
+}
+
+/// The password, which is the first line of the input. An empty one counts as none.
+pub fn password<I: BufRead>(alloc: Global, input: &mut I) -> Result<String, Stop> {
+    match next_line(alloc, input)? {
+        Some(line) if !line.is_empty() => Ok(line),
+        _ => Err(Stop::NoPassword),
+    }
+}

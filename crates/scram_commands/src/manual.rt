@@ -1,0 +1,284 @@
+//! The words that the program takes, with its help: one table, of which the parser is made.
+
+use clap::builder::ValueParser;
+use clap::{Arg, ArgAction, Command};
+use std::alloc::{AllocError, Global};
+
+/// What a word is.
+#[derive(Clone, Copy)]
+pub enum Kind {
+    /// It stands at its place, and has to.
+    Place,
+
+    /// An option with a text.
+    Text,
+
+    /// An option with the name of a mechanism.
+    Mechanism,
+
+    /// The same, which is SCRAM-SHA-256 where it is not there.
+    DefaultMechanism,
+
+    /// An option with an iteration count, which is 4096 where it is not there.
+    Iterations,
+
+    /// An option with an iteration count.
+    Count,
+
+    /// The name of a mechanism at its place.
+    MechanismPlace,
+}
+
+/// A word of a command.
+#[derive(Clone, Copy)]
+pub struct Word {
+    /// What it is.
+    pub kind: Kind,
+
+    /// Its name.
+    pub name: &'static str,
+
+    /// What stands for its value.
+    pub value: &'static str,
+
+    /// What it means.
+    pub help: &'static str,
+}
+
+/// A command.
+#[derive(Clone, Copy)]
+pub struct Words {
+    /// Its name.
+    pub name: &'static str,
+
+    /// What it does.
+    pub about: &'static str,
+
+    /// The words behind it.
+    pub words: &'static [Word],
+}
+
+/// The mechanisms that have records.
+static MECHANISMS: [&str; 3] = ["SCRAM-SHA-1", "SCRAM-SHA-256", "SCRAM-SHA-512"];
+
+/// What the program does.
+pub static ABOUT: &str = "Makes, keeps and tries the records of SCRAM (RFC 5802, RFC 7677)";
+
+/// What holds of every command.
+pub static BEHIND: &str = "\
+A password is the first line of standard input, in printable ASCII, and never a word. Status: 0 done, 1 refused
+by the other side, 2 wrong words, 3 this side refuses the other, 4 an input that cannot be read, or a file,
+memory or an output that fails.";
+
+/// What `users` does.
+pub static USERS: &str = "Keeps a file of records, a line for each: NAME RECORD";
+
+const FILE: Word = Word {
+    kind: Kind::Place,
+    name: "FILE",
+    value: "FILE",
+    help: "The file of users",
+};
+
+const NAME: Word = Word {
+    kind: Kind::Place,
+    name: "NAME",
+    value: "NAME",
+    help: "The user's name",
+};
+
+const MECHANISM: Word = Word {
+    kind: Kind::Mechanism,
+    name: "mechanism",
+    value: "M",
+    help: "The mechanism that the record is for, where not each",
+};
+
+const NEW_MECHANISM: Word = Word {
+    kind: Kind::DefaultMechanism,
+    name: "mechanism",
+    value: "M",
+    help: "The mechanism that the record is for",
+};
+
+const ITERATIONS: Word = Word {
+    kind: Kind::Iterations,
+    name: "iterations",
+    value: "N",
+    help: "The iteration count",
+};
+
+const SALT: Word = Word {
+    kind: Kind::Text,
+    name: "salt",
+    value: "HEX",
+    help: "The salt, for tests; else it is 32 random bytes",
+};
+
+const M: Word = Word {
+    kind: Kind::MechanismPlace,
+    name: "M",
+    value: "M",
+    help: "The mechanism",
+};
+
+const USER: Word = Word {
+    kind: Kind::Place,
+    name: "USER",
+    value: "USER",
+    help: "The user's name",
+};
+
+const LIMIT: Word = Word {
+    kind: Kind::Count,
+    name: "limit",
+    value: "N",
+    help: "The largest iteration count that is accepted; else it is 1000000",
+};
+
+const LEAST: Word = Word {
+    kind: Kind::Count,
+    name: "least",
+    value: "N",
+    help: "The least iteration count that is accepted; else it is 4096",
+};
+
+const KEYS: Word = Word {
+    kind: Kind::Text,
+    name: "keys",
+    value: "FILE",
+    help: "Keeps the keys of the login in this file, and logs in by those that it has",
+};
+
+const NONCE: Word = Word {
+    kind: Kind::Text,
+    name: "nonce",
+    value: "HEX",
+    help: "The nonce, for tests; else it is 32 random bytes",
+};
+
+/// The commands that stand alone.
+pub static COMMANDS: [Words; 4] = [
+    Words {
+        name: "record",
+        about: "Prints the record of a password, as servers keep it (RFC 5803)",
+        words: &[NEW_MECHANISM, ITERATIONS, SALT],
+    },
+    Words {
+        name: "client",
+        about: "Logs in: behind the password, each line is a message in base64",
+        words: &[M, USER, LIMIT, LEAST, KEYS, NONCE],
+    },
+    Words {
+        name: "server",
+        about: "Serves a login for the users of a file: each line is a message in base64",
+        words: &[M, FILE, NONCE],
+    },
+    Words {
+        name: "explain",
+        about: "Tells what the messages of a login say: each line is one in base64",
+        words: &[],
+    },
+];
+
+/// The commands behind `users`.
+pub static USERS_COMMANDS: [Words; 4] = [
+    Words {
+        name: "add",
+        about: "Adds a user's record, or puts it in the place of that for the mechanism",
+        words: &[FILE, NAME, NEW_MECHANISM, ITERATIONS, SALT],
+    },
+    Words {
+        name: "remove",
+        about: "Removes each record of a user, or that for one mechanism",
+        words: &[FILE, NAME, MECHANISM],
+    },
+    Words {
+        name: "list",
+        about: "Prints each line's mechanism, iteration count and name, as the file has it",
+        words: &[FILE],
+    },
+    Words {
+        name: "check",
+        about: "Tells whether the password is that of each record of a user",
+        words: &[FILE, NAME, MECHANISM],
+    },
+];
+
+impl Word {
+    /// The word for the parser.
+    fn arg<'a>(&self, alloc: Global) -> Arg<'a> {
+        let arg = Arg::new(alloc, self.name)
+            .action(ArgAction::Set)
+            .help(self.help);
+        match self.kind {
+            Kind::Place => arg.required(true),
+            Kind::Text => self.option(arg),
+            Kind::Mechanism => self.option(arg).value_parser(MECHANISMS.as_slice()),
+            Kind::DefaultMechanism => self
+                .option(arg)
+                .value_parser(MECHANISMS.as_slice())
+                .default_value("SCRAM-SHA-256"),
+            Kind::Iterations => self
+                .option(arg)
+                .value_parser(ValueParser::unsigned(1, 4294967295))
+                .default_value("4096"),
+            Kind::Count => self
+                .option(arg)
+                .value_parser(ValueParser::unsigned(1, 4294967295)),
+            Kind::MechanismPlace => arg.required(true).value_parser(MECHANISMS.as_slice()),
+        }
+    }
+}
+
+impl Word {
+    /// The word as an option.
+    fn option<'a>(&self, arg: Arg<'a>) -> Arg<'a> {
+        arg.long(self.name).value_name(self.value)
+    }
+}
+
+impl Words {
+    /// The command for the parser.
+    fn command<'a>(&self, alloc: Global) -> Result<Command<'a>, AllocError> {
+        let mut args = Vec::new(alloc);
+        for word in self.words {
+            args.push(word.arg(alloc))?;
+        }
+        Command::new(alloc, self.name).about(self.about).args(args)
+    }
+}
+
+/// Commands for the parser.
+fn commands<'a>(alloc: Global, table: &[Words]) -> Result<Vec<Command<'a>>, AllocError> {
+    let mut commands = Vec::new(alloc);
+    for words in table {
+        commands.push(words.command(alloc)?)?;
+    }
+    Ok(commands)
+}
+
+/// A command that has others behind it, and is nothing alone.
+fn above<'a>(alloc: Global, name: &'static str, about: &'static str) -> Command<'a> {
+    Command::new(alloc, name)
+        .about(about)
+        .subcommand_required(true)
+        .arg_required_else_help(true)
+        .disable_help_subcommand(true)
+}
+
+/// `users` for the parser.
+fn users<'a>(alloc: Global) -> Result<Command<'a>, AllocError> {
+    let commands = commands(alloc, &USERS_COMMANDS)?;
+    above(alloc, "users", USERS).subcommands(commands)
+}
+
+/// All words for the parser.
+pub fn manual<'a>(alloc: Global) -> Result<Command<'a>, AllocError> {
+    let mut commands = commands(alloc, &COMMANDS)?;
+    commands.push(users(alloc)?)?;
+    above(alloc, "scram", ABOUT)
+        .version("0.2.0")
+        .after_help(BEHIND)
+        .subcommands(commands)
+}

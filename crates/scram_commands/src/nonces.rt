@@ -1,0 +1,20 @@
+//! Nonces: 32 random bytes, or those of the words, for tests.
+
+use crate::stop::Stop;
+use hex::FromHex;
+use std::random::RandomSource;
+
+/// A nonce.
+pub fn nonce<R: RandomSource>(rt: &R, word: Option<&str>) -> Result<[u8; 32], Stop> {
+    match word {
+        Some(digits) => <[u8; 32] as FromHex>::from_hex(digits).map_err(|_| Stop::WrongNonce),
+        None => random(rt),
+    }
+}
+
+/// 32 random bytes.
+pub fn random<R: RandomSource>(rt: &R) -> Result<[u8; 32], Stop> {
+    let mut bytes = [0; 32];
+    rt.fill_bytes(&mut bytes).map_err(Stop::of_random)?;
+    Ok(bytes)
+}

@@ -1,0 +1,152 @@
+//! What the words ask for.
+
+use crate::client::{Login, log_in};
+use crate::explain::explain;
+use crate::record::NewRecord;
+use crate::server::{Service, serve};
+use crate::stop::Stop;
+use crate::users::{Named, add, check, list, remove};
+use crate::{input, record};
+use clap::ArgMatches;
+use fe2o3_scram::ScramVersion;
+use std::io::{BufRead, Write};
+use std::random::RandomSource;
+use std::rt::Files;
+
+/// The input and the output.
+#[derive(Drop)]
+pub struct Streams<'a, I, O> {
+    pub input: &'a mut I,
+    pub output: &'a mut O,
+}
+
+/// What the words ask for.
+#[derive(Clone, Copy)]
+pub enum Task<'a> {
+    /// Prints a record.
+    Record(NewRecord<'a>),
+
+    /// Adds a user's record to a file.
+    Add(Named<'a>, NewRecord<'a>),
+
+    /// Removes a user's records from a file.
+    Remove(Named<'a>),
+
+    /// Lists the records of a file.
+    List(&'a str),
+
+    /// Checks a password.
+    Check(Named<'a>),
+
+    /// Logs in.
+    Client(Login<'a>),
+
+    /// Serves a login.
+    Server(Service<'a>),
+
+    /// Tells what messages say.
+    Explain,
+}
+
+impl<'a> Task<'a> {
+    /// Reads what a parse found.
+    pub fn of(matches: &ArgMatches<'a>) -> Task<'a> {
+        match matches.subcommand() {
+            Some(("users", found)) => Task::of_users(found),
+            Some(("client", found)) => Task::Client(login(found)),
+            Some(("server", found)) => Task::Server(service(found)),
+            Some(("explain", _)) => Task::Explain,
+            Some((_, found)) => Task::Record(new_record(found)),
+            None => Task::Record(new_record(matches)),
+        }
+    }
+
+    /// Reads what a parse found behind `users`.
+    fn of_users(matches: &ArgMatches<'a>) -> Task<'a> {
+        match matches.subcommand() {
+            Some(("add", found)) => Task::Add(named(found), new_record(found)),
+            Some(("remove", found)) => Task::Remove(named(found)),
+            Some(("check", found)) => Task::Check(named(found)),
+            Some((_, found)) => Task::List(text(found, "FILE")),
+            None => Task::List(text(matches, "FILE")),
+        }
+    }
+
+    /// Does it.
+    pub fn run<R, I, O>(&self, rt: &R, streams: &mut Streams<'_, I, O>) -> Result<(), Stop>
+    where
+        R: Files + RandomSource + AllocGlobal,
+        I: BufRead,
+        O: Write,
+    {
+        let alloc = rt.alloc();
+        match self {
+            Task::Record(record) => {
+                let password = input::password(alloc, streams.input)?;
+                record::print(rt, record, &password, streams.output)
+            }
+            Task::Add(named, record) => {
+                let password = input::password(alloc, streams.input)?;
+                add(rt, named, record, &password, streams.output)
+            }
+            Task::Remove(named) => remove(rt, named, streams.output),
+            Task::List(file) => list(rt, file, streams.output),
+            Task::Check(named) => {
+                let password = input::password(alloc, streams.input)?;
+                check(rt, named, &password, streams.output)
+            }
+            Task::Client(login) => log_in(rt, login, streams.input, streams.output),
+            Task::Server(service) => serve(rt, service, streams.input, streams.output),
+            Task::Explain => explain(alloc, streams.input, streams.output),
+        }
+    }
+}
+
+/// The login that the words describe.
+fn login<'a>(matches: &ArgMatches<'a>) -> Login<'a> {
+    Login {
+        version: version_of(matches, "M").unwrap_or(ScramVersion::Sha256),
+        user: text(matches, "USER"),
+        limit: matches.get_one::<u32>("limit").unwrap_or(1_000_000),
+        least: matches.get_one::<u32>("least").unwrap_or(4096),
+        keys: matches.get_str("keys"),
+        nonce: matches.get_str("nonce"),
+    }
+}
+
+/// The server that the words describe.
+fn service<'a>(matches: &ArgMatches<'a>) -> Service<'a> {
+    Service {
+        version: version_of(matches, "M").unwrap_or(ScramVersion::Sha256),
+        file: text(matches, "FILE"),
+        nonce: matches.get_str("nonce"),
+    }
+}
+
+/// The record that the words describe.
+fn new_record<'a>(matches: &ArgMatches<'a>) -> NewRecord<'a> {
+    NewRecord {
+        version: version_of(matches, "mechanism").unwrap_or(ScramVersion::Sha256),
+        iterations: matches.get_one::<u32>("iterations").unwrap_or(4096),
+        salt: matches.get_str("salt"),
+    }
+}
+
+/// The file and the name that the words have, and the mechanism, if any.
+fn named<'a>(matches: &ArgMatches<'a>) -> Named<'a> {
+    Named {
+        file: text(matches, "FILE"),
+        name: text(matches, "NAME"),
+        version: version_of(matches, "mechanism"),
+    }
+}
+
+/// The mechanism that the words name, if any.
+fn version_of(matches: &ArgMatches<'_>, id: &str) -> Option<ScramVersion> {
+    ScramVersion::from_mechanism(matches.get_str(id)?)
+}
+
+/// The text of an argument that a parse always finds.
+fn text<'a>(matches: &ArgMatches<'a>, id: &str) -> &'a str {
+    matches.get_str(id).unwrap_or("")
+}

@@ -1,0 +1,129 @@
+//! `users`: a file of records, of which each line is a user's: the name, escaped as SCRAM sends it (RFC 5802,
+//! section 5.1), a space, and the record (RFC 5803, section 2).
+
+pub mod changes;
+pub mod lines;
+
+use crate::record::NewRecord;
+use crate::stop::Stop;
+use crate::store;
+use crate::users::changes::{Put, Taken};
+use crate::users::lines::UserLine;
+use fe2o3_scram::{MixedCredentials, ScramCredentialProvider, ScramVersion};
+use std::alloc::Global;
+use std::io::Write;
+use std::random::RandomSource;
+use std::rt::Files;
+
+/// A user of a file, for one mechanism or for each.
+#[derive(Clone, Copy)]
+pub struct Named<'a> {
+    /// The file.
+    pub file: &'a str,
+
+    /// The name, plain.
+    pub name: &'a str,
+
+    /// The mechanism, or none for each.
+    pub version: Option<ScramVersion>,
+}
+
+/// The versions in the order in which their records are told.
+static VERSIONS: [ScramVersion; 3] = [
+    ScramVersion::Sha1,
+    ScramVersion::Sha256,
+    ScramVersion::Sha512,
+];
+
+/// Adds a user's record behind the others, or puts it in the place of the one that counts.
+pub fn add<R: Files + RandomSource + AllocGlobal, O: Write>(
+    rt: &R,
+    named: &Named<'_>,
+    record: &NewRecord<'_>,
+    password: &str,
+    output: &mut O,
+) -> Result<(), Stop> {
+    let line = lines::line_of(rt.alloc(), named.name, record.of(rt, password)?)?;
+    let put = Put {
+        line,
+        version: record.version,
+    };
+    let done = store::make_change(rt, named.file, &put)?;
+    writeln!(output, "{done}").map_err(Stop::of_output)
+}
+
+/// Removes a user's records.
+pub fn remove<R: Files + AllocGlobal, O: Write>(
+    rt: &R,
+    named: &Named<'_>,
+    output: &mut O,
+) -> Result<(), Stop> {
+    let name = lines::escaped(rt.alloc(), named.name)?;
+    let taken = Taken {
+        name,
+        version: named.version,
+    };
+    let done = store::make_change(rt, named.file, &taken)?;
+    writeln!(output, "{done}").map_err(Stop::of_output)
+}
+
+/// Prints the mechanism, the count and the name of each line.
+pub fn list<R: Files + AllocGlobal, O: Write>(
+    rt: &R,
+    file: &str,
+    output: &mut O,
+) -> Result<(), Stop> {
+    let text = store::read(rt, file)?;
+    lines::test(rt.alloc(), &text)?;
+    for line in text.lines() {
+        print_line(line, output)?;
+    }
+    Ok(())
+}
+
+/// Prints the mechanism, the count and the name of a line.
+fn print_line<O: Write>(line: &str, output: &mut O) -> Result<(), Stop> {
+    let line = UserLine::of(line);
+    let (mechanism, iterations, name) = (line.mechanism, line.iterations, line.name);
+    writeln!(output, "{mechanism} {iterations} {name}").map_err(Stop::of_output)
+}
+
+/// Checks the password against each record of the user that counts, and prints which it is of.
+pub fn check<R: Files + AllocGlobal, O: Write>(
+    rt: &R,
+    named: &Named<'_>,
+    password: &str,
+    output: &mut O,
+) -> Result<(), Stop> {
+    let text = store::read(rt, named.file)?;
+    let users = MixedCredentials::parse_lines(rt.alloc(), &text)?;
+    conclude(&answers(&users, named, password), output)
+}
+
+/// Whether the password is that of the record for a version, of each that is there and asked for.
+fn answers(users: &MixedCredentials, named: &Named<'_>, password: &str) -> [Option<bool>; 3] {
+    VERSIONS.map(|version| {
+        if named.version.is_some_and(|asked| asked != version) {
+            return None;
+        }
+        let kept = users.for_version(version).get_stored_password(named.name)?;
+        Some(kept.verify_password(version, password))
+    })
+}
+
+/// Prints the answers. All have to be yes, and there has to be one.
+fn conclude<O: Write>(answers: &[Option<bool>; 3], output: &mut O) -> Result<(), Stop> {
+    for (version, answer) in VERSIONS.iter().zip(answers) {
+        if let Some(is_right) = answer {
+            let (mechanism, word) = (version.mechanism(), if *is_right { "yes" } else { "no" });
+            writeln!(output, "{mechanism} {word}").map_err(Stop::of_output)?;
+        }
+    }
+    if answers.contains(&Some(false)) {
+        return Err(Stop::OtherPassword);
+    }
+    if !answers.contains(&Some(true)) {
+        return Err(Stop::Nobody);
+    }
+    Ok(())
+}

@@ -1,0 +1,37 @@
+//! Messages as lines: each in base64 on a line of its own.
+
+use crate::input::next_line;
+use crate::stop::Stop;
+use base64::DecodeAllocError;
+use base64::engine::general_purpose::STANDARD;
+use std::alloc::Global;
+use std::io::{BufRead, Result as Written, Write};
+
+/// Sends a message.
+pub fn send<O: Write>(alloc: Global, output: &mut O, message: &[u8]) -> Result<(), Stop> {
+    let line = STANDARD.encode(alloc, message)?;
+    print(output, &line).map_err(Stop::of_output)
+}
+
+/// Writes a line to its end.
+fn print<O: Write>(output: &mut O, line: &str) -> Written<()> {
+    writeln!(output, "{line}")?;
+    output.flush()
+}
+
+/// Receives a message, which has to come.
+pub fn receive<I: BufRead>(alloc: Global, input: &mut I) -> Result<Vec<u8>, Stop> {
+    match next_line(alloc, input)? {
+        Some(line) => bytes_of(alloc, &line),
+        None => Err(Stop::Ended),
+    }
+}
+
+/// The bytes that a line is of.
+pub fn bytes_of(alloc: Global, line: &str) -> Result<Vec<u8>, Stop> {
+    match STANDARD.decode(alloc, line.as_bytes()) {
+        Ok(bytes) => Ok(bytes),
+        Err(DecodeAllocError::OutOfMemory) => Err(Stop::OutOfMemory),
+        Err(_) => Err(Stop::NotBase64),
+    }
+}
