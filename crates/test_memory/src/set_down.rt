@@ -79,15 +79,18 @@ fn no_side_keeps_a_whole_unit(rt: HostRuntime) -> Result<(), Fail> {
     Ok(())
 }
 
-/// Whether this is the body that bytes complete of an init of which so many have come, by the side that waits for it.
-fn completes(alloc: Global, unit: &[u8], come: usize, more: usize, body: Option<&[u8]>) -> bool {
+/// Whether this is the body that the bytes up to `end` of an init complete, by the side to which as many have come.
+fn completes(alloc: Global, unit: &[u8], come: usize, end: usize, body: Option<&[u8]>) -> bool {
+    let (Some(held), Some(more)) = (unit.get(..come), unit.get(come..end)) else {
+        return false;
+    };
     let kept = SetDown {
         standing: Standing::Wanting,
         due: Due::Frame(Turn::Init),
         limit: 512,
-        held: &unit[..come],
+        held,
     };
-    match kept.completed(alloc, &unit[come..more]) {
+    match kept.completed(alloc, more) {
         Ok(Some(found)) => body == Some(found.as_slice()),
         Ok(None) => body.is_none(),
         Err(_) => false,
@@ -98,13 +101,11 @@ fn completes(alloc: Global, unit: &[u8], come: usize, more: usize, body: Option<
 fn the_rest_of_a_unit_completes_its_body(rt: HostRuntime) -> Result<(), Fail> {
     let alloc = rt.alloc();
     let unit = units_of(alloc, &[INIT])?;
+    let (end, body) = (unit.len(), unit.get(4..));
     for come in [0, 3, 4, 40] {
-        let whole = completes(alloc, &unit, come, unit.len(), Some(&unit[4..]));
-        assert!(rt; whole, "{come}");
-        assert!(rt;
-            completes(alloc, &unit, come, unit.len() - 1, None),
-            "{come}"
-        );
+        assert!(rt; completes(alloc, &unit, come, end, body), "{come}");
+        let short = end.saturating_sub(1);
+        assert!(rt; completes(alloc, &unit, come, short, None), "{come}");
     }
     Ok(())
 }
