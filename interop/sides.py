@@ -17,7 +17,8 @@ from typing import Callable, Iterator, NamedTuple, Optional
 PATIENCE = 60
 
 SCRAM = ("SCRAM-SHA-1", "SCRAM-SHA-256", "SCRAM-SHA-512")
-SALT = b"a salt of bytes!"
+#: As long as the rows of stored vectors have it.
+SALT = b"a salt of thirty-two bytes, so!!"
 
 
 class Ending(NamedTuple):
