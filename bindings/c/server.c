@@ -16,29 +16,19 @@
 #include <sys/socket.h>
 #include <unistd.h>
 
-/* What is offered by each mechanism, and the version of SCRAM and of the records. */
-static const struct offer {
-    const char *name;
-    uint32_t mechanisms, version;
-} offers[] = {
-    {"SCRAM-SHA-1", FE2O3_OFFER_SCRAM, FE2O3_SHA_1}, {"SCRAM-SHA-256", FE2O3_OFFER_SCRAM, FE2O3_SHA_256},
-    {"SCRAM-SHA-512", FE2O3_OFFER_SCRAM, FE2O3_SHA_512}, {"PLAIN", FE2O3_OFFER_PLAIN, FE2O3_SHA_256},
-    {"ANONYMOUS", FE2O3_OFFER_ANONYMOUS, FE2O3_SHA_256},
-    {"SCRAM-SHA-256, PLAIN", FE2O3_OFFER_SCRAM | FE2O3_OFFER_PLAIN, FE2O3_SHA_256},
-};
-
-#define OFFERS (sizeof offers / sizeof *offers)
-
-static const struct offer *offered = &offers[OFFERS - 1];
+static uint32_t mechanisms = FE2O3_OFFER_SCRAM | FE2O3_OFFER_PLAIN, version = FE2O3_SHA_256;
 static uint8_t users[65536], secret[32];
 static size_t users_len;
 
-/* Whether there is such a mechanism, which is offered from then on. */
+/* Whether there is such a mechanism, which alone is offered then. */
 static int offer_only(const char *name)
 {
-    for (offered = offers; offered < offers + OFFERS && strcmp(offered->name, name) != 0;)
-        offered++;
-    return offered < offers + OFFERS;
+    mechanisms = strcmp(name, "PLAIN") == 0 ? FE2O3_OFFER_PLAIN : FE2O3_OFFER_ANONYMOUS;
+    if (strncmp(name, "SCRAM-SHA-", 10) != 0)
+        return mechanisms == FE2O3_OFFER_PLAIN || strcmp(name, "ANONYMOUS") == 0;
+    mechanisms = FE2O3_OFFER_SCRAM;
+    version = (uint32_t)atoi(name + 10);
+    return version == FE2O3_SHA_1 || version == FE2O3_SHA_256 || version == FE2O3_SHA_512;
 }
 
 static int random_bytes(uint8_t *bytes, size_t len)
@@ -66,8 +56,8 @@ static int sent(int channel, const uint8_t *bytes, size_t len)
 static void fetch(const uint8_t *name, size_t len, struct fe2o3_scram_record *record)
 {
     size_t line = 0;
-    if (fe2o3_scram_lines_find(users, users_len, name, len, offered->version, &line, record) != FE2O3_DONE)
-        fe2o3_scram_record_of_nobody(offered->version, secret, sizeof secret, name, len, 16, 4096, record);
+    if (fe2o3_scram_lines_find(users, users_len, name, len, version, &line, record) != FE2O3_DONE)
+        fe2o3_scram_record_of_nobody(version, secret, sizeof secret, name, len, 16, 4096, record);
 }
 
 /* Reads and answers until a client is logged in or the connection is to be closed. Answers the number of a call that is
@@ -78,7 +68,7 @@ static int64_t serve(int channel, struct fe2o3_sasl_server *server)
     size_t len = 0, at = 0, taken = 0, out_len = 0, name_len = 0;
     while (server->connection.standing == FE2O3_WANTING) {
         struct fe2o3_scram_record record = {0};
-        struct fe2o3_sasl_host host = {offered->mechanisms, offered->version, 4096, name, 0, &record, FE2O3_NONE};
+        struct fe2o3_sasl_host host = {mechanisms, version, 4096, name, 0, &record, FE2O3_NONE};
         uint32_t status;
         if (at == len) {
             ssize_t some = recv(channel, came, sizeof came, 0);
@@ -114,14 +104,12 @@ static void told(int64_t answer, const struct fe2o3_sasl_server *server)
         /* (by ANONYMOUS it names nobody) */
         fe2o3_scram_server_logged_in(&server->scram, user, sizeof user, &len);
         printf("logged in: %.*s\n", (int)len, (const char *)user);
-        return;
-    }
-    if (answer < 0) {
+    } else if (answer < 0) {
         puts("no connection");
-        return;
+    } else {
+        fe2o3_status_text(answer == FE2O3_DONE ? server->connection.why : (uint32_t)answer, &text);
+        printf("not logged in: %s\n", (const char *)text.bytes);
     }
-    fe2o3_status_text(answer == FE2O3_DONE ? server->connection.why : (uint32_t)answer, &text);
-    printf("not logged in: %s\n", (const char *)text.bytes);
 }
 
 int main(int count, char **words)
