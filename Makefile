@@ -44,12 +44,13 @@ quiet:
 	$(MAKE) --no-print-directory test > $$log 2>&1; status=$$?; \
 	grep -v '^make' $$log | tail -n 1; exit $$status
 
-# The program `scram` with the licences, under PREFIX and DESTDIR; where there is none yet it is proved
+# The program `scram` with its page and the licences, under PREFIX and DESTDIR; where there is none yet it is proved
 # and built.
 PROVED_PROGRAM ?= crates/scram/out/scram
 install-program: $(PROVED_PROGRAM)
-	install -d $(DESTDIR)$(PREFIX)/bin $(DESTDIR)$(PREFIX)/share/doc/scram
+	install -d $(DESTDIR)$(PREFIX)/bin $(DESTDIR)$(PREFIX)/share/man/man1 $(DESTDIR)$(PREFIX)/share/doc/scram
 	install -m 755 $(PROVED_PROGRAM) $(DESTDIR)$(PREFIX)/bin/scram
+	$(PROVED_PROGRAM) man > $(DESTDIR)$(PREFIX)/share/man/man1/scram.1
 	install -m 644 LICENSE-APACHE LICENSE-MIT $(DESTDIR)$(PREFIX)/share/doc/scram/
 
 crates/scram/out/scram:

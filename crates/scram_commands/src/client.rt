@@ -1,7 +1,7 @@
 //! `client`: a login, in which the messages of the server come on the input.
 
 use crate::stop::Stop;
-use crate::{input, keys, nonces, wire};
+use crate::{frames, input, keys, nonces, wire};
 use fe2o3_scram::{ScramClient, ScramClientKeys, ScramErrorKind, ScramVersion};
 use std::alloc::Global;
 use std::io::{BufRead, Write};
@@ -26,6 +26,9 @@ pub struct Login<'a> {
 
     /// The nonce in hexadecimal digits, or none where it is to be random.
     pub nonce: Option<&'a str>,
+
+    /// Whether bytes of AMQP come in place of lines.
+    pub frames: bool,
 }
 
 /// By what the client logs in: the password, if the first line of the input has one, and keys, if there are.
@@ -42,10 +45,29 @@ where
     I: BufRead,
     O: Write,
 {
-    let mut client = login.client(rt, input)?;
+    let client = login.client(rt, input)?;
+    if login.frames {
+        return frames::log_in(rt, login, client, input, output);
+    }
+    over_lines(rt, login, client, input, output)
+}
+
+/// Logs in over lines.
+fn over_lines<R, I, O>(
+    rt: &R,
+    login: &Login<'_>,
+    mut client: Box<ScramClient>,
+    input: &mut I,
+    output: &mut O,
+) -> Result<(), Stop>
+where
+    R: Files + RandomSource + AllocGlobal,
+    I: BufRead,
+    O: Write,
+{
     let nonce = nonces::nonce(rt, login.nonce)?;
     exchange(rt.alloc(), &mut client, &nonce, input, output)?;
-    login.keep(rt, &client)
+    login.keep(rt, client.keys())
 }
 
 impl Login<'_> {
@@ -80,8 +102,12 @@ impl Login<'_> {
     }
 
     /// Keeps the keys of the login where the words name a file for them.
-    fn keep<R: Files + AllocGlobal>(&self, rt: &R, client: &ScramClient) -> Result<(), Stop> {
-        match (self.keys, client.keys()) {
+    pub(crate) fn keep<R: Files + AllocGlobal>(
+        &self,
+        rt: &R,
+        keys: Option<&ScramClientKeys>,
+    ) -> Result<(), Stop> {
+        match (self.keys, keys) {
             (Some(file), Some(keys)) => keys::keep(rt, file, keys),
             _ => Ok(()),
         }

@@ -2,6 +2,7 @@
 
 use crate::stop::Stop;
 use crate::{input, wire};
+use fe2o3_sasl_wire::{Error, FrameView, SymbolsView, view_frame};
 use fe2o3_scram::{
     ClientFinal, ClientFirst, ScramErrorKind, ServerFinal, ServerFirst, ServerScramErrorKind,
 };
@@ -26,14 +27,18 @@ enum Refusal {
 
     /// As a server refuses it.
     Server(ServerScramErrorKind),
+
+    /// The body of no frame.
+    Frame(Error),
 }
 
 /// What is told of a message: what it says, or why it is refused.
 type Told = Result<String, Refusal>;
 
-/// Prints what each message says, up to the first that is refused.
+/// Prints what each message says, up to the first that is refused: those of bodies of frames, or texts.
 pub fn explain<I: BufRead, O: Write>(
     alloc: Global,
+    frames: bool,
     input: &mut I,
     output: &mut O,
 ) -> Result<(), Stop> {
@@ -41,18 +46,10 @@ pub fn explain<I: BufRead, O: Write>(
         client_nonce: String::new(alloc),
         nonce: String::new(alloc),
     };
-    for place in 0..4 {
-        let Some(line) = input::next_line(alloc, input)? else {
-            return Ok(());
-        };
-        let message = wire::bytes_of(alloc, &line)?;
-        let told = heard.tell(alloc, place, &message);
-        print(NAMES[place], told, output)?;
+    if frames {
+        return heard.bodies(alloc, input, output);
     }
-    match input::next_line(alloc, input)? {
-        Some(_) => Err(Stop::Behind),
-        None => Ok(()),
-    }
+    heard.texts(alloc, input, output)
 }
 
 /// The messages of an exchange (RFC 5802, section 7).
@@ -68,7 +65,7 @@ fn print<O: Write>(name: &str, told: Told, output: &mut O) -> Result<(), Stop> {
     match told {
         Ok(said) => writeln!(output, "{name}: {said}").map_err(Stop::of_output),
         Err(refusal) => {
-            let _ = refuse(name, refusal, output).map_err(Stop::of_output)?;
+            refuse(name, refusal, output).map_err(Stop::of_output)?;
             Err(refusal.stop())
         }
     }
@@ -79,6 +76,7 @@ fn refuse<O: Write>(name: &str, refusal: Refusal, output: &mut O) -> std::io::Re
     match refusal {
         Refusal::Client(kind) => writeln!(output, "{name}: refused: {kind}"),
         Refusal::Server(kind) => writeln!(output, "{name}: refused: {kind}"),
+        Refusal::Frame(fault) => writeln!(output, "{name}: refused: {fault}"),
     }
 }
 
@@ -88,7 +86,7 @@ impl Refusal {
         match self {
             Refusal::Client(ScramErrorKind::OutOfMemory)
             | Refusal::Server(ServerScramErrorKind::OutOfMemory) => Stop::OutOfMemory,
-            Refusal::Client(_) | Refusal::Server(_) => Stop::MessageRefused,
+            Refusal::Client(_) | Refusal::Server(_) | Refusal::Frame(_) => Stop::MessageRefused,
         }
     }
 }
@@ -112,6 +110,65 @@ impl From<AllocError> for Refusal {
 }
 
 impl Heard {
+    /// Prints what each text says.
+    fn texts<I: BufRead, O: Write>(
+        &mut self,
+        alloc: Global,
+        input: &mut I,
+        output: &mut O,
+    ) -> Result<(), Stop> {
+        for place in 0..4 {
+            let Some(line) = input::next_line(alloc, input)? else {
+                return Ok(());
+            };
+            let message = wire::bytes_of(alloc, &line)?;
+            print(NAMES[place], self.tell(alloc, place, &message), output)?;
+        }
+        match input::next_line(alloc, input)? {
+            Some(_) => Err(Stop::Behind),
+            None => Ok(()),
+        }
+    }
+
+    /// Prints what each body says, and the text in it.
+    fn bodies<I: BufRead, O: Write>(
+        &mut self,
+        alloc: Global,
+        input: &mut I,
+        output: &mut O,
+    ) -> Result<(), Stop> {
+        for _ in 0..u64::MAX {
+            let Some(line) = input::next_line(alloc, input)? else {
+                break;
+            };
+            let body = body_of(alloc, &line)?;
+            self.body(alloc, &body, output)?;
+        }
+        Ok(())
+    }
+
+    /// Prints what a body says, and the text in it.
+    fn body<O: Write>(&mut self, alloc: Global, body: &[u8], output: &mut O) -> Result<(), Stop> {
+        let view = match view_frame(body) {
+            Ok((view, _)) => view,
+            Err(fault) => return print("frame", Err(Refusal::Frame(fault)), output),
+        };
+        print(name_of(&view), told_of(alloc, &view), output)?;
+        match view {
+            FrameView::Init {
+                initial_response: Some(text),
+                ..
+            } => print(NAMES[0], self.client_first(alloc, text), output),
+            FrameView::Challenge(text) => print(NAMES[1], self.server_first(alloc, text), output),
+            FrameView::Response(text) => print(NAMES[2], self.client_final(alloc, text), output),
+            FrameView::Outcome {
+                additional_data: Some(text),
+                ..
+            } => print(NAMES[3], server_final(alloc, text), output),
+            _ => Ok(()),
+        }
+    }
+
     /// What is told of the message at a place.
     fn tell(&mut self, alloc: Global, place: usize, message: &[u8]) -> Told {
         match place {
@@ -148,6 +205,58 @@ impl Heard {
         let proof = hex::encode(alloc, last.proof.as_slice())?;
         Ok(format!(in alloc; "the proof {proof}, with the same nonce")?)
     }
+}
+
+/// The bytes that a line spells in hexadecimal digits.
+fn body_of(alloc: Global, line: &str) -> Result<Vec<u8>, Stop> {
+    match hex::decode(alloc, line) {
+        Ok(body) => Ok(body),
+        Err(hex::FromHexError::OutOfMemory) => Err(Stop::OutOfMemory),
+        Err(_) => Err(Stop::NotHex),
+    }
+}
+
+/// The name of a frame (AMQP 1.0, part 5, section 5.3.3).
+fn name_of(view: &FrameView<'_>) -> &'static str {
+    match view {
+        FrameView::Mechanisms(_) => "sasl-mechanisms",
+        FrameView::Init { .. } => "sasl-init",
+        FrameView::Challenge(_) => "sasl-challenge",
+        FrameView::Response(_) => "sasl-response",
+        FrameView::Outcome { .. } => "sasl-outcome",
+    }
+}
+
+/// What a frame says beside the text in it.
+fn told_of(alloc: Global, view: &FrameView<'_>) -> Told {
+    match view {
+        FrameView::Mechanisms(names) => names_of(alloc, names),
+        FrameView::Init {
+            mechanism,
+            hostname,
+            ..
+        } => match hostname {
+            Some(hostname) => {
+                Ok(format!(in alloc; "{mechanism} is asked for, of the host {hostname:?}")?)
+            }
+            None => Ok(format!(in alloc; "{mechanism} is asked for")?),
+        },
+        FrameView::Challenge(text) | FrameView::Response(text) => {
+            let len = text.len();
+            Ok(format!(in alloc; "a text of {len} bytes")?)
+        }
+        FrameView::Outcome { code, .. } => Ok(format!(in alloc; "{code:?}")?),
+    }
+}
+
+/// The names of mechanisms, with a space before each.
+fn names_of(alloc: Global, names: &SymbolsView<'_>) -> Told {
+    let mut text = String::from_str(alloc, "offered are")?;
+    for name in names.iter() {
+        text.push(' ')?;
+        text.push_str(name)?;
+    }
+    Ok(text)
 }
 
 /// What a server-final message says.

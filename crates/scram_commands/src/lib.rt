@@ -3,10 +3,14 @@
 //! messages say.
 #![tactic(auto)]
 
+ghost use Rattle.std.specs.Prelude.{◌≤◌, IfOk};
+
 pub mod client;
 pub mod explain;
+pub mod frames;
 pub mod input;
 pub mod keys;
+pub mod man;
 pub mod manual;
 pub mod nonces;
 pub mod record;
@@ -40,6 +44,7 @@ where
     I: BufRead,
     O: Write,
     E: Write,
+    ensures { result ≤ 4 }
 {
     let mut streams = Streams { input, output };
     let ended = read_words(rt, words, &mut streams, errors);
@@ -61,6 +66,7 @@ where
     I: BufRead,
     O: Write,
     E: Write,
+    ensures { IfOk result (λ status. status ≤ 4) }
 {
     match manual(rt.alloc())?.try_get_matches_from(words) {
         Ok(matches) => do_task(rt, &Task::of(&matches), streams),
@@ -74,17 +80,16 @@ where
     R: Files + RandomSource + AllocGlobal,
     I: BufRead,
     O: Write,
+    ensures { IfOk result (λ status. status ≤ 4) }
 {
     task.run(rt, streams)?;
     Ok(0)
 }
 
 /// Shows help or the version, which were asked for, on the output, and a mistake in the words among the errors.
-fn show<O: Write, E: Write>(
-    error: &clap::Error,
-    output: &mut O,
-    errors: &mut E,
-) -> Result<u8, Stop> {
+fn show<O: Write, E: Write>(error: &clap::Error, output: &mut O, errors: &mut E) -> Result<u8, Stop>
+    ensures { IfOk result (λ status. status ≤ 4) }
+{
     if error.kind() == ErrorKind::OutOfMemory {
         return Err(Stop::OutOfMemory);
     }
@@ -98,7 +103,9 @@ fn show<O: Write, E: Write>(
 }
 
 /// Tells why it stops, and answers the status.
-pub fn tell<E: Write>(stop: Stop, errors: &mut E) -> u8 {
+pub fn tell<E: Write>(stop: Stop, errors: &mut E) -> u8
+    ensures { result ≤ 4 }
+{
     // It stops, whether or not that can be told.
     let _ = writeln!(errors, "scram: {stop}");
     stop.status()

@@ -27,6 +27,9 @@ pub enum Kind {
 
     /// The name of a mechanism at its place.
     MechanismPlace,
+
+    /// An option without a value.
+    Flag,
 }
 
 /// A word of a command.
@@ -157,8 +160,22 @@ const NONCE: Word = Word {
     help: "The nonce, for tests; else it is 32 random bytes",
 };
 
+const FRAMES: Word = Word {
+    kind: Kind::Flag,
+    name: "frames",
+    value: "",
+    help: "Speaks the bytes of AMQP in place of lines",
+};
+
+const BODIES: Word = Word {
+    kind: Kind::Flag,
+    name: "frames",
+    value: "",
+    help: "Each line is the body of a frame of AMQP in hexadecimal digits",
+};
+
 /// The commands that stand alone.
-pub static COMMANDS: [Words; 4] = [
+pub static COMMANDS: [Words; 5] = [
     Words {
         name: "record",
         about: "Prints the record of a password, as servers keep it (RFC 5803)",
@@ -167,16 +184,21 @@ pub static COMMANDS: [Words; 4] = [
     Words {
         name: "client",
         about: "Logs in: behind the password, each line is a message in base64",
-        words: &[M, USER, LIMIT, LEAST, KEYS, NONCE],
+        words: &[M, USER, LIMIT, LEAST, KEYS, NONCE, FRAMES],
     },
     Words {
         name: "server",
         about: "Serves a login for the users of a file: each line is a message in base64",
-        words: &[M, FILE, NONCE],
+        words: &[M, FILE, NONCE, FRAMES],
     },
     Words {
         name: "explain",
         about: "Tells what the messages of a login say: each line is one in base64",
+        words: &[BODIES],
+    },
+    Words {
+        name: "man",
+        about: "Prints this manual as a page for man",
         words: &[],
     },
 ];
@@ -223,6 +245,7 @@ impl Word {
                 .option(arg)
                 .value_parser(ValueParser::unsigned(1, 4294967295))
                 .default_value("4096"),
+            Kind::Flag => arg.long(self.name).action(ArgAction::SetTrue),
             Kind::Count => self
                 .option(arg)
                 .value_parser(ValueParser::unsigned(1, 4294967295)),

@@ -1,7 +1,7 @@
 //! `server`: serves a login for the users of a file, in which the messages of the client come on the input.
 
 use crate::stop::Stop;
-use crate::{nonces, store, wire};
+use crate::{frames, nonces, store, wire};
 use fe2o3_scram::{
     MixedCredentials, ScramAuthenticator, ScramCredentials, ScramVersion, ServerScramErrorKind,
 };
@@ -21,10 +21,13 @@ pub struct Service<'a> {
 
     /// The nonce in hexadecimal digits, or none where it is to be random.
     pub nonce: Option<&'a str>,
+
+    /// Whether bytes of AMQP come in place of lines.
+    pub frames: bool,
 }
 
 /// A server of the users of a file.
-type Server = ScramAuthenticator<ScramCredentials>;
+pub type Server = ScramAuthenticator<ScramCredentials>;
 
 /// Serves a login.
 pub fn serve<R, I, O>(
@@ -38,9 +41,28 @@ where
     I: BufRead,
     O: Write,
 {
+    let server = Server::new(users(rt, service)?);
+    if service.frames {
+        return frames::serve(rt, service, server, input, output);
+    }
+    over_lines(rt, service, server, input, output)
+}
+
+/// Serves a login over lines.
+fn over_lines<R, I, O>(
+    rt: &R,
+    service: &Service<'_>,
+    server: Server,
+    input: &mut I,
+    output: &mut O,
+) -> Result<(), Stop>
+where
+    R: RandomSource + AllocGlobal,
+    I: BufRead,
+    O: Write,
+{
+    let mut server = Box::new(rt.alloc(), server)?;
     let nonce = nonces::nonce(rt, service.nonce)?;
-    let users = users(rt, service)?;
-    let mut server = Box::new(rt.alloc(), Server::new(users))?;
     challenge(rt.alloc(), &mut server, &nonce, input, output)?;
     conclude(rt.alloc(), &mut server, input, output)
 }

@@ -1,5 +1,8 @@
 //! What stops the program before its end.
 
+ghost use Rattle.std.specs.Prelude.{◌≤◌};
+
+use fe2o3_sasl_negotiation::ClosedBecause;
 use fe2o3_scram::{
     ReadLinesError, ReadLinesErrorKind, RecordError, ScramErrorKind, ServerScramErrorKind,
 };
@@ -75,6 +78,10 @@ pub enum Stop {
     #[error("The nonce is not 64 hexadecimal digits.")]
     WrongNonce,
 
+    /// A line is no body.
+    #[error("A line of standard input is not hexadecimal digits.")]
+    NotHex,
+
     /// A line is no message.
     #[error("A line of standard input is not base64.")]
     NotBase64,
@@ -110,6 +117,10 @@ pub enum Stop {
     /// The file has no record of the client's user for the mechanism.
     #[error("The client's user is unknown.")]
     UnknownUser,
+
+    /// A connection is closed.
+    #[error("The connection is closed: {0}.")]
+    Closed(ClosedBecause),
 
     /// A message that is explained is refused.
     #[error("A message is refused.")]
@@ -154,7 +165,9 @@ impl Stop {
     }
 
     /// The status to end with.
-    pub fn status(self) -> u8 {
+    pub fn status(self) -> u8
+        ensures { result ≤ 4 }
+    {
         match self {
             Stop::Ended | Stop::RefusedByServer => 1,
             Stop::WrongSalt | Stop::WrongNonce | Stop::WrongName => 2,
@@ -163,6 +176,7 @@ impl Stop {
             | Stop::Client(_)
             | Stop::Server(_)
             | Stop::UnknownUser
+            | Stop::Closed(_)
             | Stop::MessageRefused => 3,
             Stop::NoPassword
             | Stop::WrongPassword
@@ -175,6 +189,7 @@ impl Stop {
             | Stop::Line(_)
             | Stop::Busy
             | Stop::NotBase64
+            | Stop::NotHex
             | Stop::Behind
             | Stop::WrongKeys
             | Stop::OtherMechanism

@@ -6,7 +6,7 @@ use crate::record::NewRecord;
 use crate::server::{Service, serve};
 use crate::stop::Stop;
 use crate::users::{Named, add, check, list, remove};
-use crate::{input, record};
+use crate::{input, man, record};
 use clap::ArgMatches;
 use fe2o3_scram::ScramVersion;
 use std::io::{BufRead, Write};
@@ -44,8 +44,11 @@ pub enum Task<'a> {
     /// Serves a login.
     Server(Service<'a>),
 
-    /// Tells what messages say.
-    Explain,
+    /// Tells what messages say: those of bodies of frames, or texts.
+    Explain(bool),
+
+    /// Prints the page of the manual.
+    Man,
 }
 
 impl<'a> Task<'a> {
@@ -55,7 +58,8 @@ impl<'a> Task<'a> {
             Some(("users", found)) => Task::of_users(found),
             Some(("client", found)) => Task::Client(login(found)),
             Some(("server", found)) => Task::Server(service(found)),
-            Some(("explain", _)) => Task::Explain,
+            Some(("explain", found)) => Task::Explain(found.get_flag("frames")),
+            Some(("man", _)) => Task::Man,
             Some((_, found)) => Task::Record(new_record(found)),
             None => Task::Record(new_record(matches)),
         }
@@ -97,7 +101,8 @@ impl<'a> Task<'a> {
             }
             Task::Client(login) => log_in(rt, login, streams.input, streams.output),
             Task::Server(service) => serve(rt, service, streams.input, streams.output),
-            Task::Explain => explain(alloc, streams.input, streams.output),
+            Task::Explain(frames) => explain(alloc, *frames, streams.input, streams.output),
+            Task::Man => man::print(streams.output).map_err(Stop::of_output),
         }
     }
 }
@@ -111,6 +116,7 @@ fn login<'a>(matches: &ArgMatches<'a>) -> Login<'a> {
         least: matches.get_one::<u32>("least").unwrap_or(4096),
         keys: matches.get_str("keys"),
         nonce: matches.get_str("nonce"),
+        frames: matches.get_flag("frames"),
     }
 }
 
@@ -120,6 +126,7 @@ fn service<'a>(matches: &ArgMatches<'a>) -> Service<'a> {
         version: version_of(matches, "M").unwrap_or(ScramVersion::Sha256),
         file: text(matches, "FILE"),
         nonce: matches.get_str("nonce"),
+        frames: matches.get_flag("frames"),
     }
 }
 

@@ -28,12 +28,14 @@ fn replay<W: Write>(alloc: Global, name: &str, text: &str, output: &mut W) -> io
 }
 
 /// The files of runs.
-static FILES: [&str; 5] = [
+static FILES: [&str; 7] = [
     "words.txt",
     "records.txt",
     "users.txt",
     "logins.txt",
+    "frames.txt",
     "explained.txt",
+    "bodies.txt",
 ];
 
 /// Replays every file.

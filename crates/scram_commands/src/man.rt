@@ -1,0 +1,50 @@
+//! The page of the manual, in the words of `man` (roff), made of the table of words.
+
+use crate::manual::{ABOUT, BEHIND, COMMANDS, Kind, USERS, USERS_COMMANDS, Word, Words};
+use std::io::{Result, Write};
+
+/// Prints the page.
+pub fn print<O: Write>(output: &mut O) -> Result<()> {
+    write!(output, ".TH SCRAM 1\n.SH NAME\nscram \\- {ABOUT}\n")?;
+    write!(output, ".SH SYNOPSIS\n.B scram\n.I COMMAND\n.SH COMMANDS\n")?;
+    print_commands(output, "scram", &COMMANDS)?;
+    write!(output, ".SS scram users\n{USERS}.\n")?;
+    print_commands(output, "scram users", &USERS_COMMANDS)?;
+    write!(output, ".SH PASSWORDS AND STATUS\n{BEHIND}\n")
+}
+
+/// Prints commands.
+fn print_commands<O: Write>(output: &mut O, above: &str, commands: &[Words]) -> Result<()> {
+    for command in commands {
+        let (name, about) = (command.name, command.about);
+        write!(output, ".SS {above} {name}\n{about}.\n")?;
+        for word in command.words {
+            print_word(output, word)?;
+        }
+    }
+    Ok(())
+}
+
+/// Prints a word.
+fn print_word<O: Write>(output: &mut O, word: &Word) -> Result<()> {
+    let (name, value, help) = (word.name, word.value, word.help);
+    match word.kind {
+        Kind::Place | Kind::MechanismPlace => write!(output, ".TP\n.I {name}\n{help}.\n"),
+        Kind::Flag => write!(output, ".TP\n.B \\-\\-{name}\n{help}.\n"),
+        Kind::Text | Kind::Mechanism | Kind::Count => {
+            write!(output, ".TP\n.BI \\-\\-{name} \" {value}\"\n{help}.\n")
+        }
+        Kind::DefaultMechanism => {
+            write!(
+                output,
+                ".TP\n.BI \\-\\-{name} \" {value}\"\n{help}; else it is SCRAM-SHA-256.\n"
+            )
+        }
+        Kind::Iterations => {
+            write!(
+                output,
+                ".TP\n.BI \\-\\-{name} \" {value}\"\n{help}; else it is 4096.\n"
+            )
+        }
+    }
+}
