@@ -1,15 +1,16 @@
 -- What an exchange of texts means to both of its sides, in the words of the headline (RFC 5802, section 5). The law is
 -- the clause `agreement` of `laws::accepted_messages`.
 use Rattle.std.specs.Prelude.{ℕ, List, ◌≡◌, ◌≢◌, Some, Ok, length}
-use Rattle.fe2o3_scram.specs.ClientFinal.{ClientFinal, ReadsClientFinal, keys_for, server_of, without_proof}
+use Rattle.fe2o3_scram.specs.ClientFinal.{ClientFinal, ReadsClientFinal, keys_for, without_proof}
 use Rattle.fe2o3_scram.specs.ClientFirst.{ClientFirst, ReadsClientFirst, client_first_bare}
 use Rattle.fe2o3_scram.specs.ClientKeys.{ClientKeys}
 use Rattle.fe2o3_scram.specs.Credentials.{Provider, Record, record_at}
+use Rattle.fe2o3_scram.specs.declared.scram_messages.gs2_header.Gs2Header.TheVariants.{Unsupported}
 use Rattle.fe2o3_scram.specs.Hmac.{hmac_of}
 use Rattle.fe2o3_scram.specs.Keys.{auth_message}
 use Rattle.fe2o3_scram.specs.Laws.{HoldsBytes}
 use Rattle.fe2o3_scram.specs.ScramClient.{ClientSide, AnswersIn, BelievesIn, holding, started}
-use Rattle.fe2o3_scram.specs.ScramServer.{ServerState, ChallengesFrom, ConcludesFrom}
+use Rattle.fe2o3_scram.specs.ScramServer.{ServerState, ChallengesFrom, ConcludesFrom, server_against}
 use Rattle.fe2o3_scram.specs.ServerFirst.{Challenge, ServerFirst, ReadsServerFirst, challenge_of}
 use Rattle.fe2o3_scram.specs.Texts.{Part, Parts, base64_text}
 
@@ -43,11 +44,10 @@ pub record ServerKnows (provider : Provider) (nonce init response : List ℕ) : 
   pub client : ClientFirst
   pub stored : Record
   pub final : ClientFinal
-  pub reads_init : ReadsClientFirst init (Ok client)
+  pub reads_init : ReadsClientFirst provider.unbound init (Ok client)
   pub known : record_at provider.records client.user ≡ Some stored
   pub reads : let challenge = challenge_of client (base64_text nonce) stored in
-      ReadsClientFinal (server_of provider.version challenge.bare challenge.first challenge.nonce stored) response
-      (Ok final)
+      ReadsClientFinal (server_against provider challenge stored) response (Ok final)
 
 -- the keys that the client answered by (RFC 5802, section 3)
 abbrev pub keys_known : {side : ClientSide} {nonce text : List ℕ} → ClientKnows side nonce text → ClientKeys
@@ -72,11 +72,12 @@ server_message server = auth_message server.client.bare (challenge_known server)
 abbrev pub IsPlain : List ℕ → Type 0
 IsPlain bare = (parts : List (List ℕ)) × Parts bare parts × (length parts ≡ 2)
 
--- both sides mean one login: one version of keys, user name and client nonce and, where the client-first message was
+-- both sides mean one login: one version of keys, GS2 header, user name and client nonce and, where the client-first message was
 -- plain, one nonce of both sides, salt and count
 pub record Agree {side : ClientSide} {provider : Provider} {own text its init response : List ℕ}
     (client : ClientKnows side own text) (server : ServerKnows provider its init response) : Type 0 where
   pub version : (keys_known client).version ≡ provider.version
+  pub header : Unsupported ≡ server.client.header
   pub user : side.user ≡ server.client.user
   pub nonce : base64_text own ≡ server.client.nonce
   pub full_nonce : IsPlain server.client.bare → client.first.nonce ≡ (challenge_known server).nonce

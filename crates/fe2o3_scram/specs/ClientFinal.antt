@@ -3,6 +3,9 @@ use Rattle.std.specs.Prelude.{ℕ, List, [], ◌∷◌, ◌++◌, ◌≡◌, cod
 use Rattle.std.specs.Cmp.Lexicographic.{pointwise}
 use Rattle.fe2o3_scram.specs.declared.scram_messages.client_final.ClientAnswer.{ClientAnswer}
 use Rattle.fe2o3_scram.specs.declared.hmac.ScramVersion.{ScramVersion}
+use Rattle.fe2o3_scram.specs.declared.scram_messages.gs2_header.Gs2Header.{Gs2Header}
+use Rattle.fe2o3_scram.specs.declared.scram_messages.gs2_header.Gs2Header.TheVariants.{Unsupported}
+use Rattle.fe2o3_scram.specs.ClientFirst.{header_text}
 use Rattle.fe2o3_scram.specs.Texts.{base64_text, joined, Part, LastPart}
 use Rattle.fe2o3_scram.specs.Keys.{auth_message, client_proof, server_signature, recovered_client_key, MeetsStoredKey}
 use Rattle.fe2o3_scram.specs.ClientKeys.{ClientKeys, keys_of}
@@ -18,8 +21,13 @@ use Rattle.fe2o3_scram.specs.Hmac.{digest_len}
 use Rattle.fe2o3_scram.specs.Readings.{IsFirst, NoneHolds, Reads}
 
 -- client-final-message-without-proof (RFC 5802, section 7): the GS2 header in base64 and the nonce of both sides
+abbrev pub without_proof_behind : Gs2Header → List ℕ → List ℕ
+without_proof_behind header nonce =
+    joined ((codes "c=" ++ base64_text (header_text header)) ∷ (codes "r=" ++ nonce) ∷ [])
+
+-- the same of a client that cannot bind a channel
 abbrev pub without_proof : List ℕ → List ℕ
-without_proof nonce = joined ((codes "c=" ++ base64_text (codes "n,,")) ∷ (codes "r=" ++ nonce) ∷ [])
+without_proof nonce = without_proof_behind Unsupported nonce
 
 -- client-final-message (RFC 5802, section 7): what stands before the proof, and the proof
 abbrev pub client_final_of : List ℕ → List ℕ → List ℕ
@@ -75,10 +83,11 @@ pub record ClientFinal : Type 0 where
 abbrev pub client_final_values : CodeClientFinal → ClientFinal
 client_final_values final = record { without = final.without_proof.now; proof = final.proof.items }
 
--- what a server holds against a client-final message (RFC 5802, section 5): its version, the two messages before,
--- the nonce of both sides, and the keys of the record
+-- what a server holds against a client-final message (RFC 5802, section 5): its version, the client's GS2 header, the
+-- two messages before, the nonce of both sides, and the keys of the record
 pub record Server : Type 0 where
   pub version : ScramVersion
+  pub header : Gs2Header
   pub bare : List ℕ
   pub first : List ℕ
   pub nonce : List ℕ
@@ -86,9 +95,10 @@ pub record Server : Type 0 where
   pub server_key : List ℕ
 
 -- the same of a challenge, and of a stored password of its user
-abbrev pub server_of : ScramVersion → List ℕ → List ℕ → List ℕ → Record → Server
-server_of version bare first nonce stored = record {
+abbrev pub server_of : ScramVersion → Gs2Header → List ℕ → List ℕ → List ℕ → Record → Server
+server_of version header bare first nonce stored = record {
   version = version;
+  header = header;
   bare = bare;
   first = first;
   nonce =
@@ -115,18 +125,19 @@ abbrev pub Meets : Server → ClientFinal → Type 0
 Meets server final = MeetsStoredKey server.version server.stored_key final.proof
     (auth_message server.bare server.first final.without)
 
--- the message binds no channel, and names the nonce of both sides and these values (RFC 5802, section 5.1)
-pub record NamesClientFinal (both text : List ℕ) (final : ClientFinal) : Type 0 where
-  pub binding : HasBinding text (codes "n,,")
+-- the message repeats the GS2 header in place of a channel binding, and names the nonce of both sides and these values
+-- (RFC 5802, section 5.1)
+pub record NamesClientFinal (header : Gs2Header) (both text : List ℕ) (final : ClientFinal) : Type 0 where
+  pub binding : HasBinding text (header_text header)
   pub nonce : Part text 1 (codes "r=" ++ both)
   pub proof : HasProof text final
 
 -- the server's tests of the channel binding (RFC 5802, section 5.1), in their order
-abbrev pub binding_tests : List ℕ → List (ServerScramErrorKind × Type 0)
-binding_tests text =
+abbrev pub binding_tests : Gs2Header → List ℕ → List (ServerScramErrorKind × Type 0)
+binding_tests header text =
     (CannotParseClientFinalMessage, (rest : List ℕ) → ¬ Part text 0 (codes "c=" ++ rest))
     ∷ (Base64DecodeError, (binding : List ℕ) → ¬ HasBinding text binding)
-    ∷ (InvalidChannelBinding, ¬ HasBinding text (codes "n,,"))
+    ∷ (InvalidChannelBinding, ¬ HasBinding text (header_text header))
     ∷ []
 
 -- its tests of the nonce (RFC 5802, section 5.1)
@@ -144,29 +155,30 @@ spelling_tests text =
     ∷ []
 
 -- all its tests of the text (UTF-8: RFC 3629, section 3), in their order
-abbrev pub final_text_tests : List ℕ → List ℕ → List (ServerScramErrorKind × Type 0)
-final_text_tests nonce text = (Utf8Error, ¬ IsUtf8 text)
-    ∷ (binding_tests text ++ (nonce_tests nonce text ++ spelling_tests text))
+abbrev pub final_text_tests : Gs2Header → List ℕ → List ℕ → List (ServerScramErrorKind × Type 0)
+final_text_tests header nonce text = (Utf8Error, ¬ IsUtf8 text)
+    ∷ (binding_tests header text ++ (nonce_tests nonce text ++ spelling_tests text))
 
 -- the server comes to a channel binding that is not its own, for which it asks for memory (RFC 5802, section 5.1)
-abbrev pub ReachesBinding : List ℕ → Type 0
-ReachesBinding text =
-    ((rest : List ℕ) × Part text 0 (codes "c=" ++ rest)) × ¬ HasBinding text (codes "n,,")
+abbrev pub ReachesBinding : Gs2Header → List ℕ → Type 0
+ReachesBinding header text =
+    ((rest : List ℕ) × Part text 0 (codes "c=" ++ rest)) × ¬ HasBinding text (header_text header)
 
 -- the server comes to the proof, for which it asks for memory: binding and nonce have passed their tests, and the last
 -- part is a proof (RFC 5802, section 5.1)
-abbrev pub ReachesProof : List ℕ → List ℕ → Type 0
-ReachesProof nonce text = NoneHolds (binding_tests text) × NoneHolds (nonce_tests nonce text)
+abbrev pub ReachesProof : Gs2Header → List ℕ → List ℕ → Type 0
+ReachesProof header nonce text = NoneHolds (binding_tests header text) × NoneHolds (nonce_tests nonce text)
     × ((before : List ℕ) × (rest : List ℕ) × LastPart text before (codes "p=" ++ rest))
 
--- the server comes to ask for memory (RFC 5802, section 5.1), with this nonce of both sides
-abbrev pub ReachesBase64 : List ℕ → List ℕ → Type 0
-ReachesBase64 nonce text = IsUtf8 text × (ReachesBinding text ⊎ ReachesProof nonce text)
+-- the server comes to ask for memory (RFC 5802, section 5.1), with this header and this nonce of both sides
+abbrev pub ReachesBase64 : Gs2Header → List ℕ → List ℕ → Type 0
+ReachesBase64 header nonce text = IsUtf8 text × (ReachesBinding header text ⊎ ReachesProof header nonce text)
 
 -- what the server reads before it looks at its keys (RFC 5802, section 5.1): the first refusal that holds, or the
 -- values that are named; parts between the nonce and the proof stay in what stands before the proof
-unfoldable pub ReadsFinalText : List ℕ → List ℕ → Result ClientFinal ServerScramErrorKind → Type 0
-ReadsFinalText nonce text answer = Reads (final_text_tests nonce text) (NamesClientFinal nonce text) answer
+unfoldable pub ReadsFinalText : Gs2Header → List ℕ → List ℕ → Result ClientFinal ServerScramErrorKind → Type 0
+ReadsFinalText header nonce text answer =
+    Reads (final_text_tests header nonce text) (NamesClientFinal header nonce text) answer
 
 -- its tests of the proof that was read (RFC 5802, section 3)
 abbrev pub proof_tests : Server → ClientFinal → List (ServerScramErrorKind × Type 0)
@@ -178,7 +190,8 @@ proof_tests server final =
 -- what the server reads (RFC 5802, section 5): the first refusal of the text or else of its proof, or the values of a
 -- text whose proof meets the stored key
 unfoldable pub ReadsClientFinal : Server → List ℕ → Result ClientFinal ServerScramErrorKind → Type 0
-ReadsClientFinal server text (Ok final) = ReadsFinalText server.nonce text (Ok final)
+ReadsClientFinal server text (Ok final) = ReadsFinalText server.header server.nonce text (Ok final)
     × (length final.proof ≡ digest_len server.version) × Meets server final
-ReadsClientFinal server text (Err fault) = ReadsFinalText server.nonce text (Err fault)
-    ⊎ ((final : ClientFinal) × ReadsFinalText server.nonce text (Ok final) × IsFirst (proof_tests server final) fault)
+ReadsClientFinal server text (Err fault) = ReadsFinalText server.header server.nonce text (Err fault)
+    ⊎ ((final : ClientFinal) × ReadsFinalText server.header server.nonce text (Ok final)
+    × IsFirst (proof_tests server final) fault)

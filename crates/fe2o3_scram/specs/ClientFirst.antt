@@ -1,10 +1,12 @@
 -- The client-first message (RFC 5802, section 7), as the client writes it and as the server reads it.
-use Rattle.std.specs.Prelude.{ℕ, List, [], ◌∷◌, ◌++◌, ◌≡◌, codes, Result}
+use Rattle.std.specs.Prelude.{ℕ, List, [], ◌∷◌, ◌++◌, ◌≡◌, Bool, T, codes, Result}
 use Rattle.std.specs.Cow.{cow_str_bytes}
 use Rattle.std.specs.Str.{IsUtf8}
 use Rattle.fe2o3_scram.specs.declared.scram_messages.error.ServerScramErrorKind.{ServerScramErrorKind}
 use Rattle.fe2o3_scram.specs.declared.scram_messages.error.ServerScramErrorKind.TheVariants.{Utf8Error, CannotParseGs2Header, CannotParseUsername, CannotParseClientNonce}
 use Rattle.fe2o3_scram.specs.declared.scram_messages.client_first_reading.ClientFirst.{ClientFirst as CodeClientFirst}
+use Rattle.fe2o3_scram.specs.declared.scram_messages.gs2_header.Gs2Header.{Gs2Header}
+use Rattle.fe2o3_scram.specs.declared.scram_messages.gs2_header.Gs2Header.TheVariants.{Unsupported, Unoffered}
 use Rattle.fe2o3_scram.specs.Escape.{escaped, NoEquals}
 use Rattle.fe2o3_scram.specs.Readings.{Reads}
 use Rattle.fe2o3_scram.specs.Texts.{joined, Part, Begins}
@@ -13,13 +15,29 @@ use Rattle.fe2o3_scram.specs.Texts.{joined, Part, Begins}
 abbrev pub client_first_bare : List ℕ → List ℕ → List ℕ
 client_first_bare username nonce = joined ((codes "n=" ++ escaped username) ∷ (codes "r=" ++ nonce) ∷ [])
 
--- client-first-message (RFC 5802, section 7), behind the GS2 header of a client that binds no channel
-abbrev pub client_first : List ℕ → List ℕ → List ℕ
-client_first username nonce = codes "n,," ++ client_first_bare username nonce
+-- the GS2 header of a client that binds no channel and acts for itself (RFC 5802, sections 6 and 7): it cannot bind
+-- one, or it could and believes that the server cannot
+abbrev pub header_text : Gs2Header → List ℕ
+header_text Unsupported = codes "n,,"
+header_text Unoffered = codes "y,,"
 
--- what a client-first message names (RFC 5802, section 7): the user, the client's nonce, and the message without
--- its GS2 header
+-- a server takes the header (RFC 5802, section 6): that of a client that could bind a channel only on wish
+abbrev pub TakesHeader : Bool → Gs2Header → Type 0
+TakesHeader unbound Unsupported = Unit {0}
+TakesHeader unbound Unoffered = T unbound
+
+-- client-first-message (RFC 5802, section 7), behind a GS2 header
+abbrev pub client_first_behind : Gs2Header → List ℕ → List ℕ → List ℕ
+client_first_behind header username nonce = header_text header ++ client_first_bare username nonce
+
+-- the same of a client that cannot bind a channel
+abbrev pub client_first : List ℕ → List ℕ → List ℕ
+client_first username nonce = client_first_behind Unsupported username nonce
+
+-- what a client-first message names (RFC 5802, section 7): its GS2 header, the user, the client's nonce, and the
+-- message without its GS2 header
 pub record ClientFirst : Type 0 where
+  pub header : Gs2Header
   pub user : List ℕ
   pub nonce : List ℕ
   pub bare : List ℕ
@@ -27,37 +45,40 @@ pub record ClientFirst : Type 0 where
 -- the values that the code's value holds
 abbrev pub client_first_values : CodeClientFirst → ClientFirst
 client_first_values first = record {
+  header = first.header;
   user = cow_str_bytes first.username;
   nonce = first.client_nonce.now;
   bare =
       first.client_first_message_bare.now;
 }
 
--- behind the GS2 header the message has this part at place k (RFC 5802, section 7)
-abbrev pub BarePart : List ℕ → ℕ → List ℕ → Type 0
-BarePart text k part = (bare : List ℕ) × (text ≡ codes "n,," ++ bare) × Part bare k part
+-- behind a GS2 header that is taken the message has this part at place k (RFC 5802, section 7)
+abbrev pub BarePart : Bool → List ℕ → ℕ → List ℕ → Type 0
+BarePart unbound text k part = (header : Gs2Header) × (bare : List ℕ) × TakesHeader unbound header
+    × (text ≡ header_text header ++ bare) × Part bare k part
 
 -- the message names these values (RFC 5802, section 5.1)
-pub record NamesClientFirst (text : List ℕ) (first : ClientFirst) : Type 0 where
-  pub bare : text ≡ codes "n,," ++ first.bare
+pub record NamesClientFirst (unbound : Bool) (text : List ℕ) (first : ClientFirst) : Type 0 where
+  pub header : TakesHeader unbound first.header
+  pub bare : text ≡ header_text first.header ++ first.bare
   pub user : Part first.bare 0 (codes "n=" ++ escaped first.user)
   pub nonce : Part first.bare 1 (codes "r=" ++ first.nonce)
 
 -- the server's tests (RFC 5802, section 5.1; UTF-8: RFC 3629, section 3), in their order
-abbrev pub client_first_tests : List ℕ → List (ServerScramErrorKind × Type 0)
-client_first_tests text =
+abbrev pub client_first_tests : Bool → List ℕ → List (ServerScramErrorKind × Type 0)
+client_first_tests unbound text =
     (Utf8Error, ¬ IsUtf8 text)
-    ∷ (CannotParseGs2Header, ¬ Begins text (codes "n,,"))
-    ∷ (CannotParseUsername, (user : List ℕ) → ¬ BarePart text 0 (codes "n=" ++ escaped user))
-    ∷ (CannotParseClientNonce, (nonce : List ℕ) → ¬ BarePart text 1 (codes "r=" ++ nonce))
+    ∷ (CannotParseGs2Header, (header : Gs2Header) → TakesHeader unbound header → ¬ Begins text (header_text header))
+    ∷ (CannotParseUsername, (user : List ℕ) → ¬ BarePart unbound text 0 (codes "n=" ++ escaped user))
+    ∷ (CannotParseClientNonce, (nonce : List ℕ) → ¬ BarePart unbound text 1 (codes "r=" ++ nonce))
     ∷ []
 
 -- the server comes to a name with escapes, for which it asks for memory (RFC 5802, section 5.1)
-abbrev pub HasEscapes : List ℕ → Type 0
-HasEscapes text = IsUtf8 text
-    × ((spelling : List ℕ) × BarePart text 0 (codes "n=" ++ spelling) × ¬ NoEquals spelling)
+abbrev pub HasEscapes : Bool → List ℕ → Type 0
+HasEscapes unbound text = IsUtf8 text
+    × ((spelling : List ℕ) × BarePart unbound text 0 (codes "n=" ++ spelling) × ¬ NoEquals spelling)
 
 -- what the server reads (RFC 5802, section 5.1): the first refusal that holds, or the values that are named; further
 -- parts say nothing
-unfoldable pub ReadsClientFirst : List ℕ → Result ClientFirst ServerScramErrorKind → Type 0
-ReadsClientFirst text answer = Reads (client_first_tests text) (NamesClientFirst text) answer
+unfoldable pub ReadsClientFirst : Bool → List ℕ → Result ClientFirst ServerScramErrorKind → Type 0
+ReadsClientFirst unbound text answer = Reads (client_first_tests unbound text) (NamesClientFirst unbound text) answer

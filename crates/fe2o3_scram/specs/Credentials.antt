@@ -1,5 +1,5 @@
 -- What a server keeps of its users (RFC 5802, section 3).
-use Rattle.std.specs.Prelude.{ℕ, List, [], ◌∷◌, ◌≡◌, ◌≤◌, ◌+◌, Option, Some, None, Result, Ok, Err, if◌then◌else◌, filter, nat_eq, not}
+use Rattle.std.specs.Prelude.{ℕ, List, Bool, [], ◌∷◌, ◌≡◌, ◌≤◌, ◌+◌, Option, Some, None, Result, Ok, Err, if◌then◌else◌, filter, nat_eq, not}
 use Rattle.std.specs.Cmp.Lexicographic.{pointwise}
 use Rattle.fe2o3_scram.specs.declared.hmac.ScramVersion.{ScramVersion}
 use Rattle.fe2o3_scram.specs.declared.provider.StoredPassword.{StoredPassword}
@@ -85,10 +85,21 @@ records_with (entry ∷ records) name stored =
 abbrev pub records_without : Records → List ℕ → Records
 records_without records name = filter (λ (entry : List ℕ × Record). not (pointwise nat_eq entry.0 name)) records
 
--- what a provider means: a version, and a record for each of its users (RFC 5802, section 3)
+-- what a store of credentials means: a version, and a record for each of its users (RFC 5802, section 3)
+pub record Store : Type 0 where
+  pub version : ScramVersion
+  pub records : Records
+
+-- what a server answers by: the version and the records of its store, and whether it takes a client that could bind a
+-- channel and believes that the server cannot (RFC 5802, section 6)
 pub record Provider : Type 0 where
   pub version : ScramVersion
   pub records : Records
+  pub unbound : Bool
+
+-- a server over this store
+abbrev pub serving : Bool → Store → Provider
+serving unbound store = record { version = store.version; records = store.records; unbound = unbound }
 
 -- the record that a stored password is
 abbrev pub kept : StoredPassword → Record

@@ -1,11 +1,12 @@
 -- An exchange of the four messages (RFC 5802, section 5) in which each arrives as it was sent.
-use Rattle.std.specs.Prelude.{ℕ, List, ◌++◌, ◌≡◌, ◌≢◌, ◌⊎◌, ◌≤◌, ◌<◌, ◌^◌, Ok}
+use Rattle.std.specs.Prelude.{ℕ, List, Bool, ◌++◌, ◌≡◌, ◌≢◌, ◌⊎◌, ◌≤◌, ◌<◌, ◌^◌, Ok}
 use Rattle.std.specs.Str.{IsUtf8}
 use Rattle.base64.specs.GeneralPurpose.{IsBytes}
 use Rattle.fe2o3_scram.specs.declared.hmac.ScramVersion.{ScramVersion}
 use Rattle.fe2o3_scram.specs.ServerFirst.{client_of, server_first_of, ServerFirst, ReadsServerFirst}
-use Rattle.fe2o3_scram.specs.ClientFinal.{Answer, answer_of, without_proof, Server, server_of, ClientFinal, ReadsClientFinal}
-use Rattle.fe2o3_scram.specs.ClientFirst.{client_first, client_first_bare, ReadsClientFirst}
+use Rattle.fe2o3_scram.specs.ClientFinal.{Answer, answer_by, keys_for, without_proof_behind, Server, server_of, ClientFinal, ReadsClientFinal}
+use Rattle.fe2o3_scram.specs.declared.scram_messages.gs2_header.Gs2Header.{Gs2Header}
+use Rattle.fe2o3_scram.specs.ClientFirst.{TakesHeader, client_first_bare, client_first_behind, ReadsClientFirst}
 use Rattle.fe2o3_scram.specs.ClientKeys.{keys_of}
 use Rattle.fe2o3_scram.specs.ClientSecret.{Secret, Password, Keys, Both}
 use Rattle.fe2o3_scram.specs.declared.client_secret.IterationLimits.{IterationLimits}
@@ -26,10 +27,12 @@ Opens version (Both own keys) password salt count =
     (keys ≡ keys_of version password salt count)
     ⊎ (((salt ≢ keys.salt) ⊎ (count ≢ keys.count)) × (own ≡ password) × IsPrintable own)
 
--- what an exchange starts from (RFC 5802, section 5): the client's user, secret and limits, the password, the salt and
--- the count of the record, and the nonces
+-- what an exchange starts from (RFC 5802, section 5): the client's GS2 header, user, secret and limits, whether the
+-- server takes a client that could bind a channel, the password, the salt and the count of the record, and the nonces
 pub record Exchange : Type 0 where
   pub version : ScramVersion
+  pub header : Gs2Header
+  pub unbound : Bool
   pub user : List ℕ
   pub secret : Secret
   pub limits : IterationLimits
@@ -39,8 +42,10 @@ pub record Exchange : Type 0 where
   pub client_nonce : List ℕ
   pub server_nonce : List ℕ
 
--- the secret opens the record, the client accepts the count, and names, nonces and salts are what the code holds
+-- the server takes the header, the secret opens the record, the client accepts the count, and names, nonces and salts
+-- are what the code holds
 pub record IsSound (x : Exchange) : Type 0 where
+  pub header : TakesHeader x.unbound x.header
   pub opens : Opens x.version x.secret x.password x.salt x.count
   pub some : 1 ≤ x.count
   pub least : x.limits.least ≤ x.count
@@ -75,25 +80,26 @@ named_in x = record { nonce = nonce_in x; salt = x.salt; count = x.count }
 
 -- the client's last message, and the signature that it waits for
 abbrev pub answer_in : Exchange → Answer
-answer_in x = answer_of x.version x.secret (bare_in x) (first_in x) (named_in x)
+answer_in x = answer_by (keys_for x.version x.secret (named_in x)) (bare_in x) (first_in x)
+    (without_proof_behind x.header (nonce_in x))
 
 -- what the server holds against the client's last message
 abbrev pub server_in : Exchange → Server
-server_in x = server_of x.version (bare_in x) (first_in x) (nonce_in x) (record_in x)
+server_in x = server_of x.version x.header (bare_in x) (first_in x) (nonce_in x) (record_in x)
 
 -- what that message names
 abbrev pub final_in : Exchange → ClientFinal
 final_in x = record {
-  without = without_proof (nonce_in x);
+  without = without_proof_behind x.header (nonce_in x);
   proof =
       client_proof x.version (client_key x.version (salted_of x.version x.password x.salt x.count))
-      (auth_message (bare_in x) (first_in x) (without_proof (nonce_in x)));
+      (auth_message (bare_in x) (first_in x) (without_proof_behind x.header (nonce_in x)));
 }
 
 -- each side accepts what the other wrote (RFC 5802, section 5)
 pub record Succeeds (x : Exchange) : Type 0 where
-  pub client_first : ReadsClientFirst (client_first x.user x.client_nonce)
-      (Ok (record { user = x.user; nonce = x.client_nonce; bare = bare_in x }))
+  pub client_first : ReadsClientFirst x.unbound (client_first_behind x.header x.user x.client_nonce)
+      (Ok (record { header = x.header; user = x.user; nonce = x.client_nonce; bare = bare_in x }))
   pub server_first : ReadsServerFirst (client_of x.client_nonce x.secret x.limits) (first_in x) (Ok (named_in x))
   pub client_final : ReadsClientFinal (server_in x) (answer_in x).message (Ok (final_in x))
   pub server_final : ReadsServerFinal (answer_in x).signature (server_final_of (server_in x) (final_in x)) (Ok tt)

@@ -1,8 +1,9 @@
 -- What holds of the definitions themselves. Each is the contract of a function of `laws`.
-use Rattle.std.specs.Prelude.{ℕ, List, ◌≡◌, ◌≤◌, ◌<◌, ◌^◌, ◌⊎◌, ◌≢◌, ◌↔◌, length, Result, Ok, Err}
+use Rattle.std.specs.Prelude.{ℕ, List, Bool, ◌≡◌, ◌≤◌, ◌<◌, ◌^◌, ◌⊎◌, ◌≢◌, ◌↔◌, length, Result, Ok, Err}
 use Rattle.base64.specs.Engines.{standard}
 use Rattle.base64.specs.GeneralPurpose.{IsBytes, decode_of}
 use Rattle.fe2o3_scram.specs.declared.hmac.ScramVersion.{ScramVersion}
+use Rattle.fe2o3_scram.specs.declared.scram_messages.gs2_header.Gs2Header.{Gs2Header}
 use Rattle.fe2o3_scram.specs.declared.scram_messages.error.ScramErrorKind.{ScramErrorKind}
 use Rattle.fe2o3_scram.specs.Texts.{base64_text, IsBase64, NoComma, Parts}
 use Rattle.fe2o3_scram.specs.declared.scram_messages.error.ServerScramErrorKind.{ServerScramErrorKind}
@@ -78,8 +79,8 @@ OneServerFirst = (client : Client) (text : List ℕ) (answer other : Result Serv
 
 -- a client-first message has at most one answer
 abbrev pub OneClientFirst : Type 0
-OneClientFirst = (text : List ℕ) (answer other : Result ClientFirst ServerScramErrorKind) → ReadsClientFirst text answer
-    → ReadsClientFirst text other → answer ≡ other
+OneClientFirst = (unbound : Bool) (text : List ℕ) (answer other : Result ClientFirst ServerScramErrorKind)
+    → ReadsClientFirst unbound text answer → ReadsClientFirst unbound text other → answer ≡ other
 
 -- a client-final message has at most one answer
 abbrev pub OneClientFinal : Type 0
@@ -88,8 +89,8 @@ OneClientFinal = (server : Server) (text : List ℕ) (answer other : Result Clie
 
 -- so has it before the server looks at its keys
 abbrev pub OneFinalText : Type 0
-OneFinalText = (nonce text : List ℕ) (answer other : Result ClientFinal ServerScramErrorKind)
-    → ReadsFinalText nonce text answer → ReadsFinalText nonce text other → answer ≡ other
+OneFinalText = (header : Gs2Header) (nonce text : List ℕ) (answer other : Result ClientFinal ServerScramErrorKind)
+    → ReadsFinalText header nonce text answer → ReadsFinalText header nonce text other → answer ≡ other
 
 -- a server-final message has at most one answer
 abbrev pub OneServerFinal : Type 0
@@ -107,7 +108,8 @@ UnalteredExchangesSucceed = (x : Exchange) → IsSound x → Succeeds x
 
 -- a client-first message has an answer, whatever the text
 abbrev pub SomeClientFirst : Type 0
-SomeClientFirst = (text : List ℕ) → (answer : Result ClientFirst ServerScramErrorKind) × ReadsClientFirst text answer
+SomeClientFirst = (unbound : Bool) (text : List ℕ)
+    → (answer : Result ClientFirst ServerScramErrorKind) × ReadsClientFirst unbound text answer
 
 -- a server-first message has an answer
 abbrev pub SomeServerFirst : Type 0

@@ -1,12 +1,12 @@
 -- What an accepted message means to who calls the machines, in the words of the headline (RFC 5802, section 5). Each
 -- law is the contract of a clause of `laws::accepted_messages`.
 use Rattle.std.specs.Prelude.{◌≡◌, ◌≢◌, ℕ, Option, Some, None, List, Ok}
-use Rattle.fe2o3_scram.specs.ClientFinal.{ClientFinal, ReadsClientFinal, server_of}
+use Rattle.fe2o3_scram.specs.ClientFinal.{ClientFinal, ReadsClientFinal}
 use Rattle.fe2o3_scram.specs.ClientKeys.{ClientKeys}
 use Rattle.fe2o3_scram.specs.Credentials.{Provider, Record, record_at}
 use Rattle.fe2o3_scram.specs.HidingServer.{HidingServer, NamedBy, hiding_name}
 use Rattle.fe2o3_scram.specs.ScramClient.{ClientSide, ClientState, ClientFinalSent, BelievesIn}
-use Rattle.fe2o3_scram.specs.ScramServer.{ServerState, ServerFirstSent, ServerFinalSent, ConcludesFrom}
+use Rattle.fe2o3_scram.specs.ScramServer.{ServerState, ServerFirstSent, ServerFinalSent, ConcludesFrom, server_against}
 use Rattle.fe2o3_scram.specs.ServerFinal.{ReadsServerFinal}
 use Rattle.fe2o3_scram.specs.ServerFirst.{Challenge}
 
@@ -19,8 +19,7 @@ pub record TextLogsIn (provider : Provider) (state : ServerState) (text user : L
   pub opened : state ≡ ServerFirstSent challenge
   pub named : user ≡ challenge.user
   pub known : record_at provider.records user ≡ Some stored
-  pub reads : ReadsClientFinal (server_of provider.version challenge.bare challenge.first challenge.nonce stored) text
-      (Ok final)
+  pub reads : ReadsClientFinal (server_against provider challenge stored) text (Ok final)
 
 -- a server accepts only such a text, and names that user behind it
 abbrev pub AcceptedTextsLogIn : Type 0

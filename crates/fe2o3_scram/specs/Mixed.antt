@@ -3,7 +3,7 @@ use Rattle.std.specs.Prelude.{ℕ, List, Bool, true, false, filter, map, nat_eq}
 use Rattle.std.specs.Cmp.Lexicographic.{pointwise}
 use Rattle.fe2o3_scram.specs.declared.hmac.ScramVersion.{ScramVersion}
 use Rattle.fe2o3_scram.specs.declared.hmac.ScramVersion.TheVariants.{Sha1, Sha256, Sha512}
-use Rattle.fe2o3_scram.specs.Credentials.{Provider, Record, VersionedRecord}
+use Rattle.fe2o3_scram.specs.Credentials.{Store, Record, VersionedRecord}
 
 -- user names and their records, each for the version that it names (RFC 5803, section 2), several for a name
 abbrev pub MixedRecords : Type 0
@@ -21,7 +21,7 @@ abbrev pub unversioned : List ℕ × VersionedRecord → List ℕ × Record
 unversioned user = (user.0, user.1.stored)
 
 -- what a provider for one version means (RFC 5802, section 3): the records of that version, in their order
-abbrev pub provider_for : ScramVersion → MixedRecords → Provider
+abbrev pub provider_for : ScramVersion → MixedRecords → Store
 provider_for version users = record {
   version = version;
   records =

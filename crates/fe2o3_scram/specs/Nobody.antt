@@ -29,6 +29,7 @@ nobody_record nobody name = record {
 abbrev pub with_nobody : Provider → Nobody → List (List ℕ) → Provider
 with_nobody provider nobody names = record {
   version = provider.version;
+  unbound = provider.unbound;
   records =
       provider.records ++ map (λ name. (name, nobody_record nobody name)) names;
 }

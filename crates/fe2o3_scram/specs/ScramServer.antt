@@ -1,5 +1,5 @@
 -- A SCRAM server from message to message (RFC 5802, section 5).
-use Rattle.std.specs.Prelude.{ℕ, List, ◌≡◌, ◌⊎◌, Option, Some, None, MatchOption, Result, Ok, Err}
+use Rattle.std.specs.Prelude.{ℕ, List, Bool, ◌≡◌, ◌⊎◌, Option, Some, None, MatchOption, Result, Ok, Err}
 use Rattle.std.specs.String.{string_bytes}
 use Rattle.fe2o3_scram.specs.declared.scram_messages.error.ServerScramErrorKind.{ServerScramErrorKind}
 use Rattle.fe2o3_scram.specs.declared.scram_messages.error.ServerScramErrorKind.TheVariants.{AuthenticationFailed, IllegalAuthenticatorState}
@@ -7,8 +7,8 @@ use Rattle.fe2o3_scram.specs.declared.scram_server.ScramAuthenticatorState.{Scra
 use Rattle.fe2o3_scram.specs.declared.scram_server.ScramAuthenticatorState.TheVariants.{Initial as CodeInitial, ServerFirstSent as CodeServerFirstSent, ServerFinalSent as CodeServerFinalSent}
 use Rattle.fe2o3_scram.specs.Texts.{base64_text}
 use Rattle.fe2o3_scram.specs.ServerFirst.{Challenge, AnswersClientFirst}
-use Rattle.fe2o3_scram.specs.Credentials.{Record, Provider, record_at}
-use Rattle.fe2o3_scram.specs.ClientFinal.{ReachesBase64, server_of}
+use Rattle.fe2o3_scram.specs.Credentials.{Record, Store, Provider, record_at, serving}
+use Rattle.fe2o3_scram.specs.ClientFinal.{ReachesBase64, Server, server_of}
 use Rattle.fe2o3_scram.specs.ServerFinal.{AnswersClientFinal, FinalCosts}
 use Rattle.fe2o3_scram.specs.declared.scram_server.ScramAuthenticator.{ScramAuthenticator}
 use Rattle.fe2o3_scram.specs.declared.scram_server.open_challenge.OpenChallenge.{OpenChallenge}
@@ -34,12 +34,17 @@ open_challenge state = None
 abbrev pub ChallengesFrom : ServerState → Provider → List ℕ → List ℕ → Result (Option (List ℕ)) ServerScramErrorKind
     → ServerState → Type 0
 ChallengesFrom state provider nonce text (Ok (Some message)) next =
-    (challenge : Challenge) × AnswersClientFirst provider.records (base64_text nonce) text (Ok (Some challenge))
+    (challenge : Challenge) × AnswersClientFirst provider (base64_text nonce) text (Ok (Some challenge))
     × (message ≡ challenge.first) × (next ≡ ServerFirstSent challenge)
 ChallengesFrom state provider nonce text (Ok None) next =
-    AnswersClientFirst provider.records (base64_text nonce) text (Ok None) × (next ≡ state)
+    AnswersClientFirst provider (base64_text nonce) text (Ok None) × (next ≡ state)
 ChallengesFrom state provider nonce text (Err fault) next =
-    AnswersClientFirst provider.records (base64_text nonce) text (Err fault) × (next ≡ state)
+    AnswersClientFirst provider (base64_text nonce) text (Err fault) × (next ≡ state)
+
+-- what a server holds against a client-final message, of an open challenge and the record of its user
+abbrev pub server_against : Provider → Challenge → Record → Server
+server_against provider challenge stored =
+    server_of provider.version challenge.header challenge.bare challenge.first challenge.nonce stored
 
 -- what a server answers to a client-final message (RFC 5802, section 5), and its state after it: an accepted one
 -- closes the challenge and logs its user in, a refused one changes nothing, and without an open challenge it is
@@ -48,11 +53,11 @@ abbrev pub ConcludesFrom : ServerState → Provider → List ℕ → Result (Opt
     → Type 0
 ConcludesFrom (ServerFirstSent challenge) provider text (Ok (Some message)) next =
     (stored : Record) × (record_at provider.records challenge.user ≡ Some stored)
-    × AnswersClientFinal (server_of provider.version challenge.bare challenge.first challenge.nonce stored) text
+    × AnswersClientFinal (server_against provider challenge stored) text
     (Ok message) × (next ≡ ServerFinalSent challenge.user)
 ConcludesFrom (ServerFirstSent challenge) provider text (Err fault) next =
     (((stored : Record) × (record_at provider.records challenge.user ≡ Some stored)
-    × AnswersClientFinal (server_of provider.version challenge.bare challenge.first challenge.nonce stored) text
+    × AnswersClientFinal (server_against provider challenge stored) text
     (Err fault)) ⊎ ((record_at provider.records challenge.user ≡ None) × (fault ≡ AuthenticationFailed)))
     × (next ≡ ServerFirstSent challenge)
 ConcludesFrom state provider text (Ok message) next = ⊥
@@ -63,7 +68,7 @@ ConcludesFrom state provider text (Err fault) next = (fault ≡ IllegalAuthentic
 abbrev pub ReachesBase64In : ServerState → Provider → List ℕ → Type 0
 ReachesBase64In (ServerFirstSent challenge) provider text =
     ((stored : Record) × (record_at provider.records challenge.user ≡ Some stored))
-    × ReachesBase64 challenge.nonce text
+    × ReachesBase64 challenge.header challenge.nonce text
 ReachesBase64In state provider text = ⊥
 
 -- the HMAC values of that answer (RFC 5802, section 3), as a meter shows them before and after the call: those of the
@@ -72,29 +77,38 @@ abbrev pub FinalCostsFrom : {A : Type 0} → ServerState → Provider → List �
     → Type 0
 FinalCostsFrom (ServerFirstSent challenge) provider text result before after =
     MatchOption (record_at provider.records challenge.user) (after ≡ before)
-    (λ stored. FinalCosts (server_of provider.version challenge.bare challenge.first challenge.nonce stored) text
+    (λ stored. FinalCosts (server_against provider challenge stored) text
     result before after)
 FinalCostsFrom state provider text result before after = after ≡ before
 
 -- the state that the code's state is
 abbrev pub state_of : ScramAuthenticatorState → ServerState
 state_of CodeInitial = Initial
-state_of (CodeServerFirstSent user bare nonce first) =
-    ServerFirstSent (record { user = string_bytes user; bare = bare; first = first; nonce = nonce })
+state_of (CodeServerFirstSent user header bare nonce first) = ServerFirstSent
+    (record { user = string_bytes user; header = header; bare = bare; first = first; nonce = nonce })
 state_of (CodeServerFinalSent user) = ServerFinalSent (string_bytes user)
 
 -- the challenge of plain texts
 abbrev pub challenge_kept : OpenChallenge → Challenge
 challenge_kept kept = record {
   user = kept.username.now;
+  header = kept.header;
   bare = kept.client_first_message_bare.now;
   first = kept.server_first_message.now;
   nonce = kept.client_server_nonce.now;
 }
 
--- the provider that it holds
+-- the store that it holds
 abbrev pub provider_in : {C : Type 0} → ScramAuthenticator C → C
 provider_in authenticator = authenticator.credentials
+
+-- whether it takes a client that could bind a channel
+abbrev pub unbound_in : {C : Type 0} → ScramAuthenticator C → Bool
+unbound_in authenticator = authenticator.accepts_unbound
+
+-- what it answers by, where stores mean this
+abbrev pub served_by : {C : Type 0} → (C → Store) → ScramAuthenticator C → Provider
+served_by meaning authenticator = serving (unbound_in authenticator) (meaning (provider_in authenticator))
 
 -- its state
 abbrev pub state_in : {C : Type 0} → ScramAuthenticator C → ServerState

@@ -12,7 +12,8 @@ use Rattle.fe2o3_scram.specs.SaslprepAscii.{IsPrintable}
 use Rattle.std.specs.Fmt.{decimal}
 use Rattle.fe2o3_scram.specs.declared.scram_messages.error.ServerScramErrorKind.{ServerScramErrorKind}
 use Rattle.fe2o3_scram.specs.ClientFirst.{ClientFirst, ReadsClientFirst, HasEscapes}
-use Rattle.fe2o3_scram.specs.Credentials.{Record, Records, record_at}
+use Rattle.fe2o3_scram.specs.declared.scram_messages.gs2_header.Gs2Header.{Gs2Header}
+use Rattle.fe2o3_scram.specs.Credentials.{Record, Provider, record_at}
 use Rattle.fe2o3_scram.specs.declared.client_secret.IterationLimits.{IterationLimits}
 use Rattle.fe2o3_scram.specs.ClientKeys.{ClientKeys}
 use Rattle.fe2o3_scram.specs.ClientSecret.{Secret, Password, Keys, Both}
@@ -108,10 +109,11 @@ abbrev pub server_first_of : List ℕ → Record → List ℕ
 server_first_of nonce stored =
     joined ((codes "r=" ++ nonce) ∷ (codes "s=" ++ base64_text stored.salt) ∷ (codes "i=" ++ decimal stored.count) ∷ [])
 
--- a challenge (RFC 5802, section 5): its user, the client's bare message, the server's message, and the nonce of
--- both sides
+-- a challenge (RFC 5802, section 5): its user, the client's GS2 header and bare message, the server's message, and the
+-- nonce of both sides
 pub record Challenge : Type 0 where
   pub user : List ℕ
+  pub header : Gs2Header
   pub bare : List ℕ
   pub first : List ℕ
   pub nonce : List ℕ
@@ -120,6 +122,7 @@ pub record Challenge : Type 0 where
 abbrev pub challenge_values : ServerFirstMessage → Challenge
 challenge_values message = record {
   user = cow_str_bytes message.username;
+  header = message.header;
   bare = message.client_first_message_bare.now;
   first = message.message;
   nonce = message.client_server_nonce;
@@ -129,21 +132,27 @@ challenge_values message = record {
 abbrev pub challenge_of : ClientFirst → List ℕ → Record → Challenge
 challenge_of client server_nonce stored =
     let nonce = client.nonce ++ server_nonce in
-    record { user = client.user; bare = client.bare; first = server_first_of nonce stored; nonce = nonce }
+    record {
+      user = client.user;
+      header = client.header;
+      bare = client.bare;
+      first = server_first_of nonce stored;
+      nonce = nonce;
+    }
 
 -- the server comes to ask for memory: for an escaped name, or for the challenge to a user whom it knows (RFC 5802,
 -- section 5.1)
-abbrev pub ReachesChallenge : Records → List ℕ → Type 0
-ReachesChallenge records text = HasEscapes text
-    ⊎ ((client : ClientFirst) × (stored : Record) × ReadsClientFirst text (Ok client)
-    × (record_at records client.user ≡ Some stored))
+abbrev pub ReachesChallenge : Provider → List ℕ → Type 0
+ReachesChallenge provider text = HasEscapes provider.unbound text
+    ⊎ ((client : ClientFirst) × (stored : Record) × ReadsClientFirst provider.unbound text (Ok client)
+    × (record_at provider.records client.user ≡ Some stored))
 
 -- what the server answers to a client-first message (RFC 5802, section 5): the first refusal, nothing to a user whom
 -- it does not know, or the challenge
-abbrev pub AnswersClientFirst : Records → List ℕ → List ℕ → Result (Option Challenge) ServerScramErrorKind → Type 0
-AnswersClientFirst records server_nonce text (Ok None) =
-    (client : ClientFirst) × ReadsClientFirst text (Ok client) × (record_at records client.user ≡ None)
-AnswersClientFirst records server_nonce text (Ok (Some challenge)) =
-    (client : ClientFirst) × (stored : Record) × ReadsClientFirst text (Ok client)
-    × (record_at records client.user ≡ Some stored) × (challenge ≡ challenge_of client server_nonce stored)
-AnswersClientFirst records server_nonce text (Err fault) = ReadsClientFirst text (Err fault)
+abbrev pub AnswersClientFirst : Provider → List ℕ → List ℕ → Result (Option Challenge) ServerScramErrorKind → Type 0
+AnswersClientFirst provider server_nonce text (Ok None) = (client : ClientFirst)
+    × ReadsClientFirst provider.unbound text (Ok client) × (record_at provider.records client.user ≡ None)
+AnswersClientFirst provider server_nonce text (Ok (Some challenge)) =
+    (client : ClientFirst) × (stored : Record) × ReadsClientFirst provider.unbound text (Ok client)
+    × (record_at provider.records client.user ≡ Some stored) × (challenge ≡ challenge_of client server_nonce stored)
+AnswersClientFirst provider server_nonce text (Err fault) = ReadsClientFirst provider.unbound text (Err fault)

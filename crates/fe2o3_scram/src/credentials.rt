@@ -40,9 +40,9 @@ pub struct SingleScramCredential {
 }
 
 impl Model for SingleScramCredential {
-    ghost use Rattle.fe2o3_scram.specs.Credentials.{Provider};
+    ghost use Rattle.fe2o3_scram.specs.Credentials.{Store};
 
-    ghost Value = { Provider };
+    ghost Value = { Store };
 
     ghost view = { λ credential. credential.stored };
 }

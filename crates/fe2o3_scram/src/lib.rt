@@ -41,7 +41,7 @@ pub use crate::provider::{ScramCredentialProvider, StoredPassword};
 pub use crate::saslprep_ascii::{NormalizeError, saslprep};
 pub use crate::scram_client::ScramClient;
 pub use crate::scram_messages::{
-    ClientAnswer, ClientFinal, ClientFirst, ScramErrorKind, ServerFinal, ServerFirst,
+    ClientAnswer, ClientFinal, ClientFirst, Gs2Header, ScramErrorKind, ServerFinal, ServerFirst,
     ServerFirstMessage, ServerScramErrorKind, UnescapeError, escape_username, unescape_username,
 };
 pub use crate::scram_server::ScramAuthenticator;

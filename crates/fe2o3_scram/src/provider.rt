@@ -2,7 +2,7 @@
 
 ghost use Rattle.std.specs.Prelude.{◌≡◌, option_map};
 ghost use Rattle.std.proofs.Common.{ap};
-ghost use Rattle.fe2o3_scram.specs.Credentials.{Provider, record_at, kept};
+ghost use Rattle.fe2o3_scram.specs.Credentials.{Store, record_at, kept};
 
 use crate::hmac::ScramVersion;
 use std::fmt;
@@ -57,7 +57,7 @@ impl fmt::Debug for StoredPassword<'_> {
 /// ```
 pub trait ScramCredentialProvider: Clone {
     /// What the provider means: a version, and a record for each of its users.
-    ghost meaning: { Self → Provider };
+    ghost meaning: { Self → Store };
 
     /// The version of every record.
     fn scram_version(&self) -> &ScramVersion

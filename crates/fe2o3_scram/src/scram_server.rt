@@ -1,7 +1,7 @@
 //! The SCRAM server as a machine: one message after the other (RFC 5802, section 5).
 
-ghost use Rattle.std.specs.Prelude.{◌≡◌, ◌≤◌, ◌^◌, IfOk, OnErr, option_map};
-ghost use Rattle.fe2o3_scram.specs.ScramServer.{provider_in, state_in, Initial, ServerFirstSent, ServerFinalSent, logged_in, ChallengesFrom, ConcludesFrom, FinalCostsFrom, ReachesBase64In, state_of};
+ghost use Rattle.std.specs.Prelude.{◌≡◌, ◌≤◌, ◌^◌, IfOk, OnErr, false, true, option_map};
+ghost use Rattle.fe2o3_scram.specs.ScramServer.{provider_in, served_by, state_in, unbound_in, Initial, ServerFirstSent, ServerFinalSent, logged_in, ChallengesFrom, ConcludesFrom, FinalCostsFrom, ReachesBase64In, state_of};
 ghost use Rattle.fe2o3_scram.specs.ServerFirst.{Challenge, ReachesChallenge};
 ghost use Rattle.fe2o3_scram.specs.Readings.{Gives};
 
@@ -13,7 +13,7 @@ use crate::OutOfMemory;
 use crate::hmac::Meter;
 use crate::provider::ScramCredentialProvider;
 use crate::scram_messages::error::ServerScramErrorKind;
-use crate::scram_messages::{ServerFirstMessage, challenge};
+use crate::scram_messages::{Gs2Header, ServerFirstMessage, challenge};
 use crate::texts::base64_of_nonce;
 use bytes::Bytes;
 use std::alloc::{AllocError, Global};
@@ -25,6 +25,7 @@ enum ScramAuthenticatorState {
     Initial,
     ServerFirstSent {
         username: String,
+        header: Gs2Header,
         client_first_message_bare: Bytes,
         client_server_nonce: Bytes,
         server_first_message: Bytes,
@@ -43,11 +44,13 @@ impl ScramAuthenticatorState {
             ScramAuthenticatorState::Initial => ScramAuthenticatorState::Initial,
             ScramAuthenticatorState::ServerFirstSent {
                 username,
+                header,
                 client_first_message_bare,
                 client_server_nonce,
                 server_first_message,
             } => ScramAuthenticatorState::ServerFirstSent {
                 username: username.clone()?,
+                header: *header,
                 client_first_message_bare: client_first_message_bare.clone()?,
                 client_server_nonce: client_server_nonce.clone()?,
                 server_first_message: server_first_message.clone()?,
@@ -80,18 +83,37 @@ impl ScramAuthenticatorState {
 #[derive(Drop)]
 pub struct ScramAuthenticator<C: ScramCredentialProvider> {
     credentials: C,
+    accepts_unbound: bool,
     state: ScramAuthenticatorState,
 }
 
 impl<C: ScramCredentialProvider> ScramAuthenticator<C> {
-    /// A server without an open challenge.
+    /// A server without an open challenge. It takes clients whose GS2 header is `n,,`.
     pub fn new(credentials: C) -> Self
         ensures provider { provider_in result ≡ credentials }
+        ensures unbound { unbound_in result ≡ false }
         ensures state { state_in result ≡ Initial }
     {
         Self {
             credentials,
+            accepts_unbound: false,
             state: ScramAuthenticatorState::Initial,
+        }
+    }
+
+    /// The same server, which takes clients whose GS2 header is `y,,` too: a client that could bind a
+    /// channel and believes that the server cannot, since it was offered no mechanism with `-PLUS` (RFC
+    /// 5802, section 6). Its client-final message has to repeat that header. A server that offers such a
+    /// mechanism must not take that client.
+    pub fn accepts_unbound(self) -> Self
+        ensures provider { provider_in result ≡ provider_in self }
+        ensures unbound { unbound_in result ≡ true }
+        ensures state { state_in result ≡ state_in self }
+    {
+        Self {
+            credentials: self.credentials,
+            accepts_unbound: true,
+            state: self.state,
         }
     }
 
@@ -129,21 +151,29 @@ impl<C: ScramCredentialProvider> ScramAuthenticator<C> {
         nonce: &[u8; 32],
     ) -> Result<Option<Vec<u8>>, ServerScramErrorKind>
         ensures answer { Gives ServerScramErrorKind.OutOfMemory
-            (ReachesChallenge (C.meaning (provider_in self.old)).records client_first_message.now)
+            (ReachesChallenge (served_by C.meaning self.old) client_first_message.now)
             (option_map (λ message. message.items)) result
-            (λ answer. ChallengesFrom (state_in self.old) (C.meaning (provider_in self.old)) nonce.now
+            (λ answer. ChallengesFrom (state_in self.old) (served_by C.meaning self.old) nonce.now
             client_first_message.now answer (state_in self.new)) }
         ensures provider { provider_in self.new ≡ provider_in self.old }
+        ensures unbound { unbound_in self.new ≡ unbound_in self.old }
         ensures err { OnErr result (state_in self.new ≡ state_in self.old) }
     {
         let mut room = [0; 44];
         let nonce = base64_of_nonce(nonce, &mut room);
-        let Some(server_first) = challenge(alloc, client_first_message, nonce, &self.credentials)?
+        let Some(server_first) = challenge(
+            alloc,
+            client_first_message,
+            nonce,
+            self.accepts_unbound,
+            &self.credentials,
+        )?
         else {
             return Ok(None);
         };
         let ServerFirstMessage {
             username,
+            header,
             client_first_message_bare,
             client_server_nonce,
             message,
@@ -156,6 +186,7 @@ impl<C: ScramCredentialProvider> ScramAuthenticator<C> {
         let answer = message.to_vec(alloc)?;
         self.state = ScramAuthenticatorState::ServerFirstSent {
             username,
+            header,
             client_first_message_bare,
             client_server_nonce,
             server_first_message: message,
@@ -177,11 +208,12 @@ impl<C: ScramCredentialProvider> ScramAuthenticator<C> {
         client_final_message: &[u8],
     ) -> Result<Option<Vec<u8>>, ServerScramErrorKind>
         ensures answer { Gives ServerScramErrorKind.OutOfMemory
-            (ReachesBase64In (state_in self.old) (C.meaning (provider_in self.old)) client_final_message.now)
+            (ReachesBase64In (state_in self.old) (served_by C.meaning self.old) client_final_message.now)
             (option_map (λ message. message.items)) result
-            (λ answer. ConcludesFrom (state_in self.old) (C.meaning (provider_in self.old))
+            (λ answer. ConcludesFrom (state_in self.old) (served_by C.meaning self.old)
             client_final_message.now answer (state_in self.new)) }
         ensures provider { provider_in self.new ≡ provider_in self.old }
+        ensures unbound { unbound_in self.new ≡ unbound_in self.old }
         ensures err { OnErr result (state_in self.new ≡ state_in self.old) }
     {
         self.compute_server_final_message_metered(alloc, client_final_message, &mut Meter::new())
@@ -197,18 +229,20 @@ impl<C: ScramCredentialProvider> ScramAuthenticator<C> {
     ) -> Result<Option<Vec<u8>>, ServerScramErrorKind>
         requires { meter.old ≤ 2 ^ 63 }
         ensures answer { Gives ServerScramErrorKind.OutOfMemory
-            (ReachesBase64In (state_in self.old) (C.meaning (provider_in self.old)) client_final_message.now)
+            (ReachesBase64In (state_in self.old) (served_by C.meaning self.old) client_final_message.now)
             (option_map (λ message. message.items)) result
-            (λ answer. ConcludesFrom (state_in self.old) (C.meaning (provider_in self.old))
+            (λ answer. ConcludesFrom (state_in self.old) (served_by C.meaning self.old)
             client_final_message.now answer (state_in self.new)) }
         ensures provider { provider_in self.new ≡ provider_in self.old }
+        ensures unbound { unbound_in self.new ≡ unbound_in self.old }
         ensures err { OnErr result (state_in self.new ≡ state_in self.old) }
-        ensures cost { FinalCostsFrom (state_in self.old) (C.meaning (provider_in self.old))
+        ensures cost { FinalCostsFrom (state_in self.old) (served_by C.meaning self.old)
             client_final_message.now result meter.old meter.new }
     {
         match &self.state {
             ScramAuthenticatorState::ServerFirstSent {
                 username,
+                header,
                 client_first_message_bare,
                 client_server_nonce,
                 server_first_message,
@@ -219,8 +253,9 @@ impl<C: ScramCredentialProvider> ScramAuthenticator<C> {
                 let server_final_message = self
                     .credentials
                     .scram_version()
-                    .compute_server_final_message_metered(
+                    .compute_server_final_message_behind(
                         alloc,
+                        *header,
                         client_final_message,
                         client_server_nonce,
                         client_first_message_bare,
@@ -247,11 +282,12 @@ impl<C: ScramCredentialProvider> fmt::Debug for ScramAuthenticator<C> {
 
 impl<C: ScramCredentialProvider> Clone for ScramAuthenticator<C> {
     ghost is_clone = { λ authenticator copy. C.is_clone (provider_in authenticator) (provider_in copy)
-        × (state_in copy ≡ state_in authenticator) };
+        × (unbound_in copy ≡ unbound_in authenticator) × (state_in copy ≡ state_in authenticator) };
 
     fn clone(&self) -> Result<Self, AllocError> {
         Ok(Self {
             credentials: self.credentials.clone()?,
+            accepts_unbound: self.accepts_unbound,
             state: self.state.copy()?,
         })
     }

@@ -63,9 +63,9 @@ pub struct ScramCredentials {
 impl Model for ScramCredentials {
     ghost use Rattle.std.specs.Prelude.{[], ◌≡◌};
     ghost use Rattle.std.specs.Option.{ForSome, option_map_or};
-    ghost use Rattle.fe2o3_scram.specs.Credentials.{Provider};
+    ghost use Rattle.fe2o3_scram.specs.Credentials.{Store};
 
-    ghost Value = { Provider };
+    ghost Value = { Store };
 
     ghost view = { λ store. record {
       version = store.scram_version;

@@ -25,9 +25,9 @@ pub struct StoredScramCredential {
 impl Model for StoredScramCredential {
     ghost use Rattle.std.specs.Prelude.{[], ◌∷◌};
     ghost use Rattle.std.specs.String.{string_bytes};
-    ghost use Rattle.fe2o3_scram.specs.Credentials.{Provider};
+    ghost use Rattle.fe2o3_scram.specs.Credentials.{Store};
 
-    ghost Value = { Provider };
+    ghost Value = { Store };
 
     ghost view = { λ credential. record {
       version = credential.kept.version;

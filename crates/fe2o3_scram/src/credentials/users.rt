@@ -75,11 +75,11 @@ pub(crate) struct Users {
 }
 
 impl Model for Users {
-    ghost use Rattle.fe2o3_scram.specs.Credentials.{Provider};
+    ghost use Rattle.fe2o3_scram.specs.Credentials.{Store};
     ghost use Rattle.fe2o3_scram.specs.private.ByName.{IsByName};
     ghost use Rattle.std.specs.Arc.{arc_value};
 
-    ghost Value = { Provider };
+    ghost Value = { Store };
 
     ghost view = { λ users. record {
       version = users.scram_version;

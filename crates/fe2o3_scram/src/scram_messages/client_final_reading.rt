@@ -3,12 +3,12 @@
 ghost use Rattle.std.specs.Prelude.{◌≡◌, ◌≢◌, ◌++◌, ℕ, List, IfOk, IfErr, OnOk, codes};
 ghost use Rattle.fe2o3_scram.specs.Readings.{Gives, IsFirst, NoneHolds};
 ghost use Rattle.fe2o3_scram.specs.ClientFinal.{HasBinding, HasProof, ReachesBase64, ReachesBinding, ReadsFinalText, client_final_values, binding_tests, nonce_tests, spelling_tests};
+ghost use Rattle.fe2o3_scram.specs.ClientFirst.{header_text};
 ghost use Rattle.fe2o3_scram.specs.Texts.{Part, LastPart};
 
-use crate::scram_messages::attributes::{
-    CHANNEL_BINDING_KEY, GS2_HEADER_BASE64, NONCE_KEY, PROOF_KEY,
-};
+use crate::scram_messages::attributes::{CHANNEL_BINDING_KEY, NONCE_KEY, PROOF_KEY};
 use crate::scram_messages::error::ServerScramErrorKind;
+use crate::scram_messages::gs2_header::Gs2Header;
 use crate::texts::{after, attribute, bytes_of, last_part};
 use std::alloc::Global;
 
@@ -24,7 +24,8 @@ pub struct ClientFinal<'a> {
 
 impl<'a> ClientFinal<'a> {
     /// Reads a client-final message (RFC 5802, sections 5.1 and 7), up to the test of its proof. The
-    /// nonce is that of both sides, as the server-first message named it.
+    /// nonce is that of both sides, as the server-first message named it. The GS2 header of the
+    /// client-first message was `n,,`.
     ///
     /// Refused are, in this order: `Utf8Error` where the text is not UTF-8 (RFC 3629); for the
     /// channel binding `CannotParseClientFinalMessage`, `Base64DecodeError` and
@@ -37,31 +38,50 @@ impl<'a> ClientFinal<'a> {
         client_server_nonce: &[u8],
         text: &'a [u8],
     ) -> Result<Self, ServerScramErrorKind>
-        ensures { Gives ServerScramErrorKind.OutOfMemory (ReachesBase64 client_server_nonce.now text.now)
-            client_final_values result (ReadsFinalText client_server_nonce.now text.now) }
+        ensures { Gives ServerScramErrorKind.OutOfMemory
+            (ReachesBase64 Gs2Header.Unsupported client_server_nonce.now text.now) client_final_values result
+            (ReadsFinalText Gs2Header.Unsupported client_server_nonce.now text.now) }
+    {
+        ClientFinal::parse_behind(alloc, Gs2Header::Unsupported, client_server_nonce, text)
+    }
+
+    /// As `parse`, behind a client-first message with this GS2 header: in place of `biws` the channel
+    /// binding has to be the header in base64.
+    pub fn parse_behind(
+        alloc: Global,
+        header: Gs2Header,
+        client_server_nonce: &[u8],
+        text: &'a [u8],
+    ) -> Result<Self, ServerScramErrorKind>
+        ensures { Gives ServerScramErrorKind.OutOfMemory (ReachesBase64 header client_server_nonce.now text.now)
+            client_final_values result (ReadsFinalText header client_server_nonce.now text.now) }
     {
         let Ok(client_final) = str::from_utf8(text) else {
             return Err(ServerScramErrorKind::Utf8Error);
         };
-        test_binding(alloc, client_final)?;
+        test_binding(alloc, header, client_final)?;
         test_nonce(client_server_nonce, client_final)?;
         read_proof(alloc, client_final)
     }
 }
 
-/// Tests that the client binds no channel.
-fn test_binding(alloc: Global, client_final: &str) -> Result<(), ServerScramErrorKind>
-    ensures tested { OnOk result (NoneHolds (binding_tests client_final.now)) }
-    ensures bound { OnOk result (HasBinding client_final.now (codes "n,,")) }
+/// Tests that the client binds no channel, and repeats its GS2 header.
+fn test_binding(
+    alloc: Global,
+    header: Gs2Header,
+    client_final: &str,
+) -> Result<(), ServerScramErrorKind>
+    ensures tested { OnOk result (NoneHolds (binding_tests header client_final.now)) }
+    ensures bound { OnOk result (HasBinding client_final.now (header_text header)) }
     ensures memory { IfErr result (λ kind. kind ≡ ServerScramErrorKind.OutOfMemory
-        → ReachesBinding client_final.now) }
+        → ReachesBinding header client_final.now) }
     ensures err { IfErr result (λ kind. kind ≢ ServerScramErrorKind.OutOfMemory
-        → IsFirst (binding_tests client_final.now) kind) }
+        → IsFirst (binding_tests header client_final.now) kind) }
 {
     let Some(base64_binding) = attribute(client_final, 0, CHANNEL_BINDING_KEY) else {
         return Err(ServerScramErrorKind::CannotParseClientFinalMessage);
     };
-    if base64_binding == GS2_HEADER_BASE64 {
+    if base64_binding == header.base64() {
         return Ok(());
     }
     // Only to tell which of the two refusals it is.

@@ -1,20 +1,24 @@
 //! The client-first message, as the server reads it.
 
-ghost use Rattle.std.specs.Prelude.{IfOk};
+ghost use Rattle.std.specs.Prelude.{IfOk, false};
 ghost use Rattle.std.specs.Cow.{IsBorrowedStr};
 ghost use Rattle.fe2o3_scram.specs.ClientFirst.{HasEscapes, ReadsClientFirst, client_first_values};
 ghost use Rattle.fe2o3_scram.specs.Readings.{Gives};
 
-use crate::scram_messages::attributes::{GS2_HEADER, NONCE_KEY, USERNAME_KEY};
+use crate::scram_messages::attributes::{NONCE_KEY, USERNAME_KEY};
 use crate::scram_messages::error::ServerScramErrorKind;
 use crate::scram_messages::escape::{UnescapeError, unescape_username};
-use crate::texts::{after, attribute};
+use crate::scram_messages::gs2_header::{Gs2Header, cut_header};
+use crate::texts::attribute;
 use std::alloc::Global;
 use std::borrow::CowStr;
 
 /// What a client-first message names (RFC 5802, section 7).
 #[derive(Debug, Drop)]
 pub struct ClientFirst<'a> {
+    /// The GS2 header.
+    pub header: Gs2Header,
+
     /// The plain name of the user, as `unescape_username` gives it: borrowed where the client escaped
     /// nothing.
     pub username: CowStr<'a>,
@@ -27,21 +31,38 @@ pub struct ClientFirst<'a> {
 }
 
 impl<'a> ClientFirst<'a> {
-    /// Reads a client-first message (RFC 5802, sections 5.1 and 7), with its GS2 header.
+    /// Reads a client-first message (RFC 5802, sections 5.1 and 7), with its GS2 header, which has to be
+    /// `n,,`.
     ///
     /// Refused are, in this order: `Utf8Error` where the text is not UTF-8 (RFC 3629),
     /// `CannotParseGs2Header`, `CannotParseUsername` and `CannotParseClientNonce`. Parts behind the
     /// nonce say nothing. Memory is taken for an escaped user name alone: `OutOfMemory` is answered
     /// only where the part of the name begins with `n=` and goes on with an equals sign.
     pub fn parse(alloc: Global, text: &'a [u8]) -> Result<Self, ServerScramErrorKind>
-        ensures answer { Gives ServerScramErrorKind.OutOfMemory (HasEscapes text.now) client_first_values result
-            (ReadsClientFirst text.now) }
-        ensures borrowed { IfOk result (λ first. ¬ HasEscapes text.now → IsBorrowedStr first.username) }
+        ensures answer { Gives ServerScramErrorKind.OutOfMemory (HasEscapes false text.now) client_first_values
+            result (ReadsClientFirst false text.now) }
+        ensures borrowed { IfOk result (λ first. ¬ HasEscapes false text.now → IsBorrowedStr first.username) }
+    {
+        ClientFirst::parse_unbound(alloc, text, false)
+    }
+
+    /// As `parse`, and where `accepts_unbound` says so the GS2 header may be `y,,` too: that of a client
+    /// which could bind a channel and believes that the server cannot (RFC 5802, section 6).
+    pub fn parse_unbound(
+        alloc: Global,
+        text: &'a [u8],
+        accepts_unbound: bool,
+    ) -> Result<Self, ServerScramErrorKind>
+        ensures answer { Gives ServerScramErrorKind.OutOfMemory (HasEscapes accepts_unbound text.now)
+            client_first_values result (ReadsClientFirst accepts_unbound text.now) }
+        ensures borrowed { IfOk result (λ first. ¬ HasEscapes accepts_unbound text.now
+            → IsBorrowedStr first.username) }
     {
         let Ok(client_first) = str::from_utf8(text) else {
             return Err(ServerScramErrorKind::Utf8Error);
         };
-        let Some(client_first_message_bare) = after(client_first, GS2_HEADER) else {
+        let Some((header, client_first_message_bare)) = cut_header(client_first, accepts_unbound)
+        else {
             return Err(ServerScramErrorKind::CannotParseGs2Header);
         };
         let Some(escaped) = attribute(client_first_message_bare, 0, USERNAME_KEY) else {
@@ -56,6 +77,7 @@ impl<'a> ClientFirst<'a> {
             return Err(ServerScramErrorKind::CannotParseClientNonce);
         };
         Ok(ClientFirst {
+            header,
             username,
             client_nonce,
             client_first_message_bare,

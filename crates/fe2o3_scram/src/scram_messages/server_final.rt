@@ -18,6 +18,7 @@ use crate::provider::StoredPassword;
 use crate::scram_messages::attributes::VERIFIER_KEY;
 use crate::scram_messages::client_final_reading::ClientFinal;
 use crate::scram_messages::error::ServerScramErrorKind;
+use crate::scram_messages::gs2_header::Gs2Header;
 use crate::texts::{base64_len, push_base64};
 use std::alloc::Global;
 
@@ -27,8 +28,8 @@ impl ScramVersion {
     /// whatever the bytes are, is read in the code and not proved; no claim is made about time.
     ///
     /// The texts are those of the challenge, as they were sent: the nonce of both sides, the
-    /// client-first message without its GS2 header, and the server-first message. The version is
-    /// that of the stored password.
+    /// client-first message without its GS2 header, which was `n,,`, and the server-first message. The
+    /// version is that of the stored password.
     ///
     /// The refusals are those of `ClientFinal::parse`, in its order, then `XorLengthMismatch` where
     /// the proof is not as long as a digest, and `AuthenticationFailed` where it does not meet the
@@ -42,10 +43,11 @@ impl ScramVersion {
         server_first_message: &[u8],
         stored_password: &StoredPassword<'_>,
     ) -> Result<Vec<u8>, ServerScramErrorKind>
-        ensures { Gives ServerScramErrorKind.OutOfMemory (ReachesBase64 client_server_nonce.now client_final.now)
+        ensures { Gives ServerScramErrorKind.OutOfMemory
+            (ReachesBase64 Gs2Header.Unsupported client_server_nonce.now client_final.now)
             (λ message. message.items) result
-            (AnswersClientFinal (server_of self.now client_first_message_bare.now server_first_message.now
-            client_server_nonce.now (kept stored_password.now)) client_final.now) }
+            (AnswersClientFinal (server_of self.now Gs2Header.Unsupported client_first_message_bare.now
+            server_first_message.now client_server_nonce.now (kept stored_password.now)) client_final.now) }
     {
         self.compute_server_final_message_metered(
             alloc,
@@ -71,14 +73,51 @@ impl ScramVersion {
         meter: &mut Meter,
     ) -> Result<Vec<u8>, ServerScramErrorKind>
         requires { meter.old ≤ 2 ^ 63 }
-        ensures answer { Gives ServerScramErrorKind.OutOfMemory (ReachesBase64 client_server_nonce.now client_final.now)
+        ensures answer { Gives ServerScramErrorKind.OutOfMemory
+            (ReachesBase64 Gs2Header.Unsupported client_server_nonce.now client_final.now)
             (λ message. message.items) result
-            (AnswersClientFinal (server_of self.now client_first_message_bare.now server_first_message.now
-            client_server_nonce.now (kept stored_password.now)) client_final.now) }
-        ensures cost { FinalCosts (server_of self.now client_first_message_bare.now server_first_message.now
-            client_server_nonce.now (kept stored_password.now)) client_final.now result meter.old meter.new }
+            (AnswersClientFinal (server_of self.now Gs2Header.Unsupported client_first_message_bare.now
+            server_first_message.now client_server_nonce.now (kept stored_password.now)) client_final.now) }
+        ensures cost { FinalCosts (server_of self.now Gs2Header.Unsupported client_first_message_bare.now
+            server_first_message.now client_server_nonce.now (kept stored_password.now)) client_final.now result
+            meter.old meter.new }
     {
-        let client_final = ClientFinal::parse(alloc, client_server_nonce, client_final)?;
+        self.compute_server_final_message_behind(
+            alloc,
+            Gs2Header::Unsupported,
+            client_final,
+            client_server_nonce,
+            client_first_message_bare,
+            server_first_message,
+            stored_password,
+            meter,
+        )
+    }
+
+    /// As `compute_server_final_message_metered`, behind a client-first message with this GS2 header
+    /// (`ClientFinal::parse_behind`).
+    pub fn compute_server_final_message_behind(
+        &self,
+        alloc: Global,
+        header: Gs2Header,
+        client_final: &[u8],
+        client_server_nonce: &[u8],
+        client_first_message_bare: &[u8],
+        server_first_message: &[u8],
+        stored_password: &StoredPassword<'_>,
+        meter: &mut Meter,
+    ) -> Result<Vec<u8>, ServerScramErrorKind>
+        requires { meter.old ≤ 2 ^ 63 }
+        ensures answer { Gives ServerScramErrorKind.OutOfMemory
+            (ReachesBase64 header client_server_nonce.now client_final.now) (λ message. message.items) result
+            (AnswersClientFinal (server_of self.now header client_first_message_bare.now
+            server_first_message.now client_server_nonce.now (kept stored_password.now)) client_final.now) }
+        ensures cost { FinalCosts (server_of self.now header client_first_message_bare.now
+            server_first_message.now client_server_nonce.now (kept stored_password.now)) client_final.now result
+            meter.old meter.new }
+    {
+        let client_final =
+            ClientFinal::parse_behind(alloc, header, client_server_nonce, client_final)?;
         self.answer_proof(
             alloc,
             &client_final,
@@ -100,8 +139,8 @@ impl ScramVersion {
         meter: &mut Meter,
     ) -> Result<Vec<u8>, ServerScramErrorKind>
         requires { meter.old ≤ 2 ^ 63 }
-        ensures answer { (nonce : List ℕ) →
-            let server = server_of self.now client_first_message_bare.now server_first_message.now nonce
+        ensures answer { (header : Gs2Header) (nonce : List ℕ) →
+            let server = server_of self.now header client_first_message_bare.now server_first_message.now nonce
             (kept stored_password.now) in
             Gives ServerScramErrorKind.OutOfMemory (IsMet server (client_final_values client_final.now))
             (λ message. message.items) result (AnswersProof server (client_final_values client_final.now)) }

@@ -1,9 +1,9 @@
 //! The server-first message, which challenges a known user.
 
-ghost use Rattle.std.specs.Prelude.{◌≡◌, ◌++◌, IfOk, option_map};
+ghost use Rattle.std.specs.Prelude.{◌≡◌, ◌++◌, IfOk, false, option_map};
 ghost use Rattle.fe2o3_scram.specs.ClientFirst.{client_first_values};
 ghost use Rattle.fe2o3_scram.specs.ServerFirst.{AnswersClientFirst, ReachesChallenge, challenge_of, challenge_values, server_first_of};
-ghost use Rattle.fe2o3_scram.specs.Credentials.{kept};
+ghost use Rattle.fe2o3_scram.specs.Credentials.{kept, serving};
 ghost use Rattle.fe2o3_scram.specs.Readings.{Gives};
 
 use crate::OutOfMemory;
@@ -12,6 +12,7 @@ use crate::provider::{ScramCredentialProvider, StoredPassword};
 use crate::scram_messages::attributes::{ITERATION_COUNT_KEY, NONCE_KEY, SALT_KEY};
 use crate::scram_messages::client_first_reading::ClientFirst;
 use crate::scram_messages::error::ServerScramErrorKind;
+use crate::scram_messages::gs2_header::Gs2Header;
 use crate::texts::{base64_len, push_base64};
 use bytes::Bytes;
 use std::alloc::Global;
@@ -25,6 +26,9 @@ const FIXED_LEN: usize = 18;
 pub struct ServerFirstMessage<'a> {
     /// The plain name of the user, as `ClientFirst::parse` gives it.
     pub username: CowStr<'a>,
+
+    /// The GS2 header of the client-first message.
+    pub header: Gs2Header,
 
     /// The client-first message without its GS2 header.
     pub client_first_message_bare: &'a str,
@@ -53,10 +57,36 @@ impl ScramVersion {
         credentials: &C,
     ) -> Result<Option<ServerFirstMessage<'a>>, ServerScramErrorKind>
         ensures { Gives ServerScramErrorKind.OutOfMemory
-            (ReachesChallenge (C.meaning credentials.now).records client_first.now) (option_map challenge_values) result
-            (AnswersClientFirst (C.meaning credentials.now).records base64_server_nonce.now client_first.now) }
+            (ReachesChallenge (serving false (C.meaning credentials.now)) client_first.now)
+            (option_map challenge_values) result
+            (AnswersClientFirst (serving false (C.meaning credentials.now)) base64_server_nonce.now client_first.now) }
     {
-        challenge(alloc, client_first, base64_server_nonce, credentials)
+        challenge(alloc, client_first, base64_server_nonce, false, credentials)
+    }
+
+    /// As `compute_server_first_message`, and where `accepts_unbound` says so the GS2 header may be `y,,`
+    /// too (`ClientFirst::parse_unbound`).
+    pub fn compute_server_first_message_unbound<'a, C: ScramCredentialProvider>(
+        &self,
+        alloc: Global,
+        client_first: &'a [u8],
+        base64_server_nonce: &str,
+        accepts_unbound: bool,
+        credentials: &C,
+    ) -> Result<Option<ServerFirstMessage<'a>>, ServerScramErrorKind>
+        ensures { Gives ServerScramErrorKind.OutOfMemory
+            (ReachesChallenge (serving accepts_unbound (C.meaning credentials.now)) client_first.now)
+            (option_map challenge_values) result
+            (AnswersClientFirst (serving accepts_unbound (C.meaning credentials.now)) base64_server_nonce.now
+            client_first.now) }
+    {
+        challenge(
+            alloc,
+            client_first,
+            base64_server_nonce,
+            accepts_unbound,
+            credentials,
+        )
     }
 }
 
@@ -65,13 +95,16 @@ pub(crate) fn challenge<'a, C: ScramCredentialProvider>(
     alloc: Global,
     client_first: &'a [u8],
     base64_server_nonce: &str,
+    accepts_unbound: bool,
     credentials: &C,
 ) -> Result<Option<ServerFirstMessage<'a>>, ServerScramErrorKind>
     ensures { Gives ServerScramErrorKind.OutOfMemory
-        (ReachesChallenge (C.meaning credentials.now).records client_first.now) (option_map challenge_values) result
-        (AnswersClientFirst (C.meaning credentials.now).records base64_server_nonce.now client_first.now) }
+        (ReachesChallenge (serving accepts_unbound (C.meaning credentials.now)) client_first.now)
+        (option_map challenge_values) result
+        (AnswersClientFirst (serving accepts_unbound (C.meaning credentials.now)) base64_server_nonce.now
+        client_first.now) }
 {
-    let client_first = ClientFirst::parse(alloc, client_first)?;
+    let client_first = ClientFirst::parse_unbound(alloc, client_first, accepts_unbound)?;
     let Some(stored_password) = credentials.get_stored_password(&client_first.username) else {
         return Ok(None);
     };
@@ -97,6 +130,7 @@ fn challenge_to<'a>(
     )?;
     Ok(ServerFirstMessage {
         username: client_first.username,
+        header: client_first.header,
         client_first_message_bare: client_first.client_first_message_bare,
         client_server_nonce,
         message,

@@ -1,6 +1,6 @@
 //! A SCRAM server that does not tell which users it knows.
 
-ghost use Rattle.std.specs.Prelude.{◌≡◌, ◌≤◌, ◌<◌, ◌^◌, ℕ, List, OnErr, MatchResult, option_map};
+ghost use Rattle.std.specs.Prelude.{◌≡◌, ◌≤◌, ◌<◌, ◌^◌, ℕ, List, OnErr, false, true, MatchResult, option_map};
 ghost use Rattle.fe2o3_scram.specs.ScramServer.{Initial, logged_in, ChallengesFrom, ConcludesFrom, FinalCostsFrom, ReachesBase64In};
 ghost use Rattle.fe2o3_scram.specs.HidingServer.{HidingCosts, NamedBy, NamedIn, hiding_name, hiding_server};
 ghost use Rattle.fe2o3_scram.specs.Readings.{Gives};
@@ -41,13 +41,14 @@ pub struct HidingAuthenticator<C: ScramCredentialProvider> {
 
 impl<C: ScramCredentialProvider> Model for HidingAuthenticator<C> {
     ghost use Rattle.fe2o3_scram.specs.HidingServer.{Hiding};
-    ghost use Rattle.fe2o3_scram.specs.ScramServer.{state_in, provider_in};
+    ghost use Rattle.fe2o3_scram.specs.ScramServer.{state_in, provider_in, unbound_in};
     ghost use Rattle.fe2o3_scram.specs.private.MadeUp.{KeepsMadeUp};
 
     ghost Value = { Hiding C };
 
     ghost view = { λ hiding. record {
       credentials = (provider_in hiding.authenticator).credentials;
+      unbound = unbound_in hiding.authenticator;
       nobody = record {
         version = hiding.scram_version;
         secret = hiding.secret.items;
@@ -80,6 +81,7 @@ impl<C: ScramCredentialProvider> HidingAuthenticator<C> {
     ) -> Result<Self, SaltTooLong>
         ensures { MatchResult result (λ hiding. (salt_len ≤ 64) × (hiding ≡ record {
           credentials = credentials;
+          unbound = false;
           nobody = record {
             version = (C.meaning credentials).version;
             secret = secret.items;
@@ -103,6 +105,23 @@ impl<C: ScramCredentialProvider> HidingAuthenticator<C> {
             salt_len,
             iterations,
         })
+    }
+
+    /// The same server, which takes clients whose GS2 header is `y,,` too, as `accepts_unbound` of
+    /// `ScramAuthenticator` says it.
+    pub fn accepts_unbound(self) -> Self
+        ensures provider { result.credentials ≡ self.credentials }
+        ensures unbound { result.unbound ≡ true }
+        ensures nobody { result.nobody ≡ self.nobody }
+        ensures state { result.state ≡ self.state }
+    {
+        Self {
+            authenticator: self.authenticator.accepts_unbound(),
+            scram_version: self.scram_version,
+            secret: self.secret,
+            salt_len: self.salt_len,
+            iterations: self.iterations,
+        }
     }
 
     /// The store of credentials.
@@ -131,14 +150,15 @@ impl<C: ScramCredentialProvider> HidingAuthenticator<C> {
         client_first_message: &[u8],
         nonce: &[u8; 32],
     ) -> Result<Option<Vec<u8>>, ServerScramErrorKind>
-        ensures answer { (name : List ℕ) → NamedIn client_first_message.now name
+        ensures answer { (name : List ℕ) → NamedIn self.old.unbound client_first_message.now name
             → Gives ServerScramErrorKind.OutOfMemory
-            (ReachesChallenge (hiding_name (hiding_server C.meaning self.old) name).records client_first_message.now)
+            (ReachesChallenge (hiding_name (hiding_server C.meaning self.old) name) client_first_message.now)
             (option_map (λ message. message.items)) result
             (λ answer. ChallengesFrom self.old.state
             (hiding_name (hiding_server C.meaning self.old) name) nonce.now client_first_message.now answer
             self.new.state) }
         ensures provider { self.new.credentials ≡ self.old.credentials }
+        ensures unbound { self.new.unbound ≡ self.old.unbound }
         ensures nobody { self.new.nobody ≡ self.old.nobody }
         ensures err { OnErr result (self.new.state ≡ self.old.state) }
     {
@@ -161,19 +181,21 @@ impl<C: ScramCredentialProvider> HidingAuthenticator<C> {
         meter: &mut Meter,
     ) -> Result<Option<Vec<u8>>, ServerScramErrorKind>
         requires { meter.old ≤ 2 ^ 63 }
-        ensures answer { (name : List ℕ) → NamedIn client_first_message.now name
+        ensures answer { (name : List ℕ) → NamedIn self.old.unbound client_first_message.now name
             → Gives ServerScramErrorKind.OutOfMemory
-            (ReachesChallenge (hiding_name (hiding_server C.meaning self.old) name).records client_first_message.now)
+            (ReachesChallenge (hiding_name (hiding_server C.meaning self.old) name) client_first_message.now)
             (option_map (λ message. message.items)) result
             (λ answer. ChallengesFrom self.old.state
             (hiding_name (hiding_server C.meaning self.old) name) nonce.now client_first_message.now answer
             self.new.state) }
         ensures provider { self.new.credentials ≡ self.old.credentials }
+        ensures unbound { self.new.unbound ≡ self.old.unbound }
         ensures nobody { self.new.nobody ≡ self.old.nobody }
         ensures err { OnErr result (self.new.state ≡ self.old.state) }
-        ensures cost { HidingCosts client_first_message.now result meter.old meter.new }
+        ensures cost { HidingCosts self.old.unbound client_first_message.now result meter.old meter.new }
     {
-        let client_first = ClientFirst::parse(alloc, client_first_message)?;
+        let accepts_unbound = self.authenticator.accepts_unbound;
+        let client_first = ClientFirst::parse_unbound(alloc, client_first_message, accepts_unbound)?;
         let made_up = ScramRecord::of_nobody_metered(
             alloc,
             self.scram_version,
@@ -217,6 +239,7 @@ impl<C: ScramCredentialProvider> HidingAuthenticator<C> {
             (hiding_name (hiding_server C.meaning self.old) name) client_final_message.now answer
             self.new.state) }
         ensures provider { self.new.credentials ≡ self.old.credentials }
+        ensures unbound { self.new.unbound ≡ self.old.unbound }
         ensures nobody { self.new.nobody ≡ self.old.nobody }
         ensures err { OnErr result (self.new.state ≡ self.old.state) }
     {
@@ -241,6 +264,7 @@ impl<C: ScramCredentialProvider> HidingAuthenticator<C> {
             (hiding_name (hiding_server C.meaning self.old) name) client_final_message.now answer
             self.new.state) }
         ensures provider { self.new.credentials ≡ self.old.credentials }
+        ensures unbound { self.new.unbound ≡ self.old.unbound }
         ensures nobody { self.new.nobody ≡ self.old.nobody }
         ensures err { OnErr result (self.new.state ≡ self.old.state) }
         ensures cost { (name : List ℕ) → NamedBy self.old.state name
@@ -265,7 +289,7 @@ impl<C: ScramCredentialProvider> fmt::Debug for HidingAuthenticator<C> {
 
 impl<C: ScramCredentialProvider> Clone for HidingAuthenticator<C> {
     ghost is_clone = { λ hiding copy. C.is_clone hiding.credentials copy.credentials
-        × (copy.nobody ≡ hiding.nobody) × (copy.state ≡ hiding.state) };
+        × (copy.unbound ≡ hiding.unbound) × (copy.nobody ≡ hiding.nobody) × (copy.state ≡ hiding.state) };
 
     fn clone(&self) -> Result<Self, AllocError> {
         Ok(Self {

@@ -1,10 +1,11 @@
 //! A server that is set down behind its challenge, as plain texts, and taken up.
 
 ghost use Rattle.std.specs.Prelude.{◌≡◌, IfOk, option_map};
-ghost use Rattle.fe2o3_scram.specs.ScramServer.{ServerFirstSent, challenge_kept, open_challenge, provider_in, state_in};
+ghost use Rattle.fe2o3_scram.specs.ScramServer.{ServerFirstSent, challenge_kept, open_challenge, provider_in, state_in, unbound_in};
 
 use crate::OutOfMemory;
 use crate::provider::ScramCredentialProvider;
+use crate::scram_messages::Gs2Header;
 use crate::scram_server::{ScramAuthenticator, ScramAuthenticatorState};
 use bytes::Bytes;
 use std::alloc::Global;
@@ -14,6 +15,9 @@ use std::alloc::Global;
 pub struct OpenChallenge<'a> {
     /// The user's name, plain, and not escaped.
     pub username: &'a str,
+
+    /// The GS2 header of the client-first message.
+    pub header: Gs2Header,
 
     /// The client-first message without its GS2 header.
     pub client_first_message_bare: &'a [u8],
@@ -34,11 +38,13 @@ impl<C: ScramCredentialProvider> ScramAuthenticator<C> {
         match &self.state {
             ScramAuthenticatorState::ServerFirstSent {
                 username,
+                header,
                 client_first_message_bare,
                 client_server_nonce,
                 server_first_message,
             } => Some(OpenChallenge {
                 username,
+                header: *header,
                 client_first_message_bare,
                 client_server_nonce,
                 server_first_message,
@@ -57,12 +63,14 @@ impl<C: ScramCredentialProvider> ScramAuthenticator<C> {
         challenge: &OpenChallenge<'_>,
     ) -> Result<Self, OutOfMemory>
         ensures { IfOk result (λ server. (provider_in server ≡ provider_in self)
-            × (state_in server ≡ ServerFirstSent (challenge_kept challenge.now))) }
+            × (unbound_in server ≡ unbound_in self) × (state_in server ≡ ServerFirstSent (challenge_kept challenge.now))) }
     {
         Ok(Self {
             credentials: self.credentials,
+            accepts_unbound: self.accepts_unbound,
             state: ScramAuthenticatorState::ServerFirstSent {
                 username: challenge.username.to_string(alloc)?,
+                header: challenge.header,
                 client_first_message_bare: Bytes::copy_from_slice(
                     alloc,
                     challenge.client_first_message_bare,

@@ -1,0 +1,60 @@
+//! The GS2 header of a client that binds no channel (RFC 5802, sections 6 and 7).
+
+ghost use Rattle.std.specs.Prelude.{◌≡◌, ◌++◌, IsTrue, MatchOption};
+ghost use Rattle.fe2o3_scram.specs.ClientFirst.{TakesHeader, header_text};
+ghost use Rattle.fe2o3_scram.specs.Texts.{Begins, base64_text};
+
+use crate::scram_messages::attributes::{
+    GS2_HEADER, GS2_HEADER_BASE64, UNOFFERED_GS2_HEADER, UNOFFERED_GS2_HEADER_BASE64,
+};
+use crate::texts::after;
+
+/// The GS2 header of a client that binds no channel and acts for itself (RFC 5802, sections 6 and 7).
+#[derive(Debug, Clone, Copy, PartialEq, Eq)]
+pub enum Gs2Header {
+    /// `n,,`: the client does not support channel binding.
+    Unsupported,
+
+    /// `y,,`: the client supports it, and believes that the server does not, which offered no mechanism
+    /// with `-PLUS`.
+    Unoffered,
+}
+
+impl Gs2Header {
+    /// The header as it stands in front of a client-first message.
+    pub fn text(self) -> &'static str
+        ensures { result.now ≡ header_text self }
+    {
+        match self {
+            Gs2Header::Unsupported => GS2_HEADER,
+            Gs2Header::Unoffered => UNOFFERED_GS2_HEADER,
+        }
+    }
+
+    /// The header in base64, as a client-final message repeats it.
+    pub(crate) fn base64(self) -> &'static str
+        ensures { result.now ≡ base64_text (header_text self) }
+    {
+        match self {
+            Gs2Header::Unsupported => GS2_HEADER_BASE64,
+            Gs2Header::Unoffered => UNOFFERED_GS2_HEADER_BASE64,
+        }
+    }
+}
+
+/// The header of a client-first message and what stands behind it, where the header is taken: that of a
+/// client that supports channel binding only where `accepts_unbound` says so.
+pub(crate) fn cut_header(text: &str, accepts_unbound: bool) -> Option<(Gs2Header, &str)>
+    ensures { MatchOption result
+        ((header : Gs2Header) → TakesHeader accepts_unbound header → ¬ Begins text.now (header_text header))
+        (λ cut. TakesHeader accepts_unbound cut.0 × (text.now ≡ header_text cut.0 ++ cut.1.now)) }
+{
+    if let Some(bare) = after(text, GS2_HEADER) {
+        return Some((Gs2Header::Unsupported, bare));
+    }
+    if !accepts_unbound {
+        return None;
+    }
+    let bare = after(text, UNOFFERED_GS2_HEADER)?;
+    Some((Gs2Header::Unoffered, bare))
+}
