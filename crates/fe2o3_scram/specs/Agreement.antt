@@ -68,16 +68,21 @@ abbrev pub server_message : {provider : Provider} {nonce init response : List �
     → ServerKnows provider nonce init response → List ℕ
 server_message server = auth_message server.client.bare (challenge_known server).first server.final.without
 
+-- the text has so many parts
+abbrev pub InParts : ℕ → List ℕ → Type 0
+InParts n text = (parts : List (List ℕ)) × Parts text parts × (length parts ≡ n)
+
 -- the client-first message had exactly two parts, the user name and the nonce
 abbrev pub IsPlain : List ℕ → Type 0
-IsPlain bare = (parts : List (List ℕ)) × Parts bare parts × (length parts ≡ 2)
+IsPlain bare = InParts 2 bare
 
--- both sides mean one login: one version of keys, GS2 header, user name and client nonce and, where the client-first message was
--- plain, one nonce of both sides, salt and count
+-- both sides mean one login: one version of keys, user name and client nonce and, where the client-first message was
+-- plain, one nonce of both sides, salt and count, and one GS2 header where the server-first message as the client has
+-- it had exactly three parts
 pub record Agree {side : ClientSide} {provider : Provider} {own text its init response : List ℕ}
     (client : ClientKnows side own text) (server : ServerKnows provider its init response) : Type 0 where
   pub version : (keys_known client).version ≡ provider.version
-  pub header : Unsupported ≡ server.client.header
+  pub header : IsPlain server.client.bare → InParts 3 text → Unsupported ≡ server.client.header
   pub user : side.user ≡ server.client.user
   pub nonce : base64_text own ≡ server.client.nonce
   pub full_nonce : IsPlain server.client.bare → client.first.nonce ≡ (challenge_known server).nonce

@@ -116,8 +116,12 @@ impl ScramVersion {
             server_first_message.now client_server_nonce.now (kept stored_password.now)) client_final.now result
             meter.old meter.new }
     {
-        let client_final =
-            ClientFinal::parse_behind(alloc, header, client_server_nonce, client_final)?;
+        let client_final = ClientFinal::parse_behind(
+            alloc,
+            header,
+            client_server_nonce,
+            client_final,
+        )?;
         self.answer_proof(
             alloc,
             &client_final,

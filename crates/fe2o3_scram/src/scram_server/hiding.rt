@@ -195,7 +195,11 @@ impl<C: ScramCredentialProvider> HidingAuthenticator<C> {
         ensures cost { HidingCosts self.old.unbound client_first_message.now result meter.old meter.new }
     {
         let accepts_unbound = self.authenticator.accepts_unbound;
-        let client_first = ClientFirst::parse_unbound(alloc, client_first_message, accepts_unbound)?;
+        let client_first = ClientFirst::parse_unbound(
+            alloc,
+            client_first_message,
+            accepts_unbound,
+        )?;
         let made_up = ScramRecord::of_nobody_metered(
             alloc,
             self.scram_version,

@@ -1,26 +1,28 @@
 -- What equal AuthMessages of a client and a server say, and what the signature does that both have: first of the values
 -- alone, however their texts came, and then of one client's and one server's texts.
-use Rattle.std.proofs.Common.{◌≡◌, ℕ, ◌<◌, ◌^◌, Some, List, [], ◌∷◌, ◌++◌, length, get_or, refl, sym, ap, ◌∙◌, subst, arith, codes, Ok}
+use Rattle.std.proofs.Common.{◌≡◌, Bool, ℕ, ◌<◌, ◌^◌, Some, List, [], ◌∷◌, ◌++◌, length, get_or, refl, sym, ap, ◌∙◌, subst, arith, codes, Ok}
 use Rattle.std.specs.Fmt.{decimal}
 use Rattle.std.proofs.lemmas.Option.{same_Some}
 use Rattle.fe2o3_scram.specs.declared.hmac.ScramVersion.{ScramVersion}
 use Rattle.fe2o3_scram.specs.declared.hmac.ScramVersion.TheVariants.{Sha1, Sha256, Sha512}
-use Rattle.fe2o3_scram.specs.Agreement.{Agree, BelievedTextsAgree, ClientKnows, IsPlain, ServerKnows, challenge_known, client_message, keys_known, server_message}
+use Rattle.fe2o3_scram.specs.declared.scram_messages.gs2_header.Gs2Header.{Gs2Header}
+use Rattle.fe2o3_scram.specs.declared.scram_messages.gs2_header.Gs2Header.TheVariants.{Unsupported, Unoffered}
+use Rattle.fe2o3_scram.specs.Agreement.{Agree, BelievedTextsAgree, ClientKnows, InParts, IsPlain, ServerKnows, challenge_known, client_message, keys_known, server_message}
 use Rattle.fe2o3_scram.specs.ClientFinal.{Answer, ClientFinal, answer_of, server_of, without_proof}
-use Rattle.fe2o3_scram.specs.ClientFirst.{ClientFirst, NamesClientFirst, client_first_bare}
+use Rattle.fe2o3_scram.specs.ClientFirst.{ClientFirst, NamesClientFirst, client_first_bare, header_text}
 use Rattle.fe2o3_scram.specs.Credentials.{Provider, Record, record_at}
 use Rattle.fe2o3_scram.specs.Escape.{escaped}
 use Rattle.fe2o3_scram.specs.Hmac.{digest_len, hmac_of}
 use Rattle.fe2o3_scram.specs.Keys.{auth_message}
 use Rattle.fe2o3_scram.specs.Laws.{HoldsBytes}
 use Rattle.fe2o3_scram.specs.ScramClient.{ClientSide, ClientFinalSent, BelievesIn, holding, with_state}
-use Rattle.fe2o3_scram.specs.ScramServer.{ServerState, ServerFirstSent, ConcludesFrom}
+use Rattle.fe2o3_scram.specs.ScramServer.{ServerState, ServerFirstSent, ConcludesFrom, server_against}
 use Rattle.fe2o3_scram.specs.ServerFinal.{AnswersClientFinal, HasSignature}
 use Rattle.fe2o3_scram.specs.ServerFirst.{Challenge, NamesServerFirst, ServerFirst, challenge_of}
 use Rattle.fe2o3_scram.specs.Texts.{IsCount, NoComma, Part, Parts, base64_text, joined}
 use Rattle.fe2o3_scram.proofs.lemmas.hashes.DigestLemmas.{length-hmac_of, IsBytes-hmac_of}
 use Rattle.fe2o3_scram.proofs.lemmas.messages.ClientFinalLemmas.{NamesAcceptedFinal, names_client_final}
-use Rattle.fe2o3_scram.proofs.lemmas.messages.ExchangeLemmas.{no_comma-decimal, part_of, only_part}
+use Rattle.fe2o3_scram.proofs.lemmas.messages.ExchangeLemmas.{IsBytes-literal, no_comma-decimal, part_of, only_part}
 use Rattle.fe2o3_scram.proofs.lemmas.messages.OneValueLemmas.{names_client_first, names_server_final, names_server_first}
 use Rattle.fe2o3_scram.proofs.lemmas.texts.Base64Lemmas.{no_comma-append, no_comma-base64_text, one_spelled}
 use Rattle.fe2o3_scram.proofs.lemmas.texts.CountLemmas.{count_of_decimal}
@@ -40,7 +42,8 @@ pub record ClientHas (own text : List ℕ) (first : ServerFirst) : Type 0 where
 
 -- its parts: two of its first message, three and more of the challenge, two of its answer
 client_parts : (name own text : List ℕ) (first : ServerFirst) → (has : ClientHas own text first)
-    → (more : List (List ℕ)) × Parts (auth_message (client_first_bare name own) text (without_proof first.nonce))
+    → (more : List (List ℕ)) × Parts text ((codes "r=" ++ first.nonce) ∷ (codes "s=" ++ base64_text first.salt)
+    ∷ (codes "i=" ++ has.names.count.0) ∷ more) × Parts (auth_message (client_first_bare name own) text (without_proof first.nonce))
     (((codes "n=" ++ escaped name) ∷ (codes "r=" ++ own) ∷ [])
     ++ (((codes "r=" ++ first.nonce) ∷ (codes "s=" ++ base64_text first.salt)
     ∷ (codes "i=" ++ has.names.count.0) ∷ more)
@@ -59,6 +62,7 @@ client_parts name own text first has =
     let rest = two_joined binding full (binding ∷ []) (full ∷ []) (only_part binding binding_plain)
     (only_part full (no_comma-part text 0 full names.nonce)) in (
       named.0,
+      named.1,
       three_joined (client_first_bare name own) text (without_proof first.nonce)
           (user ∷ nonce ∷ []) _ (binding ∷ full ∷ []) bare named.1 rest,
     )
@@ -94,12 +98,13 @@ without_parts without text binding nonce proof bound named plain whole = go (pie
 -- of this record, and then a message that names these
 pub record ServerHas (version : ScramVersion) (client : ClientFirst) (its : List ℕ) (stored : Record)
     (final : ClientFinal) : Type 0 where
+  pub unbound : Bool
   pub init : List ℕ
   pub response : List ℕ
   pub plain : NoComma its
-  pub first : NamesClientFirst init client
+  pub first : NamesClientFirst unbound init client
   pub names : let challenge = challenge_of client its stored in
-      NamesAcceptedFinal (server_of version challenge.bare challenge.first challenge.nonce stored) response final
+      NamesAcceptedFinal (server_of version challenge.header challenge.bare challenge.first challenge.nonce stored) response final
 
 -- its parts: two and more of the client-first message, three of its challenge, two and more of the response
 record ServerParts (client : ClientFirst) (its : List ℕ) (stored : Record) (without : List ℕ) : Type 0 where
@@ -111,7 +116,7 @@ record ServerParts (client : ClientFirst) (its : List ℕ) (stored : Record) (wi
       (((codes "n=" ++ escaped client.user) ∷ (codes "r=" ++ client.nonce) ∷ extra)
       ++ (((codes "r=" ++ challenge.nonce) ∷ (codes "s=" ++ base64_text stored.salt)
       ∷ (codes "i=" ++ decimal stored.count) ∷ [])
-      ++ ((codes "c=" ++ base64_text (codes "n,,")) ∷ (codes "r=" ++ challenge.nonce) ∷ middle)))
+      ++ ((codes "c=" ++ base64_text (header_text client.header)) ∷ (codes "r=" ++ challenge.nonce) ∷ middle)))
 
 server_parts : (version : ScramVersion) (client : ClientFirst) (its : List ℕ) (stored : Record) (final : ClientFinal)
     → stored.count < 2 ^ 32 → ServerHas version client its stored final → ServerParts client its stored final.without
@@ -127,7 +132,7 @@ server_parts version client its stored final small has =
     let first = three_joined full salt count (full ∷ []) (salt ∷ []) (count ∷ []) (only_part full plain)
     (only_part salt (part_of (codes "s=") (base64_text stored.salt) refl (no_comma-base64_text stored.salt)))
     (only_part count (part_of (codes "i=") (decimal stored.count) refl (no_comma-decimal stored.count wide))) in
-    let rest = without_parts final.without has.response (codes "c=" ++ base64_text (codes "n,,"))
+    let rest = without_parts final.without has.response (codes "c=" ++ base64_text (header_text client.header))
     (61 ∷ challenge.nonce) (61 ∷ base64_text final.proof) has.names.binding.1 has.names.nonce
     has.names.proof.1.0 has.names.proof.1.1 in
     record {
@@ -145,12 +150,13 @@ letter k parts = get_or (get_or parts k []) 0 0
 
 -- the fields of the two sides; with one or two extra parts of the client-first message the third part of the server's
 -- would stand where the client has its salt or its count
-record SameFields (u n u' n' f s i f' s' i' : List ℕ) (extra : List (List ℕ)) : Type 0 where
+record SameFields (u n u' n' f s i f' s' i' c c' : List ℕ) (extra more : List (List ℕ)) : Type 0 where
   user : u ≡ u'
   nonce : n ≡ n'
   full : extra ≡ [] → f ≡ f'
   salt : extra ≡ [] → s ≡ s'
   count : extra ≡ [] → i ≡ i'
+  binding : extra ≡ [] → more ≡ [] → c ≡ c'
   not_three : (x : List ℕ) → extra ≡ x ∷ [] → ⊥
   not_four : (x y : List ℕ) → extra ≡ x ∷ y ∷ [] → ⊥
 
@@ -160,7 +166,7 @@ same_fields : (u n u' n' f s i f' s' i' c c' f'' : List ℕ) (extra more last : 
     ++ ((99 ∷ 61 ∷ c) ∷ (114 ∷ 61 ∷ f) ∷ [])
     ≡ (110 ∷ 61 ∷ u') ∷ (114 ∷ 61 ∷ n') ∷ extra ++ (((114 ∷ 61 ∷ f') ∷ (115 ∷ 61 ∷ s') ∷ (105 ∷ 61 ∷ i') ∷ [])
     ++ ((99 ∷ 61 ∷ c') ∷ (114 ∷ 61 ∷ f'') ∷ last))
-    → SameFields u n u' n' f s i f' s' i' extra
+    → SameFields u n u' n' f s i f' s' i' c c' extra more
 same_fields u n u' n' f s i f' s' i' c c' f'' extra more last h =
     record {
       user = cc;
@@ -168,17 +174,19 @@ same_fields u n u' n' f s i f' s' i' c c' f'' extra more last h =
       full = λ e. let h' = rw e at h in cc;
       salt = λ e. let h' = rw e at h in cc;
       count = λ e. let h' = rw e at h in cc;
+      binding = λ e none. let h' = rw (e, none) at h in cc;
       not_three = λ x e. let d : ◌≡◌ {A = ℕ} 115 114 = ap (letter 3) (rw e at h) in absurd (omega (arith, d));
       not_four = λ x y e. let d : ◌≡◌ {A = ℕ} 105 114 = ap (letter 4) (rw e at h) in absurd (omega (arith, d));
     }
 
--- the text has so many parts
-abbrev pub InParts : ℕ → List ℕ → Type 0
-InParts n text = (parts : List (List ℕ)) × Parts text parts × (length parts ≡ n)
-
 no_extra : (text p q : List ℕ) (extra : List (List ℕ)) → Parts text (p ∷ q ∷ extra) → IsPlain text → extra ≡ []
 no_extra text p q [] are has = refl
 no_extra text p q (x ∷ more) are has = absurd (let same : length (p ∷ q ∷ x ∷ more) ≡ 2 =
+    ap length (one_list_of_parts text _ has.0 are has.1) ∙ has.2 in omega (arith, same))
+
+no_more : (text p q r : List ℕ) (more : List (List ℕ)) → Parts text (p ∷ q ∷ r ∷ more) → InParts 3 text → more ≡ []
+no_more text p q r [] are has = refl
+no_more text p q r (x ∷ more) are has = absurd (let same : length (p ∷ q ∷ r ∷ x ∷ more) ≡ 3 =
     ap length (one_list_of_parts text _ has.0 are has.1) ∙ has.2 in omega (arith, same))
 
 one_extra : (text p q : List ℕ) (extra : List (List ℕ)) → Parts text (p ∷ q ∷ extra) → InParts 3 text
@@ -202,8 +210,9 @@ two_extra text p q extra are has none = go extra (ap length (one_list_of_parts t
 
 -- equal AuthMessages mean one user and nonce and, where the client-first message was plain, one nonce of both sides,
 -- salt and count; it had not three parts and not four
-pub record SameValues (name own : List ℕ) (first : ServerFirst) (client : ClientFirst) (its : List ℕ) (stored : Record)
-    : Type 0 where
+pub record SameValues (name own text : List ℕ) (first : ServerFirst) (client : ClientFirst) (its : List ℕ)
+    (stored : Record) : Type 0 where
+  pub header : IsPlain client.bare → InParts 3 text → Unsupported ≡ client.header
   pub user : name ≡ client.user
   pub nonce : own ≡ client.nonce
   pub full_nonce : IsPlain client.bare → first.nonce ≡ (challenge_of client its stored).nonce
@@ -212,12 +221,21 @@ pub record SameValues (name own : List ℕ) (first : ServerFirst) (client : Clie
   pub not_three : ¬ InParts 3 client.bare
   pub not_four : ¬ InParts 4 client.bare
 
+-- headers that are spelled alike are one
+same_header : (header : Gs2Header) → base64_text (codes "n,,") ≡ base64_text (header_text header) → Unsupported ≡ header
+same_header Unsupported same = refl
+same_header Unoffered same =
+    let bytes = one_spelled (base64_text (codes "n,,")) (codes "n,,") (codes "y,,")
+    (IsBytes-literal (codes "n,,") refl, refl) (IsBytes-literal (codes "y,,") refl, same) in
+    let letter : ◌≡◌ {A = ℕ} 110 121 = ap (λ (text : List ℕ). get_or text 0 0) bytes in
+    absurd (omega (arith, letter))
+
 pub same_values : (name own text : List ℕ) (first : ServerFirst) (version : ScramVersion) (client : ClientFirst)
     (its : List ℕ) (stored : Record) (final : ClientFinal) → HoldsBytes (client.user, stored)
     → ClientHas own text first → ServerHas version client its stored final
     → auth_message (client_first_bare name own) text (without_proof first.nonce)
     ≡ auth_message client.bare (challenge_of client its stored).first final.without
-    → SameValues name own first client its stored
+    → SameValues name own text first client its stored
 same_values name own text first version client its stored final holds ours theirs same =
     let small : stored.count < 2 ^ 32 = holds.0 in
     let wide : stored.count < 2 ^ 64 = omega (arith, small) in
@@ -227,10 +245,12 @@ same_values name own text first version client its stored final holds ours their
     let right = server_parts version client its stored final small theirs in
     let fields = same_fields (escaped name) own (escaped client.user) client.nonce first.nonce (base64_text first.salt)
     names.count.0 full (base64_text stored.salt) (decimal stored.count) (base64_text (codes "n,,"))
-    (base64_text (codes "n,,")) full right.extra left.0 right.middle
+    (base64_text (header_text client.header)) full right.extra left.0 right.middle
     (same_parts (auth_message (client_first_bare name own) text (without_proof first.nonce))
-    (auth_message client.bare (challenge_of client its stored).first final.without) _ _ same left.1 right.message) in
+    (auth_message client.bare (challenge_of client its stored).first final.without) _ _ same left.2 right.message) in
     record {
+      header = λ only three. same_header client.header (fields.binding
+          (no_extra client.bare _ _ right.extra right.bare only) (no_more text _ _ _ left.0 left.1 three));
       user = one_escaped name client.user fields.user;
       nonce = fields.nonce;
       full_nonce = λ only. fields.full (no_extra client.bare _ _ right.extra right.bare only);
@@ -289,12 +309,12 @@ server_has : (provider : Provider) (its init response : List ℕ) (server : Serv
 server_has provider its init response server =
     let challenge = challenge_known server in
     record {
+      unbound = provider.unbound;
       init = init;
       response = response;
       plain = no_comma-base64_text its;
-      first = names_client_first init server.client server.reads_init;
-      names = names_client_final (server_of provider.version challenge.bare challenge.first challenge.nonce
-          server.stored) response server.final server.reads;
+      first = names_client_first provider.unbound init server.client server.reads_init;
+      names = names_client_final (server_against provider challenge server.stored) response server.final server.reads;
     }
 
 -- where the AuthMessages are equal, both sides agree
@@ -309,6 +329,7 @@ agree side provider own text its init response client server holds version same 
     (server_has provider its init response server) same in
     record {
       version = version;
+      header = values.header;
       user = values.user;
       nonce = values.nonce;
       full_nonce = values.full_nonce;
@@ -331,13 +352,12 @@ concluded : (provider : Provider) (waiting done : ServerState) (challenge : Chal
     → challenge ≡ challenge_of client nonce stored → record_at provider.records client.user ≡ Some stored
     → ConcludesFrom waiting provider response (Ok (Some last)) done
     → let known = challenge_of client nonce stored in
-    AnswersClientFinal (server_of provider.version known.bare known.first known.nonce stored) response (Ok last)
+    AnswersClientFinal (server_against provider known stored) response (Ok last)
 concluded provider waiting done challenge client nonce response last stored is same known from =
     let own = challenge_of client nonce stored in
     let at = subst (λ (state : ServerState). ConcludesFrom state provider response (Ok (Some last)) done)
     (is ∙ ap ServerFirstSent same) from in
-    subst (λ (kept : Record). AnswersClientFinal (server_of provider.version own.bare own.first own.nonce kept)
-    response (Ok last)) (same_Some at.0 stored (sym at.1 ∙ known)) at.2
+    subst (λ (kept : Record). AnswersClientFinal (server_against provider own kept) response (Ok last)) (same_Some at.0 stored (sym at.1 ∙ known)) at.2
 
 pub believed_texts_agree : BelievedTextsAgree
 believed_texts_agree side provider own text last its init response verifier believed accepted part =

@@ -3,9 +3,11 @@ use Rattle.std.proofs.Common.{◌≡◌, ◌≢◌, ℕ, List, [], ◌∷◌, �
 use Rattle.std.specs.Str.{IsUtf8}
 use Rattle.std.specs.Prelude.{IfOk, IfErr}
 use Rattle.base64.specs.GeneralPurpose.{IsBytes}
-use Rattle.base64.specs.Rfc4648.{encode_symbols}
 use Rattle.fe2o3_scram.specs.declared.scram_messages.error.ServerScramErrorKind.{ServerScramErrorKind}
 use Rattle.fe2o3_scram.specs.declared.scram_messages.error.ServerScramErrorKind.TheVariants.{Utf8Error, AuthenticationFailed, OutOfMemory}
+use Rattle.fe2o3_scram.specs.declared.scram_messages.gs2_header.Gs2Header.{Gs2Header}
+use Rattle.fe2o3_scram.specs.declared.scram_messages.gs2_header.Gs2Header.TheVariants.{Unsupported, Unoffered}
+use Rattle.fe2o3_scram.specs.ClientFirst.{header_text}
 use Rattle.fe2o3_scram.specs.Texts.{base64_text, IsBase64, Part, LastPart, Begins}
 use Rattle.fe2o3_scram.specs.Hmac.{digest_len}
 use Rattle.fe2o3_scram.specs.Readings.{IsFirst, NoneHolds, Gives}
@@ -35,22 +37,21 @@ pub no_binding : (text spelling : List ℕ) → Part text 0 (codes "c=" ++ spell
     → ((binding : List ℕ) → ¬ IsBase64 spelling binding) → (binding : List ℕ) → ¬ HasBinding text binding
 no_binding text spelling is none binding has = none binding (binding_spelled text spelling binding is has)
 
--- what the server binds, in base64
-no_channel_text : base64_text (codes "n,,") ≡ codes "biws"
-unfolding base64_text encode_symbols
-no_channel_text = refl
+-- a header holds bytes
+header_bytes : (header : Gs2Header) → IsBytes (header_text header)
+header_bytes Unsupported = IsBytes-cons 110 (44 ∷ 44 ∷ []) (omega arith)
+    (IsBytes-cons 44 (44 ∷ []) (omega arith) (IsBytes-cons 44 [] (omega arith) IsBytes-nil))
+header_bytes Unoffered = IsBytes-cons 121 (44 ∷ 44 ∷ []) (omega arith)
+    (IsBytes-cons 44 (44 ∷ []) (omega arith) (IsBytes-cons 44 [] (omega arith) IsBytes-nil))
 
-pub no_channel : (text : List ℕ) → Part text 0 (codes "c=" ++ codes "biws") → HasBinding text (codes "n,,")
-no_channel text is = has_binding text (codes "biws") (codes "n,,") is (are_bytes, sym no_channel_text)
-  where
-    are_bytes : IsBytes (codes "n,,")
-    are_bytes = IsBytes-cons 110 (44 ∷ 44 ∷ []) (omega arith)
-        (IsBytes-cons 44 (44 ∷ []) (omega arith) (IsBytes-cons 44 [] (omega arith) IsBytes-nil))
+pub this_header : (header : Gs2Header) (text spelling : List ℕ) → Part text 0 (codes "c=" ++ spelling)
+    → spelling ≡ base64_text (header_text header) → HasBinding text (header_text header)
+this_header header text spelling is same =
+    has_binding text spelling (header_text header) is (header_bytes header, same)
 
-pub other_binding : (text spelling : List ℕ) → Part text 0 (codes "c=" ++ spelling) → spelling ≢ codes "biws"
-    → ¬ HasBinding text (codes "n,,")
-other_binding text spelling is other has =
-    other ((binding_spelled text spelling (codes "n,,") is has).1 ∙ no_channel_text)
+pub other_header : (header : Gs2Header) (text spelling : List ℕ) → Part text 0 (codes "c=" ++ spelling)
+    → spelling ≢ base64_text (header_text header) → ¬ HasBinding text (header_text header)
+other_header header text spelling is other has = other (binding_spelled text spelling (header_text header) is has).1
 
 -- the nonce
 
@@ -102,44 +103,44 @@ one_proof text final other has too =
 
 -- the tests of the text, in their order
 
-pub not_utf8 : (nonce text : List ℕ) → ¬ IsUtf8 text → ReadsFinalText nonce text (Err Utf8Error)
+pub not_utf8 : (header : Gs2Header) (nonce text : List ℕ) → ¬ IsUtf8 text → ReadsFinalText header nonce text (Err Utf8Error)
 unfolding ReadsFinalText
-not_utf8 nonce text fails = inl (fails, refl)
+not_utf8 header nonce text fails = inl (fails, refl)
 
-module _ (nonce text : List ℕ) (utf8 : IsUtf8 text) where
-  pub binding_refused : (fault : ServerScramErrorKind) → IsFirst (binding_tests text) fault
-      → ReadsFinalText nonce text (Err fault)
+module _ (header : Gs2Header) (nonce text : List ℕ) (utf8 : IsUtf8 text) where
+  pub binding_refused : (fault : ServerScramErrorKind) → IsFirst (binding_tests header text) fault
+      → ReadsFinalText header nonce text (Err fault)
   unfolding ReadsFinalText
   binding_refused fault first = inr (
     λ fails. fails utf8,
-    IsFirst-front (binding_tests text) (nonce_tests nonce text ++ spelling_tests text) fault first,
+    IsFirst-front (binding_tests header text) (nonce_tests nonce text ++ spelling_tests text) fault first,
   )
 
-  pub nonce_refused : (fault : ServerScramErrorKind) → NoneHolds (binding_tests text)
-      → IsFirst (nonce_tests nonce text) fault → ReadsFinalText nonce text (Err fault)
+  pub nonce_refused : (fault : ServerScramErrorKind) → NoneHolds (binding_tests header text)
+      → IsFirst (nonce_tests nonce text) fault → ReadsFinalText header nonce text (Err fault)
   unfolding ReadsFinalText
   nonce_refused fault binding first = inr (
     λ fails. fails utf8,
-    IsFirst-back (binding_tests text) (nonce_tests nonce text ++ spelling_tests text) fault binding
+    IsFirst-back (binding_tests header text) (nonce_tests nonce text ++ spelling_tests text) fault binding
         (IsFirst-front (nonce_tests nonce text) (spelling_tests text) fault first),
   )
 
-  pub spelling_refused : (fault : ServerScramErrorKind) → NoneHolds (binding_tests text)
-      → NoneHolds (nonce_tests nonce text) → IsFirst (spelling_tests text) fault → ReadsFinalText nonce text (Err fault)
+  pub spelling_refused : (fault : ServerScramErrorKind) → NoneHolds (binding_tests header text)
+      → NoneHolds (nonce_tests nonce text) → IsFirst (spelling_tests text) fault → ReadsFinalText header nonce text (Err fault)
   unfolding ReadsFinalText
   spelling_refused fault binding tested first = inr (
     λ fails. fails utf8,
-    IsFirst-back (binding_tests text) (nonce_tests nonce text ++ spelling_tests text) fault binding
+    IsFirst-back (binding_tests header text) (nonce_tests nonce text ++ spelling_tests text) fault binding
         (IsFirst-back (nonce_tests nonce text) (spelling_tests text) fault tested first),
   )
 
-  pub text_read : (final : ClientFinal) → NoneHolds (binding_tests text) → NoneHolds (nonce_tests nonce text)
-      → NoneHolds (spelling_tests text) → NamesClientFinal nonce text final → ReadsFinalText nonce text (Ok final)
+  pub text_read : (final : ClientFinal) → NoneHolds (binding_tests header text) → NoneHolds (nonce_tests nonce text)
+      → NoneHolds (spelling_tests text) → NamesClientFinal header nonce text final → ReadsFinalText header nonce text (Ok final)
   unfolding ReadsFinalText
   text_read final binding tested spelling names = (
     (
       λ fails. fails utf8,
-      NoneHolds-append (binding_tests text) (nonce_tests nonce text ++ spelling_tests text) binding
+      NoneHolds-append (binding_tests header text) (nonce_tests nonce text ++ spelling_tests text) binding
           (NoneHolds-append (nonce_tests nonce text) (spelling_tests text) tested spelling),
     ),
     names,
@@ -147,13 +148,13 @@ module _ (nonce text : List ℕ) (utf8 : IsUtf8 text) where
 
   -- what is read of the proof is what is read of the text, where the tests before it have passed
   pub text_answered : {A : Type 0} (view : A → ClientFinal) (result : Result A ServerScramErrorKind)
-      → NoneHolds (binding_tests text) → NoneHolds (nonce_tests nonce text) → HasBinding text (codes "n,,")
+      → NoneHolds (binding_tests header text) → NoneHolds (nonce_tests nonce text) → HasBinding text (header_text header)
       → Part text 1 (codes "r=" ++ nonce) → IfOk result (λ _. NoneHolds (spelling_tests text))
       → IfOk result (λ final. HasProof text (view final))
       → IfErr result (λ kind. kind ≡ OutOfMemory
       → (before : List ℕ) × (rest : List ℕ) × LastPart text before (codes "p=" ++ rest))
       → IfErr result (λ kind. kind ≢ OutOfMemory → IsFirst (spelling_tests text) kind)
-      → Gives OutOfMemory (ReachesBase64 nonce text) view result (ReadsFinalText nonce text)
+      → Gives OutOfMemory (ReachesBase64 header nonce text) view result (ReadsFinalText header nonce text)
   text_answered view (Ok final) binding tested bound same spelling has reaches refused =
       text_read (view final) binding tested spelling (record { binding = bound; nonce = same; proof = has })
   text_answered view (Err fault) binding tested bound same spelling has reaches refused = (
@@ -163,23 +164,23 @@ module _ (nonce text : List ℕ) (utf8 : IsUtf8 text) where
 
 -- the texts of a message that was read
 
-pub names_final_text : (nonce text : List ℕ) (final : ClientFinal) → ReadsFinalText nonce text (Ok final)
-    → NamesClientFinal nonce text final
+pub names_final_text : (header : Gs2Header) (nonce text : List ℕ) (final : ClientFinal) → ReadsFinalText header nonce text (Ok final)
+    → NamesClientFinal header nonce text final
 unfolding ReadsFinalText
-names_final_text nonce text final reads = reads.1
+names_final_text header nonce text final reads = reads.1
 
-pub one_final_text : (nonce text : List ℕ) (answer other : Result ClientFinal ServerScramErrorKind)
-    → ReadsFinalText nonce text answer → ReadsFinalText nonce text other → answer ≡ other
+pub one_final_text : (header : Gs2Header) (nonce text : List ℕ) (answer other : Result ClientFinal ServerScramErrorKind)
+    → ReadsFinalText header nonce text answer → ReadsFinalText header nonce text other → answer ≡ other
 unfolding ReadsFinalText
-one_final_text nonce text answer other reads too =
-    one_reading (final_text_tests nonce text) (NamesClientFinal nonce text)
+one_final_text header nonce text answer other reads too =
+    one_reading (final_text_tests header nonce text) (NamesClientFinal header nonce text)
     (λ final another names them. one_proof text final another names.proof them.proof) answer other reads too
 
 -- who reads a message came to its proof
-proof_reached : (nonce text : List ℕ) (final : ClientFinal) → ReadsFinalText nonce text (Ok final)
-    → ReachesBase64 nonce text
+proof_reached : (header : Gs2Header) (nonce text : List ℕ) (final : ClientFinal) → ReadsFinalText header nonce text (Ok final)
+    → ReachesBase64 header nonce text
 unfolding ReadsFinalText
-proof_reached nonce text final reads =
+proof_reached header nonce text final reads =
     let binding = reads.0.1 in
     let tested = binding.1.1.1 in (
       held (utf8_or text) reads.0.0,
@@ -191,9 +192,9 @@ proof_reached nonce text final reads =
     )
 
 -- no test of the text has the fault of a proof
-not_the_proof : (nonce text : List ℕ) → ¬ ReadsFinalText nonce text (Err AuthenticationFailed)
+not_the_proof : (header : Gs2Header) (nonce text : List ℕ) → ¬ ReadsFinalText header nonce text (Err AuthenticationFailed)
 unfolding ReadsFinalText
-not_the_proof nonce text = not_first (final_text_tests nonce text) AuthenticationFailed (
+not_the_proof header nonce text = not_first (final_text_tests header nonce text) AuthenticationFailed (
   λ wrong. absurd (cc),
   (
     λ wrong. absurd (cc),
@@ -209,10 +210,10 @@ not_the_proof nonce text = not_first (final_text_tests nonce text) Authenticatio
 
 -- a text that is refused costs nothing
 pub text_costs_nothing : (A : Type 0) (server : Server) (text : List ℕ) (fault : ServerScramErrorKind) (count : ℕ)
-    → (fault ≢ OutOfMemory → ReadsFinalText server.nonce text (Err fault))
+    → (fault ≢ OutOfMemory → ReadsFinalText server.header server.nonce text (Err fault))
     → FinalCosts {A = A} server text (Err fault) count count
 text_costs_nothing A server text AuthenticationFailed count refused =
-    absurd (not_the_proof server.nonce text (refused (λ same. let wrong : AuthenticationFailed ≡ OutOfMemory = same in
+    absurd (not_the_proof server.header server.nonce text (refused (λ same. let wrong : AuthenticationFailed ≡ OutOfMemory = same in
     absurd (cc))))
 text_costs_nothing A server text OutOfMemory count refused = (omega arith, omega arith, λ _ _. refl)
 text_costs_nothing A server text fault count refused = refl
@@ -221,27 +222,27 @@ text_costs_nothing A server text fault count refused = refl
 
 -- what a message names that is accepted
 pub record NamesAcceptedFinal (server : Server) (text : List ℕ) (final : ClientFinal) : Type 0 where
-  pub binding : HasBinding text (codes "n,,")
+  pub binding : HasBinding text (header_text server.header)
   pub nonce : Part text 1 (codes "r=" ++ server.nonce)
   pub proof : HasProof text final
   pub sized : length final.proof ≡ digest_len server.version
   pub meets : Meets server final
 
 module _ (server : Server) (text : List ℕ) where
-  pub text_refused : (fault : ServerScramErrorKind) → ReadsFinalText server.nonce text (Err fault)
+  pub text_refused : (fault : ServerScramErrorKind) → ReadsFinalText server.header server.nonce text (Err fault)
       → ReadsClientFinal server text (Err fault)
   unfolding ReadsClientFinal
   text_refused fault refused = inl refused
 
   -- what the server makes of the proof is its answer to the message
   pub proof_answered : {A : Type 0} (view : A → List ℕ) (final : ClientFinal) (result : Result A ServerScramErrorKind)
-      → ReadsFinalText server.nonce text (Ok final)
+      → ReadsFinalText server.header server.nonce text (Ok final)
       → Gives OutOfMemory (IsMet server final) view result (AnswersProof server final)
-      → Gives OutOfMemory (ReachesBase64 server.nonce text) view result (AnswersClientFinal server text)
+      → Gives OutOfMemory (ReachesBase64 server.header server.nonce text) view result (AnswersClientFinal server text)
   unfolding ReadsClientFinal
   proof_answered view final (Ok message) reads answers = (final, (reads, answers.0, answers.1), answers.2)
   proof_answered view final (Err fault) reads answers = (
-    λ memory. proof_reached server.nonce text final reads,
+    λ memory. proof_reached server.header server.nonce text final reads,
     λ other. inr (final, reads, answers.1 other),
   )
 
@@ -249,7 +250,7 @@ module _ (server : Server) (text : List ℕ) where
       → NamesAcceptedFinal server text final
   unfolding ReadsClientFinal
   names_client_final final reads =
-      let names = names_final_text server.nonce text final reads.0 in
+      let names = names_final_text server.header server.nonce text final reads.0 in
       record {
         binding = names.binding;
         nonce = names.nonce;
@@ -260,10 +261,10 @@ module _ (server : Server) (text : List ℕ) where
 
   -- of one text no proof is accepted and refused
   one_verdict : (final other : ClientFinal) (fault : ServerScramErrorKind) → ReadsClientFinal server text (Ok final)
-      → ReadsFinalText server.nonce text (Ok other) → IsFirst (proof_tests server other) fault → ⊥
+      → ReadsFinalText server.header server.nonce text (Ok other) → IsFirst (proof_tests server other) fault → ⊥
   unfolding ReadsClientFinal
   one_verdict final other fault reads too first =
-      let both = one_final_text server.nonce text (Ok final) (Ok other) reads.0 too in
+      let both = one_final_text server.header server.nonce text (Ok final) (Ok other) reads.0 too in
       let same : final ≡ other = cc in
       first_or_none (proof_tests server final) fault
       (subst (λ (read : ClientFinal). IsFirst (proof_tests server read) fault) (sym same) first)
@@ -273,30 +274,30 @@ module _ (server : Server) (text : List ℕ) where
       → ReadsClientFinal server text other → answer ≡ other
   unfolding ReadsClientFinal
   one_client_final (Ok final) (Ok other) reads too =
-      one_final_text server.nonce text (Ok final) (Ok other) reads.0 too.0
+      one_final_text server.header server.nonce text (Ok final) (Ok other) reads.0 too.0
   one_client_final (Ok final) (Err fault) reads (inl refused) =
-      one_final_text server.nonce text (Ok final) (Err fault) reads.0 refused
+      one_final_text server.header server.nonce text (Ok final) (Err fault) reads.0 refused
   one_client_final (Ok final) (Err fault) reads (inr (other, too, first)) =
       absurd (one_verdict final other fault reads too first)
   one_client_final (Err fault) (Ok final) (inl refused) reads =
-      one_final_text server.nonce text (Err fault) (Ok final) refused reads.0
+      one_final_text server.header server.nonce text (Err fault) (Ok final) refused reads.0
   one_client_final (Err fault) (Ok final) (inr (other, too, first)) reads =
       absurd (one_verdict final other fault reads too first)
   one_client_final (Err fault) (Err other) (inl refused) (inl too) =
-      one_final_text server.nonce text (Err fault) (Err other) refused too
+      one_final_text server.header server.nonce text (Err fault) (Err other) refused too
   one_client_final (Err fault) (Err other) (inl refused) (inr (final, reads, first)) =
-      let both = one_final_text server.nonce text (Err fault) (Ok final) refused reads in absurd (cc)
+      let both = one_final_text server.header server.nonce text (Err fault) (Ok final) refused reads in absurd (cc)
   one_client_final (Err fault) (Err other) (inr (final, reads, first)) (inl refused) =
-      let both = one_final_text server.nonce text (Err other) (Ok final) refused reads in absurd (cc)
+      let both = one_final_text server.header server.nonce text (Err other) (Ok final) refused reads in absurd (cc)
   one_client_final (Err fault) (Err other) (inr (final, reads, first)) (inr (another, too, second)) =
-      let both = one_final_text server.nonce text (Ok final) (Ok another) reads too in
+      let both = one_final_text server.header server.nonce text (Ok final) (Ok another) reads too in
       let same : final ≡ another = cc in
       ap Err (one_first (proof_tests server another) fault other
       (subst (λ (read : ClientFinal). IsFirst (proof_tests server read) fault) same first) second)
 
   -- what the proof costs, the message does
   pub proof_costs : {A : Type 0} (view : A → List ℕ) (final : ClientFinal) (result : Result A ServerScramErrorKind)
-      (before after : ℕ) → ReadsFinalText server.nonce text (Ok final)
+      (before after : ℕ) → ReadsFinalText server.header server.nonce text (Ok final)
       → Gives OutOfMemory (IsMet server final) view result (AnswersProof server final)
       → ProofCosts result before after → FinalCosts server text result before after
   unfolding ReadsClientFinal

@@ -1,9 +1,11 @@
 -- The reading of a client-first message.
-use Rattle.std.proofs.Common.{◌≡◌, ◌≢◌, ◌⊎◌, ℕ, List, ◌++◌, Result, Ok, Err, refl, sym, ◌∙◌, subst, codes, inl, inr}
+use Rattle.std.proofs.Common.{◌≡◌, Bool, T, arith, ap, get_or, ◌≢◌, ◌⊎◌, ℕ, List, ◌++◌, Result, Ok, Err, refl, sym, ◌∙◌, subst, codes, inl, inr}
 use Rattle.std.specs.Str.{IsUtf8}
 use Rattle.fe2o3_scram.specs.declared.scram_messages.error.ServerScramErrorKind.{ServerScramErrorKind}
 use Rattle.fe2o3_scram.specs.declared.scram_messages.error.ServerScramErrorKind.TheVariants.{Utf8Error, CannotParseGs2Header, CannotParseUsername, CannotParseClientNonce}
-use Rattle.fe2o3_scram.specs.ClientFirst.{ClientFirst, BarePart, NamesClientFirst, ReadsClientFirst, client_first_tests}
+use Rattle.fe2o3_scram.specs.declared.scram_messages.gs2_header.Gs2Header.{Gs2Header}
+use Rattle.fe2o3_scram.specs.declared.scram_messages.gs2_header.Gs2Header.TheVariants.{Unsupported, Unoffered}
+use Rattle.fe2o3_scram.specs.ClientFirst.{ClientFirst, BarePart, NamesClientFirst, ReadsClientFirst, TakesHeader, client_first_tests, header_text}
 use Rattle.fe2o3_scram.specs.declared.scram_messages.escape.UnescapeError.{UnescapeError}
 use Rattle.fe2o3_scram.specs.declared.scram_messages.escape.UnescapeError.TheVariants.{Invalid, OutOfMemory as UnescapeOutOfMemory}
 use Rattle.fe2o3_scram.specs.Escape.{escaped}
@@ -12,44 +14,57 @@ use Rattle.fe2o3_scram.proofs.lemmas.texts.EscapingLemmas.{one_escaped}
 use Rattle.fe2o3_scram.proofs.lemmas.texts.PartsLemmas.{one_behind}
 use Rattle.fe2o3_scram.proofs.lemmas.messages.TestListLemmas.{one_reading}
 
--- a message has one text behind its header
-one_bare : (text bare other : List ℕ) → text ≡ codes "n,," ++ bare → text ≡ codes "n,," ++ other → bare ≡ other
-one_bare text bare other is too = let both : codes "n,," ++ bare ≡ codes "n,," ++ other = sym is ∙ too in cc
+-- a message has one header, and one text behind it
+apart : (bare other : List ℕ) → codes "n,," ++ bare ≡ codes "y,," ++ other → ⊥
+apart bare other same = let letter : ◌≡◌ {A = ℕ} 110 121 = ap (λ (text : List ℕ). get_or text 0 0) same in
+    omega (arith, letter)
 
-part_of_bare : (text bare part : List ℕ) (k : ℕ) → text ≡ codes "n,," ++ bare → BarePart text k part → Part bare k part
-part_of_bare text bare part k is has = subst (λ (behind : List ℕ). Part behind k part)
-    (one_bare text has.0 bare has.1 is) has.2
+pub one_header : (header own : Gs2Header) (text bare other : List ℕ) → text ≡ header_text header ++ bare
+    → text ≡ header_text own ++ other → (header ≡ own) × (bare ≡ other)
+one_header Unsupported Unsupported text bare other is too =
+    let both : codes "n,," ++ bare ≡ codes "n,," ++ other = sym is ∙ too in (refl, cc)
+one_header Unoffered Unoffered text bare other is too =
+    let both : codes "y,," ++ bare ≡ codes "y,," ++ other = sym is ∙ too in (refl, cc)
+one_header Unsupported Unoffered text bare other is too = absurd (apart bare other (sym is ∙ too))
+one_header Unoffered Unsupported text bare other is too = absurd (apart other bare (sym too ∙ is))
 
-pub not_utf8 : (text : List ℕ) → ¬ IsUtf8 text → ReadsClientFirst text (Err Utf8Error)
+part_of_bare : (unbound : Bool) (header : Gs2Header) (text bare part : List ℕ) (k : ℕ)
+    → text ≡ header_text header ++ bare → BarePart unbound text k part → Part bare k part
+part_of_bare unbound header text bare part k is has = subst (λ (behind : List ℕ). Part behind k part)
+    (one_header has.0 header text has.1 bare has.3 is).1 has.4
+
+pub not_utf8 : (unbound : Bool) (text : List ℕ) → ¬ IsUtf8 text → ReadsClientFirst unbound text (Err Utf8Error)
 unfolding ReadsClientFirst
-not_utf8 text fails = inl (fails, refl)
+not_utf8 unbound text fails = inl (fails, refl)
 
-pub no_header : (text : List ℕ) → IsUtf8 text → ¬ Begins text (codes "n,,")
-    → ReadsClientFirst text (Err CannotParseGs2Header)
+pub no_header : (unbound : Bool) (text : List ℕ) → IsUtf8 text
+    → ((header : Gs2Header) → TakesHeader unbound header → ¬ Begins text (header_text header))
+    → ReadsClientFirst unbound text (Err CannotParseGs2Header)
 unfolding ReadsClientFirst
-no_header text utf8 none = inr (λ fails. fails utf8, inl (none, refl))
+no_header unbound text utf8 none = inr (λ fails. fails utf8, inl (none, refl))
 
-module _ (text bare : List ℕ) (utf8 : IsUtf8 text) (header : text ≡ codes "n,," ++ bare) where
-  pub no_name : ((rest : List ℕ) → ¬ Part bare 0 (codes "n=" ++ rest)) → ReadsClientFirst text (Err CannotParseUsername)
+module _ (unbound : Bool) (header : Gs2Header) (text bare : List ℕ) (utf8 : IsUtf8 text)
+    (takes : TakesHeader unbound header) (is : text ≡ header_text header ++ bare) where
+  pub no_name : ((rest : List ℕ) → ¬ Part bare 0 (codes "n=" ++ rest)) → ReadsClientFirst unbound text (Err CannotParseUsername)
   unfolding ReadsClientFirst
   no_name none = inr (
     λ fails. fails utf8,
     inr (
-      λ absent. absent (bare, header),
-      inl (λ user has. none (escaped user) (part_of_bare text bare (codes "n=" ++ escaped user) 0 header has), refl),
+      λ absent. absent header takes (bare, is),
+      inl (λ user has. none (escaped user) (part_of_bare unbound header text bare (codes "n=" ++ escaped user) 0 is has), refl),
     ),
   )
 
   pub bad_name : (spelling : List ℕ) → Part bare 0 (codes "n=" ++ spelling)
-      → ((name : List ℕ) → escaped name ≢ spelling) → ReadsClientFirst text (Err CannotParseUsername)
+      → ((name : List ℕ) → escaped name ≢ spelling) → ReadsClientFirst unbound text (Err CannotParseUsername)
   unfolding ReadsClientFirst
-  bad_name spelling is bad = inr (
+  bad_name spelling part bad = inr (
     λ fails. fails utf8,
     inr (
-      λ absent. absent (bare, header),
+      λ absent. absent header takes (bare, is),
       inl (
         λ user has. bad user (one_behind bare 0 (codes "n=") (escaped user) spelling
-            (part_of_bare text bare (codes "n=" ++ escaped user) 0 header has) is),
+            (part_of_bare unbound header text bare (codes "n=" ++ escaped user) 0 is has) part),
         refl,
       ),
     ),
@@ -58,58 +73,61 @@ module _ (text bare : List ℕ) (utf8 : IsUtf8 text) (header : text ≡ codes "n
   -- the part of the user whom the text spells
   user_part : (spelling user : List ℕ) → Part bare 0 (codes "n=" ++ spelling) → escaped user ≡ spelling
       → Part bare 0 (codes "n=" ++ escaped user)
-  user_part spelling user is spells = subst (λ (spelt : List ℕ). Part bare 0 (codes "n=" ++ spelt)) (sym spells) is
+  user_part spelling user part spells = subst (λ (spelt : List ℕ). Part bare 0 (codes "n=" ++ spelt)) (sym spells) part
 
   pub no_nonce : (spelling user : List ℕ) → Part bare 0 (codes "n=" ++ spelling) → escaped user ≡ spelling
-      → ((rest : List ℕ) → ¬ Part bare 1 (codes "r=" ++ rest)) → ReadsClientFirst text (Err CannotParseClientNonce)
+      → ((rest : List ℕ) → ¬ Part bare 1 (codes "r=" ++ rest)) → ReadsClientFirst unbound text (Err CannotParseClientNonce)
   unfolding ReadsClientFirst
-  no_nonce spelling user is spells none =
+  no_nonce spelling user part spells none =
       inr (
         λ fails. fails utf8,
         inr (
-          λ absent. absent (bare, header),
+          λ absent. absent header takes (bare, is),
           inr (
-            λ nobody. nobody user (bare, header, user_part spelling user is spells),
-            inl (λ nonce has. none nonce (part_of_bare text bare (codes "r=" ++ nonce) 1 header has), refl),
+            λ nobody. nobody user (header, bare, takes, is, user_part spelling user part spells),
+            inl (λ nonce has. none nonce (part_of_bare unbound header text bare (codes "r=" ++ nonce) 1 is has), refl),
           ),
         ),
       )
 
   pub named : (spelling user nonce : List ℕ) → Part bare 0 (codes "n=" ++ spelling) → escaped user ≡ spelling
-      → Part bare 1 (codes "r=" ++ nonce) → ReadsClientFirst text
-      (Ok (record { user = user; nonce = nonce; bare = bare }))
+      → Part bare 1 (codes "r=" ++ nonce) → ReadsClientFirst unbound text
+      (Ok (record { header = header; user = user; nonce = nonce; bare = bare }))
   unfolding ReadsClientFirst
-  named spelling user nonce is spells has =
-      let part = user_part spelling user is spells in (
+  named spelling user nonce first spells has =
+      let part = user_part spelling user first spells in (
         (
           λ fails. fails utf8,
           (
-            λ absent. absent (bare, header),
-            (λ nobody. nobody user (bare, header, part), (λ none. none nonce (bare, header, has), tt)),
+            λ absent. absent header takes (bare, is),
+            (λ nobody. nobody user (header, bare, takes, is, part), (λ none. none nonce (header, bare, takes, is, has), tt)),
           ),
         ),
-        record { bare = header; user = part; nonce = has },
+        record { header = takes; bare = is; user = part; nonce = has },
       )
 
-abbrev made : List ℕ → List ℕ → List ℕ → ClientFirst
-made user nonce bare = record { user = user; nonce = nonce; bare = bare }
+abbrev made : Gs2Header → List ℕ → List ℕ → List ℕ → ClientFirst
+made header user nonce bare = record { header = header; user = user; nonce = nonce; bare = bare }
 
-one_values : (text : List ℕ) (first other : ClientFirst) → NamesClientFirst text first → NamesClientFirst text other
-    → first ≡ other
-one_values text first other names too =
-    let bare = one_bare text first.bare other.bare names.bare too.bare in
+one_values : (unbound : Bool) (text : List ℕ) (first other : ClientFirst) → NamesClientFirst unbound text first
+    → NamesClientFirst unbound text other → first ≡ other
+one_values unbound text first other names too =
+    let one = one_header first.header other.header text first.bare other.bare names.bare too.bare in
+    let header = one.0 in
+    let bare = one.1 in
     let user = one_escaped first.user other.user (one_behind other.bare 0 (codes "n=") (escaped first.user)
     (escaped other.user) (subst (λ (behind : List ℕ). Part behind 0 (codes "n=" ++ escaped first.user)) bare names.user)
     too.user) in
     let nonce = one_behind other.bare 1 (codes "r=") first.nonce other.nonce
     (subst (λ (behind : List ℕ). Part behind 1 (codes "r=" ++ first.nonce)) bare names.nonce) too.nonce in
-    λ i. made (user i) (nonce i) (bare i)
+    λ i. made (header i) (user i) (nonce i) (bare i)
 
-pub one_client_first : (text : List ℕ) (answer other : Result ClientFirst ServerScramErrorKind)
-    → ReadsClientFirst text answer → ReadsClientFirst text other → answer ≡ other
+pub one_client_first : (unbound : Bool) (text : List ℕ) (answer other : Result ClientFirst ServerScramErrorKind)
+    → ReadsClientFirst unbound text answer → ReadsClientFirst unbound text other → answer ≡ other
 unfolding ReadsClientFirst
-one_client_first text answer other reads too = one_reading (client_first_tests text) (NamesClientFirst text)
-    (one_values text) answer other reads too
+one_client_first unbound text answer other reads too =
+    one_reading (client_first_tests unbound text) (NamesClientFirst unbound text) (one_values unbound text) answer other
+    reads too
 
 -- the refusal of a text that no name is escaped to
 pub invalid_name : (error : UnescapeError) (P Q : Type 0) → error ≡ Invalid

@@ -7,7 +7,7 @@ use Rattle.std.specs.Prelude.{nat_eq}
 use Rattle.fe2o3_scram.specs.declared.scram_messages.error.ServerScramErrorKind.{ServerScramErrorKind}
 use Rattle.fe2o3_scram.specs.declared.scram_messages.error.ServerScramErrorKind.TheVariants.{OutOfMemory}
 use Rattle.fe2o3_scram.specs.ClientFirst.{ClientFirst, ReadsClientFirst}
-use Rattle.fe2o3_scram.specs.Credentials.{Record, Records, Provider, record_at}
+use Rattle.fe2o3_scram.specs.Credentials.{Record, Records, Provider, Store, record_at, serving}
 use Rattle.fe2o3_scram.specs.HidingServer.{HidingCosts, NamedIn, NamedBy}
 use Rattle.fe2o3_scram.specs.Nobody.{Nobody, nobody_record, with_nobody}
 use Rattle.fe2o3_scram.specs.ScramServer.{ServerState, Initial, ServerFirstSent, ServerFinalSent, ChallengesFrom}
@@ -34,8 +34,8 @@ has_made_up (entry ∷ records) name made_up =
 
 -- a message that is read comes to a record
 pub reaches_made_up : (provider : Provider) (nobody : Nobody) (text name : List ℕ) (client : ClientFirst)
-    → ReadsClientFirst text (Ok client) → name ≡ client.user
-    → ReachesChallenge (with_nobody provider nobody (name ∷ [])).records text
+    → ReadsClientFirst provider.unbound text (Ok client) → name ≡ client.user
+    → ReachesChallenge (with_nobody provider nobody (name ∷ [])) text
 reaches_made_up provider nobody text name client reads same =
     let has = has_made_up provider.records name (nobody_record nobody name) in
     inr (
@@ -48,13 +48,13 @@ reaches_made_up provider nobody text name client reads same =
 
 -- behind the challenge the made-up record of its user is kept
 pub keeps_first : (provider : Provider) (nobody : Nobody) (state next : ServerState) (nonce text : List ℕ)
-    (client : ClientFirst) (answer : Option (List ℕ)) → ReadsClientFirst text (Ok client)
+    (client : ClientFirst) (answer : Option (List ℕ)) → ReadsClientFirst provider.unbound text (Ok client)
     → ChallengesFrom state (with_nobody provider nobody (client.user ∷ [])) nonce text (Ok answer) next
     → KeepsMadeUp next
     (Some (record { version = nobody.version; records = (client.user, nobody_record nobody client.user) ∷ [] })) nobody
 keeps_first provider nobody state next nonce text client None reads answers =
     let other = answers.0 in
-    let same = one_client_first_value text other.0 client other.1 reads in
+    let same = one_client_first_value provider.unbound text other.0 client other.1 reads in
     let has = has_made_up provider.records client.user (nobody_record nobody client.user) in
     let none : record_at (with_nobody provider nobody (client.user ∷ [])).records client.user ≡ None =
     subst (λ (c : ClientFirst). record_at (with_nobody provider nobody (client.user ∷ [])).records c.user ≡ None) same
@@ -63,7 +63,7 @@ keeps_first provider nobody state next nonce text client None reads answers =
     absurd (cc)
 keeps_first provider nobody state next nonce text client (Some message) reads answers =
     let other = answers.1 in
-    let user = ap (λ (c : ClientFirst). c.user) (one_client_first_value text other.0 client other.2 reads) in
+    let user = ap (λ (c : ClientFirst). c.user) (one_client_first_value provider.unbound text other.0 client other.2 reads) in
     let kept : KeepsMadeUp (ServerFirstSent answers.0) (Some (record {
       version = nobody.version;
       records = (client.user, nobody_record nobody client.user) ∷ [];
@@ -77,59 +77,60 @@ keeps_first provider nobody state next nonce text client (Some message) reads an
     })) nobody) (sym answers.3) kept
 
 -- the same of the code's values
-pub keeps_made_up : (provider : Provider) (nobody : Nobody) (held after : Option Provider) (state next : ServerState)
-    (nonce text : List ℕ) (client : ClientFirst) (answer : Option (List ℕ))
+pub keeps_made_up : (unbound : Bool) (store : Store) (nobody : Nobody) (held after : Option Store)
+    (state next : ServerState) (nonce text : List ℕ) (client : ClientFirst) (answer : Option (List ℕ))
     → held ≡ Some (record { version = nobody.version; records = (client.user, nobody_record nobody client.user) ∷ [] })
     → after ≡ Some (record { version = nobody.version; records = (client.user, nobody_record nobody client.user) ∷ [] })
-    → ReadsClientFirst text (Ok client)
-    → ChallengesFrom state (followed_by provider held) nonce text (Ok answer) next → KeepsMadeUp next after nobody
-keeps_made_up provider nobody held after state next nonce text client answer is too reads answers =
-    subst (λ (made_up : Option Provider). KeepsMadeUp next made_up nobody) (sym too)
-    (keeps_first provider nobody state next nonce text client answer reads
-    (subst (λ (made_up : Option Provider). ChallengesFrom state (followed_by provider made_up) nonce text (Ok answer)
-    next) is answers))
+    → ReadsClientFirst unbound text (Ok client)
+    → ChallengesFrom state (serving unbound (followed_by store held)) nonce text (Ok answer) next
+    → KeepsMadeUp next after nobody
+keeps_made_up unbound store nobody held after state next nonce text client answer is too reads answers =
+    subst (λ (made_up : Option Store). KeepsMadeUp next made_up nobody) (sym too)
+    (keeps_first (serving unbound store) nobody state next nonce text client answer reads
+    (subst (λ (made_up : Option Store). ChallengesFrom state (serving unbound (followed_by store made_up)) nonce text
+    (Ok answer) next) is answers))
 
 -- a message that is read is refused for want of memory alone
-pub read_or_refused : (text : List ℕ) (client : ClientFirst) (fault : ServerScramErrorKind)
-    → ReadsClientFirst text (Ok client) → ¬ ReadsClientFirst text (Err fault)
-read_or_refused text client fault reads refuses =
-    differ (one_client_first text (Ok client) (Err fault) reads refuses)
+pub read_or_refused : (unbound : Bool) (text : List ℕ) (client : ClientFirst) (fault : ServerScramErrorKind)
+    → ReadsClientFirst unbound text (Ok client) → ¬ ReadsClientFirst unbound text (Err fault)
+read_or_refused unbound text client fault reads refuses =
+    differ (one_client_first unbound text (Ok client) (Err fault) reads refuses)
   where
     differ : ◌≡◌ {A = Result ClientFirst ServerScramErrorKind} (Ok client) (Err fault) → ⊥
     differ same = absurd (cc)
 
-pub wants_costs : (A : Type 0) (text : List ℕ) (client : ClientFirst) (before after : ℕ)
-    → ReadsClientFirst text (Ok client) → after ≡ before + 3 → HidingCosts {A = A} text (Err OutOfMemory) before after
-wants_costs A text client before after reads counted = (
+pub wants_costs : (A : Type 0) (unbound : Bool) (text : List ℕ) (client : ClientFirst) (before after : ℕ)
+    → ReadsClientFirst unbound text (Ok client) → after ≡ before + 3 → HidingCosts {A = A} unbound text (Err OutOfMemory) before after
+wants_costs A unbound text client before after reads counted = (
   omega (counted, arith),
   omega (counted, arith),
-  λ fault refuses. absurd (read_or_refused text client fault reads refuses),
+  λ fault refuses. absurd (read_or_refused unbound text client fault reads refuses),
 )
 
-pub refusal_costs : (A : Type 0) (text : List ℕ) (client : ClientFirst) (fault : ServerScramErrorKind)
-    (before after : ℕ) → ReadsClientFirst text (Ok client)
-    → (fault ≢ OutOfMemory → ReadsClientFirst text (Err fault)) → after ≡ before + 3
-    → HidingCosts {A = A} text (Err fault) before after
-refusal_costs A text client fault before after reads refuses counted =
-    go fault (λ other. read_or_refused text client fault reads (refuses other))
+pub refusal_costs : (A : Type 0) (unbound : Bool) (text : List ℕ) (client : ClientFirst) (fault : ServerScramErrorKind)
+    (before after : ℕ) → ReadsClientFirst unbound text (Ok client)
+    → (fault ≢ OutOfMemory → ReadsClientFirst unbound text (Err fault)) → after ≡ before + 3
+    → HidingCosts {A = A} unbound text (Err fault) before after
+refusal_costs A unbound text client fault before after reads refuses counted =
+    go fault (λ other. read_or_refused unbound text client fault reads (refuses other))
   where
     go : (fault : ServerScramErrorKind) → (fault ≢ OutOfMemory → ⊥)
-        → HidingCosts {A = A} text (Err fault) before after
-    go OutOfMemory none = wants_costs A text client before after reads counted
+        → HidingCosts {A = A} unbound text (Err fault) before after
+    go OutOfMemory none = wants_costs A unbound text client before after reads counted
     go fault none = absurd (none (λ same. absurd (cc)))
 
 -- ---- some name counts
 
-pub some_name : (text : List ℕ) → (name : List ℕ) × NamedIn text name
-some_name text = go (some_client_first text)
+pub some_name : (unbound : Bool) (text : List ℕ) → (name : List ℕ) × NamedIn unbound text name
+some_name unbound text = go (some_client_first unbound text)
   where
-    go : (answer : Result ClientFirst ServerScramErrorKind) × ReadsClientFirst text answer
-        → (name : List ℕ) × NamedIn text name
+    go : (answer : Result ClientFirst ServerScramErrorKind) × ReadsClientFirst unbound text answer
+        → (name : List ℕ) × NamedIn unbound text name
     go (Ok client, reads) = (
       client.user,
-      λ other too. ap (λ (c : ClientFirst). c.user) (one_client_first_value text client other reads too),
+      λ other too. ap (λ (c : ClientFirst). c.user) (one_client_first_value unbound text client other reads too),
     )
-    go (Err fault, refuses) = ([], λ other reads. absurd (read_or_refused text other fault reads refuses))
+    go (Err fault, refuses) = ([], λ other reads. absurd (read_or_refused unbound text other fault reads refuses))
 
 pub some_user : (state : ServerState) → (name : List ℕ) × NamedBy state name
 some_user Initial = ([], tt)

@@ -1,16 +1,19 @@
 -- Texts to which want of memory is no answer.
-use Rattle.std.proofs.Common.{◌≡◌, ◌≢◌, ◌⊎◌, ℕ, List, [], ◌∷◌, ◌++◌, length, get_or, refl, sym, ◌∙◌, ap, subst, arith, codes, inl, inr}
+use Rattle.std.proofs.Common.{◌≡◌, Bool, ◌≢◌, ◌⊎◌, ℕ, List, [], ◌∷◌, ◌++◌, length, get_or, refl, sym, ◌∙◌, ap, subst, arith, codes, inl, inr}
 use Rattle.std.proofs.lemmas.List.{append_cancel_left}
 use Rattle.fe2o3_scram.specs.declared.hmac.ScramVersion.{ScramVersion}
 use Rattle.fe2o3_scram.specs.declared.hmac.ScramVersion.TheVariants.{Sha1, Sha256, Sha512}
 use Rattle.fe2o3_scram.specs.ClientFinal.{HasBinding, ReachesBinding, ReachesProof, client_final_of, without_proof}
-use Rattle.fe2o3_scram.specs.ClientFirst.{HasEscapes}
+use Rattle.fe2o3_scram.specs.declared.scram_messages.gs2_header.Gs2Header.{Gs2Header}
+use Rattle.fe2o3_scram.specs.declared.scram_messages.gs2_header.Gs2Header.TheVariants.{Unsupported}
+use Rattle.fe2o3_scram.specs.ClientFirst.{HasEscapes, header_text}
 use Rattle.fe2o3_scram.specs.Escape.{NoEquals}
 use Rattle.fe2o3_scram.specs.Hmac.{mechanism_name}
 use Rattle.fe2o3_scram.specs.MemoryExamples.{AnsweredClientsTakeNone, CommasTakeNone, ErrorsTakeNone, OtherNoncesTakeNone, UnboundTextsTakeNone, UnknownMechanismsTakeNone, UnknownUsersTakeNone}
 use Rattle.fe2o3_scram.specs.RecordLines.{ReachesName}
 use Rattle.fe2o3_scram.specs.RecordText.{Fields, HasFields, Plain}
 use Rattle.fe2o3_scram.specs.Texts.{NoComma, Part, Parts, base64_text}
+use Rattle.fe2o3_scram.proofs.lemmas.messages.ClientFirstLemmas.{one_header}
 use Rattle.fe2o3_scram.proofs.lemmas.messages.ExchangeLemmas.{IsBytes-literal, only_part, part_of}
 use Rattle.fe2o3_scram.proofs.lemmas.messages.RecordTextLemmas.{one_fields}
 use Rattle.fe2o3_scram.proofs.lemmas.texts.Base64Lemmas.{no_comma-base64_text, no_comma-test}
@@ -38,20 +41,20 @@ user_parts = two_joined (codes "n=user") (codes "r=abc") (codes "n=user" ∷ [])
     (only_part (codes "n=user") (no_comma-test (codes "n=user") refl))
     (only_part (codes "r=abc") (no_comma-test (codes "r=abc") refl))
 
-no_escapes : ¬ HasEscapes (codes "n,,n=user,r=abc")
-no_escapes has =
+no_escapes : (unbound : Bool) → ¬ HasEscapes unbound (codes "n,,n=user,r=abc")
+no_escapes unbound has =
     let bare = has.1.1 in
-    let behind : bare.0 ≡ codes "n=user,r=abc" =
-    sym (append_cancel_left (codes "n,,") (codes "n=user,r=abc") bare.0 bare.1) in
-    let part = subst (λ (text : List ℕ). Part text 0 (codes "n=" ++ has.1.0)) behind bare.2 in
+    let behind : bare.1 ≡ codes "n=user,r=abc" =
+    (one_header bare.0 Unsupported (codes "n,,n=user,r=abc") bare.1 (codes "n=user,r=abc") bare.3 refl).1 in
+    let part = subst (λ (text : List ℕ). Part text 0 (codes "n=" ++ has.1.0)) behind bare.4 in
     let same = one_part (codes "n=user,r=abc") 0 (codes "n=user") (codes "n=" ++ has.1.0)
     (_, user_parts, refl) part in
     let name = append_cancel_left (codes "n=") (codes "user") has.1.0 same in
     has.1.2 (subst NoEquals name (without-test 61 (codes "user") refl))
 
 pub unknown_users_take_none : UnknownUsersTakeNone
-unknown_users_take_none (inl escapes) = no_escapes escapes
-unknown_users_take_none (inr (client, stored, reads, known)) = absurd (cc)
+unknown_users_take_none version unbound (inl escapes) = no_escapes unbound escapes
+unknown_users_take_none version unbound (inr (client, stored, reads, known)) = absurd (cc)
 
 -- the first part is no channel binding
 unbound : (rest : List ℕ) → ¬ Part (codes "r=abc,p=AA==") 0 (codes "c=" ++ rest)
@@ -66,7 +69,8 @@ unbound rest has =
 pub unbound_texts_take_none : UnboundTextsTakeNone
 unbound_texts_take_none provider user bare first has = go has.1.1
   where
-    go : ReachesBinding (codes "r=abc,p=AA==") ⊎ ReachesProof (codes "abc") (codes "r=abc,p=AA==") → ⊥
+    go : ReachesBinding Unsupported (codes "r=abc,p=AA==")
+        ⊎ ReachesProof Unsupported (codes "abc") (codes "r=abc,p=AA==") → ⊥
     go (inl reaches) = unbound reaches.0.0 reaches.0.1
     go (inr reaches) = reaches.0.0 unbound
 
@@ -97,7 +101,7 @@ other_nonces_take_none provider user bare first has = go has.1.1
     bound : HasBinding other_text (codes "n,,")
     bound = (IsBytes-literal (codes "n,,") refl, (_, other_parts, refl))
 
-    go : ReachesBinding other_text ⊎ ReachesProof (codes "abc") other_text → ⊥
+    go : ReachesBinding Unsupported other_text ⊎ ReachesProof Unsupported (codes "abc") other_text → ⊥
     go (inl reaches) = reaches.1 bound
     go (inr reaches) = reaches.1.1.0 other_nonce
 

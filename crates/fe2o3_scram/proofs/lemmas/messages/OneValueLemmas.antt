@@ -1,5 +1,5 @@
 -- What the four messages name, where they are read.
-use Rattle.std.proofs.Common.{◌≡◌, ℕ, List, Result, Ok}
+use Rattle.std.proofs.Common.{◌≡◌, Bool, ℕ, List, Result, Ok}
 use Rattle.fe2o3_scram.specs.ClientFirst.{ClientFirst, ReadsClientFirst, NamesClientFirst}
 use Rattle.fe2o3_scram.specs.ClientFinal.{Server, ClientFinal, ReadsClientFinal}
 use Rattle.fe2o3_scram.specs.ServerFinal.{ReadsServerFinal, HasSignature}
@@ -9,10 +9,10 @@ use Rattle.fe2o3_scram.proofs.lemmas.messages.ClientFirstLemmas.{one_client_firs
 use Rattle.fe2o3_scram.proofs.lemmas.messages.ServerFirstLemmas.{one_server_first}
 use Rattle.fe2o3_scram.proofs.lemmas.messages.ServerFinalLemmas.{names_signature}
 
-pub names_client_first : (text : List ℕ) (first : ClientFirst) → ReadsClientFirst text (Ok first)
-    → NamesClientFirst text first
+pub names_client_first : (unbound : Bool) (text : List ℕ) (first : ClientFirst)
+    → ReadsClientFirst unbound text (Ok first) → NamesClientFirst unbound text first
 unfolding ReadsClientFirst
-names_client_first text first reads = reads.1
+names_client_first unbound text first reads = reads.1
 
 pub names_server_first : (client : Client) (text : List ℕ) (first : ServerFirst)
     → ReadsServerFirst client text (Ok first) → NamesServerFirst text first
@@ -29,10 +29,10 @@ names_server_final signature text believed reads = names_signature text signatur
 same_value : {X F : Type 0} (x y : X) → ◌≡◌ {A = Result X F} (Ok x) (Ok y) → x ≡ y
 same_value x y same = cc
 
-pub one_client_first_value : (text : List ℕ) (first other : ClientFirst) → ReadsClientFirst text (Ok first)
-    → ReadsClientFirst text (Ok other) → first ≡ other
-one_client_first_value text first other reads too =
-    same_value first other (one_client_first text (Ok first) (Ok other) reads too)
+pub one_client_first_value : (unbound : Bool) (text : List ℕ) (first other : ClientFirst)
+    → ReadsClientFirst unbound text (Ok first) → ReadsClientFirst unbound text (Ok other) → first ≡ other
+one_client_first_value unbound text first other reads too =
+    same_value first other (one_client_first unbound text (Ok first) (Ok other) reads too)
 
 pub one_client_final_value : (server : Server) (text : List ℕ) (final other : ClientFinal)
     → ReadsClientFinal server text (Ok final) → ReadsClientFinal server text (Ok other) → final ≡ other

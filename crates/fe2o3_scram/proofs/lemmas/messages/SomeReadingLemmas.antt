@@ -1,13 +1,14 @@
 -- Each of the four messages has an answer.
-use Rattle.std.proofs.Common.{◌≡◌, ◌⊎◌, ℕ, ◌<◌, List, [], ◌∷◌, ◌++◌, length, Result, Ok, Err, refl, sym, ◌∙◌, subst, inl, inr, codes}
-use Rattle.std.proofs.lemmas.List.{append_cancel_left}
+use Rattle.std.proofs.Common.{◌≡◌, Bool, true, false, T, ◌⊎◌, ℕ, ◌<◌, List, [], ◌∷◌, ◌++◌, length, Result, Ok, Err, refl, sym, ◌∙◌, subst, inl, inr, codes}
 use Rattle.fe2o3_scram.specs.declared.scram_messages.error.ScramErrorKind.{ScramErrorKind}
 use Rattle.fe2o3_scram.specs.declared.scram_messages.error.ScramErrorKind.TheVariants.{ServerSignatureMismatch}
 use Rattle.fe2o3_scram.specs.declared.scram_messages.error.ServerScramErrorKind.{ServerScramErrorKind}
 use Rattle.fe2o3_scram.specs.declared.scram_messages.error.ServerScramErrorKind.TheVariants.{XorLengthMismatch, AuthenticationFailed}
 use Rattle.fe2o3_scram.specs.ClientFinal as client_final
 use Rattle.fe2o3_scram.specs.ClientFinal.{Server, ClientFinal, HasBinding, HasProof, recovered_key, NamesClientFinal, ReadsFinalText, ReadsClientFinal, final_text_tests, binding_tests, spelling_tests}
-use Rattle.fe2o3_scram.specs.ClientFirst.{ClientFirst, BarePart, NamesClientFirst, ReadsClientFirst, client_first_tests}
+use Rattle.fe2o3_scram.specs.declared.scram_messages.gs2_header.Gs2Header.{Gs2Header}
+use Rattle.fe2o3_scram.specs.declared.scram_messages.gs2_header.Gs2Header.TheVariants.{Unsupported, Unoffered}
+use Rattle.fe2o3_scram.specs.ClientFirst.{ClientFirst, BarePart, NamesClientFirst, ReadsClientFirst, TakesHeader, client_first_tests, header_text}
 use Rattle.fe2o3_scram.specs.Escape.{escaped}
 use Rattle.fe2o3_scram.specs.Hmac.{digest, digest_len}
 use Rattle.fe2o3_scram.specs.Readings.{IsFirst, NoneHolds, Reads}
@@ -19,6 +20,7 @@ use Rattle.fe2o3_scram.specs.ClientKeys.{ClientKeys}
 use Rattle.fe2o3_scram.specs.ClientSecret.{Secret, Password, Keys, Both}
 use Rattle.fe2o3_scram.specs.Texts.{base64_text, Part, LastPart}
 use Rattle.base64.specs.GeneralPurpose.{IsBytes}
+use Rattle.fe2o3_scram.proofs.lemmas.messages.ClientFirstLemmas.{one_header}
 use Rattle.fe2o3_scram.proofs.lemmas.messages.ClientFinalLemmas.{no_proof, has_proof, proof_part, unread_proof}
 use Rattle.fe2o3_scram.proofs.lemmas.messages.ServerFirstLemmas.{one_has_count, no_count}
 use Rattle.fe2o3_scram.proofs.lemmas.texts.CutLemmas.{last_part_or}
@@ -61,53 +63,85 @@ some_reading tests Names decided named = elim (first_or tests decided) [
 
 -- ---- the client-first message
 
--- a message has one text behind its header
-one_bare : (text bare other : List ℕ) → text ≡ codes "n,," ++ bare → text ≡ codes "n,," ++ other → bare ≡ other
-one_bare text bare other is too = append_cancel_left (codes "n,,") bare other (sym is ∙ too)
+-- a header that is taken, and what stands behind it
+abbrev Cut : Bool → List ℕ → Gs2Header × List ℕ → Type 0
+Cut unbound text cut = TakesHeader unbound cut.0 × (text ≡ header_text cut.0 ++ cut.1)
+
+cut_or : (unbound : Bool) (text : List ℕ) → Found (Cut unbound text)
+cut_or unbound text = elim (rest_or (header_text Unsupported) text) [
+  | inl (bare, is) ↦ inl ((Unsupported, bare), (tt, is))
+  | inr none ↦ elim (unoffered unbound) [
+    | inl (bare, cut) ↦ inl ((Unoffered, bare), cut)
+    | inr other ↦ inr (neither none other)
+  ]
+]
+  where
+    unoffered : (unbound : Bool) → Found (λ (bare : List ℕ). Cut unbound text (Unoffered, bare))
+    unoffered true = found_with (rest_or (header_text Unoffered) text) (λ bare is. inl (bare, (tt, is)))
+        (λ bare cut. (bare, cut.1))
+    unoffered false = inr (λ bare cut. cut.0)
+
+    neither : ((bare : List ℕ) → text ≡ header_text Unsupported ++ bare → ⊥)
+        → ((bare : List ℕ) → Cut unbound text (Unoffered, bare) → ⊥) → (cut : Gs2Header × List ℕ)
+        → Cut unbound text cut → ⊥
+    neither none other (Unsupported, bare) cut = none bare cut.1
+    neither none other (Unoffered, bare) cut = other bare cut
+
+-- whether the message begins with no header that is taken
+no_header_or : (unbound : Bool) (text : List ℕ)
+    → Decided ((header : Gs2Header) → TakesHeader unbound header → ¬ Begins text (header_text header))
+no_header_or unbound text = elim (cut_or unbound text) [
+  | inl ((header, bare), cut) ↦ inr (λ none. none header cut.0 (bare, cut.1))
+  | inr none ↦ inl (λ header takes begins. none (header, begins.0) (takes, begins.1))
+]
 
 -- what stands in a part behind the header
-bare_attribute_or : {X : Type 0} (write : X → List ℕ) (text : List ℕ) (k : ℕ) (key : List ℕ)
+bare_attribute_or : {X : Type 0} (write : X → List ℕ) (unbound : Bool) (text : List ℕ) (k : ℕ) (key : List ℕ)
     → ((spelling : List ℕ) → Found (λ (x : X). spelling ≡ write x))
-    → Found (λ (x : X). BarePart text k (key ++ write x))
-bare_attribute_or {X} write text k key read = found_with (rest_or (codes "n,,") text) behind (λ x has. (has.0, has.1))
+    → Found (λ (x : X). BarePart unbound text k (key ++ write x))
+bare_attribute_or {X} write unbound text k key read =
+    found_with (cut_or unbound text) behind (λ x has. ((has.0, has.1), (has.2, has.3)))
   where
-    behind : (bare : List ℕ) → text ≡ codes "n,," ++ bare → Found (λ (x : X). BarePart text k (key ++ write x))
-    behind bare header =
+    behind : (cut : Gs2Header × List ℕ) → Cut unbound text cut
+        → Found (λ (x : X). BarePart unbound text k (key ++ write x))
+    behind (header, bare) cut =
         found_with (attribute_or (λ _. Unit {0}) write bare k key
         (λ spelling. found_with (read spelling) (λ x is. inl (x, (tt, is))) (λ x is. (x, is.1))))
-        (λ x has. inl (x, (bare, header, has.1)))
+        (λ x has. inl (x, (header, bare, cut.0, cut.1, has.1)))
         (λ x has. (
           x,
           (
             tt,
             subst (λ (behind : List ℕ). Part behind k (key ++ write x))
-                (one_bare text has.0 bare has.1 header) has.2,
+                (one_header has.0 header text has.1 bare has.3 cut.1).1 has.4,
           ),
         ))
 
-pub some_client_first : (text : List ℕ) → (answer : Result ClientFirst ServerScramErrorKind)
-    × ReadsClientFirst text answer
+pub some_client_first : (unbound : Bool) (text : List ℕ) → (answer : Result ClientFirst ServerScramErrorKind)
+    × ReadsClientFirst unbound text answer
 unfolding ReadsClientFirst
-some_client_first text =
-    some_reading (client_first_tests text) (NamesClientFirst text)
-    (not_or (utf8_or text), (not_or (begins_or text (codes "n,,")), (none_or user, (none_or nonce, tt))))
+some_client_first unbound text =
+    some_reading (client_first_tests unbound text) (NamesClientFirst unbound text)
+    (not_or (utf8_or text), (no_header_or unbound text, (none_or user, (none_or nonce, tt))))
     (λ none. named (found_one user none.1.1.0) (found_one nonce none.1.1.1.0))
   where
-    user : Found (λ (user : List ℕ). BarePart text 0 (codes "n=" ++ escaped user))
-    user = bare_attribute_or escaped text 0 (codes "n=") name_or
+    user : Found (λ (user : List ℕ). BarePart unbound text 0 (codes "n=" ++ escaped user))
+    user = bare_attribute_or escaped unbound text 0 (codes "n=") name_or
 
-    nonce : Found (λ (nonce : List ℕ). BarePart text 1 (codes "r=" ++ nonce))
-    nonce = bare_attribute_or (λ nonce. nonce) text 1 (codes "r=") (λ spelling. inl (spelling, refl))
+    nonce : Found (λ (nonce : List ℕ). BarePart unbound text 1 (codes "r=" ++ nonce))
+    nonce = bare_attribute_or (λ nonce. nonce) unbound text 1 (codes "r=") (λ spelling. inl (spelling, refl))
 
-    named : (user : List ℕ) × BarePart text 0 (codes "n=" ++ escaped user)
-        → (nonce : List ℕ) × BarePart text 1 (codes "r=" ++ nonce) → (first : ClientFirst) × NamesClientFirst text first
-    named (user, (bare, header, part)) (nonce, (other, too, next)) = (
-      record { user = user; nonce = nonce; bare = bare },
+    named : (user : List ℕ) × BarePart unbound text 0 (codes "n=" ++ escaped user)
+        → (nonce : List ℕ) × BarePart unbound text 1 (codes "r=" ++ nonce)
+        → (first : ClientFirst) × NamesClientFirst unbound text first
+    named (user, (header, bare, takes, is, part)) (nonce, (own, other, taken, too, next)) = (
+      record { header = header; user = user; nonce = nonce; bare = bare },
       record {
-        bare = header;
+        header = takes;
+        bare = is;
         user = part;
         nonce = subst (λ (behind : List ℕ). Part behind 1 (codes "r=" ++ nonce))
-            (one_bare text other bare too header) next;
+            (one_header own header text other bare too is).1 next;
       },
     )
 
@@ -232,10 +266,10 @@ proof_or text = elim (last_part_or text) [
   | inr none ↦ inr (λ final has. none final.without (codes "p=" ++ base64_text final.proof) has.1)
 ]
 
-binding_decided : (text : List ℕ) → AllDecided (binding_tests text)
-binding_decided text = (
+binding_decided : (header : Gs2Header) (text : List ℕ) → AllDecided (binding_tests header text)
+binding_decided header text = (
   none_or (attribute_text_or text 0 (codes "c=")),
-  (none_or (binding_or text), (not_or (this_binding_or text (codes "n,,")), tt)),
+  (none_or (binding_or text), (not_or (this_binding_or text (header_text header)), tt)),
 )
 
 final_nonce_decided : (nonce text : List ℕ) → AllDecided (client_final.nonce_tests nonce text)
@@ -248,24 +282,24 @@ spelling_decided : (text : List ℕ) → AllDecided (spelling_tests text)
 spelling_decided text = (proof_part_or text, (none_or (proof_or text), tt))
 
 -- a text has an answer before the keys are looked at
-some_final_text : (nonce text : List ℕ)
-    → (answer : Result ClientFinal ServerScramErrorKind) × ReadsFinalText nonce text answer
+some_final_text : (header : Gs2Header) (nonce text : List ℕ)
+    → (answer : Result ClientFinal ServerScramErrorKind) × ReadsFinalText header nonce text answer
 unfolding ReadsFinalText
-some_final_text nonce text =
+some_final_text header nonce text =
     let after_binding = client_final.nonce_tests nonce text ++ spelling_tests text in
-    some_reading (final_text_tests nonce text) (NamesClientFinal nonce text) (
+    some_reading (final_text_tests header nonce text) (NamesClientFinal header nonce text) (
       not_or (utf8_or text),
-      decided-append (binding_tests text) after_binding (binding_decided text)
+      decided-append (binding_tests header text) after_binding (binding_decided header text)
           (decided-append (client_final.nonce_tests nonce text) (spelling_tests text) (final_nonce_decided nonce text)
           (spelling_decided text)),
     )
     (λ none.
-    let binding_parts = none-split (binding_tests text) after_binding none.1 in
+    let binding_parts = none-split (binding_tests header text) after_binding none.1 in
     let nonce_parts = none-split (client_final.nonce_tests nonce text) (spelling_tests text) binding_parts.1 in
     let final = found_one (proof_or text) nonce_parts.1.1.0 in (
       final.0,
       record {
-        binding = held (this_binding_or text (codes "n,,")) binding_parts.0.1.1.0;
+        binding = held (this_binding_or text (header_text header)) binding_parts.0.1.1.0;
         nonce = held (part_is_or text 1 (codes "r=" ++ nonce)) nonce_parts.0.1.0;
         proof = final.1;
       },
@@ -274,9 +308,9 @@ some_final_text nonce text =
 pub some_client_final : (server : Server) (text : List ℕ)
     → (answer : Result ClientFinal ServerScramErrorKind) × ReadsClientFinal server text answer
 unfolding ReadsClientFinal
-some_client_final server text = go (some_final_text server.nonce text)
+some_client_final server text = go (some_final_text server.header server.nonce text)
   where
-    go : (answer : Result ClientFinal ServerScramErrorKind) × ReadsFinalText server.nonce text answer
+    go : (answer : Result ClientFinal ServerScramErrorKind) × ReadsFinalText server.header server.nonce text answer
         → (answer : Result ClientFinal ServerScramErrorKind) × ReadsClientFinal server text answer
     go (Err fault, reads) = (Err fault, inl reads)
     go (Ok final, reads) = elim (same_number_or (length final.proof) (digest_len server.version)) [

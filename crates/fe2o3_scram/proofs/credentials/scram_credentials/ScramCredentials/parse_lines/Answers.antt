@@ -1,7 +1,7 @@
 use Rattle.std.proofs.Common.{rules, ◌∷◌, ◌++◌, sym, ◌∙◌, ap, subst}
 use Rattle.std.specs.List.{AllByRecursion}
 use Rattle.fe2o3_scram.specs.declared.hmac.ScramVersion.{ScramVersion}
-use Rattle.fe2o3_scram.specs.Credentials.{Provider, Records}
+use Rattle.fe2o3_scram.specs.Credentials.{Store, Records}
 use Rattle.fe2o3_scram.specs.RecordLines.{IsLineReadable, user_line, users_text}
 use Rattle.fe2o3_scram.proofs.lemmas.messages.LineListLemmas.{one_more_line}
 use Rattle.fe2o3_scram.proofs.lemmas.messages.RecordLinesLemmas.{all-more}
@@ -14,8 +14,8 @@ loop-rest-preserved c =
     let user = c.in-Ok.ensures.ok.0 in
     let more = c.in-Ok.more.now in
     let line = c.in-Ok.ensures.ok in
-    let added = ap (λ (store : Provider). store.records) (sym line.3) in record {
-      version = ap (λ (store : Provider). store.version) line.3 ∙ before.version;
+    let added = ap (λ (store : Store). store.records) (sym line.3) in record {
+      version = ap (λ (store : Store). store.version) line.3 ∙ before.version;
       readable =
           subst (λ (records : Records). AllByRecursion (IsLineReadable version) records) added
           (all-more (IsLineReadable version) c.loop-rest.store.records user before.readable

@@ -4,7 +4,7 @@ use Rattle.std.proofs.lemmas.Map.Text.{btree_map_updates_text}
 use Rattle.std.specs.Arc.{arc_value}
 use Rattle.std.specs.Cmp.Lexicographic.{pointwise}
 use Rattle.std.specs.Prelude.{None, nat_eq, not}
-use Rattle.fe2o3_scram.specs.Credentials.{Provider, Record, records_without}
+use Rattle.fe2o3_scram.specs.Credentials.{Store, Record, records_without}
 use Rattle.fe2o3_scram.proofs.lemmas.providers.ByNameLemmas.{by_name-without}
 use Rattle.fe2o3_scram.proofs.credentials.users.Users.remove.Goals as goal
 
@@ -23,7 +23,7 @@ invariant_of-self c =
 
 pub returns : goal.returns
 returns c =
-    rw (left c) (ap (λ (store : Provider). record {
+    rw (left c) (ap (λ (store : Store). record {
       version = store.version;
       records = records_without store.records c.args.username.now;
     }) c.self.view_is)

@@ -3,6 +3,7 @@ use Rattle.std.proofs.lemmas.Result.{err_from_is_err_and}
 use Rattle.std.specs.Cow.{cow_str_bytes}
 use Rattle.fe2o3_scram.specs.declared.scram_messages.error.ServerScramErrorKind.TheVariants.{OutOfMemory}
 use Rattle.fe2o3_scram.specs.ClientFirst.{client_first_values}
+use Rattle.fe2o3_scram.specs.Credentials.{serving}
 use Rattle.fe2o3_scram.specs.Nobody.{Nobody, nobody_record}
 use Rattle.fe2o3_scram.specs.ScramServer.{state_in, provider_in}
 use Rattle.fe2o3_scram.proofs.lemmas.messages.HidingServerLemmas.{keeps_made_up, reaches_made_up, read_or_refused, refusal_costs, wants_costs}
@@ -14,7 +15,8 @@ returns-in_err-made_up-clause-answer g c name named =
     let reads = c.in_ok-client_first.ensures.answer in
     let is : from.0 ≡ OutOfMemory = search rules in
     rw from.1 (
-      λ memory. reaches_made_up (g.C.ScramCredentialProvider.meaning c.args.self.now.credentials) c.args.self.now.nobody
+      λ memory. reaches_made_up (serving c.args.self.now.unbound
+          (g.C.ScramCredentialProvider.meaning c.args.self.now.credentials)) c.args.self.now.nobody
           c.args.client_first_message.now name (client_first_values c.in_ok-client_first.client_first) reads
           (named _ reads),
       λ other. absurd (other is),
@@ -26,7 +28,8 @@ returns-in_err-username-clause-answer g c name named =
     let reads = c.in_ok-client_first.ensures.answer in
     let is : from.0 ≡ OutOfMemory = search rules in
     rw from.1 (
-      λ memory. reaches_made_up (g.C.ScramCredentialProvider.meaning c.args.self.now.credentials) c.args.self.now.nobody
+      λ memory. reaches_made_up (serving c.args.self.now.unbound
+          (g.C.ScramCredentialProvider.meaning c.args.self.now.credentials)) c.args.self.now.nobody
           c.args.client_first_message.now name (client_first_values c.in_ok-client_first.client_first) reads
           (named _ reads),
       λ other. absurd (other is),
@@ -36,7 +39,7 @@ pub returns-in_err-made_up-clause-cost : goal.returns-in_err-made_up-clause-cost
 returns-in_err-made_up-clause-cost g c =
     let from = err_from_is_err_and c.from_residual-in_err-made_up.result c.from_residual-in_err-made_up.ensures.1 in
     let is : from.0 ≡ OutOfMemory = search rules in
-    rw (from.1, is) (wants_costs (Option (Vec ℕ Global)) c.args.client_first_message.now
+    rw (from.1, is) (wants_costs (Option (Vec ℕ Global)) c.args.self.now.unbound c.args.client_first_message.now
     (client_first_values c.in_ok-client_first.client_first) c.args.meter.now _ c.in_ok-client_first.ensures.answer
     c.of_nobody_metered.ensures.counted)
 
@@ -44,13 +47,13 @@ pub returns-in_err-username-clause-cost : goal.returns-in_err-username-clause-co
 returns-in_err-username-clause-cost g c =
     let from = err_from_is_err_and c.from_residual-in_err-username.result c.from_residual-in_err-username.ensures.1 in
     let is : from.0 ≡ OutOfMemory = search rules in
-    rw (from.1, is) (wants_costs (Option (Vec ℕ Global)) c.args.client_first_message.now
+    rw (from.1, is) (wants_costs (Option (Vec ℕ Global)) c.args.self.now.unbound c.args.client_first_message.now
     (client_first_values c.in_ok-client_first.client_first) c.args.meter.now _ c.in_ok-client_first.ensures.answer
     c.of_nobody_metered.ensures.counted)
 
 pub returns-in-Err-clause-cost : goal.returns-in-Err-clause-cost
 returns-in-Err-clause-cost g c =
-    refusal_costs (Option (Vec ℕ Global)) c.args.client_first_message.now (client_first_values
+    refusal_costs (Option (Vec ℕ Global)) c.args.self.now.unbound c.args.client_first_message.now (client_first_values
     c.in_ok-client_first.client_first)
     c.in-Err.kind c.args.meter.now _ c.in_ok-client_first.ensures.answer
     (λ other. (c.in-Err.ensures.answer.1 other).0) c.of_nobody_metered.ensures.counted
@@ -58,10 +61,11 @@ returns-in-Err-clause-cost g c =
 pub returns-in-Err-clause-answer : goal.returns-in-Err-clause-answer
 returns-in-Err-clause-answer g c name named =
     let reads = c.in_ok-client_first.ensures.answer in (
-      λ memory. reaches_made_up (g.C.ScramCredentialProvider.meaning c.args.self.now.credentials) c.args.self.now.nobody
+      λ memory. reaches_made_up (serving c.args.self.now.unbound
+          (g.C.ScramCredentialProvider.meaning c.args.self.now.credentials)) c.args.self.now.nobody
           c.args.client_first_message.now name (client_first_values c.in_ok-client_first.client_first) reads
           (named _ reads),
-      λ other. absurd (read_or_refused c.args.client_first_message.now
+      λ other. absurd (read_or_refused c.args.self.now.unbound c.args.client_first_message.now
           (client_first_values c.in_ok-client_first.client_first) c.in-Err.kind reads
           (c.in-Err.ensures.answer.1 other).0),
     )
@@ -80,7 +84,7 @@ invariant_of-self g c =
     ≡ record { version = nobody.version; records = (user, nobody_record nobody user) ∷ [] } = search rules in
     let kept : (provider_in c.compute_server_first_message.new.self).made_up
     ≡ Some (record { version = nobody.version; records = (user, nobody_record nobody user) ∷ [] }) = search rules in
-    keeps_made_up (g.C.ScramCredentialProvider.meaning c.self.inside.authenticator.credentials.credentials) nobody
+    keeps_made_up c.self.inside.authenticator.accepts_unbound (g.C.ScramCredentialProvider.meaning c.self.inside.authenticator.credentials.credentials) nobody
     c.replace-before.new.dest _
     (state_in c.self.inside.authenticator) (state_in c.compute_server_first_message.new.self) c.args.nonce.now
     c.args.client_first_message.now (client_first_values c.in_ok-client_first.client_first) _
@@ -101,7 +105,7 @@ invariant_of-self-in-Ok-2 g c =
     ≡ record { version = nobody.version; records = (user, nobody_record nobody user) ∷ [] } = search rules in
     let kept : (provider_in c.compute_server_first_message.new.self).made_up
     ≡ Some (record { version = nobody.version; records = (user, nobody_record nobody user) ∷ [] }) = search rules in
-    keeps_made_up (g.C.ScramCredentialProvider.meaning c.self.inside.authenticator.credentials.credentials) nobody
+    keeps_made_up c.self.inside.authenticator.accepts_unbound (g.C.ScramCredentialProvider.meaning c.self.inside.authenticator.credentials.credentials) nobody
     c.replace-before.new.dest _
     (state_in c.self.inside.authenticator) (state_in c.compute_server_first_message.new.self) c.args.nonce.now
     c.args.client_first_message.now (client_first_values c.in_ok-client_first.client_first) _
