@@ -15,10 +15,10 @@ abbrev pub with_name : HidingServer → List ℕ → Acceptor
 with_name server name = ScramAcceptor (hiding_name server name) server.state
 
 -- this name counts at a frame: that of an init's user, at a response that of the open challenge
-abbrev pub NamedAt : ServerState → SaslFrame → List ℕ → Type 0
-NamedAt state (frames.Init mechanism (Some text) hostname) name = NamedIn text name
-NamedAt state (frames.Response text) name = NamedBy state name
-NamedAt state frame name = Unit {0}
+abbrev pub NamedAt : HidingServer → SaslFrame → List ℕ → Type 0
+NamedAt server (frames.Init mechanism (Some text) hostname) name = NamedIn server.provider.unbound text name
+NamedAt server (frames.Response text) name = NamedBy server.state name
+NamedAt server frame name = Unit {0}
 
 -- the names of its mechanisms
 abbrev pub hiding_names : HidingServer → List (List ℕ)
@@ -26,19 +26,19 @@ hiding_names server = mechanism_name server.provider.version ∷ []
 
 -- its machine
 abbrev pub hiding_machine : HidingServer → List ℕ → SaslFrame → SaslFrame → HidingServer → Type 0
-hiding_machine server nonce frame reply next = (name : List ℕ) × (moved : ServerState) × NamedAt server.state frame name
+hiding_machine server nonce frame reply next = (name : List ℕ) × (moved : ServerState) × NamedAt server frame name
     × acceptor_machine (with_name server name) nonce frame reply (ScramAcceptor (hiding_name server name) moved)
     × (next ≡ record server { state = moved })
 
 -- where it comes to ask for memory
 abbrev pub hiding_allocates : HidingServer → SaslFrame → Type 0
 hiding_allocates server frame =
-    (name : List ℕ) × NamedAt server.state frame name × acceptor_allocates (with_name server name) frame
+    (name : List ℕ) × NamedAt server frame name × acceptor_allocates (with_name server name) frame
 
 -- the init names the mechanism, and its client-first message is read
 abbrev pub ReachesLookUp : HidingServer → List ℕ → List ℕ → Type 0
 ReachesLookUp server mechanism text = (client : ClientFirst) × (mechanism ≡ mechanism_name server.provider.version)
-    × ReadsClientFirst text (Ok client)
+    × ReadsClientFirst server.provider.unbound text (Ok client)
 
 -- how many HMAC values its answer to a frame takes: at an init that comes to the look-up the three of the made-up
 -- record, of a known user too; for all else what the SCRAM acceptor takes
@@ -46,4 +46,4 @@ abbrev pub hiding_hmacs : HidingServer → SaslFrame → ℕ → Type 0
 hiding_hmacs server (frames.Init mechanism (Some text) hostname) n =
     (ReachesLookUp server mechanism text × (n ≡ 3)) ⊎ (¬ ReachesLookUp server mechanism text × (n ≡ 0))
 hiding_hmacs server frame n =
-    (name : List ℕ) × NamedAt server.state frame name × acceptor_hmacs (with_name server name) frame n
+    (name : List ℕ) × NamedAt server frame name × acceptor_hmacs (with_name server name) frame n

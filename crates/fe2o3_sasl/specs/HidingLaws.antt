@@ -25,7 +25,7 @@ hiding provider nobody state = record { provider = provider; nobody = nobody; st
 -- the names hold that of the body's client-first message, where it is an init with one that is read
 abbrev pub HoldsName : List (List ℕ) → Given → Type 0
 HoldsName names event = (mechanism text : List ℕ) (hostname : Option (List ℕ)) (client : ClientFirst)
-    → SpellsBody event.body (Ok (frames.Init mechanism (Some text) hostname)) → ReadsClientFirst text (Ok client)
+    → SpellsBody event.body (Ok (frames.Init mechanism (Some text) hostname)) → ReadsClientFirst provider.unbound text (Ok client)
     → Contains names client.user
 
 -- over any list of bodies a run of its machine is a run of the SCRAM acceptor over the provider with the made-up

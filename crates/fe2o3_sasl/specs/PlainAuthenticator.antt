@@ -4,7 +4,7 @@ use Rattle.std.specs.Str.{IsUtf8}
 use Rattle.fe2o3_sasl_wire.specs.declared.amqp_types.SaslCode.TheVariants as outcomes
 use Rattle.fe2o3_sasl_wire.specs.SaslFrames as frames
 use Rattle.fe2o3_sasl_wire.specs.SaslFrames.{SaslFrame}
-use Rattle.fe2o3_scram.specs.Credentials.{MeetsRecord, Provider, Record, making_tests, record_at}
+use Rattle.fe2o3_scram.specs.Credentials.{MeetsRecord, Store, Record, making_tests, record_at}
 use Rattle.fe2o3_scram.specs.Readings.{NoneHolds}
 use Rattle.fe2o3_scram.specs.Texts.{Without}
 use Rattle.fe2o3_sasl.specs.SaslAcceptor.{ends_with}
@@ -13,7 +13,7 @@ use Rattle.fe2o3_sasl.specs.declared.plain_authenticator.PlainMessage.{PlainMess
 
 -- such a server: its provider, the iteration count that it takes for an unknown user, and who has logged in
 pub record PlainServer : Type 0 where
-  pub provider : Provider
+  pub provider : Store
   pub count : ℕ
   pub user : Option (List ℕ)
 
@@ -40,12 +40,12 @@ AsksPlain (frames.Init mechanism (Some text) hostname) message =
 AsksPlain frame message = ⊥
 
 -- the user has a record, and the password is that of it (RFC 5802, section 3)
-abbrev pub HasPassword : Provider → PlainParts → Type 0
+abbrev pub HasPassword : Store → PlainParts → Type 0
 HasPassword provider message = (stored : Record) × (record_at provider.records message.user ≡ Some stored)
     × MeetsRecord provider.version message.password stored
 
 -- the frame logs this user in
-abbrev pub PlainLogsIn : Provider → SaslFrame → List ℕ → Type 0
+abbrev pub PlainLogsIn : Store → SaslFrame → List ℕ → Type 0
 PlainLogsIn provider frame user =
     (message : PlainParts) × AsksPlain frame message × HasPassword provider message × (user ≡ message.user)
 
@@ -81,7 +81,7 @@ plain_hmacs server frame n = ((count : ℕ) × TestsPassword server frame count 
 -- ---- the code's values
 
 -- the server that a value is, where stores mean this
-abbrev pub plain_server : {C : Type 0} → (C → Provider) → PlainAuthenticator C → PlainServer
+abbrev pub plain_server : {C : Type 0} → (C → Store) → PlainAuthenticator C → PlainServer
 plain_server meaning plain = record {
   provider = meaning plain.credentials;
   count = plain.iterations;

@@ -96,7 +96,7 @@ acceptor_machine acceptor nonce frame reply next = ⊥
 -- and at a response where it comes to a base64 text (RFC 5802, section 7); the others never
 abbrev pub acceptor_allocates : Acceptor → SaslFrame → Type 0
 acceptor_allocates (ScramAcceptor provider state) (frames.Init mechanism (Some text) hostname) =
-    (mechanism ≡ mechanism_name provider.version) × ReachesChallenge provider.records text
+    (mechanism ≡ mechanism_name provider.version) × ReachesChallenge provider text
 acceptor_allocates (ScramAcceptor provider state) (frames.Response text) = ReachesBase64In state provider text
 acceptor_allocates acceptor frame = ⊥
 

@@ -34,14 +34,14 @@ first_message challenge = (challenge_of challenge.client challenge.nonce challen
 
 -- what a response to it is read against
 abbrev pub server_at : Provider → Challenging → Server
-server_at provider challenge = server_of provider.version challenge.client.bare (first_message challenge)
-    (full_nonce challenge) challenge.stored
+server_at provider challenge = server_of provider.version challenge.client.header challenge.client.bare
+    (first_message challenge) (full_nonce challenge) challenge.stored
 
 -- the frame, with the event's nonce, fits as init: it names the mechanism, and its response is a client-first
 -- message of a user who has a record
 abbrev pub FitsAsInit : Provider → Given → SaslFrame → Challenging → Type 0
 FitsAsInit provider event (frames.Init mechanism (Some text) hostname) challenge =
-    (mechanism ≡ mechanism_name provider.version) × ReadsClientFirst text (Ok challenge.client)
+    (mechanism ≡ mechanism_name provider.version) × ReadsClientFirst provider.unbound text (Ok challenge.client)
     × (record_at provider.records challenge.client.user ≡ Some challenge.stored)
     × (challenge.nonce ≡ base64_text event.nonce)
 FitsAsInit provider event frame challenge = ⊥

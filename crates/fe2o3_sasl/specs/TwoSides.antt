@@ -4,6 +4,7 @@ use Rattle.std.specs.Prelude.{◌≡◌, ◌≢◌, ℕ, Some, List, length, sli
 use Rattle.fe2o3_sasl_wire.specs.declared.amqp_types.SaslCode.TheVariants as outcomes
 use Rattle.fe2o3_scram.specs.declared.hmac.ScramVersion.{ScramVersion}
 use Rattle.fe2o3_scram.specs.ClientFinal.{keys_for, without_proof}
+use Rattle.fe2o3_scram.specs.declared.scram_messages.gs2_header.Gs2Header.TheVariants.{Unsupported}
 use Rattle.fe2o3_scram.specs.ClientFirst.{client_first_bare}
 use Rattle.fe2o3_sasl.specs.ClientHistory.{Answering, AnswersAt, ClientHistory}
 use Rattle.fe2o3_scram.specs.Credentials.{Provider}
@@ -89,9 +90,10 @@ abbrev pub IsPlainInit : Accepted → Type 0
 IsPlainInit accepted = HasParts accepted.challenge.client.bare 2
 
 -- both sides mean one login: one version of keys, user name and client nonce and, where the init was plain, one full
--- nonce, salt and count
+-- nonce, salt and count, and one GS2 header where the challenge that was answered had exactly three parts
 pub record Agree (login : Login) (provider : Provider) (answer : Answering) (accepted : Accepted) : Type 0 where
   pub version : (keys_at login answer).version ≡ provider.version
+  pub header : IsPlainInit accepted → HasParts answer.text 3 → Unsupported ≡ accepted.challenge.client.header
   pub user : login.user ≡ accepted.challenge.client.user
   pub nonce : answer.nonce ≡ accepted.challenge.client.nonce
   pub full_nonce : IsPlainInit accepted → answer.first.nonce ≡ full_nonce accepted.challenge

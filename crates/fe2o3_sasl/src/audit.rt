@@ -6,7 +6,8 @@
 //! response of the client whose proof the server accepted. Its verdict says whether both sides mean
 //! one login, and, where not, which texts or keys of theirs collide.
 
-ghost use Rattle.std.specs.Prelude.{◌≡◌, IfOk, map};
+ghost use Rattle.std.specs.Prelude.{◌≡◌, IfOk, map, false};
+ghost use Rattle.fe2o3_scram.specs.Credentials.{serving};
 ghost use Rattle.fe2o3_scram.specs.ClientSecret.{no_limit};
 ghost use Rattle.fe2o3_sasl.specs.Audit.{AuditsEvents, finding_of};
 ghost use Rattle.fe2o3_sasl.specs.Runs.{given, login_of};
@@ -21,7 +22,7 @@ use crate::audit::client_receipts::{client_is_complete, client_receipts};
 use crate::audit::matching::{match_proofs, match_verifiers};
 use crate::audit::server_receipts::{server_is_complete, server_receipts};
 use crate::events::Event;
-use crate::whole_runs::{scram_client_run_limited, scram_server_run};
+use crate::whole_runs::{scram_client_run_limited, scram_server_run_unbound};
 use fe2o3_scram::credentials::ScramCredentialProvider;
 use fe2o3_scram::hmac::ScramVersion;
 use std::alloc::{AllocError, Global};
@@ -176,7 +177,7 @@ pub fn audit<C: ScramCredentialProvider>(
     server_events: &[Event],
 ) -> Result<Vec<Finding>, AuditError>
     ensures { IfOk result (λ findings. AuditsEvents (login_of version user.now password.now no_limit)
-        (map given client_events.now) (C.meaning credentials.now) (map given server_events.now)
+        (map given client_events.now) (serving false (C.meaning credentials.now)) (map given server_events.now)
         (map finding_of findings.items)) }
 {
     audit_limited(
@@ -203,8 +204,38 @@ pub fn audit_limited<C: ScramCredentialProvider>(
     server_events: &[Event],
 ) -> Result<Vec<Finding>, AuditError>
     ensures { IfOk result (λ findings. AuditsEvents (login_of version user.now password.now limit)
-        (map given client_events.now) (C.meaning credentials.now) (map given server_events.now)
+        (map given client_events.now) (serving false (C.meaning credentials.now)) (map given server_events.now)
         (map finding_of findings.items)) }
+{
+    audit_unbound(
+        alloc,
+        user,
+        password,
+        version,
+        limit,
+        client_events,
+        false,
+        credentials,
+        server_events,
+    )
+}
+
+/// As `audit_limited`, of a server that takes a client whose GS2 header is `y,,` too where
+/// `accepts_unbound` says so (`ScramAuthenticator::accepts_unbound`).
+pub fn audit_unbound<C: ScramCredentialProvider>(
+    alloc: Global,
+    user: &str,
+    password: &str,
+    version: ScramVersion,
+    limit: u32,
+    client_events: &[Event],
+    accepts_unbound: bool,
+    credentials: &C,
+    server_events: &[Event],
+) -> Result<Vec<Finding>, AuditError>
+    ensures { IfOk result (λ findings. AuditsEvents (login_of version user.now password.now limit)
+        (map given client_events.now) (serving accepts_unbound (C.meaning credentials.now))
+        (map given server_events.now) (map finding_of findings.items)) }
 {
     let client_replies = scram_client_run_limited(
         alloc,
@@ -214,7 +245,8 @@ pub fn audit_limited<C: ScramCredentialProvider>(
         limit,
         client_events,
     )?;
-    let server_replies = scram_server_run(alloc, credentials, server_events)?;
+    let server_replies =
+        scram_server_run_unbound(alloc, accepts_unbound, credentials, server_events)?;
     if !client_is_complete(&client_replies) {
         return Err(AuditError::OutOfMemory);
     }
@@ -230,7 +262,13 @@ pub fn audit_limited<C: ScramCredentialProvider>(
         client_events,
         &client_replies,
     )?;
-    let oks = server_receipts(alloc, credentials, server_events, &server_replies)?;
+    let oks = server_receipts(
+        alloc,
+        accepts_unbound,
+        credentials,
+        server_events,
+        &server_replies,
+    )?;
     let mut findings = Vec::new(alloc);
     match_verifiers(alloc, &mut findings, &client.taken, &oks)?;
     match_proofs(alloc, &mut findings, &client.shown, &oks)?;

@@ -25,7 +25,7 @@ pub mod sasl_profile;
 mod steps;
 mod whole_runs;
 
-pub use crate::audit::{AuditError, Finding, FindingKind, Parameters, Verdict, audit_limited};
+pub use crate::audit::{AuditError, Finding, FindingKind, Parameters, Verdict, audit_limited, audit_unbound};
 pub use crate::client_policy::{ChoiceError, ClientPolicy, Mechanism, best_profile};
 pub use crate::external_acceptor::ExternalAcceptor;
 pub use crate::offers_only::{OfferError, OffersOnly};
@@ -35,6 +35,7 @@ pub use crate::runs::{
     ClientReply, Event, EventError, ServerReply, acceptor_body_step, acceptor_step,
     acceptor_step_metered, profile_body_step, profile_step, profile_step_metered, run_acceptor,
     run_profile, scram_client_run, scram_client_run_limited, scram_server_run,
+    scram_server_run_unbound,
 };
 pub use crate::sasl_acceptor::{
     NamesUser, SaslAcceptor, SaslAcceptorExt, SaslAnonymousMechanism, SaslPlainMechanism,

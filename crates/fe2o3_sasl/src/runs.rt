@@ -1,7 +1,7 @@
 //! Events, steps, whole runs, and the audit of two of them, under one name.
 
 pub use crate::audit::{
-    AuditError, Finding, FindingKind, Parameters, Verdict, audit, audit_limited,
+    AuditError, Finding, FindingKind, Parameters, Verdict, audit, audit_limited, audit_unbound,
 };
 pub use crate::events::{ClientReply, Event, EventError, ServerReply};
 pub use crate::steps::{
@@ -10,4 +10,5 @@ pub use crate::steps::{
 };
 pub use crate::whole_runs::{
     run_acceptor, run_profile, scram_client_run, scram_client_run_limited, scram_server_run,
+    scram_server_run_unbound,
 };

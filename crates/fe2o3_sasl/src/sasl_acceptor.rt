@@ -7,7 +7,8 @@ ghost use Rattle.fe2o3_sasl_wire.specs.SaslFrames.{SaslFrame, Mechanisms, Challe
 ghost use Rattle.fe2o3_sasl_wire.specs.declared.amqp_types.SaslCode.TheVariants.{Ok as OkCode, Auth};
 ghost use Rattle.fe2o3_scram.specs.declared.scram_messages.error.ServerScramErrorKind.TheVariants.{OutOfMemory as ScramOutOfMemory};
 ghost use Rattle.std.proofs.Common.{ap};
-ghost use Rattle.fe2o3_scram.specs.ScramServer.{provider_in, state_in, logged_in};
+ghost use Rattle.fe2o3_scram.specs.Credentials.{serving};
+ghost use Rattle.fe2o3_scram.specs.ScramServer.{provider_in, served_by, state_in, logged_in};
 ghost use Rattle.fe2o3_sasl.specs.Costs.{acceptor_hmacs, CostsAtMost};
 ghost use Rattle.fe2o3_sasl.specs.SaslAcceptor.{Acceptor, ScramAcceptor, PlainAcceptor, AnonymousAcceptor, acceptor_names, acceptor_machine, acceptor_allocates, acceptor_user, offered, NamesPlain, ZeroPart, ends_with, server_frame, plain_acceptor, sent_frame};
 
@@ -406,7 +407,7 @@ impl NamesUser for SaslAnonymousMechanism {
 impl<C: ScramCredentialProvider> SaslAcceptor for ScramAuthenticator<C> {
     ghost State = { Acceptor };
 
-    ghost state = { λ authenticator. ScramAcceptor (C.meaning (provider_in authenticator)) (state_in authenticator) };
+    ghost state = { λ authenticator. ScramAcceptor (served_by C.meaning authenticator) (state_in authenticator) };
 
     ghost names = { acceptor_names };
 
@@ -418,7 +419,7 @@ impl<C: ScramCredentialProvider> SaslAcceptor for ScramAuthenticator<C> {
 
     ghost clone_keeps = { λ acceptor copy same.
         let kept = C.clone_keeps (provider_in acceptor) (provider_in copy) same.0 in
-        λ i. ScramAcceptor (kept i) (same.1 i) };
+        λ i. ScramAcceptor (serving (same.1 i) (kept i)) (same.2 i) };
 
     fn mechanisms(&self, alloc: Global) -> Result<Array<Symbol>, OutOfMemory> {
         one_name(alloc, self.credentials().scram_version().mechanism())
@@ -468,18 +469,18 @@ impl<C: ScramCredentialProvider> SaslAcceptor for ScramAuthenticator<C> {
     ) -> Result<SaslServerFrame, OutOfMemory>
         requires { meter.old ≤ 2 ^ 63 }
         ensures ok { IfOk result (λ reply. (nonce : List ℕ) → acceptor_machine
-            (ScramAcceptor (C.meaning (provider_in self.old)) (state_in self.old)) nonce (response_frame response)
-            (sent_frame reply) (ScramAcceptor (C.meaning (provider_in self.new)) (state_in self.new))) }
+            (ScramAcceptor (served_by C.meaning self.old) (state_in self.old)) nonce (response_frame response)
+            (sent_frame reply) (ScramAcceptor (served_by C.meaning self.new) (state_in self.new))) }
         ensures memory { IfErr result (λ _. acceptor_allocates
-            (ScramAcceptor (C.meaning (provider_in self.old)) (state_in self.old)) (response_frame response)) }
+            (ScramAcceptor (served_by C.meaning self.old) (state_in self.old)) (response_frame response)) }
         ensures err { OnErr result (◌≡◌ {A = Acceptor}
-            (ScramAcceptor (C.meaning (provider_in self.new)) (state_in self.new))
-            (ScramAcceptor (C.meaning (provider_in self.old)) (state_in self.old))) }
+            (ScramAcceptor (served_by C.meaning self.new) (state_in self.new))
+            (ScramAcceptor (served_by C.meaning self.old) (state_in self.old))) }
         ensures cost { CostsAtMost acceptor_hmacs
-            (ScramAcceptor (C.meaning (provider_in self.old)) (state_in self.old)) (response_frame response)
+            (ScramAcceptor (served_by C.meaning self.old) (state_in self.old)) (response_frame response)
             meter.old meter.new }
         ensures exactly { OnOk result ((n : ℕ) → acceptor_hmacs
-            (ScramAcceptor (C.meaning (provider_in self.old)) (state_in self.old)) (response_frame response) n
+            (ScramAcceptor (served_by C.meaning self.old) (state_in self.old)) (response_frame response) n
             → meter.new ≡ meter.old + n) }
     {
         match self.compute_server_final_message_metered(alloc, &response.response.0, meter) {

@@ -1,9 +1,11 @@
 //! Runs over lists of frame bodies: what an acceptor and a profile answer to each, in order (AMQP
 //! 1.0, part 5, section 5.3.2).
 
-ghost use Rattle.std.specs.Prelude.{◌≡◌, ◌<◌, ◌≤◌, ◌+◌, ◌++◌, ◌∷◌, [], map, IfOk, OnErr, vec_len, vec_capacity};
+ghost use Rattle.std.specs.Prelude.{◌≡◌, ◌<◌, ◌≤◌, ◌+◌, ◌++◌, ◌∷◌, [], map, IfOk, OnErr, vec_len, vec_capacity, false};
 ghost use Rattle.fe2o3_sasl_wire.specs.FrameView.{shown};
+ghost use Rattle.fe2o3_scram.specs.Credentials.{serving};
 ghost use Rattle.fe2o3_scram.specs.ClientSecret.{no_limit};
+ghost use Rattle.fe2o3_scram.specs.ScramServer.{Initial, served_by, state_in};
 ghost use Rattle.fe2o3_sasl.specs.ClientHistory.{ClientHistory};
 ghost use Rattle.fe2o3_sasl.specs.Events.{Login, IsLogin};
 ghost use Rattle.fe2o3_sasl.specs.ServerHistory.{ServerHistory};
@@ -84,16 +86,50 @@ pub fn scram_server_run<C: ScramCredentialProvider>(
     credentials: &C,
     events: &[Event],
 ) -> Result<Vec<Result<ServerReply, Error>>, OutOfMemory>
-    ensures history { IfOk result (λ replies. ServerHistory (C.meaning credentials.now) (map given events.now)
-        (map server_answer replies.items)) }
-    ensures exactly { IfOk result (λ replies. AnswersOkExactly (C.meaning credentials.now) (map given events.now)
-        (map server_answer replies.items)) }
-    ensures unaltered { IfOk result (λ replies. ServerLogsIn (C.meaning credentials.now) (map given events.now)
-        (map server_answer replies.items)) }
+    ensures history { IfOk result (λ replies. ServerHistory (serving false (C.meaning credentials.now))
+        (map given events.now) (map server_answer replies.items)) }
+    ensures exactly { IfOk result (λ replies. AnswersOkExactly (serving false (C.meaning credentials.now))
+        (map given events.now) (map server_answer replies.items)) }
+    ensures unaltered { IfOk result (λ replies. ServerLogsIn (serving false (C.meaning credentials.now))
+        (map given events.now) (map server_answer replies.items)) }
+{
+    scram_server_run_unbound(alloc, false, credentials, events)
+}
+
+/// As `scram_server_run`, of a server that takes a client whose GS2 header is `y,,` too where
+/// `accepts_unbound` says so (`ScramAuthenticator::accepts_unbound`).
+pub fn scram_server_run_unbound<C: ScramCredentialProvider>(
+    alloc: Global,
+    accepts_unbound: bool,
+    credentials: &C,
+    events: &[Event],
+) -> Result<Vec<Result<ServerReply, Error>>, OutOfMemory>
+    ensures history { IfOk result (λ replies. ServerHistory (serving accepts_unbound (C.meaning credentials.now))
+        (map given events.now) (map server_answer replies.items)) }
+    ensures exactly { IfOk result (λ replies. AnswersOkExactly (serving accepts_unbound (C.meaning credentials.now))
+        (map given events.now) (map server_answer replies.items)) }
+    ensures unaltered { IfOk result (λ replies. ServerLogsIn (serving accepts_unbound (C.meaning credentials.now))
+        (map given events.now) (map server_answer replies.items)) }
 {
     let provider = credentials.clone()?;
-    let mut authenticator = ScramAuthenticator::new(provider);
+    let mut authenticator = server_over(provider, accepts_unbound);
     run_acceptor(alloc, &mut authenticator, events)
+}
+
+/// A server over these credentials that has not been used.
+fn server_over<C: ScramCredentialProvider>(
+    credentials: C,
+    accepts_unbound: bool,
+) -> ScramAuthenticator<C>
+    ensures served { served_by C.meaning result ≡ serving accepts_unbound (C.meaning credentials) }
+    ensures state { state_in result ≡ Initial }
+{
+    let authenticator = ScramAuthenticator::new(credentials);
+    if accepts_unbound {
+        authenticator.accepts_unbound()
+    } else {
+        authenticator
+    }
 }
 
 /// What a SCRAM client answers to a list of bodies, from a fresh start and without a hostname: it

@@ -1,12 +1,13 @@
 -- Worked examples: one login over frame bodies, as it is sent, shifted by somebody on the way, and refused. Hashes stay
 -- as they are.
-use Rattle.std.specs.Prelude.{◌≢◌, ℕ, Some, None, List, [], ◌∷◌, ◌++◌, replicate, codes}
+use Rattle.std.specs.Prelude.{◌≢◌, ℕ, Some, None, List, [], ◌∷◌, ◌++◌, replicate, codes, false}
 use Rattle.fe2o3_sasl_wire.specs.declared.amqp_types.SaslCode.TheVariants as outcomes
 use Rattle.fe2o3_sasl_wire.specs.SaslFrames.{canonical, fault_of, SaslFrame}
 use Rattle.fe2o3_sasl_wire.specs.SaslFrames as frames
 use Rattle.fe2o3_scram.specs.declared.hmac.ScramVersion.TheVariants.{Sha256}
 use Rattle.fe2o3_scram.specs.Texts.{base64_text, joined}
 use Rattle.fe2o3_scram.specs.ClientSecret.{Password, no_limit, up_to}
+use Rattle.fe2o3_scram.specs.declared.scram_messages.gs2_header.Gs2Header.TheVariants.{Unsupported}
 use Rattle.fe2o3_scram.specs.Credentials.{Record, Provider, record_of}
 use Rattle.fe2o3_sasl.specs.ClientHistory.{Answering, answer_at, OpenAnswer}
 use Rattle.fe2o3_sasl.specs.Events.{Given, Login, IsLogin, IsRecord, Challenged, Concluded, Failed, Started, Answered, Reported, Refused, Frame}
@@ -58,7 +59,7 @@ stored = record_of Sha256 (codes "pencil") salt 4096
 
 -- a provider with that record alone
 abbrev pub provider : Provider
-provider = record { version = Sha256; records = (codes "user", stored) ∷ [] }
+provider = record { version = Sha256; records = (codes "user", stored) ∷ []; unbound = false }
 
 -- ---- messages
 
@@ -90,7 +91,7 @@ answering text nonce = record {
 -- what the server makes of a client-first message
 abbrev pub challenging : List ℕ → Challenging
 challenging bare = record {
-  client = record { user = codes "user"; nonce = client_nonce; bare = bare };
+  client = record { header = Unsupported; user = codes "user"; nonce = client_nonce; bare = bare };
   nonce =
       server_nonce;
   stored = stored;
@@ -244,7 +245,7 @@ refused_sides = record {
   client_events = event_of client_bytes offers ∷ event_of client_bytes sends_auth ∷ silent client_bytes ∷ [];
   client_replies = Started (body_of (sends_init (joined (names (codes "user"))))) ∷ Reported outcomes.Auth None
       ∷ Refused (Frame (fault_of [])) ∷ [];
-  provider = record { version = Sha256; records = [] };
+  provider = record { version = Sha256; records = []; unbound = false };
   server_events = event_of server_bytes (sends_init (joined (names (codes "user")))) ∷ silent server_bytes ∷ [];
   server_replies = Concluded outcomes.Auth (body_of sends_auth) ∷ Failed (fault_of []) ∷ [];
 }

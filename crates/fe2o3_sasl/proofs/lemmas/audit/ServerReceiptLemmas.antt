@@ -6,8 +6,9 @@ use Rattle.fe2o3_sasl_wire.specs.declared.amqp_types.SaslCode.TheVariants as out
 use Rattle.fe2o3_sasl_wire.specs.SaslFrames as frames
 use Rattle.fe2o3_sasl_wire.specs.SaslFrames.{SaslFrame}
 use Rattle.fe2o3_scram.specs.ClientFinal.{ClientFinal, HasProof, ReadsFinalText}
+use Rattle.fe2o3_scram.specs.declared.scram_messages.gs2_header.Gs2Header.{Gs2Header}
 use Rattle.fe2o3_scram.specs.ClientFirst.{ClientFirst, ReadsClientFirst}
-use Rattle.fe2o3_scram.specs.Credentials.{Provider, Record, Records, record_at}
+use Rattle.fe2o3_scram.specs.Credentials.{Provider, Record, record_at}
 use Rattle.fe2o3_scram.specs.ServerFirst.{Challenge, challenge_of, AnswersClientFirst}
 use Rattle.fe2o3_scram.proofs.lemmas.messages.ClientFinalLemmas.{names_final_text, one_proof}
 use Rattle.fe2o3_scram.proofs.lemmas.messages.OneValueLemmas.{one_client_first_value}
@@ -37,18 +38,19 @@ HasParts-length text n has =
 -- ---- the challenge and the response again
 
 -- what is answered to a message that was read, where this is the record of its user
-pub challenge_again : (records : Records) (nonce text : List ℕ) (challenge : Challenge) (client : ClientFirst)
-    (stored : Record) → AnswersClientFirst records nonce text (Ok (Some challenge)) → ReadsClientFirst text (Ok client)
-    → Some stored ≡ record_at records client.user → challenge ≡ challenge_of client nonce stored
-challenge_again records nonce text challenge client stored answers reads known =
-    let one = one_client_first_value text answers.0 client answers.2 reads in
+pub challenge_again : (provider : Provider) (nonce text : List ℕ) (challenge : Challenge) (client : ClientFirst)
+    (stored : Record) → AnswersClientFirst provider nonce text (Ok (Some challenge))
+    → ReadsClientFirst provider.unbound text (Ok client) → Some stored ≡ record_at provider.records client.user
+    → challenge ≡ challenge_of client nonce stored
+challenge_again provider nonce text challenge client stored answers reads known =
+    let one = one_client_first_value provider.unbound text answers.0 client answers.2 reads in
     let same = same_Some answers.1 stored
-    (sym answers.3 ∙ (ap (λ (first : ClientFirst). record_at records first.user) one ∙ sym known)) in
+    (sym answers.3 ∙ (ap (λ (first : ClientFirst). record_at provider.records first.user) one ∙ sym known)) in
     answers.4 ∙ (λ i. challenge_of (one i) nonce (same i))
 
-pub proof_again : (nonce text : List ℕ) (final : ClientFinal) → ReadsFinalText nonce text (Ok final)
-    → HasProof text final
-proof_again nonce text final reads = (names_final_text nonce text final reads).proof
+pub proof_again : (header : Gs2Header) (nonce text : List ℕ) (final : ClientFinal)
+    → ReadsFinalText header nonce text (Ok final) → HasProof text final
+proof_again header nonce text final reads = (names_final_text header nonce text final reads).proof
 
 -- a challenge that is made again is the one that fitted
 same_init : (provider : Provider) (init : Given) (frame : SaslFrame) (challenge opened : Challenging)

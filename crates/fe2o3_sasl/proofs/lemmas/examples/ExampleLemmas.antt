@@ -148,6 +148,7 @@ not_plain is = let same = ap length (one_list_of_parts (init_text shifted) is.0 
 agree : Agree login (sides_with shifted).provider (answer_to shifted) (accepted_with shifted)
 agree = record {
   version = refl;
+  header = λ is. absurd (not_plain is);
   user = refl;
   nonce = refl;
   full_nonce = λ is. absurd (not_plain is);

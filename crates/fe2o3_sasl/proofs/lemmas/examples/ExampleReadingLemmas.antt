@@ -1,5 +1,5 @@
 -- How the messages of the worked examples are read.
-use Rattle.std.proofs.Common.{◌≡◌, ◌≤◌, ◌<◌, ℕ, List, [], ◌∷◌, ◌++◌, length, refl, sym, ◌∙◌, ap, subst, arith, codes, Ok, inl, inr}
+use Rattle.std.proofs.Common.{◌≡◌, ◌≤◌, ◌<◌, ℕ, List, [], ◌∷◌, ◌++◌, length, refl, sym, ◌∙◌, ap, subst, arith, codes, Ok, inl, inr, false}
 use Rattle.std.specs.List.{AllByRecursion}
 use Rattle.std.specs.Str.{IsUtf8}
 use Rattle.std.proofs.lemmas.List.Elements.{All-from_recursion}
@@ -8,7 +8,10 @@ use Rattle.std.proofs.lemmas.Str.{IsUtf8-append}
 use Rattle.base64.specs.GeneralPurpose.{IsBytes}
 use Rattle.fe2o3_scram.specs.declared.hmac.ScramVersion.TheVariants.{Sha256}
 use Rattle.fe2o3_scram.specs.Texts.{base64_text, IsCount, Parts, Part, joined}
-use Rattle.fe2o3_scram.specs.ClientFinal.{without_proof, Server, HasProof, ReadsClientFinal, Meets}
+use Rattle.fe2o3_scram.specs.ClientFinal.{HasBinding, HasProof, Meets, ReadsClientFinal, Server, without_proof}
+use Rattle.fe2o3_scram.specs.ClientFirst as client_first
+use Rattle.fe2o3_scram.specs.declared.scram_messages.gs2_header.Gs2Header.{Gs2Header}
+use Rattle.fe2o3_scram.specs.declared.scram_messages.gs2_header.Gs2Header.TheVariants.{Unsupported}
 use Rattle.fe2o3_scram.specs.ClientFirst.{ReadsClientFirst}
 use Rattle.fe2o3_sasl.specs.ClientHistory.{client_at, answer_at}
 use Rattle.fe2o3_scram.specs.Escape.{escaped}
@@ -85,14 +88,14 @@ plain_binds nonce plain = (plain-literal (codes "c=biws") refl refl, (plain_nonc
 -- ---- the client-first message, with more parts behind the nonce
 
 pub reads_names : (user : List ℕ) (more : List (List ℕ)) → escaped user ≡ user → Plain user → AllByRecursion Plain more
-    → ReadsClientFirst (codes "n,," ++ joined (names user ++ more))
-    (Ok (record { user = user; nonce = client_nonce; bare = joined (names user ++ more) }))
+    → ReadsClientFirst false (codes "n,," ++ joined (names user ++ more))
+    (Ok (record { header = Unsupported; user = user; nonce = client_nonce; bare = joined (names user ++ more) }))
 reads_names user more sent plain too =
     let all = each_append Plain (names user) more (plain_names user plain) too in
     let parts = parts_joined (codes "n=" ++ user) ((codes "r=" ++ client_nonce) ∷ more) all in
-    named (codes "n,," ++ joined (names user ++ more)) (joined (names user ++ more))
+    named false Unsupported (codes "n,," ++ joined (names user ++ more)) (joined (names user ++ more))
     (IsUtf8-append (codes "n,,") (joined (names user ++ more)) (IsUtf8-literal (codes "n,,") refl)
-    (utf8_joined (names user ++ more) all)) refl user user client_nonce
+    (utf8_joined (names user ++ more) all)) tt refl user user client_nonce
     (names user ++ more, parts, refl) sent (names user ++ more, parts, refl)
 
 -- ---- the server-first message, with more parts behind the count
@@ -295,17 +298,17 @@ module _ (more : List (List ℕ)) (too : AllByRecursion Plain more) (proof : Lis
       (record { without = joined (binds both ++ more); proof = proof })
   has_final bytes = (bytes, (plain_last.0, refl))
 
-  pub reads_final : (server : Server) → server.nonce ≡ both → IsBytes proof → length proof ≡ digest_len server.version
+  pub reads_final : (server : Server) → Unsupported ≡ server.header → server.nonce ≡ both → IsBytes proof → length proof ≡ digest_len server.version
       → Meets server (record { without = joined (binds both ++ more); proof = proof })
       → ReadsClientFinal server (final_text more proof) (Ok
       (record { without = joined (binds both ++ more); proof = proof }))
-  reads_final server same bytes sized meets =
+  reads_final server header same bytes sized meets =
       let text = final_text more proof in
       let binding : Part text 0 (codes "c=" ++ codes "biws") = (parts, final_parts, refl) in
       let nonce : Part text 1 (codes "r=" ++ both) = (parts, final_parts, refl) in
       final_read server text (record { without = joined (binds both ++ more); proof = proof }) utf8_final
       (record {
-        binding = (
+        binding = subst (λ (own : Gs2Header). HasBinding text (client_first.header_text own)) header (
           IsBytes-literal (codes "n,,") refl,
           subst
               (λ (spelling : List ℕ). Part text 0 (codes "c=" ++ spelling)) (sym header_text) binding,

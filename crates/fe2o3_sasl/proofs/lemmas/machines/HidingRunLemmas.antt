@@ -85,7 +85,7 @@ module _ (provider : Provider) (nobody : Nobody) (names : List (List ℕ)) where
 
   -- the names hold that of a text that is read
   abbrev HoldsText : List ℕ → Type 0
-  HoldsText text = (client : ClientFirst) → ReadsClientFirst text (Ok client) → Contains names client.user
+  HoldsText text = (client : ClientFirst) → ReadsClientFirst provider.unbound text (Ok client) → Contains names client.user
 
   -- and that of an open challenge
   abbrev HoldsOpen : ServerState → Type 0
@@ -93,7 +93,7 @@ module _ (provider : Provider) (nobody : Nobody) (names : List (List ℕ)) where
   HoldsOpen state = Unit {0}
 
   first_alike : (state next : ServerState) (nonce text name : List ℕ)
-      (answer : Result (Option (List ℕ)) ServerScramErrorKind) → NamedIn text name → HoldsText text
+      (answer : Result (Option (List ℕ)) ServerScramErrorKind) → NamedIn provider.unbound text name → HoldsText text
       → ChallengesFrom state (one name) nonce text answer next → ChallengesFrom state all nonce text answer next
   first_alike state next nonce text name (Ok (Some message)) named holds
       (challenge, (client, stored, reads, known, is), said, same) = (

@@ -6,14 +6,14 @@ use Rattle.fe2o3_sasl_wire.specs.SaslFrames.{SaslFrame}
 use Rattle.fe2o3_scram.specs.declared.scram_messages.error.ScramErrorKind.{ScramErrorKind}
 use Rattle.fe2o3_scram.specs.declared.scram_messages.error.ServerScramErrorKind.{ServerScramErrorKind}
 use Rattle.fe2o3_scram.specs.declared.scram_messages.error.ServerScramErrorKind.TheVariants.{AuthenticationFailed}
-use Rattle.fe2o3_scram.specs.ClientFinal.{Server, ClientFinal, ReadsClientFinal, Answer, answer_of, server_of}
+use Rattle.fe2o3_scram.specs.ClientFinal.{Server, ClientFinal, ReadsClientFinal, Answer, answer_of}
 use Rattle.fe2o3_scram.specs.ClientFirst.{ClientFirst, ReadsClientFirst}
 use Rattle.fe2o3_scram.specs.Credentials.{Record, Provider, record_at}
 use Rattle.fe2o3_scram.specs.ClientKeys.{ClientKeys}
 use Rattle.fe2o3_scram.specs.ScramClient as client_states
 use Rattle.fe2o3_scram.specs.ScramClient.{ClientState, ClientSide, AnswersIn, BelievesIn, with_state, holding}
 use Rattle.fe2o3_scram.specs.ScramServer as server_states
-use Rattle.fe2o3_scram.specs.ScramServer.{ServerState, ChallengesFrom, ConcludesFrom}
+use Rattle.fe2o3_scram.specs.ScramServer.{ServerState, ChallengesFrom, ConcludesFrom, server_against}
 use Rattle.fe2o3_scram.specs.ServerFinal.{ReadsServerFinal, server_final_of}
 use Rattle.fe2o3_scram.specs.ServerFirst.{Challenge, ServerFirst, ReadsServerFirst, challenge_of}
 use Rattle.fe2o3_scram.specs.Texts.{base64_text}
@@ -56,7 +56,7 @@ first_turn state provider nonce (Err fault) = (Err fault, state)
 challenge_made : (state : ServerState) (provider : Provider) (nonce text : List ℕ)
     (answer : Result (Option (List ℕ)) ServerScramErrorKind) (next : ServerState)
     → ChallengesFrom state provider nonce text answer next
-    → MadeOf (ReadsClientFirst text) (first_turn state provider nonce) (answer, next)
+    → MadeOf (ReadsClientFirst provider.unbound text) (first_turn state provider nonce) (answer, next)
 challenge_made state provider nonce text (Ok (Some message)) next is =
     let made = is.1.4 in
     let first = is.2 ∙ ap (λ (x : Challenge). x.first) made in
@@ -78,7 +78,7 @@ final_turn challenge server (Err fault) = (Err fault, server_states.ServerFirstS
 -- the turn to a client-final message where the challenge is open: the record is there, or is not
 abbrev ConcludesWith : Challenge → Provider → List ℕ → Option Record → ServerTurn → Type 0
 ConcludesWith challenge provider text (Some stored) turn =
-    let server = server_of provider.version challenge.bare challenge.first challenge.nonce stored in
+    let server = server_against provider challenge stored in
     MadeOf (ReadsClientFinal server text) (final_turn challenge server) turn
 ConcludesWith challenge provider text None turn =
     turn ≡ (Err AuthenticationFailed, server_states.ServerFirstSent challenge)
@@ -87,7 +87,7 @@ one_concluded : (challenge : Challenge) (provider : Provider) (text : List ℕ) 
     (turn other : ServerTurn) → ConcludesWith challenge provider text stored turn
     → ConcludesWith challenge provider text stored other → turn ≡ other
 one_concluded challenge provider text (Some stored) turn other is too =
-    let server = server_of provider.version challenge.bare challenge.first challenge.nonce stored in
+    let server = server_against provider challenge stored in
     one_made (ReadsClientFinal server text) (final_turn challenge server) turn other (one_client_final server text)
     is too
 one_concluded challenge provider text None turn other is too = is ∙ sym too
@@ -155,7 +155,7 @@ one_acceptor_reply (ScramAcceptor provider state) nonce (frames.Init mechanism (
     let turn : ServerTurn = (is.1.0, is.1.1) in
     let again : ServerTurn = (too.1.0, too.1.1) in
     turn_taken provider (λ message. frames.Challenge message) turn again reply other next last
-    (one_made (ReadsClientFirst text) (first_turn state provider nonce) turn again (one_client_first text)
+    (one_made (ReadsClientFirst provider.unbound text) (first_turn state provider nonce) turn again (one_client_first provider.unbound text)
     (challenge_made state provider nonce text is.1.0 is.1.1 is.1.2)
     (challenge_made state provider nonce text too.1.0 too.1.1 too.1.2))
     is.1.3 is.1.4 too.1.3 too.1.4

@@ -4,11 +4,11 @@ use Rattle.std.specs.Prelude.{MatchOption, IfOk, OnOk}
 use Rattle.fe2o3_sasl_wire.specs.SaslFrames as frames
 use Rattle.fe2o3_scram.specs.declared.scram_messages.error.ServerScramErrorKind.{ServerScramErrorKind}
 use Rattle.fe2o3_scram.specs.declared.scram_messages.error.ServerScramErrorKind.TheVariants.{AuthenticationFailed, OutOfMemory}
-use Rattle.fe2o3_scram.specs.ClientFinal.{Server, ReadsClientFinal, server_of}
+use Rattle.fe2o3_scram.specs.ClientFinal.{Server, ReadsClientFinal}
 use Rattle.fe2o3_scram.specs.Credentials.{Record, Provider, record_at}
 use Rattle.fe2o3_scram.specs.Readings.{Gives}
 use Rattle.fe2o3_scram.specs.ScramServer as server_states
-use Rattle.fe2o3_scram.specs.ScramServer.{ServerState, ConcludesFrom, FinalCostsFrom}
+use Rattle.fe2o3_scram.specs.ScramServer.{ServerState, ConcludesFrom, FinalCostsFrom, server_against}
 use Rattle.fe2o3_scram.specs.ServerFinal.{FinalCosts}
 use Rattle.fe2o3_scram.specs.ServerFirst.{Challenge}
 use Rattle.fe2o3_sasl.specs.Costs.{acceptor_hmacs, CostsAtMost}
@@ -18,7 +18,7 @@ use Rattle.fe2o3_sasl.proofs.lemmas.machines.OneReplyLemmas.{ServerTurn, one_con
 -- the server that a challenge makes of this record
 abbrev with_record : Challenge → Provider → Record → Server
 with_record challenge provider stored =
-    server_of provider.version challenge.bare challenge.first challenge.nonce stored
+    server_against provider challenge stored
 
 -- a meter never falls
 rises : {A : Type 0} (server : Server) (text : List ℕ) (result : Result A ServerScramErrorKind) (before after : ℕ)

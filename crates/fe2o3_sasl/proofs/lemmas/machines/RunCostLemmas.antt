@@ -11,12 +11,12 @@ use Rattle.fe2o3_scram.specs.declared.scram_messages.error.ServerScramErrorKind.
 use Rattle.fe2o3_scram.specs.declared.scram_messages.error.ServerScramErrorKind.TheVariants.{AuthenticationFailed, OutOfMemory as NoMemory}
 use Rattle.fe2o3_scram.specs.declared.scram_messages.error.ScramErrorKind.{ScramErrorKind}
 use Rattle.fe2o3_scram.specs.declared.client_secret.IterationLimits.{IterationLimits}
-use Rattle.fe2o3_scram.specs.ClientFinal.{Server, server_of}
+use Rattle.fe2o3_scram.specs.ClientFinal.{Server}
 use Rattle.fe2o3_scram.specs.Credentials.{Record, Provider, record_at}
 use Rattle.fe2o3_scram.specs.ScramClient as client_states
 use Rattle.fe2o3_scram.specs.ScramClient.{ClientSide, ClientState, AnswerCostsIn, AnswersIn, BelievesIn, started}
 use Rattle.fe2o3_scram.specs.ScramServer as server_states
-use Rattle.fe2o3_scram.specs.ScramServer.{ServerState, FinalCostsFrom}
+use Rattle.fe2o3_scram.specs.ScramServer.{ServerState, FinalCostsFrom, server_against}
 use Rattle.fe2o3_scram.specs.ServerFinal.{FinalCosts}
 use Rattle.fe2o3_scram.proofs.lemmas.texts.DecisionLemmas.{Decided, utf8_or}
 use Rattle.fe2o3_sasl.specs.Bodies.{SpellsBody, carried}
@@ -47,10 +47,10 @@ some_takes (server_states.ServerFirstSent challenge) provider text answer =
     go (record_at provider.records challenge.user)
   where
     go : (stored : Option Record) → (n : ℕ) × (n ≤ 2) × MatchOption stored (n ≡ 0)
-        (λ stored. FinalCosts (server_of provider.version challenge.bare challenge.first challenge.nonce stored) text
+        (λ stored. FinalCosts (server_against provider challenge stored) text
         answer 0 n)
     go None = (0, omega (arith), refl)
-    go (Some stored) = some_final (server_of provider.version challenge.bare challenge.first challenge.nonce stored)
+    go (Some stored) = some_final (server_against provider challenge stored)
         text answer
 some_takes server_states.Initial provider text answer = (0, omega (arith), refl)
 some_takes (server_states.ServerFinalSent user) provider text answer = (0, omega (arith), refl)

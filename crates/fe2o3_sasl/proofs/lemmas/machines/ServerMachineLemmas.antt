@@ -192,11 +192,11 @@ init_step provider held event mechanism text hostname says state moved next repl
     auth_init provider held event mechanism (Some text) hostname says state moved next reply shown
     (λ c fits. none-some c.stored
     (sym from.0.2 ∙ (ap (λ (first : ClientFirst). record_at provider.records first.user)
-    (one_client_first_value text from.0.0 c.client from.0.1 fits.1) ∙ fits.2)))
+    (one_client_first_value provider.unbound text from.0.0 c.client from.0.1 fits.1) ∙ fits.2)))
     r from.1 h
 init_step provider held event mechanism text hostname says state moved next reply (Err fault) shown name from r h =
     auth_init provider held event mechanism (Some text) hostname says state moved next reply shown (λ c fits. let e =
-    one_client_first text (Err fault) (Ok c.client) from.0 fits.1 in absurd (cc)) r from.1 h
+    one_client_first provider.unbound text (Err fault) (Ok c.client) from.0 fits.1 in absurd (cc)) r from.1 h
 
 -- the server reads a response against the challenge that is open
 same_server : (provider : Provider) (c : Challenging) (stored : Record)
@@ -218,12 +218,12 @@ response_step provider c event text says moved next reply (Ok (Some message)) kn
     let final = from.2.0 in
     let p : Accepted = record { challenge = c; final = final } in
     let reads : ReadsClientFinal (server_at provider c) text (Ok final) =
-    subst (λ (x : Record). ReadsClientFinal (server_of provider.version c.client.bare (first_message c)
+    subst (λ (x : Record). ReadsClientFinal (server_of provider.version c.client.header c.client.bare (first_message c)
     (full_nonce c) x)
     text (Ok final)) stored from.2.1 in
     let said : message ≡ final_message provider p = from.2.2 ∙ ap
     (λ (x : Record). Rattle.fe2o3_scram.specs.ServerFinal.server_final_of
-    (server_of provider.version c.client.bare (first_message c) (full_nonce c) x) final) stored in
+    (server_of provider.version c.client.header c.client.bare (first_message c) (full_nonce c) x) final) stored in
     let frame : reply ≡ frames.Outcome outcomes.Ok (Some (final_message provider p)) =
     r ∙ ap (λ (t : List ℕ). frames.Outcome outcomes.Ok (Some t)) said in
     let g = subst (λ (f : SaslFrame). Sends (Failed faults.TooLarge) (server_says f) (canonical f)
@@ -243,7 +243,7 @@ response_step provider c event text says moved next reply (Err fault) known from
   where
     unfit : (p : Accepted) → FitsAsResponse provider (λ d. Some c ≡ Some d) (frames.Response text) p
         → ((stored : Record) × (record_at provider.records c.client.user ≡ Some stored)
-        × ReadsClientFinal (server_of provider.version c.client.bare (first_message c) (full_nonce c) stored) text
+        × ReadsClientFinal (server_of provider.version c.client.header c.client.bare (first_message c) (full_nonce c) stored) text
         (Err fault))
         ⊎ ((record_at provider.records c.client.user ≡ None) × (fault ≡ AuthenticationFailed)) → ⊥
     unfit p fits (inl x) =
@@ -251,7 +251,7 @@ response_step provider c event text says moved next reply (Err fault) known from
         let same : c ≡ p.challenge = same_Some c p.challenge fits.0 in
         let refused : ReadsClientFinal (server_at provider p.challenge) text (Err fault) =
         subst (λ (d : Challenging). ReadsClientFinal (server_at provider d) text (Err fault)) same
-        (subst (λ (r : Record). ReadsClientFinal (server_of provider.version c.client.bare (first_message c)
+        (subst (λ (r : Record). ReadsClientFinal (server_of provider.version c.client.header c.client.bare (first_message c)
         (full_nonce c) r) text (Err fault)) stored x.2) in
         let e = one_client_final (server_at provider p.challenge) text (Err fault) (Ok p.final) refused fits.1 in
         cc

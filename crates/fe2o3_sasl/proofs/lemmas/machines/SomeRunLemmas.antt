@@ -10,13 +10,13 @@ use Rattle.fe2o3_sasl_wire.specs.declared.amqp_types.SaslCode.TheVariants as out
 use Rattle.fe2o3_sasl_wire.specs.declared.sasl_frames.error.Error.{Error}
 use Rattle.fe2o3_sasl_wire.specs.declared.sasl_frames.error.Error.TheVariants as faults
 use Rattle.fe2o3_sasl_wire.proofs.lemmas.frames.LawLemmas.{bodies_have_one_answer}
-use Rattle.fe2o3_scram.specs.ClientFinal.{ClientFinal, ReadsClientFinal, server_of, answer_of}
+use Rattle.fe2o3_scram.specs.ClientFinal.{ClientFinal, ReadsClientFinal, answer_of}
 use Rattle.fe2o3_scram.specs.ClientFirst.{ClientFirst, ReadsClientFirst}
 use Rattle.fe2o3_scram.specs.Credentials.{Record, Provider, record_at}
 use Rattle.fe2o3_scram.specs.Hmac.{mechanism_name}
 use Rattle.fe2o3_scram.specs.ScramClient as client_states
 use Rattle.fe2o3_scram.specs.ScramClient.{ClientSide, ClientState, AnswersIn, BelievesIn, started, with_state, holding}
-use Rattle.fe2o3_scram.specs.ScramServer.{ServerState, Initial, ServerFirstSent, ServerFinalSent, ChallengesFrom, ConcludesFrom}
+use Rattle.fe2o3_scram.specs.ScramServer.{ServerState, Initial, ServerFirstSent, ServerFinalSent, ChallengesFrom, ConcludesFrom, server_against}
 use Rattle.fe2o3_scram.specs.ServerFinal.{ReadsServerFinal, server_final_of}
 use Rattle.fe2o3_scram.specs.ServerFirst.{ServerFirst, ReadsServerFirst, challenge_of}
 use Rattle.fe2o3_scram.specs.Texts.{base64_text}
@@ -59,9 +59,9 @@ some_spelling body are = let read = bodies_have_one_answer body are in go read.0
 some_challenge : (state : ServerState) (provider : Provider) (nonce text : List ℕ)
     → (answer : Result (Option (List ℕ)) ServerScramErrorKind) × (after : ServerState)
     × ChallengesFrom state provider nonce text answer after
-some_challenge state provider nonce text = let read = some_client_first text in go read.0 read.1
+some_challenge state provider nonce text = let read = some_client_first provider.unbound text in go read.0 read.1
   where
-    known : (client : ClientFirst) → ReadsClientFirst text (Ok client) → (found : Option Record)
+    known : (client : ClientFirst) → ReadsClientFirst provider.unbound text (Ok client) → (found : Option Record)
         → record_at provider.records client.user ≡ found
         → (answer : Result (Option (List ℕ)) ServerScramErrorKind) × (after : ServerState)
         × ChallengesFrom state provider nonce text answer after
@@ -73,7 +73,7 @@ some_challenge state provider nonce text = let read = some_client_first text in 
           (challenge, (client, stored, reads, is, refl), refl, refl),
         )
 
-    go : (read : Result ClientFirst ServerScramErrorKind) → ReadsClientFirst text read
+    go : (read : Result ClientFirst ServerScramErrorKind) → ReadsClientFirst provider.unbound text read
         → (answer : Result (Option (List ℕ)) ServerScramErrorKind) × (after : ServerState)
         × ChallengesFrom state provider nonce text answer after
     go (Ok client) reads = known client reads (record_at provider.records client.user) refl
@@ -90,11 +90,11 @@ some_conclusion (ServerFirstSent challenge) provider text = known (record_at pro
   where
     read : (stored : Record) → record_at provider.records challenge.user ≡ Some stored
         → (read : Result ClientFinal ServerScramErrorKind) → ReadsClientFinal
-        (server_of provider.version challenge.bare challenge.first challenge.nonce stored) text read
+        (server_against provider challenge stored) text read
         → (answer : Result (Option (List ℕ)) ServerScramErrorKind) × (after : ServerState)
         × ConcludesFrom (ServerFirstSent challenge) provider text answer after
     read stored is (Ok final) reads = (
-      Ok (Some (server_final_of (server_of provider.version challenge.bare challenge.first challenge.nonce stored)
+      Ok (Some (server_final_of (server_against provider challenge stored)
           final)),
       ServerFinalSent challenge.user,
       (stored, is, (final, reads, refl), refl),
@@ -106,7 +106,7 @@ some_conclusion (ServerFirstSent challenge) provider text = known (record_at pro
         × ConcludesFrom (ServerFirstSent challenge) provider text answer after
     known None is = (Err AuthenticationFailed, ServerFirstSent challenge, (inr (is, refl), refl))
     known (Some stored) is = let answer = some_client_final
-        (server_of provider.version challenge.bare challenge.first challenge.nonce stored) text in
+        (server_against provider challenge stored) text in
         read stored is answer.0 answer.1
 
 -- what the machine does with an init

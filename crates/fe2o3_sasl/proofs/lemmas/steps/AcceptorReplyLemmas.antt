@@ -46,7 +46,7 @@ init_refused sent view provider other state next nonce mechanism text hostname k
 pub init_wants : {X V E : Type 0} (view : V → Option (List ℕ)) (provider : Provider) (state next : ServerState)
     (nonce mechanism text : List ℕ) (hostname : Option (List ℕ)) (kind : ServerScramErrorKind) (result : Result X E)
     → mechanism ≡ mechanism_name provider.version
-    → Gives OutOfMemory (ReachesChallenge provider.records text) view (Err kind)
+    → Gives OutOfMemory (ReachesChallenge provider text) view (Err kind)
     (λ answer. ChallengesFrom state provider nonce text answer next)
     → IfErr result (λ _. kind ≡ OutOfMemory)
     → IfErr result (λ _. acceptor_allocates (ScramAcceptor provider state)

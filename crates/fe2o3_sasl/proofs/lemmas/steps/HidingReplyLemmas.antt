@@ -35,7 +35,7 @@ module _ (server : HidingServer) (nonce mechanism text : List ℕ) (hostname : O
   pub other_mechanism : (reply : SaslFrame) → mechanism ≢ mechanism_name server.provider.version
       → reply ≡ ends_with outcomes.Auth → hiding_machine server nonce init reply server
   other_mechanism reply other is =
-      let name = some_name text in (name.0, server.state, name.1, inl (other, is, refl), refl)
+      let name = some_name server.provider.unbound text in (name.0, server.state, name.1, inl (other, is, refl), refl)
 
   pub other_hmacs : (before n : ℕ) → mechanism ≢ mechanism_name server.provider.version
       → hiding_hmacs server init n → before ≡ before + n
@@ -46,12 +46,12 @@ module _ (server : HidingServer) (nonce mechanism text : List ℕ) (hostname : O
       (is_name : mechanism ≡ mechanism_name server.provider.version) where
     -- that has an answer
     pub hiding_answered : (answer : Result (Option (List ℕ)) ServerScramErrorKind) (reply : SaslFrame)
-        → ((name : List ℕ) → NamedIn text name
+        → ((name : List ℕ) → NamedIn server.provider.unbound text name
         → ChallengesFrom server.state (hiding_name server name) nonce text answer after.state)
         → reply ≡ server_frame (λ message. frames.Challenge message) answer
         → hiding_machine server nonce init reply after
     hiding_answered answer reply from is =
-        let name = some_name text in (
+        let name = some_name server.provider.unbound text in (
           name.0,
           after.state,
           name.1,
@@ -63,7 +63,7 @@ module _ (server : HidingServer) (nonce mechanism text : List ℕ) (hostname : O
     -- that is refused, where memory is not wanting
     pub hiding_refused : {X V E : Type 0} (Allocates : List ℕ → Type 0) (sent : X → SaslFrame)
         (view : V → Option (List ℕ)) (kind : ServerScramErrorKind) (result : Result X E)
-        → ((name : List ℕ) → NamedIn text name → Gives OutOfMemory (Allocates name) view (Err kind)
+        → ((name : List ℕ) → NamedIn server.provider.unbound text name → Gives OutOfMemory (Allocates name) view (Err kind)
         (λ answer. ChallengesFrom server.state (hiding_name server name) nonce text answer after.state))
         → IfOk result (λ frame. (kind ≢ OutOfMemory) × (sent frame ≡ ends_with outcomes.Auth))
         → IfOk result (λ frame. hiding_machine server nonce init (sent frame) after)
@@ -73,50 +73,50 @@ module _ (server : HidingServer) (nonce mechanism text : List ℕ) (hostname : O
 
     -- where it finds no memory, it has come to ask for it
     pub hiding_wants : {X V E : Type 0} (view : V → Option (List ℕ)) (kind : ServerScramErrorKind) (result : Result X E)
-        → ((name : List ℕ) → NamedIn text name
-        → Gives OutOfMemory (ReachesChallenge (hiding_name server name).records text) view (Err kind)
+        → ((name : List ℕ) → NamedIn server.provider.unbound text name
+        → Gives OutOfMemory (ReachesChallenge (hiding_name server name) text) view (Err kind)
         (λ answer. ChallengesFrom server.state (hiding_name server name) nonce text answer after.state))
         → IfErr result (λ _. kind ≡ OutOfMemory)
         → IfErr result (λ _. hiding_allocates server init)
     hiding_wants view kind (Ok frame) from is = tt
     hiding_wants view kind (Err fault) from is =
-        let name = some_name text in (name.0, name.1, (is_name, (from name.0 name.1).0 is))
+        let name = some_name server.provider.unbound text in (name.0, name.1, (is_name, (from name.0 name.1).0 is))
 
     -- an answer is to a message that is read
     answer_reads : (answer : Option (List ℕ))
-        → ((name : List ℕ) → NamedIn text name
+        → ((name : List ℕ) → NamedIn server.provider.unbound text name
         → ChallengesFrom server.state (hiding_name server name) nonce text (Ok answer) after.state)
         → ReachesLookUp server mechanism text
-    answer_reads None from = let is = from (some_name text).0 (some_name text).1 in (is.0.0, is_name, is.0.1)
+    answer_reads None from = let is = from (some_name server.provider.unbound text).0 (some_name server.provider.unbound text).1 in (is.0.0, is_name, is.0.1)
     answer_reads (Some message) from =
-        let is = from (some_name text).0 (some_name text).1 in (is.1.0, is_name, is.1.2)
+        let is = from (some_name server.provider.unbound text).0 (some_name server.provider.unbound text).1 in (is.1.0, is_name, is.1.2)
 
     -- what it costs
     pub answer_takes : (answer : Option (List ℕ)) (before most n : ℕ)
-        → ((name : List ℕ) → NamedIn text name
+        → ((name : List ℕ) → NamedIn server.provider.unbound text name
         → ChallengesFrom server.state (hiding_name server name) nonce text (Ok answer) after.state)
         → most ≡ before + 3 → hiding_hmacs server init n → most ≡ before + n
     answer_takes answer before most n from costs (inl takes) = let three = takes.1 in omega (costs, three, arith)
     answer_takes answer before most n from costs (inr takes) = absurd (takes.0 (answer_reads answer from))
 
     refused_most : (A : Type 0) (kind : ServerScramErrorKind) (before most n : ℕ)
-        → HidingCosts {A = A} text (Err kind) before most → hiding_hmacs server init n → most ≤ before + n
+        → HidingCosts {A = A} server.provider.unbound text (Err kind) before most → hiding_hmacs server init n → most ≤ before + n
     refused_most A OutOfMemory before most n costs (inl takes) =
         let three = takes.1 in let within = costs.1 in omega (within, three, arith)
-    refused_most A OutOfMemory before most n costs (inr takes) = go (some_client_first text)
+    refused_most A OutOfMemory before most n costs (inr takes) = go (some_client_first server.provider.unbound text)
       where
-        go : (answer : Result ClientFirst ServerScramErrorKind) × ReadsClientFirst text answer → most ≤ before + n
+        go : (answer : Result ClientFirst ServerScramErrorKind) × ReadsClientFirst server.provider.unbound text answer → most ≤ before + n
         go (Ok client, reads) = absurd (takes.0 (client, is_name, reads))
         go (Err fault, refuses) = let none = costs.2 fault refuses in omega (none, arith)
     refused_most A kind before most n costs takes = let none : most ≡ before = costs in omega (none, arith)
 
     rises : (A : Type 0) (kind : ServerScramErrorKind) (before most : ℕ)
-        → HidingCosts {A = A} text (Err kind) before most → before ≤ most
+        → HidingCosts {A = A} server.provider.unbound text (Err kind) before most → before ≤ most
     rises A OutOfMemory before most costs = costs.0
     rises A kind before most costs = let none : most ≡ before = costs in omega (none, arith)
 
     pub answered_most : (answer : Option (List ℕ)) (before most : ℕ)
-        → ((name : List ℕ) → NamedIn text name
+        → ((name : List ℕ) → NamedIn server.provider.unbound text name
         → ChallengesFrom server.state (hiding_name server name) nonce text (Ok answer) after.state)
         → most ≡ before + 3 → CostsAtMost hiding_hmacs server init before most
     answered_most answer before most from costs = (
@@ -125,32 +125,32 @@ module _ (server : HidingServer) (nonce mechanism text : List ℕ) (hostname : O
     )
 
     pub refusal_most : (A : Type 0) (kind : ServerScramErrorKind) (before most : ℕ)
-        → HidingCosts {A = A} text (Err kind) before most → CostsAtMost hiding_hmacs server init before most
+        → HidingCosts {A = A} server.provider.unbound text (Err kind) before most → CostsAtMost hiding_hmacs server init before most
     refusal_most A kind before most costs = (
       rises A kind before most costs,
       λ n takes. refused_most A kind before most n costs takes,
     )
 
     -- and exactly, where memory is not wanting
-    unread : (kind : ServerScramErrorKind) (n : ℕ) → ReadsClientFirst text (Err kind) → hiding_hmacs server init n
+    unread : (kind : ServerScramErrorKind) (n : ℕ) → ReadsClientFirst server.provider.unbound text (Err kind) → hiding_hmacs server init n
         → n ≡ 0
-    unread kind n refuses (inl takes) = absurd (read_or_refused text takes.0.0 kind takes.0.2 refuses)
+    unread kind n refuses (inl takes) = absurd (read_or_refused server.provider.unbound text takes.0.0 kind takes.0.2 refuses)
     unread kind n refuses (inr takes) = takes.1
 
     same_meter : (A : Type 0) (kind : ServerScramErrorKind) (before most : ℕ) → kind ≢ OutOfMemory
-        → HidingCosts {A = A} text (Err kind) before most → most ≡ before
+        → HidingCosts {A = A} server.provider.unbound text (Err kind) before most → most ≡ before
     same_meter A OutOfMemory before most other costs = absurd (other refl)
     same_meter A kind before most other costs = costs
 
     pub refusal_takes : {X E : Type 0} (A V : Type 0) (Allocates : List ℕ → Type 0) (sends : X → Type 0)
         (view : V → Option (List ℕ)) (kind : ServerScramErrorKind) (sent : Result X E) (before most : ℕ)
-        → ((name : List ℕ) → NamedIn text name → Gives OutOfMemory (Allocates name) view (Err kind)
+        → ((name : List ℕ) → NamedIn server.provider.unbound text name → Gives OutOfMemory (Allocates name) view (Err kind)
         (λ answer. ChallengesFrom server.state (hiding_name server name) nonce text answer after.state))
-        → HidingCosts {A = A} text (Err kind) before most
+        → HidingCosts {A = A} server.provider.unbound text (Err kind) before most
         → IfOk sent (λ frame. (kind ≢ OutOfMemory) × sends frame)
         → OnOk sent ((n : ℕ) → hiding_hmacs server init n → most ≡ before + n)
     refusal_takes A V Allocates sends view kind (Ok frame) before most from costs is = λ n takes.
-        let name = some_name text in
+        let name = some_name server.provider.unbound text in
         let none = unread kind n ((from name.0 name.1).1 is.0).0 takes in
         let same = same_meter A kind before most is.0 costs in
         omega (none, same, arith)

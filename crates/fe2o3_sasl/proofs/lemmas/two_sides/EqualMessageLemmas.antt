@@ -30,7 +30,7 @@ is_answering login events replies k answer is =
 -- a challenge as the server makes it
 pub record IsChallenging (provider : Provider) (event : Given) (challenge : Challenging) : Type 0 where
   pub text : List ℕ
-  pub names : NamesClientFirst text challenge.client
+  pub names : NamesClientFirst provider.unbound text challenge.client
   pub known : record_at provider.records challenge.client.user ≡ Some challenge.stored
   pub nonce : challenge.nonce ≡ base64_text event.nonce
 
@@ -42,7 +42,12 @@ is_challenging provider event (frames.Response text) challenge fits = absurd fit
 is_challenging provider event (frames.Outcome code more) challenge fits = absurd fits
 is_challenging provider event (frames.Init mechanism None hostname) challenge fits = absurd fits
 is_challenging provider event (frames.Init mechanism (Some text) hostname) challenge fits =
-    record { text = text; names = names_client_first text challenge.client fits.1; known = fits.2; nonce = fits.3 }
+    record {
+      text = text;
+      names = names_client_first provider.unbound text challenge.client fits.1;
+      known = fits.2;
+      nonce = fits.3;
+    }
 
 -- what fits as response answers the challenge that is open, and names its values
 pub fits_open : (provider : Provider) (IsOpen : Challenging → Type 0) (frame : SaslFrame) (accepted : Accepted)
@@ -71,6 +76,7 @@ is_accepted provider events replies n accepted is =
     let at = fits.0.2 in
     let challenge = is_challenging provider at.0 at.1 accepted.challenge at.4 in
     record {
+      unbound = provider.unbound;
       init = challenge.text;
       response = fits.1.0;
       plain = subst NoComma (sym challenge.nonce) (no_comma-base64_text at.0.nonce);
@@ -80,8 +86,8 @@ is_accepted provider events replies n accepted is =
 
 -- equal AuthMessages of an answer and of what was accepted mean one login
 abbrev pub SameMessages : Login → Answering → Accepted → Type 0
-SameMessages login answer accepted = SameValues login.user answer.nonce answer.first accepted.challenge.client
-    accepted.challenge.nonce accepted.challenge.stored
+SameMessages login answer accepted = SameValues login.user answer.nonce answer.text answer.first
+    accepted.challenge.client accepted.challenge.nonce accepted.challenge.stored
 
 pub same_messages : (sides : Sides) (k n : ℕ) (answer : Answering) (accepted : Accepted)
     → IsRecord accepted.challenge.stored

@@ -129,6 +129,7 @@ agree sides answer accepted is same =
     let messages = is.same same in
     record {
       version = is.version;
+      header = messages.header;
       user = messages.user;
       nonce = messages.nonce;
       full_nonce = messages.full_nonce;

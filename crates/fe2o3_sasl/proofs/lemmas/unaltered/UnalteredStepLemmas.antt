@@ -1,5 +1,5 @@
 -- What each body of an unaltered login is answered, given what was said before it.
-use Rattle.std.proofs.Common.{◌≡◌, ◌<◌, ◌^◌, ℕ, Option, Some, List, [], ◌∷◌, ◌++◌, codes, refl, sym, ap, ◌∙◌, subst, arith, Result, Ok}
+use Rattle.std.proofs.Common.{Bool, ◌≡◌, ◌<◌, ◌^◌, ℕ, Option, Some, List, [], ◌∷◌, ◌++◌, codes, refl, sym, ap, ◌∙◌, subst, arith, Result, Ok}
 use Rattle.std.specs.Prelude.{slice_get}
 use Rattle.std.specs.Fmt.{decimal}
 use Rattle.std.specs.Str.{IsUtf8}
@@ -14,6 +14,7 @@ use Rattle.fe2o3_scram.specs.declared.hmac.ScramVersion.{ScramVersion}
 use Rattle.fe2o3_scram.specs.Texts.{base64_text}
 use Rattle.fe2o3_scram.specs.ClientFirst.{client_first}
 use Rattle.fe2o3_scram.specs.ClientFinal.{ReadsClientFinal, server_of}
+use Rattle.fe2o3_scram.specs.declared.scram_messages.gs2_header.Gs2Header.TheVariants.{Unsupported}
 use Rattle.fe2o3_scram.specs.Exchanges.{Exchange, IsSound, Succeeds, nonce_in, bare_in, record_in, first_in, named_in, answer_in, final_in}
 use Rattle.fe2o3_scram.specs.Hmac.{mechanism_name}
 use Rattle.fe2o3_scram.specs.ServerFinal.{server_final_of, ReadsServerFinal}
@@ -35,10 +36,12 @@ use Rattle.fe2o3_sasl.proofs.lemmas.unaltered.UnalteredReplyLemmas.{one_answerin
 -- ---- the exchange of a login
 
 -- a login with the password, the salt and the count of a record, and with the nonces of both sides
-abbrev pub exchange_of : Login → List ℕ → List ℕ → ℕ → List ℕ → List ℕ → Exchange
-exchange_of login password salt count mine theirs =
+abbrev pub exchange_of : Login → Bool → List ℕ → List ℕ → ℕ → List ℕ → List ℕ → Exchange
+exchange_of login unbound password salt count mine theirs =
     record {
       version = login.version;
+      header = Unsupported;
+      unbound = unbound;
       user = login.user;
       secret = login.secret;
       limits = login.limits;
@@ -50,8 +53,10 @@ exchange_of login password salt count mine theirs =
     }
 
 pub sound_exchange : (sides : Sides) (password salt : List ℕ) (count : ℕ) (mine theirs : List ℕ) → IsLogin sides.login
-    → HoldsLogin sides password salt count → IsSound (exchange_of sides.login password salt count mine theirs)
+    → HoldsLogin sides password salt count → IsSound
+    (exchange_of sides.login sides.provider.unbound password salt count mine theirs)
 sound_exchange sides password salt count mine theirs is holds = record {
+  header = tt;
   opens = holds.opens;
   some = holds.some;
   least = holds.least;
@@ -68,7 +73,7 @@ sound_exchange sides password salt count mine theirs is holds = record {
 -- its challenge, its answer, and what its server accepts
 abbrev pub challenge_in : Exchange → Challenging
 challenge_in x = record {
-  client = record { user = x.user; nonce = x.client_nonce; bare = bare_in x };
+  client = record { header = x.header; user = x.user; nonce = x.client_nonce; bare = bare_in x };
   nonce = x.server_nonce;
   stored = record_in x;
 }
@@ -100,7 +105,7 @@ first_text x sound =
 module _ (sides : Sides) (password salt : List ℕ) (count : ℕ) (offer init : Given) (histories : Histories sides)
     (login : IsLogin sides.login) (holds : HoldsLogin sides password salt count) (fits : Suffices sides) where
   abbrev pub exchange : Exchange
-  exchange = exchange_of sides.login password salt count offer.nonce init.nonce
+  exchange = exchange_of sides.login sides.provider.unbound password salt count offer.nonce init.nonce
 
   abbrev pub final_sent : List ℕ
   final_sent = final_message sides.provider (accepted_in exchange)
@@ -234,7 +239,7 @@ module _ (sides : Sides) (password salt : List ℕ) (count : ℕ) (offer init : 
   response_fits has = (
     is_open has,
     subst (λ (version : ScramVersion). ReadsClientFinal
-        (server_of version (bare_in exchange) (first_in exchange) (nonce_in exchange) (record_in exchange))
+        (server_of version Unsupported (bare_in exchange) (first_in exchange) (nonce_in exchange) (record_in exchange))
         (answer_in exchange).message (Ok (final_in exchange))) (sym holds.version) meets.client_final,
   )
 
@@ -283,7 +288,7 @@ module _ (sides : Sides) (password salt : List ℕ) (count : ℕ) (offer init : 
 
   verifier_read : ReadsServerFinal (answer_in exchange).signature final_sent (Ok tt)
   verifier_read = subst (λ (version : ScramVersion). ReadsServerFinal (answer_in exchange).signature
-      (server_final_of (server_of version (bare_in exchange) (first_in exchange) (nonce_in exchange)
+      (server_final_of (server_of version Unsupported (bare_in exchange) (first_in exchange) (nonce_in exchange)
       (record_in exchange)) (final_in exchange)) (Ok tt)) (sym holds.version) meets.server_final
 
   pub reports : (challenge outcome : Given) → HasStarted → HasAnswered challenge → HasOutcome outcome

@@ -5,6 +5,7 @@ ghost use Rattle.fe2o3_sasl_wire.specs.SaslFrames.{Response};
 ghost use Rattle.fe2o3_scram.specs.ClientFinal.{ClientFinal as Final, HasProof, client_final_values};
 ghost use Rattle.fe2o3_scram.specs.Keys.{auth_message as auth_message_of, recovered_client_key, server_signature};
 ghost use Rattle.fe2o3_scram.specs.Texts.{base64_text};
+ghost use Rattle.fe2o3_scram.specs.Credentials.{serving};
 ghost use Rattle.fe2o3_sasl.specs.Audit.{AreParameters, parameters_of};
 ghost use Rattle.fe2o3_sasl.specs.Events.{IsRecord};
 ghost use Rattle.fe2o3_sasl.specs.Bodies.{SpellsBody};
@@ -23,7 +24,7 @@ use fe2o3_sasl_wire::{FrameView, view_frame};
 use fe2o3_scram::credentials::ScramCredentialProvider;
 use fe2o3_scram::hmac::{Meter, ScramVersion};
 use fe2o3_scram::keys::auth_message;
-use fe2o3_scram::scram_messages::ClientFinal;
+use fe2o3_scram::scram_messages::{ClientFinal, Gs2Header};
 use std::alloc::Global;
 
 /// The receipt of an Ok to the response in this body. The one refusal is `OutOfMemory`, also of a
@@ -36,17 +37,23 @@ pub(crate) fn ok_receipt<C: ScramCredentialProvider>(
     body: &[u8],
 ) -> Result<ServerReceipt, OutOfMemory>
     requires { HoldsMessage opened.now }
-    ensures { IfOk result (λ receipt. OkFor (C.meaning credentials.now) place (opened_challenge opened.now) body.now
-        (server_receipt receipt)) }
+    ensures { IfOk result (λ receipt. (unbound : Bool) → OkFor (serving unbound (C.meaning credentials.now)) place
+        (opened_challenge opened.now) body.now (server_receipt receipt)) }
 {
-    let client_final = response_again(alloc, &opened.server_first.client_server_nonce, body)?;
+    let client_final = response_again(
+        alloc,
+        opened.client_first.header,
+        &opened.server_first.client_server_nonce,
+        body,
+    )?;
     receipt_of(alloc, credentials, place, opened, client_final)
 }
 
 /// What the response in this body names. The one refusal is `OutOfMemory`, also of a body that is no
-/// response with this nonce.
+/// response with this header and this nonce.
 fn response_again<'a>(
     alloc: Global,
+    header: Gs2Header,
     client_server_nonce: &[u8],
     body: &'a [u8],
 ) -> Result<ClientFinal<'a>, OutOfMemory>
@@ -56,7 +63,7 @@ fn response_again<'a>(
     let Ok((FrameView::Response(text), _)) = view_frame(body) else {
         return Err(OutOfMemory);
     };
-    let Ok(client_final) = ClientFinal::parse(alloc, client_server_nonce, text) else {
+    let Ok(client_final) = ClientFinal::parse_behind(alloc, header, client_server_nonce, text) else {
         return Err(OutOfMemory);
     };
     Ok(client_final)
@@ -72,7 +79,8 @@ fn receipt_of<C: ScramCredentialProvider>(
 ) -> Result<ServerReceipt, OutOfMemory>
     requires { HoldsMessage opened.now }
     ensures place { IfOk result (λ receipt. receipt.place ≡ place) }
-    ensures accepted { IfOk result (λ receipt. OfAccepted (C.meaning credentials.now) (record {
+    ensures accepted { IfOk result (λ receipt. (unbound : Bool)
+        → OfAccepted (serving unbound (C.meaning credentials.now)) (record {
       challenge = opened_challenge opened.now;
       final = client_final_values client_final.entry;
     }) (server_receipt receipt)) }

@@ -2,6 +2,7 @@
 
 ghost use Rattle.std.specs.Prelude.{ℕ, List, Option, Some, Ok, IfOk, MatchOption, ⊤};
 ghost use Rattle.fe2o3_sasl_wire.specs.SaslFrames.{Init};
+ghost use Rattle.fe2o3_scram.specs.Credentials.{serving};
 ghost use Rattle.fe2o3_sasl.specs.Runs.{given};
 ghost use Rattle.fe2o3_sasl.specs.Bodies.{SpellsBody};
 ghost use Rattle.fe2o3_sasl.specs.private.ServerReceipts.{HoldsMessage, OpenedFor, opened_challenge};
@@ -28,11 +29,12 @@ pub(crate) struct Opened<'a> {
 /// is not answered with a challenge.
 pub(crate) fn opened_again<'a, C: ScramCredentialProvider>(
     alloc: Global,
+    accepts_unbound: bool,
     credentials: &'a C,
     init: &'a Event,
 ) -> Result<Opened<'a>, OutOfMemory>
     ensures opened { IfOk result (λ opened.
-        OpenedFor (C.meaning credentials.now) (given init.now) (opened_challenge opened)) }
+        OpenedFor (serving accepts_unbound (C.meaning credentials.now)) (given init.now) (opened_challenge opened)) }
     ensures message { IfOk result HoldsMessage }
 {
     let Some(text) = initial_response(&init.body) else {
@@ -40,15 +42,16 @@ pub(crate) fn opened_again<'a, C: ScramCredentialProvider>(
     };
     let server_nonce = STANDARD.encode(alloc, &init.nonce)?;
     let version = credentials.scram_version();
-    let Ok(Some(server_first)) = version.compute_server_first_message(
+    let Ok(Some(server_first)) = version.compute_server_first_message_unbound(
         alloc,
         text,
         &server_nonce,
+        accepts_unbound,
         credentials,
     ) else {
         return Err(OutOfMemory);
     };
-    let Ok(client_first) = ClientFirst::parse(alloc, text) else {
+    let Ok(client_first) = ClientFirst::parse_unbound(alloc, text, accepts_unbound) else {
         return Err(OutOfMemory);
     };
     let Some(stored_password) = credentials.get_stored_password(&client_first.username) else {

@@ -1,4 +1,5 @@
 use Rattle.std.proofs.Common.{map, arith}
+use Rattle.fe2o3_scram.specs.Credentials.{serving}
 use Rattle.fe2o3_sasl.specs.private.Findings.{server_receipt}
 use Rattle.fe2o3_sasl.specs.Runs.{given, server_answer}
 use Rattle.fe2o3_sasl.proofs.lemmas.audit.CoverLemmas.{at_index}
@@ -7,7 +8,7 @@ use Rattle.fe2o3_sasl.proofs.audit.server_receipts.server_receipts.Goals as goal
 
 pub loop-place-preserved : goal.loop-place-preserved
 loop-place-preserved g c =
-    let provider = g.C.ScramCredentialProvider.meaning c.args.credentials.now in
+    let provider = serving c.args.accepts_unbound (g.C.ScramCredentialProvider.meaning c.args.credentials.now) in
     let events = c.args.events.now in
     let replies = c.args.replies.now in
     let i = c.loop-place.place in

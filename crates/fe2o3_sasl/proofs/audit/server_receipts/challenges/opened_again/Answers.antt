@@ -2,7 +2,7 @@ use Rattle.std.proofs.Common.{◌∙◌, ap, sym, subst, ℕ, List, Some, Ok}
 use Rattle.std.specs.Prelude.{string_bytes}
 use Rattle.fe2o3_sasl_wire.specs.SaslFrames.{Init}
 use Rattle.fe2o3_scram.specs.ClientFirst.{client_first_values}
-use Rattle.fe2o3_scram.specs.Credentials.{kept, record_at}
+use Rattle.fe2o3_scram.specs.Credentials.{kept, record_at, serving}
 use Rattle.fe2o3_scram.specs.ServerFirst.{AnswersClientFirst, challenge_values}
 use Rattle.fe2o3_scram.proofs.lemmas.texts.Base64Lemmas.{encode_of-standard}
 use Rattle.fe2o3_sasl.specs.Bodies.{SpellsBody}
@@ -28,11 +28,11 @@ returns-clause-opened g c =
 
 pub returns-clause-message : goal.returns-clause-message
 returns-clause-message g c =
-    let records = (g.C.ScramCredentialProvider.meaning c.args.credentials.now).records in
-    let answers : AnswersClientFirst records c.deref-2.result.now c.in-Some.text.now
+    let provider = serving c.args.accepts_unbound (g.C.ScramCredentialProvider.meaning c.args.credentials.now) in
+    let answers : AnswersClientFirst provider c.deref-2.result.now c.in-Some.text.now
     (Ok (Some (challenge_values c.in-Ok-Some.server_first))) =
     rw c.in-Ok-Some.field-0-is at c.in-Ok-Some.ensures in
-    challenge_again records (string_bytes c.in_ok-server_nonce.server_nonce) c.in-Some.text.now
+    challenge_again provider (string_bytes c.in_ok-server_nonce.server_nonce) c.in-Some.text.now
     (challenge_values c.in-Ok-Some.server_first) (client_first_values c.in-Ok.client_first)
     (kept c.in-Some-get_stored_password.stored_password) (rw c.deref-2.ensures at answers) c.in-Ok.ensures.answer
-    (c.in-Some-get_stored_password.ensures ∙ ap (record_at records) c.deref-3.ensures.value)
+    (c.in-Some-get_stored_password.ensures ∙ ap (record_at provider.records) c.deref-3.ensures.value)

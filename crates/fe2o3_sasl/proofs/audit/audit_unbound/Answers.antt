@@ -1,5 +1,5 @@
 use Rattle.std.proofs.Common.{◌++◌, map, length, ◌∙◌, subst}
-use Rattle.fe2o3_scram.specs.Credentials.{Provider}
+use Rattle.fe2o3_scram.specs.Credentials.{Provider, serving}
 use Rattle.fe2o3_sasl.specs.Audit.{finding_of}
 use Rattle.fe2o3_sasl.specs.Complete.{ClientComplete, ServerComplete}
 use Rattle.fe2o3_sasl.specs.Events.{Login}
@@ -7,12 +7,13 @@ use Rattle.fe2o3_sasl.specs.Runs.{given, client_answer, server_answer, login_of}
 use Rattle.fe2o3_sasl.specs.private.Findings.{client_receipt, server_receipt, is_taken, is_shown, verifier_finding, proof_finding, findings_of}
 use Rattle.fe2o3_sasl.specs.private.Receipts.{Covers, IsShownReceipt, IsTakenReceipt, IsOkReceipt, RespondsAt, ReportsAt, ConcludesAt}
 use Rattle.fe2o3_sasl.proofs.lemmas.audit.AuditLemmas.{audits_events}
-use Rattle.fe2o3_sasl.proofs.audit.audit_limited.Goals as goal
+use Rattle.fe2o3_sasl.proofs.audit.audit_unbound.Goals as goal
 
 pub returns : goal.returns
 returns g c =
     let login : Login = login_of c.args.version c.args.user.now c.args.password.now c.args.limit in
-    let provider : Provider = g.C.ScramCredentialProvider.meaning c.args.credentials.now in
+    let provider : Provider =
+    serving c.args.accepts_unbound (g.C.ScramCredentialProvider.meaning c.args.credentials.now) in
     let inputs = map given c.args.client_events.now in
     let others = map given c.args.server_events.now in
     let shown = c.in_ok-client.client.shown.items in
