@@ -417,17 +417,6 @@ uint32_t fe2o3_scram_client_first(
     size_t out_room,
     size_t *len);
 
-/* Answers the server-first message with the client-final message. A room of 128 bytes more than the server-first
- * message suffices, and is asked for before any hash is made. */
-uint32_t fe2o3_scram_client_final(
-    const struct fe2o3_login *login,
-    struct fe2o3_scram_client *client,
-    const uint8_t *server_first,
-    size_t server_first_len,
-    uint8_t *out,
-    size_t out_room,
-    size_t *len);
-
 /* Believes the server-final message, or refuses it. The login is done only where the number is 0. */
 uint32_t fe2o3_scram_client_verify(
     const struct fe2o3_login *login,
@@ -438,6 +427,17 @@ uint32_t fe2o3_scram_client_verify(
 /* Hands out the keys of a login whose server was believed: with them the next login to a server that keeps its salt
  * and its count takes no password, and two hashes of HMAC. Whoever has them can log in. */
 uint32_t fe2o3_scram_client_keys(const struct fe2o3_scram_client *client, struct fe2o3_client_keys *keys);
+
+/* Answers the server-first message with the client-final message. A room of 128 bytes more than the server-first
+ * message suffices, and is asked for before any hash is made. */
+uint32_t fe2o3_scram_client_final(
+    const struct fe2o3_login *login,
+    struct fe2o3_scram_client *client,
+    const uint8_t *server_first,
+    size_t server_first_len,
+    uint8_t *out,
+    size_t out_room,
+    size_t *len);
 
 /* Takes the body of a frame that the server sent, behind the four bytes of the frame's size, and writes the body that
  * is to be sent: the init to its mechanisms, the response to its challenge, and nothing (a length of 0) to its outcome.
@@ -574,17 +574,6 @@ uint32_t fe2o3_sasl_server_receive(
     size_t out_room,
     size_t *len);
 
-/* Writes the plain name of the user whom the frame names that these bytes complete, and whose record is to be fetched
- * before they are taken: that of an init of SCRAM or PLAIN, and for a response that of the open challenge. Where they
- * complete no frame, or one that names nobody, the number is that of `NAMES_NOBODY`, and no record is needed. */
-uint32_t fe2o3_sasl_server_user(
-    const struct fe2o3_sasl_server *server,
-    const uint8_t *bytes,
-    size_t bytes_len,
-    uint8_t *out,
-    size_t out_room,
-    size_t *len);
-
 /* Answers a client-first message with the server-first message, which starts an exchange afresh at any time. The
  * record is that of the user whom the message names (`fe2o3_scram_server_user`), or one that is made up
  * (`fe2o3_scram_record_of_nobody`). The nonce is 32 random bytes, fresh for each. */
@@ -659,6 +648,17 @@ uint32_t fe2o3_sasl_server_step_user(
     const struct fe2o3_scram_server *server,
     const uint8_t *body,
     size_t body_len,
+    uint8_t *out,
+    size_t out_room,
+    size_t *len);
+
+/* Writes the plain name of the user whom the frame names that these bytes complete, and whose record is to be fetched
+ * before they are taken: that of an init of SCRAM or PLAIN, and for a response that of the open challenge. Where they
+ * complete no frame, or one that names nobody, the number is that of `NAMES_NOBODY`, and no record is needed. */
+uint32_t fe2o3_sasl_server_user(
+    const struct fe2o3_sasl_server *server,
+    const uint8_t *bytes,
+    size_t bytes_len,
     uint8_t *out,
     size_t out_room,
     size_t *len);

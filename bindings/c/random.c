@@ -394,8 +394,8 @@ static void one_round(void)
     fill(nonce, sizeof nonce);
     all = drawn;
     login = (struct fe2o3_login){.version = below(4) ? drawn.keys.version : ONE_OF(1, 2, 256, 512),
-        .secret = below(2) ? 0 : below(4), .least_iterations = below(3), .most_iterations = 5 + below(4), .username = TEXT("user"),
-        .password = TEXT("pencil"), .keys = &drawn.keys};
+        .secret = below(2) ? 0 : below(4), .least_iterations = below(3), .most_iterations = 5 + below(4),
+        .username = TEXT("user"), .password = TEXT("pencil"), .keys = &drawn.keys};
     with_a_client();
     with_a_server();
     with_a_record();

@@ -435,17 +435,6 @@ extern "C" {
         out_room: usize,
         len: *mut usize) -> u32;
 
-    /// Answers the server-first message with the client-final message. A room of 128 bytes more than the server-first
-    /// message suffices, and is asked for before any hash is made.
-    pub fn fe2o3_scram_client_final(
-        login: *const Login,
-        client: *mut ScramClient,
-        server_first: *const u8,
-        server_first_len: usize,
-        out: *mut u8,
-        out_room: usize,
-        len: *mut usize) -> u32;
-
     /// Believes the server-final message, or refuses it. The login is done only where the number is 0.
     pub fn fe2o3_scram_client_verify(
         login: *const Login,
@@ -456,6 +445,17 @@ extern "C" {
     /// Hands out the keys of a login whose server was believed: with them the next login to a server that keeps its
     /// salt and its count takes no password, and two hashes of HMAC. Whoever has them can log in.
     pub fn fe2o3_scram_client_keys(client: *const ScramClient, keys: *mut ClientKeys) -> u32;
+
+    /// Answers the server-first message with the client-final message. A room of 128 bytes more than the server-first
+    /// message suffices, and is asked for before any hash is made.
+    pub fn fe2o3_scram_client_final(
+        login: *const Login,
+        client: *mut ScramClient,
+        server_first: *const u8,
+        server_first_len: usize,
+        out: *mut u8,
+        out_room: usize,
+        len: *mut usize) -> u32;
 
     /// Takes the body of a frame that the server sent, behind the four bytes of the frame's size, and writes the body
     /// that is to be sent: the init to its mechanisms, the response to its challenge, and nothing (a length of 0) to
@@ -589,18 +589,6 @@ extern "C" {
         out_room: usize,
         len: *mut usize) -> u32;
 
-    /// Writes the plain name of the user whom the frame names that these bytes complete, and whose record is to be
-    /// fetched before they are taken: that of an init of SCRAM or PLAIN, and for a response that of the open challenge.
-    /// Where they complete no frame, or one that names nobody, the number is that of `NAMES_NOBODY`, and no record is
-    /// needed.
-    pub fn fe2o3_sasl_server_user(
-        server: *const SaslServer,
-        bytes: *const u8,
-        bytes_len: usize,
-        out: *mut u8,
-        out_room: usize,
-        len: *mut usize) -> u32;
-
     /// Answers a client-first message with the server-first message, which starts an exchange afresh at any time. The
     /// record is that of the user whom the message names (`fe2o3_scram_server_user`), or one that is made up
     /// (`fe2o3_scram_record_of_nobody`). The nonce is 32 random bytes, fresh for each.
@@ -675,6 +663,18 @@ extern "C" {
         server: *const ScramServer,
         body: *const u8,
         body_len: usize,
+        out: *mut u8,
+        out_room: usize,
+        len: *mut usize) -> u32;
+
+    /// Writes the plain name of the user whom the frame names that these bytes complete, and whose record is to be
+    /// fetched before they are taken: that of an init of SCRAM or PLAIN, and for a response that of the open challenge.
+    /// Where they complete no frame, or one that names nobody, the number is that of `NAMES_NOBODY`, and no record is
+    /// needed.
+    pub fn fe2o3_sasl_server_user(
+        server: *const SaslServer,
+        bytes: *const u8,
+        bytes_len: usize,
         out: *mut u8,
         out_room: usize,
         len: *mut usize) -> u32;

@@ -11,6 +11,7 @@
 
 mod arrays;
 mod client;
+mod client_final;
 mod client_steps;
 mod connection;
 mod frames;
@@ -21,6 +22,7 @@ mod sasl_client;
 mod sasl_server;
 mod server;
 mod server_steps;
+mod server_user;
 mod status;
 mod steps;
 mod texts;

@@ -8,14 +8,10 @@ ghost use Rattle.fe2o3_sasl_negotiation.specs.declared.standing.Standing.TheVari
 ghost use Rattle.fe2o3_sasl_negotiation.specs.ServerNegotiation.{ServerReceives};
 ghost use Rattle.fe2o3_sasl_negotiation.specs.SetDown.{IsKept, side_of};
 ghost use Rattle.fe2o3_sasl_negotiation.specs.Sides.{server_side};
-ghost use Rattle.sasl_c.specs.SaslServer.{BodyNames, BodyNamesNobody, Comes, FrameNames, InitNames, HasNoWords, HasNone, HasRecords, IsAll, IsNoHost, Named, Names, NotNamed, NotReceived, Received, Receives, ResponseNames, ShowsBy, ShowsStanding, ShowsState, Stands, all_in, all_of, allowed_of, name_where, one_where, state_of, sum_of};
+ghost use Rattle.sasl_c.specs.SaslServer.{Comes, HasNoWords, HasNone, HasRecords, IsAll, IsNoHost, NotReceived, Received, Receives, ShowsBy, ShowsStanding, ShowsState, Stands, all_in, all_of, allowed_of, name_where, one_where, state_of, sum_of};
 ghost use Rattle.sasl_c.specs.declared.sasl_server.Choice.{Choice as Choices};
 ghost use Rattle.sasl_c.specs.declared.server.ScramServer.{ScramServer as ScramStruct};
-ghost use Rattle.fe2o3_sasl_wire.specs.FrameView.{shown, viewed_frame};
-ghost use Rattle.fe2o3_scram.specs.ClientFirst.{ClientFirst as FirstValues, ReadsClientFirst};
-ghost use Rattle.fe2o3_scram.specs.ServerFirst.{Challenge};
-ghost use Rattle.sasl_c.specs.Server.{IsOpen};
-ghost use Rattle.sasl_c.specs.Status.{Answers, Fills, FillsWithin};
+ghost use Rattle.sasl_c.specs.Status.{Answers, FillsWithin};
 ghost use Rattle.sasl_c.specs.declared.status.Status.TheVariants.{OutOfMemory as StatusOutOfMemory, NotKept as StatusNotKept, NotUtf8 as StatusNotUtf8, RoomTooSmall, TooLong as StatusTooLong};
 
 use crate::arrays::put;
@@ -29,11 +25,8 @@ use fe2o3_sasl::{
     ExternalAcceptor, NamesUser, OfferError, OffersOnly, OneOf, Part, PlainAuthenticator,
     SaslAnonymousMechanism, ScramCredentials,
 };
-use fe2o3_sasl_negotiation::{Due, ServerNegotiation, SetDown, Standing, TakeUpError, Turn};
-use fe2o3_sasl_wire::{FrameView, view_frame};
-use fe2o3_scram::{
-    ClientFirst, Meter, OpenChallenge, ScramAuthenticator, ScramVersion, ServerScramErrorKind,
-};
+use fe2o3_sasl_negotiation::{ServerNegotiation, SetDown, Standing, TakeUpError};
+use fe2o3_scram::{Meter, OpenChallenge, ScramAuthenticator, ScramVersion};
 use std::alloc::Global;
 
 /// What a server offers, and whose record it has: lent for each call.
@@ -490,168 +483,4 @@ pub extern "C" fn fe2o3_sasl_server_receive(
     number(receive(
         alloc, host, server, bytes, nonce, &mut meter, taken, out, len,
     ))
-}
-
-/// The user whom a client-first message names, or `None` where it is none. `OutOfMemory` is the only refusal.
-#[tactic(auto, using(crate::proofs::ServerUserLemmas::scram_user))]
-fn scram_user(alloc: Global, text: &[u8]) -> Result<Option<Vec<u8>>, Status>
-    ensures ok { IfOk result (λ user. MatchOption user
-        ((first : FirstValues) → ¬ ReadsClientFirst text.now (Ok first))
-        (λ user. (first : FirstValues) × ReadsClientFirst text.now (Ok first) × (user.items ≡ first.user))) }
-    ensures err { IfErr result (λ status. status ≡ StatusOutOfMemory) }
-{
-    match ClientFirst::parse(alloc, text) {
-        Ok(first) => Ok(Some(first.username.as_bytes().to_vec(alloc)?)),
-        Err(ServerScramErrorKind::OutOfMemory) => Err(Status::OutOfMemory),
-        Err(_) => Ok(None),
-    }
-}
-
-/// The user whom an init names, or `None` where it names nobody. `OutOfMemory` is the only refusal.
-#[tactic(auto, using(crate::proofs::ServerUserLemmas::init_user))]
-fn init_user(alloc: Global, mechanism: &str, text: &[u8]) -> Result<Option<Vec<u8>>, Status>
-    ensures ok { IfOk result (λ user. MatchOption user
-        ((name : List ℕ) → ¬ InitNames mechanism.now text.now name)
-        (λ user. InitNames mechanism.now text.now user.items)) }
-    ensures err { IfErr result (λ status. status ≡ StatusOutOfMemory) }
-{
-    if ScramVersion::from_mechanism(mechanism).is_some() {
-        return scram_user(alloc, text);
-    }
-    if mechanism != "PLAIN" {
-        return Ok(None);
-    }
-    match plain_user(text) {
-        Some(user) => Ok(Some(user.as_bytes().to_vec(alloc)?)),
-        None => Ok(None),
-    }
-}
-
-/// The same of the initial response of an init, if it has one.
-fn response_user(
-    alloc: Global,
-    mechanism: &str,
-    response: Option<&[u8]>,
-) -> Result<Option<Vec<u8>>, Status>
-    ensures ok { IfOk result (λ user. MatchOption user
-        ((name : List ℕ) → ¬ ResponseNames mechanism.now (shown response.entry) name)
-        (λ user. ResponseNames mechanism.now (shown response.entry) user.items)) }
-    ensures err { IfErr result (λ status. status ≡ StatusOutOfMemory) }
-{
-    match response {
-        Some(text) => init_user(alloc, mechanism, text),
-        None => Ok(None),
-    }
-}
-
-/// The user of the open challenge, or `None` where none is open. `OutOfMemory` is the only refusal.
-fn open_user(alloc: Global, scram: &ScramServer) -> Result<Option<Vec<u8>>, Status>
-    ensures ok { IfOk result (λ user. MatchOption user ((challenge : Challenge) → ¬ IsOpen scram.now challenge)
-        (λ user. (challenge : Challenge) × IsOpen scram.now challenge × (user.items ≡ challenge.user))) }
-    ensures err { IfErr result (λ status. status ≡ StatusOutOfMemory) }
-{
-    match scram.challenge() {
-        Some(challenge) => Ok(Some(challenge.username.as_bytes().to_vec(alloc)?)),
-        None => Ok(None),
-    }
-}
-
-/// The user whom a frame in turn names, or `None` where it names nobody. `OutOfMemory` is the only refusal.
-fn frame_user(
-    alloc: Global,
-    scram: &ScramServer,
-    turn: Turn,
-    frame: &FrameView<'_>,
-) -> Result<Option<Vec<u8>>, Status>
-    ensures ok { IfOk result (λ user. MatchOption user
-        ((name : List ℕ) → ¬ FrameNames scram.now turn (viewed_frame frame.now) name)
-        (λ user. FrameNames scram.now turn (viewed_frame frame.now) user.items)) }
-    ensures err { IfErr result (λ status. status ≡ StatusOutOfMemory) }
-{
-    match (turn, frame) {
-        (
-            Turn::Init,
-            FrameView::Init {
-                mechanism,
-                initial_response,
-                ..
-            },
-        ) => response_user(alloc, mechanism, *initial_response),
-        (Turn::Response, FrameView::Response(_)) => open_user(alloc, scram),
-        _ => Ok(None),
-    }
-}
-
-/// The user whom a body in turn names, or `None` where it names nobody. `OutOfMemory` is the only refusal.
-#[tactic(auto, using(crate::proofs::ServerUserLemmas::body_user))]
-pub fn body_user(
-    alloc: Global,
-    scram: &ScramServer,
-    turn: Turn,
-    body: &[u8],
-) -> Result<Option<Vec<u8>>, Status>
-    ensures ok { IfOk result (λ user. MatchOption user (BodyNamesNobody scram.now turn body.now)
-        (λ user. BodyNames scram.now turn body.now user.items)) }
-    ensures err { IfErr result (λ status. status ≡ StatusOutOfMemory) }
-{
-    match view_frame(body) {
-        Ok((frame, _)) => frame_user(alloc, scram, turn, &frame),
-        Err(_) => Ok(None),
-    }
-}
-
-/// The name of the user whom the frame names that these bytes complete.
-#[tactic(auto, using(crate::proofs::ServerUserLemmas::named))]
-fn named(alloc: Global, server: &SaslServer, bytes: &[u8]) -> Result<Vec<u8>, Status>
-    ensures ok { IfOk result (λ name. Named server.now bytes.now name.items) }
-    ensures err { IfErr result (λ status. status ≢ StatusOutOfMemory → NotNamed server.now bytes.now status) }
-    ensures room { IfErr result (λ status. status ≢ RoomTooSmall) }
-{
-    let kept = server.connection.read()?;
-    let body = match kept.completed(alloc, bytes) {
-        Ok(Some(body)) => body,
-        Ok(None) => return Err(Status::NamesNobody),
-        Err(TakeUpError::NotKept) => return Err(Status::NotKept),
-        Err(TakeUpError::OutOfMemory) => return Err(Status::OutOfMemory),
-    };
-    let Due::Frame(turn) = kept.due else {
-        return Err(Status::NamesNobody);
-    };
-    match body_user(alloc, &server.scram, turn, &body) {
-        Ok(Some(name)) => Ok(name),
-        Ok(None) => Err(Status::NamesNobody),
-        Err(status) => Err(status),
-    }
-}
-
-/// Writes the name of the user whom the frame names that these bytes complete.
-fn user(
-    alloc: Global,
-    server: &SaslServer,
-    bytes: &[u8],
-    out: &mut [u8],
-    len: &mut usize,
-) -> Result<(), Status>
-    ensures { Fills (Names server.now bytes.now) (record { bytes = out.old; len = len.old })
-        (record { bytes = out.new; len = len.new }) result }
-{
-    let name = named(alloc, server, bytes)?;
-    put(&name, out, len)
-}
-
-/// Writes the plain name of the user whom the frame names that these bytes complete, and whose record is to be fetched
-/// before they are taken: that of an init of SCRAM or PLAIN, and for a response that of the open challenge. Where they
-/// complete no frame, or one that names nobody, the number is that of `NAMES_NOBODY`, and no record is needed.
-#[unsafe(no_mangle)]
-pub extern "C" fn fe2o3_sasl_server_user(
-    alloc: Global,
-    server: &SaslServer,
-    bytes: &[u8],
-    out: &mut [u8],
-    len: &mut usize,
-) -> u32
-    ensures { Answers result (Fills (Names server.now bytes.now) (record { bytes = out.old; len = len.old })
-        (record { bytes = out.new; len = len.new })) }
-{
-    number(user(alloc, server, bytes, out, len))
 }

@@ -12,8 +12,9 @@ ghost use Rattle.sasl_c.specs.declared.status.Status.TheVariants.{FrameTooLarge,
 
 use crate::arrays::put;
 use crate::connection::of_frame;
-use crate::sasl_server::{SaslHost, Shows, body_user};
+use crate::sasl_server::{SaslHost, Shows};
 use crate::server::ScramServer;
+use crate::server_user::body_user;
 use crate::status::{Status, number};
 use crate::steps::{BODY_MOST, behind, number_of, sendable};
 use bytes::BytesMut;

@@ -2,7 +2,7 @@ use Rattle.std.proofs.Common.{rules}
 use Rattle.sasl_c.proofs.ClientLemmas.{mapped_err, mapped_ok, unanswered}
 use Rattle.sasl_c.proofs.LoginLemmas.{neither_keys, neither_password, no_keys, no_password, other_secret}
 use Rattle.sasl_c.specs.declared.status.Status.TheVariants as statuses
-use Rattle.sasl_c.proofs.client.answered_of.Goals as goal
+use Rattle.sasl_c.proofs.client_final.answered_of.Goals as goal
 
 pub returns-in-Err-clause-err : goal.returns-in-Err-clause-err
 returns-in-Err-clause-err c = λ other none is sent.

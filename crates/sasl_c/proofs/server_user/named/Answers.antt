@@ -1,5 +1,5 @@
 use Rattle.sasl_c.proofs.ServerUserLemmas.{bytes_name, names_nobody}
-use Rattle.sasl_c.proofs.sasl_server.named.Goals as goal
+use Rattle.sasl_c.proofs.server_user.named.Goals as goal
 
 pub returns-in-Ok-Some-body_user-clause-ok : goal.returns-in-Ok-Some-body_user-clause-ok
 returns-in-Ok-Some-body_user-clause-ok c =

@@ -1,5 +1,5 @@
 use Rattle.sasl_c.proofs.ClientLemmas.{no_login, not_due}
-use Rattle.sasl_c.proofs.client.not_due.Goals as goal
+use Rattle.sasl_c.proofs.client_final.not_due.Goals as goal
 
 pub returns-in-Err-clause-why : goal.returns-in-Err-clause-why
 returns-in-Err-clause-why c = λ other sent text.

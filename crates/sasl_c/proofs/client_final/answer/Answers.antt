@@ -1,6 +1,6 @@
 use Rattle.std.proofs.Common.{arith, ap, length, refl, rules}
 use Rattle.sasl_c.proofs.ClientLemmas.{always_waits, answer_has_room, responds}
-use Rattle.sasl_c.proofs.client.answer.Goals as goal
+use Rattle.sasl_c.proofs.client_final.answer.Goals as goal
 
 pub returns-in_default-answered-clause-text : goal.returns-in_default-answered-clause-text
 returns-in_default-answered-clause-text c =

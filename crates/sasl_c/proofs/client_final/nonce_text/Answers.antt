@@ -1,7 +1,7 @@
 use Rattle.std.proofs.Common.{◌≡◌, ◌∙◌, length, arith}
 use Rattle.fe2o3_scram.proofs.lemmas.texts.AsciiLemmas.{IsUtf8-base64_text}
 use Rattle.fe2o3_scram.proofs.lemmas.texts.Base64Lemmas.{encode_of-standard, slice_filled}
-use Rattle.sasl_c.proofs.client.nonce_text.Goals as goal
+use Rattle.sasl_c.proofs.client_final.nonce_text.Goals as goal
 
 pub unreachable-requires : goal.unreachable-requires
 unreachable-requires c =

@@ -1,0 +1,212 @@
+//! The client's answer to a server-first message: the client-final message.
+
+ghost use Rattle.std.specs.Prelude.{◌≡◌, ◌≢◌, ◌≤◌, ◌+◌, ◌^◌, length, IfOk, OnErr, IfErr, List, ℕ};
+ghost use Rattle.fe2o3_scram.specs.Readings.{NoneHolds};
+ghost use Rattle.sasl_c.specs.Records.{IsVersion};
+ghost use Rattle.fe2o3_scram.specs.ClientFinal.{answer_values};
+ghost use Rattle.fe2o3_scram.specs.ClientSecret.{secret_of};
+ghost use Rattle.fe2o3_scram.specs.Texts.{base64_text};
+ghost use Rattle.sasl_c.specs.Client.{Responds, IsAnswer, IsSecret, NotAnswered, name_tests};
+ghost use Rattle.sasl_c.specs.Status.{Answers, FillsWithin};
+ghost use Rattle.sasl_c.specs.declared.status.Status.TheVariants.{OutOfMemory as StatusOutOfMemory, RoomTooSmall};
+
+use crate::arrays::put;
+use crate::client::{Login, ScramClient};
+use crate::status::{Status, number, text};
+use base64::engine::general_purpose::STANDARD;
+use fe2o3_scram::{ClientAnswer, ClientSecret, Meter, ScramErrorKind, ScramVersion};
+use std::alloc::Global;
+
+/// How many bytes more than a server-first message its answer has at most.
+const ANSWER_MORE: usize = 128;
+
+/// The text of a nonce: its 44 symbols of base64.
+fn nonce_text<'a>(nonce: &[u8; 32], room: &'a mut [u8; 44]) -> &'a str
+    ensures { result.now ≡ base64_text nonce.now }
+{
+    // 32 bytes take 44 symbols, so neither can fail.
+    let _ = STANDARD.encode_slice(nonce, room);
+    match str::from_utf8(room) {
+        Ok(text) => text,
+        Err(_) => unreachable!(),
+    }
+}
+
+/// The answer of a client that has sent its client-first message, by this secret.
+#[tactic(auto, using(crate::proofs::ClientLemmas::answers))]
+fn answered_by(
+    alloc: Global,
+    login: &Login<'_>,
+    version: ScramVersion,
+    secret: ClientSecret<'_>,
+    client: &ScramClient,
+    server_first: &str,
+    meter: &mut Meter,
+) -> Result<ClientAnswer, Status>
+    requires { meter.old ≤ 2 ^ 63 }
+    ensures ok { IfOk result (λ answer. IsVersion login.now.version version → IsSecret login.now (secret_of secret.entry)
+        → client.now.sent ≡ 1 → IsAnswer login.now client.now server_first.now (answer_values answer)) }
+    ensures err { IfErr result (λ status. status ≢ StatusOutOfMemory → IsVersion login.now.version version
+        → IsSecret login.now (secret_of secret.entry) → client.now.sent ≡ 1
+        → NotAnswered login.now client.now server_first.now status) }
+    ensures room { IfErr result (λ status. status ≢ RoomTooSmall) }
+{
+    let mut room = [0; 44];
+    let nonce = nonce_text(&client.nonce, &mut room);
+    let (_, bare) = version.client_first_message(alloc, login.username, nonce.as_bytes())?;
+    match version.answer_server_first(
+        alloc,
+        nonce,
+        secret,
+        server_first,
+        bare.as_slice(),
+        login.limits(),
+        meter,
+    ) {
+        Ok(answer) => Ok(answer),
+        Err(why) => Err(Status::from(why)),
+    }
+}
+
+/// The answer of a client that has sent its client-first message, by the secret of its login.
+#[tactic(auto, using(crate::proofs::ClientLemmas::secrets))]
+fn answered_of(
+    alloc: Global,
+    login: &Login<'_>,
+    version: ScramVersion,
+    client: &ScramClient,
+    server_first: &str,
+    meter: &mut Meter,
+) -> Result<ClientAnswer, Status>
+    requires { meter.old ≤ 2 ^ 63 }
+    ensures ok { IfOk result (λ answer. IsVersion login.now.version version → client.now.sent ≡ 1
+        → IsAnswer login.now client.now server_first.now (answer_values answer)) }
+    ensures err { IfErr result (λ status. status ≢ StatusOutOfMemory → NoneHolds (name_tests login.now)
+        → IsVersion login.now.version version → client.now.sent ≡ 1
+        → NotAnswered login.now client.now server_first.now status) }
+    ensures room { IfErr result (λ status. status ≢ RoomTooSmall) }
+{
+    match login.secret {
+        0 => {
+            let password = match text(login.password) {
+                Ok(password) => password,
+                Err(status) => return Err(status),
+            };
+            let secret = ClientSecret::Password(password);
+            answered_by(alloc, login, version, secret, client, server_first, meter)
+        }
+        1 => {
+            let keys = match login.keys(alloc) {
+                Ok(keys) => keys,
+                Err(status) => return Err(status),
+            };
+            let secret = ClientSecret::Keys(&keys);
+            answered_by(alloc, login, version, secret, client, server_first, meter)
+        }
+        2 => {
+            let password = match text(login.password) {
+                Ok(password) => password,
+                Err(status) => return Err(status),
+            };
+            let keys = match login.keys(alloc) {
+                Ok(keys) => keys,
+                Err(status) => return Err(status),
+            };
+            let secret = ClientSecret::Both {
+                password,
+                keys: &keys,
+            };
+            answered_by(alloc, login, version, secret, client, server_first, meter)
+        }
+        _ => Err(Status::NoSuchSecret),
+    }
+}
+
+/// Why a client that has not sent its client-first message last does not answer.
+fn not_due(alloc: Global, login: &Login<'_>, client: &ScramClient) -> Status
+    ensures why { result ≢ StatusOutOfMemory → client.now.sent ≢ 1 → (text : List ℕ)
+        → NotAnswered login.now client.now text result }
+    ensures room { result ≢ RoomTooSmall }
+{
+    let _client = match client.read(alloc, login) {
+        Ok(client) => client,
+        Err(status) => return status,
+    };
+    Status::Client(ScramErrorKind::IllegalClientState)
+}
+
+/// The answer to a server-first message.
+#[tactic(auto, using(crate::proofs::ClientLemmas::answers))]
+fn answered(
+    alloc: Global,
+    login: &Login<'_>,
+    client: &ScramClient,
+    server_first: &str,
+    meter: &mut Meter,
+) -> Result<ClientAnswer, Status>
+    requires { meter.old ≤ 2 ^ 63 }
+    ensures ok { IfOk result (λ answer. IsAnswer login.now client.now server_first.now (answer_values answer)) }
+    ensures err { IfErr result (λ status. status ≢ StatusOutOfMemory
+        → NotAnswered login.now client.now server_first.now status) }
+    ensures room { IfErr result (λ status. status ≢ RoomTooSmall) }
+{
+    if client.sent != 1 {
+        return Err(not_due(alloc, login, client));
+    }
+    let version = login.named_version()?;
+    answered_of(alloc, login, version, client, server_first, meter)
+}
+
+/// Writes the client-final message.
+#[tactic(auto, using(crate::proofs::ClientLemmas::sent))]
+fn answer(
+    alloc: Global,
+    login: &Login<'_>,
+    client: &mut ScramClient,
+    server_first: &[u8],
+    meter: &mut Meter,
+    out: &mut [u8],
+    len: &mut usize,
+) -> Result<(), Status>
+    requires { meter.old ≤ 2 ^ 63 }
+    ensures text { FillsWithin (length server_first.now + 128)
+        (Responds login.now server_first.now client.old client.new) (record { bytes = out.old; len = len.old })
+        (record { bytes = out.new; len = len.new }) result }
+    ensures stays { OnErr result (client.new ≡ client.old) }
+    ensures first { IfErr result (λ status. status ≡ RoomTooSmall → meter.new ≡ meter.old) }
+{
+    let suffices = server_first.len() + ANSWER_MORE;
+    if out.len() < suffices {
+        *len = suffices;
+        return Err(Status::RoomTooSmall);
+    }
+    let Ok(text) = str::from_utf8(server_first) else {
+        return Err(Status::Client(ScramErrorKind::Utf8Error));
+    };
+    let answer = answered(alloc, login, client, text, meter)?;
+    let Some(waiting) = ScramClient::answered(&answer) else {
+        return Err(Status::TooLong);
+    };
+    put(&answer.message, out, len)?;
+    *client = waiting;
+    Ok(())
+}
+
+/// Answers the server-first message with the client-final message. A room of 128 bytes more than the server-first
+/// message suffices, and is asked for before any hash is made.
+#[unsafe(no_mangle)]
+pub extern "C" fn fe2o3_scram_client_final(
+    alloc: Global,
+    login: &Login<'_>,
+    client: &mut ScramClient,
+    server_first: &[u8],
+    out: &mut [u8],
+    len: &mut usize,
+) -> u32
+    ensures { Answers result (λ answer. FillsWithin (length server_first.now + 128)
+        (Responds login.now server_first.now client.old client.new) (record { bytes = out.old; len = len.old })
+        (record { bytes = out.new; len = len.new }) answer × OnErr answer (client.new ≡ client.old)) }
+{
+    let mut meter = Meter::new();
+    number(answer(alloc, login, client, server_first, &mut meter, out, len))
+}
