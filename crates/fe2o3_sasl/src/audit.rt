@@ -245,8 +245,12 @@ pub fn audit_unbound<C: ScramCredentialProvider>(
         limit,
         client_events,
     )?;
-    let server_replies =
-        scram_server_run_unbound(alloc, accepts_unbound, credentials, server_events)?;
+    let server_replies = scram_server_run_unbound(
+        alloc,
+        accepts_unbound,
+        credentials,
+        server_events,
+    )?;
     if !client_is_complete(&client_replies) {
         return Err(AuditError::OutOfMemory);
     }

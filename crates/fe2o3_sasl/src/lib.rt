@@ -25,48 +25,105 @@ pub mod sasl_profile;
 mod steps;
 mod whole_runs;
 
-pub use crate::audit::{AuditError, Finding, FindingKind, Parameters, Verdict, audit_limited, audit_unbound};
-pub use crate::client_policy::{ChoiceError, ClientPolicy, Mechanism, best_profile};
+pub use crate::audit::AuditError;
+pub use crate::audit::Finding;
+pub use crate::audit::FindingKind;
+pub use crate::audit::Parameters;
+pub use crate::audit::Verdict;
+pub use crate::audit::audit_limited;
+pub use crate::audit::audit_unbound;
+pub use crate::client_policy::ChoiceError;
+pub use crate::client_policy::ClientPolicy;
+pub use crate::client_policy::Mechanism;
+pub use crate::client_policy::best_profile;
 pub use crate::external_acceptor::ExternalAcceptor;
-pub use crate::offers_only::{OfferError, OffersOnly};
-pub use crate::one_of::{HasMechanism, OneOf, Part};
-pub use crate::plain_authenticator::{MAX_PASSWORD_LEN, PlainAuthenticator};
-pub use crate::runs::{
-    ClientReply, Event, EventError, ServerReply, acceptor_body_step, acceptor_step,
-    acceptor_step_metered, profile_body_step, profile_step, profile_step_metered, run_acceptor,
-    run_profile, scram_client_run, scram_client_run_limited, scram_server_run,
-    scram_server_run_unbound,
-};
-pub use crate::sasl_acceptor::{
-    NamesUser, SaslAcceptor, SaslAcceptorExt, SaslAnonymousMechanism, SaslPlainMechanism,
-    SaslServerFrame,
-};
-pub use crate::sasl_profile::{
-    Negotiation, ProfileError, SaslProfile, SaslScramSha1, SaslScramSha256, SaslScramSha512,
-    UrlError,
-};
+pub use crate::offers_only::OfferError;
+pub use crate::offers_only::OffersOnly;
+pub use crate::one_of::HasMechanism;
+pub use crate::one_of::OneOf;
+pub use crate::one_of::Part;
+pub use crate::plain_authenticator::MAX_PASSWORD_LEN;
+pub use crate::plain_authenticator::PlainAuthenticator;
+pub use crate::runs::ClientReply;
+pub use crate::runs::Event;
+pub use crate::runs::EventError;
+pub use crate::runs::ServerReply;
+pub use crate::runs::acceptor_body_step;
+pub use crate::runs::acceptor_step;
+pub use crate::runs::acceptor_step_metered;
+pub use crate::runs::profile_body_step;
+pub use crate::runs::profile_step;
+pub use crate::runs::profile_step_metered;
+pub use crate::runs::run_acceptor;
+pub use crate::runs::run_profile;
+pub use crate::runs::scram_client_run;
+pub use crate::runs::scram_client_run_limited;
+pub use crate::runs::scram_server_run;
+pub use crate::runs::scram_server_run_unbound;
+pub use crate::sasl_acceptor::NamesUser;
+pub use crate::sasl_acceptor::SaslAcceptor;
+pub use crate::sasl_acceptor::SaslAcceptorExt;
+pub use crate::sasl_acceptor::SaslAnonymousMechanism;
+pub use crate::sasl_acceptor::SaslPlainMechanism;
+pub use crate::sasl_acceptor::SaslServerFrame;
+pub use crate::sasl_profile::Negotiation;
+pub use crate::sasl_profile::ProfileError;
+pub use crate::sasl_profile::SaslProfile;
+pub use crate::sasl_profile::SaslScramSha1;
+pub use crate::sasl_profile::SaslScramSha256;
+pub use crate::sasl_profile::SaslScramSha512;
+pub use crate::sasl_profile::UrlError;
+pub use fe2o3_scram::client_keys;
 pub use fe2o3_scram::client_keys::ScramClientKeys;
-pub use fe2o3_scram::client_secret::{ClientSecret, IterationLimits};
-pub use fe2o3_scram::credentials::{
-    AddRecordError, DEFAULT_SCRAM_ITERATIONS, MixedCredentials, ReadLinesError, ReadLinesErrorKind,
-    RecordError, RecordTextError, ScramCredentialProvider, ScramCredentials, ScramRecord,
-    SingleScramCredential, StoredPassword, StoredScramCredential, WriteLinesError,
-};
-pub use fe2o3_scram::hmac::{DigestBytes, Meter, ScramVersion, UnknownMechanism};
+pub use fe2o3_scram::client_secret;
+pub use fe2o3_scram::client_secret::ClientSecret;
+pub use fe2o3_scram::client_secret::IterationLimits;
+pub use fe2o3_scram::credentials;
+pub use fe2o3_scram::credentials::AddRecordError;
+pub use fe2o3_scram::credentials::DEFAULT_SCRAM_ITERATIONS;
+pub use fe2o3_scram::credentials::MixedCredentials;
+pub use fe2o3_scram::credentials::ReadLinesError;
+pub use fe2o3_scram::credentials::ReadLinesErrorKind;
+pub use fe2o3_scram::credentials::RecordError;
+pub use fe2o3_scram::credentials::RecordTextError;
+pub use fe2o3_scram::credentials::ScramCredentialProvider;
+pub use fe2o3_scram::credentials::ScramCredentials;
+pub use fe2o3_scram::credentials::ScramRecord;
+pub use fe2o3_scram::credentials::SingleScramCredential;
+pub use fe2o3_scram::credentials::StoredPassword;
+pub use fe2o3_scram::credentials::StoredScramCredential;
+pub use fe2o3_scram::credentials::WriteLinesError;
+pub use fe2o3_scram::hmac;
+pub use fe2o3_scram::hmac::DigestBytes;
+pub use fe2o3_scram::hmac::Meter;
+pub use fe2o3_scram::hmac::ScramVersion;
+pub use fe2o3_scram::hmac::UnknownMechanism;
+pub use fe2o3_scram::keys;
 pub use fe2o3_scram::keys::auth_message;
+pub use fe2o3_scram::pbkdf2_hi;
 pub use fe2o3_scram::pbkdf2_hi::KeyError;
-pub use fe2o3_scram::saslprep_ascii::{NormalizeError, saslprep};
+pub use fe2o3_scram::provider;
+pub use fe2o3_scram::saslprep_ascii;
+pub use fe2o3_scram::saslprep_ascii::NormalizeError;
+pub use fe2o3_scram::saslprep_ascii::saslprep;
+pub use fe2o3_scram::scram_client;
 pub use fe2o3_scram::scram_client::ScramClient;
-pub use fe2o3_scram::scram_messages::{
-    ClientAnswer, ClientFinal, ClientFirst, ScramErrorKind, ServerFinal, ServerFirst,
-    ServerFirstMessage, ServerScramErrorKind, UnescapeError, XorLengthMismatch, escape_username,
-    unescape_username,
-};
+pub use fe2o3_scram::scram_messages;
+pub use fe2o3_scram::scram_messages::ClientAnswer;
+pub use fe2o3_scram::scram_messages::ClientFinal;
+pub use fe2o3_scram::scram_messages::ClientFirst;
+pub use fe2o3_scram::scram_messages::ScramErrorKind;
+pub use fe2o3_scram::scram_messages::ServerFinal;
+pub use fe2o3_scram::scram_messages::ServerFirst;
+pub use fe2o3_scram::scram_messages::ServerFirstMessage;
+pub use fe2o3_scram::scram_messages::ServerScramErrorKind;
+pub use fe2o3_scram::scram_messages::UnescapeError;
+pub use fe2o3_scram::scram_messages::XorLengthMismatch;
+pub use fe2o3_scram::scram_messages::escape_username;
+pub use fe2o3_scram::scram_messages::unescape_username;
+pub use fe2o3_scram::scram_server;
 pub use fe2o3_scram::scram_server::ScramAuthenticator;
-pub use fe2o3_scram::scram_server::hiding::{HidingAuthenticator, SaltTooLong};
+pub use fe2o3_scram::scram_server::hiding::HidingAuthenticator;
+pub use fe2o3_scram::scram_server::hiding::SaltTooLong;
 pub use fe2o3_scram::scram_server::open_challenge::OpenChallenge;
-pub use fe2o3_scram::{
-    client_keys, client_secret, credentials, hmac, keys, pbkdf2_hi, provider, saslprep_ascii,
-    scram_client, scram_messages, scram_server,
-};
 pub use std::alloc::AllocError as OutOfMemory;

@@ -39,14 +39,15 @@ within : (is : Bool) (n : ℕ) → one_where is n ≤ n
 within true n = omega arith
 within false n = omega arith
 
--- a sum has 15 at most
-pub sum_small : (choice : Choice) → sum_of choice ≤ 15
+-- a sum has 31 at most
+pub sum_small : (choice : Choice) → sum_of choice ≤ 31
 sum_small choice = omega (
   arith,
   within choice.scram 1,
   within choice.plain 2,
   within choice.anonymous 4,
   within choice.external 8,
+  within choice.unbound 16,
 )
 
 -- ---- the record of a host's user
@@ -161,7 +162,7 @@ shows_it scram server challenge same shows =
 pub made : (host : Host) (version : ScramVersion) (choice : Choice) (scram : ScramStruct) (all : All)
     (names : List (List ℕ)) (server : State) → IsVersion host.version version → sum_of choice ≡ host.mechanisms
     → names ≡ allowed_of version choice → server ≡ record { inner = all; allowed = names }
-    → IsAll host version scram all → Comes host Wanting server × ShowsState scram Wanting server
+    → IsAll host version choice.unbound scram all → Comes host Wanting server × ShowsState scram Wanting server
 made host version choice scram all names server known sum named is (records, state, asked, has, stands, same) =
     go stands
   where
@@ -203,7 +204,7 @@ no_words host version choice status known sum (is, inr (name, wrong)) = inl (inr
 pub no_offer : (host : Host) (version : ScramVersion) (choice : Choice) (scram : ScramStruct) (all : All)
     (names : List (List ℕ)) (server : State) → IsVersion host.version version → sum_of choice ≡ host.mechanisms
     → names ≡ allowed_of version choice → server ≡ record { inner = all; allowed = names }
-    → IsAll host version scram all → IsUtf8 host.username.now → IsUtf8 host.peer.now → state_names server ≡ []
+    → IsAll host version choice.unbound scram all → IsUtf8 host.username.now → IsUtf8 host.peer.now → state_names server ≡ []
     → IsNoHost host statuses.NoSuchMechanism
 unfolding IsNoHost
 no_offer host version choice scram all names server known sum named is (records, state, asked, has, stands, same)

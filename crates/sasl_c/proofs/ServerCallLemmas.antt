@@ -154,7 +154,7 @@ module _ (host : Host) (version : ScramVersion) (choice : Choice) (records : Rec
   Then reply next = Ends reply ⊎ ((challenge : Challenge) × (next ≡ one (ServerFirstSent challenge) (Some First)))
 
   opened : (state : ServerState) (asked : Option Part) (all : All) (acceptor : Acceptor) (next : State)
-      (reply : SaslFrame) → Ends reply ⊎ Opens (record { version = version; records = records }) acceptor
+      (reply : SaslFrame) → Ends reply ⊎ Opens (record { version = version; records = records; unbound = choice.unbound }) acceptor
       → all ≡ record { first = acceptor; second = (one state asked).inner.second; asked = Some First }
       → next ≡ record (one state asked) { inner = all } → Then reply next
   opened state asked all acceptor next reply (inl ends) is same = inl ends

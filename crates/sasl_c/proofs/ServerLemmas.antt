@@ -1,5 +1,5 @@
 -- What a server answers to a client-first message, by the struct of its user's record.
-use Rattle.std.proofs.Common.{arith, refl, sym, ap, inl, inr, ◌∙◌, ◌≡◌, ◌≢◌, ◌≤◌, ℕ, List, length, take}
+use Rattle.std.proofs.Common.{Bool, arith, refl, sym, ap, inl, inr, ◌∙◌, ◌≡◌, ◌≢◌, ◌≤◌, ℕ, List, length, take}
 use Rattle.std.specs.Prelude.{Some, None, Ok, Err, codes}
 use Rattle.std.proofs.lemmas.List.{length-append}
 use Rattle.fe2o3_scram.specs.declared.scram_messages.error.ServerScramErrorKind.{ServerScramErrorKind}
@@ -14,7 +14,7 @@ use Rattle.fe2o3_scram.specs.Keys.{auth_message, server_signature}
 use Rattle.fe2o3_scram.specs.ServerFinal.{AnswersClientFinal}
 use Rattle.fe2o3_scram.proofs.lemmas.hashes.DigestLemmas.{length-hmac_of}
 use Rattle.sasl_c.proofs.TextLemmas.{short, short_text}
-use Rattle.fe2o3_scram.specs.Credentials.{Provider, VersionedRecord, record_at}
+use Rattle.fe2o3_scram.specs.Credentials.{Store, VersionedRecord, record_at, serving}
 use Rattle.fe2o3_scram.specs.ScramServer.{ChallengesFrom, ServerState, ServerFirstSent}
 use Rattle.fe2o3_scram.specs.ServerFirst.{AnswersClientFirst, Challenge}
 use Rattle.fe2o3_scram.specs.Texts.{base64_text}
@@ -28,55 +28,56 @@ use Rattle.sasl_c.proofs.StatusLemmas.{carried}
 use Rattle.sasl_c.specs.Status.{server_status}
 
 -- a message that is refused
-pub unread : (kept : Kept) (nonce text : List ℕ) (why : ServerScramErrorKind) (status : Status)
-    → (why ≢ NoMemory → ReadsClientFirst text (Err why)) → status ≡ server_status why
-    → status ≢ statuses.OutOfMemory → NotChallenged kept nonce text status
+pub unread : (unbound : Bool) (kept : Kept) (nonce text : List ℕ) (why : ServerScramErrorKind) (status : Status)
+    → (why ≢ NoMemory → ReadsClientFirst unbound text (Err why)) → status ≡ server_status why
+    → status ≢ statuses.OutOfMemory → NotChallenged unbound kept nonce text status
 unfolding NotChallenged
-unread kept nonce text why status held gives other =
+unread unbound kept nonce text why status held gives other =
     inl (why, gives, held (λ same. other (gives ∙ ap server_status same)))
 
-pub not_shown : (kept : Kept) (nonce text : List ℕ) (first : ClientFirst) (status : Status)
-    → ReadsClientFirst text (Ok first) → SpellsStruct kept (Err status) → NotChallenged kept nonce text status
+pub not_shown : (unbound : Bool) (kept : Kept) (nonce text : List ℕ) (first : ClientFirst) (status : Status)
+    → ReadsClientFirst unbound text (Ok first) → SpellsStruct kept (Err status) → NotChallenged unbound kept nonce text status
 unfolding NotChallenged
-not_shown kept nonce text first status reads wrong = inr (inl (first, reads, wrong))
+not_shown unbound kept nonce text first status reads wrong = inr (inl (first, reads, wrong))
 
-pub no_room : (kept : Kept) (nonce text : List ℕ) (challenge : Challenge) → Challenged kept nonce text challenge
-    → ¬ HasRoom challenge → NotChallenged kept nonce text statuses.TooLong
+pub no_room : (unbound : Bool) (kept : Kept) (nonce text : List ℕ) (challenge : Challenge) → Challenged unbound kept nonce text challenge
+    → ¬ HasRoom challenge → NotChallenged unbound kept nonce text statuses.TooLong
 unfolding NotChallenged
-no_room kept nonce text challenge held wide = inr (inr (refl, (challenge, held, wide)))
+no_room unbound kept nonce text challenge held wide = inr (inr (refl, (challenge, held, wide)))
 
 -- the machine's answers
-pub challenged : (kept : Kept) (nonce text user message : List ℕ) (shown : VersionedRecord) (provider : Provider)
-    (state next : ServerState) → Shows kept shown → provider ≡ one_user user shown
-    → ChallengesFrom state provider nonce text (Ok (Some message)) next
-    → (challenge : Challenge) × (next ≡ ServerFirstSent challenge) × Challenged kept nonce text challenge
+pub challenged : (unbound : Bool) (kept : Kept) (nonce text user message : List ℕ) (shown : VersionedRecord)
+    (store : Store) (state next : ServerState) → Shows kept shown → store ≡ one_user user shown
+    → ChallengesFrom state (serving unbound store) nonce text (Ok (Some message)) next
+    → (challenge : Challenge) × (next ≡ ServerFirstSent challenge) × Challenged unbound kept nonce text challenge
 unfolding Challenged
-challenged kept nonce text user message shown provider state next is same held =
-    let given = carried (λ p. AnswersClientFirst p.records (base64_text nonce) text (Ok (Some held.0))) provider
+challenged unbound kept nonce text user message shown store state next is same held =
+    let given = carried (λ s. AnswersClientFirst (serving unbound s) (base64_text nonce) text (Ok (Some held.0))) store
     (one_user user shown) same held.1 in
     (held.0, held.3, (shown, user, is, given))
 
 -- the record stands under the name that the message has, so its user is never unknown
-pub never_unknown : (kept : Kept) (nonce text user : List ℕ) (shown : VersionedRecord) (provider : Provider)
-    (state next : ServerState) (first : ClientFirst) (status : Status) → ReadsClientFirst text (Ok first)
-    → user ≡ first.user → provider ≡ one_user user shown → ChallengesFrom state provider nonce text (Ok None) next
-    → NotChallenged kept nonce text status
-never_unknown kept nonce text user shown provider state next first status reads named same held =
-    let given = carried (λ p. AnswersClientFirst p.records (base64_text nonce) text (Ok None)) provider
+pub never_unknown : (unbound : Bool) (kept : Kept) (nonce text user : List ℕ) (shown : VersionedRecord) (store : Store)
+    (state next : ServerState) (first : ClientFirst) (status : Status) → ReadsClientFirst unbound text (Ok first)
+    → user ≡ first.user → store ≡ one_user user shown
+    → ChallengesFrom state (serving unbound store) nonce text (Ok None) next
+    → NotChallenged unbound kept nonce text status
+never_unknown unbound kept nonce text user shown store state next first status reads named same held =
+    let given = carried (λ s. AnswersClientFirst (serving unbound s) (base64_text nonce) text (Ok None)) store
     (one_user user shown) same held.0 in
-    let one : first ≡ given.0 = one_client_first_value text first given.0 reads given.1 in
+    let one : first ≡ given.0 = one_client_first_value unbound text first given.0 reads given.1 in
     let here : pointwise nat_eq user given.0.user ≡ true =
     (bytes_eq-Decides user given.0.user).1 (named ∙ ap (λ (client : ClientFirst). client.user) one) in
     let none : Some shown.stored ≡ None = carried (λ test. cond test (Some shown.stored) None ≡ None)
     (pointwise nat_eq user given.0.user) true here given.2 in
     absurd (cc)
 
-pub failed : (kept : Kept) (nonce text : List ℕ) (provider : Provider) (state next : ServerState)
+pub failed : (unbound : Bool) (kept : Kept) (nonce text : List ℕ) (store : Store) (state next : ServerState)
     (why : ServerScramErrorKind) (status : Status)
-    → (why ≢ NoMemory → ChallengesFrom state provider nonce text (Err why) next) → status ≡ server_status why
-    → status ≢ statuses.OutOfMemory → NotChallenged kept nonce text status
-failed kept nonce text provider state next why status held gives other =
-    unread kept nonce text why status (λ told. (held told).0) gives other
+    → (why ≢ NoMemory → ChallengesFrom state (serving unbound store) nonce text (Err why) next) → status ≡ server_status why
+    → status ≢ statuses.OutOfMemory → NotChallenged unbound kept nonce text status
+failed unbound kept nonce text store state next why status held gives other =
+    unread unbound kept nonce text why status (λ told. (held told).0) gives other
 
 -- ---- the end of an exchange
 
@@ -100,7 +101,7 @@ found user shown = ap (λ test. cond test (Some shown.stored) None) ((bytes_eq-D
 
 pub concluded : (kept : Kept) (before : Struct) (text message : List ℕ) (challenge : Challenge)
     (shown : VersionedRecord) → IsOpen before challenge → Shows kept shown
-    → AnswersClientFinal (server_of shown.version challenge.bare challenge.first challenge.nonce shown.stored) text
+    → AnswersClientFinal (server_of shown.version challenge.header challenge.bare challenge.first challenge.nonce shown.stored) text
     (Ok message)
     → Concluded kept before text message challenge.user × (length message ≤ 90)
 unfolding Concluded
@@ -112,7 +113,7 @@ concluded kept before text message challenge shown is shows held = (
 pub refuses : (kept : Kept) (before : Struct) (text : List ℕ) (challenge : Challenge) (shown : VersionedRecord)
     (why : ServerScramErrorKind) (status : Status) → IsOpen before challenge → Shows kept shown
     → (why ≢ NoMemory → AnswersClientFinal
-    (server_of shown.version challenge.bare challenge.first challenge.nonce shown.stored) text (Err why))
+    (server_of shown.version challenge.header challenge.bare challenge.first challenge.nonce shown.stored) text (Err why))
     → status ≡ server_status why → status ≢ statuses.OutOfMemory → Concludes kept text before before (Err status)
 unfolding Concludes
 refuses kept before text challenge shown why status is shows held gives other =

@@ -1,5 +1,5 @@
 -- Whom a frame names that comes to a server (RFC 5802, section 7; RFC 4616, section 2).
-use Rattle.std.proofs.Common.{rules, arith, refl, sym, ap, inl, inr, ◌∙◌, ◌≡◌, ◌≢◌, ◌≤◌, ◌⊎◌, ℕ, List, length}
+use Rattle.std.proofs.Common.{true, rules, arith, refl, sym, ap, inl, inr, ◌∙◌, ◌≡◌, ◌≢◌, ◌≤◌, ◌⊎◌, ℕ, List, length}
 use Rattle.std.specs.Prelude.{Option, Some, None, Ok, Err, codes}
 use Rattle.fe2o3_sasl_wire.specs.declared.sasl_frames.error.Error.{Error}
 use Rattle.fe2o3_sasl_wire.specs.SaslFrames.{SaslFrame, ReadsBody}
@@ -28,9 +28,9 @@ use Rattle.sasl_c.proofs.ServerCallLemmas.{keeps_no_part, none_holds}
 use Rattle.sasl_c.proofs.StatusLemmas.{carried}
 
 -- a message that is refused names nobody
-pub refused : (text : List ℕ) (why : ServerScramErrorKind) (first : ClientFirst) → ReadsClientFirst text (Err why)
-    → ReadsClientFirst text (Ok first) → ⊥
-refused text why first wrong reads = let same = one_client_first text (Err why) (Ok first) wrong reads in absurd (cc)
+pub refused : (text : List ℕ) (why : ServerScramErrorKind) (first : ClientFirst) → ReadsClientFirst true text (Err why)
+    → ReadsClientFirst true text (Ok first) → ⊥
+refused text why first wrong reads = let same = one_client_first true text (Err why) (Ok first) wrong reads in absurd (cc)
 
 pub ruleset scram_user = (refused)
 
@@ -42,12 +42,12 @@ not_plain versions.Sha512 same = let long : ◌≡◌ {A = ℕ} 13 5 = ap length
 
 -- an init of SCRAM
 pub scram_names : (mechanism text name : List ℕ) (version : ScramVersion) (first : ClientFirst)
-    → mechanism_name version ≡ mechanism → ReadsClientFirst text (Ok first) → name ≡ first.user
+    → mechanism_name version ≡ mechanism → ReadsClientFirst true text (Ok first) → name ≡ first.user
     → InitNames mechanism text name
 scram_names mechanism text name version first is reads same = inl (version, first, sym is, reads, same)
 
 pub scram_names_nobody : (mechanism text : List ℕ) (version : ScramVersion) → mechanism_name version ≡ mechanism
-    → ((first : ClientFirst) → ¬ ReadsClientFirst text (Ok first)) → (name : List ℕ)
+    → ((first : ClientFirst) → ¬ ReadsClientFirst true text (Ok first)) → (name : List ℕ)
     → ¬ InitNames mechanism text name
 scram_names_nobody mechanism text version is none name (inl (other, first, same, reads, user)) = none first reads
 scram_names_nobody mechanism text version is none name (inr (plain, rest)) = not_plain version (is ∙ plain)

@@ -7,7 +7,7 @@ use Rattle.fe2o3_sasl_wire.specs.SaslFrames as frames
 use Rattle.fe2o3_scram.specs.declared.hmac.ScramVersion.{ScramVersion}
 use Rattle.fe2o3_scram.specs.declared.scram_server.ScramAuthenticator.{ScramAuthenticator}
 use Rattle.fe2o3_scram.specs.ClientFirst.{ClientFirst, ReadsClientFirst}
-use Rattle.fe2o3_scram.specs.Credentials.{Provider, Record, Records, versioned}
+use Rattle.fe2o3_scram.specs.Credentials.{Record, Records, Store, serving, versioned}
 use Rattle.fe2o3_scram.specs.Hmac.{mechanism_name}
 use Rattle.fe2o3_scram.specs.Readings.{IsFirst, NoneHolds}
 use Rattle.fe2o3_scram.specs.ScramServer.{ServerState, Initial, ServerFirstSent, open_challenge, provider_in, state_in}
@@ -117,10 +117,11 @@ abbrev pub one_where : Bool → ℕ → ℕ
 one_where true n = n
 one_where false n = 0
 
--- the sum of the mechanisms' numbers: 1 SCRAM, 2 PLAIN, 4 ANONYMOUS, 8 EXTERNAL
+-- the sum of the mechanisms' numbers: 1 SCRAM, 2 PLAIN, 4 ANONYMOUS, 8 EXTERNAL; and 16 where SCRAM takes a client that
+-- could bind a channel (RFC 5802, section 6)
 abbrev pub sum_of : Choice → ℕ
 sum_of choice = one_where choice.scram 1 + one_where choice.plain 2 + one_where choice.anonymous 4
-    + one_where choice.external 8
+    + one_where choice.external 8 + one_where choice.unbound 16
 
 -- a name where it is so, and else the empty one, which no mechanism has
 abbrev pub name_where : Bool → List ℕ → List ℕ
@@ -143,13 +144,13 @@ HasRecords host version records =
     × (records ≡ (host.username.now, stored) ∷ []))
     ⊎ (((stored : Record) → ¬ Shows host.record.now (versioned version stored)) × (records ≡ []))
 
--- all four mechanisms over a provider, SCRAM in this state, and the one that the last init went to; EXTERNAL lets in
--- this name
-abbrev pub all_of : Provider → ℕ → List ℕ → ServerState → Option Part → All
-all_of provider count peer state asked = record {
-  first = ScramAcceptor provider state;
+-- all four mechanisms over a store, SCRAM in this state, and the one that the last init went to; SCRAM takes a client
+-- that could bind a channel on wish, EXTERNAL lets in this name
+abbrev pub all_of : Bool → Store → ℕ → List ℕ → ServerState → Option Part → All
+all_of unbound store count peer state asked = record {
+  first = ScramAcceptor (serving unbound store) state;
   second = record {
-    first = record { provider = provider; count = count; user = None };
+    first = record { provider = store; count = count; user = None };
     second = record { first = AnonymousAcceptor; second = record { user = peer; accepted = false }; asked = None };
     asked = None;
   };
@@ -159,7 +160,8 @@ all_of provider count peer state asked = record {
 -- the server of these
 abbrev pub server_of : Host → ScramVersion → Choice → Records → ServerState → Option Part → State
 server_of host version choice records state asked = record {
-  inner = all_of (record { version = version; records = records }) host.iterations host.peer.now state asked;
+  inner = all_of choice.unbound (record { version = version; records = records }) host.iterations host.peer.now state
+      asked;
   allowed = allowed_of version choice;
 }
 
@@ -188,10 +190,10 @@ Stands scram state asked = ((challenge : Challenge) × IsOpen scram challenge ×
     ⊎ (((challenge : Challenge) → ¬ IsOpen scram challenge) × (state ≡ Initial) × (asked ≡ None))
 
 -- and so all four mechanisms of a host in the exchange that a struct shows
-abbrev pub IsAll : Host → ScramVersion → ScramStruct → All → Type 0
-IsAll host version scram all = (records : Records) × (state : ServerState) × (asked : Option Part)
+abbrev pub IsAll : Host → ScramVersion → Bool → ScramStruct → All → Type 0
+IsAll host version unbound scram all = (records : Records) × (state : ServerState) × (asked : Option Part)
     × HasRecords host version records × Stands scram state asked
-    × (all ≡ all_of (record { version = version; records = records }) host.iterations host.peer.now state asked)
+    × (all ≡ all_of unbound (record { version = version; records = records }) host.iterations host.peer.now state asked)
 
 -- the struct shows that this user has logged in, or nothing of whom no name is known
 abbrev pub ShowsUser : ScramStruct → Option (List ℕ) → Type 0
@@ -281,12 +283,12 @@ Receives host bytes nonce before after taken (Err status) = NotReceived host byt
 
 -- ---- whom a frame names
 
--- an init names this user: in a client-first message (RFC 5802, section 7), or in a message of PLAIN that is taken (RFC
+-- an init names this user: in a client-first message behind either GS2 header (RFC 5802, section 7), or in a message of PLAIN that is taken (RFC
 -- 4616, section 2)
 abbrev pub InitNames : List ℕ → List ℕ → List ℕ → Type 0
 InitNames mechanism text name =
     ((version : ScramVersion) × (first : ClientFirst) × (mechanism ≡ mechanism_name version)
-    × ReadsClientFirst text (Ok first) × (name ≡ first.user))
+    × ReadsClientFirst true text (Ok first) × (name ≡ first.user))
     ⊎ ((mechanism ≡ codes "PLAIN") × ((parts : PlainParts) × SpellsPlain parts text × IsTaken parts
     × (name ≡ parts.user)))
 

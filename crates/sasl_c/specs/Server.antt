@@ -1,10 +1,12 @@
 -- A SCRAM server that stands in a struct of C between its calls (RFC 5802, sections 3 and 5).
-use Rattle.std.specs.Prelude.{◌≡◌, ◌≤◌, ◌⊎◌, ℕ, List, [], ◌∷◌, length, take, Some, Result, Ok, Err}
+use Rattle.std.specs.Prelude.{Bool, true, false, ◌≡◌, ◌≤◌, ◌⊎◌, ℕ, List, [], ◌∷◌, length, take, Some, Result, Ok, Err}
 use Rattle.std.specs.Str.{IsUtf8}
 use Rattle.fe2o3_scram.specs.declared.scram_messages.error.ServerScramErrorKind.{ServerScramErrorKind}
 use Rattle.fe2o3_scram.specs.declared.scram_messages.error.ServerScramErrorKind.TheVariants.{IllegalAuthenticatorState}
 use Rattle.fe2o3_scram.specs.ClientFirst.{ClientFirst, ReadsClientFirst}
-use Rattle.fe2o3_scram.specs.Credentials.{Provider, VersionedRecord}
+use Rattle.fe2o3_scram.specs.declared.scram_messages.gs2_header.Gs2Header.{Gs2Header}
+use Rattle.fe2o3_scram.specs.declared.scram_messages.gs2_header.Gs2Header.TheVariants.{Unsupported, Unoffered}
+use Rattle.fe2o3_scram.specs.Credentials.{Store, VersionedRecord, serving}
 use Rattle.fe2o3_scram.specs.ScramServer.{ConcludesFrom, ServerFirstSent, ServerFinalSent}
 use Rattle.fe2o3_scram.specs.ServerFirst.{AnswersClientFirst, Challenge}
 use Rattle.fe2o3_scram.specs.Texts.{base64_text}
@@ -15,8 +17,8 @@ use Rattle.sasl_c.specs.declared.status.Status.TheVariants as statuses
 use Rattle.sasl_c.specs.Records.{Shows, SpellsStruct}
 use Rattle.sasl_c.specs.Status.{server_status}
 
--- the provider of one user
-abbrev pub one_user : List ℕ → VersionedRecord → Provider
+-- the store of one user
+abbrev pub one_user : List ℕ → VersionedRecord → Store
 one_user user shown = record { version = shown.version; records = (user, shown.stored) ∷ [] }
 
 -- a challenge whose texts have room in a struct
@@ -29,10 +31,16 @@ abbrev pub AreLengths : Struct → Type 0
 AreLengths server = (server.user_len ≤ 256) × (server.bare_len ≤ 1024) × (server.nonce_len ≤ 512)
     × (server.first_len ≤ 1024)
 
--- the challenge that a struct shows
-abbrev pub challenge_of : Struct → Challenge
-challenge_of server = record {
+-- the number of a struct that shows a challenge to a client with this GS2 header
+abbrev pub open_number : Gs2Header → ℕ
+open_number Unsupported = 1
+open_number Unoffered = 3
+
+-- the challenge that a struct shows, to a client with this header
+abbrev pub challenge_of : Gs2Header → Struct → Challenge
+challenge_of header server = record {
   user = take server.user_len server.user;
+  header = header;
   bare = take server.bare_len server.bare;
   first = take server.first_len server.first;
   nonce = take server.nonce_len server.nonce;
@@ -40,8 +48,8 @@ challenge_of server = record {
 
 -- the struct is that of a server whose challenge is open
 abbrev pub IsOpen : Struct → Challenge → Type 0
-IsOpen server challenge = (server.stands ≡ 1) × AreLengths server × (challenge ≡ challenge_of server)
-    × IsUtf8 challenge.user
+IsOpen server challenge = (server.stands ≡ open_number challenge.header) × AreLengths server
+    × (challenge ≡ challenge_of challenge.header server) × IsUtf8 challenge.user
 
 -- the struct is that of a server that has logged this user in
 abbrev pub HasLoggedIn : Struct → List ℕ → Type 0
@@ -49,43 +57,46 @@ HasLoggedIn server user = (server.stands ≡ 2) × (server.user_len ≤ 256) × 
 
 -- ---- what the calls answer (RFC 5802, section 5), and the struct after them
 
--- a client-first message is answered by this challenge, where the record is that of the user whom it names
-unfoldable pub Challenged : Kept → List ℕ → List ℕ → Challenge → Type 0
-Challenged kept nonce text challenge = (shown : VersionedRecord) × (user : List ℕ) × Shows kept shown
-    × AnswersClientFirst ((user, shown.stored) ∷ []) (base64_text nonce) text (Ok (Some challenge))
+-- a client-first message is answered by this challenge, where the record is that of the user whom it names; a client
+-- that could bind a channel is taken on wish
+unfoldable pub Challenged : Bool → Kept → List ℕ → List ℕ → Challenge → Type 0
+Challenged unbound kept nonce text challenge = (shown : VersionedRecord) × (user : List ℕ) × Shows kept shown
+    × AnswersClientFirst (serving unbound (one_user user shown)) (base64_text nonce) text (Ok (Some challenge))
 
 -- why a client-first message is not answered: it is refused; or it is read, and the struct of the record shows none; or
 -- there is a challenge, and a text of it has no room in the struct
-unfoldable pub NotChallenged : Kept → List ℕ → List ℕ → Status → Type 0
-NotChallenged kept nonce text status =
-    ((why : ServerScramErrorKind) × (status ≡ server_status why) × ReadsClientFirst text (Err why))
-    ⊎ ((first : ClientFirst) × ReadsClientFirst text (Ok first) × SpellsStruct kept (Err status))
-    ⊎ ((status ≡ statuses.TooLong) × ((challenge : Challenge) × Challenged kept nonce text challenge
+unfoldable pub NotChallenged : Bool → Kept → List ℕ → List ℕ → Status → Type 0
+NotChallenged unbound kept nonce text status =
+    ((why : ServerScramErrorKind) × (status ≡ server_status why) × ReadsClientFirst unbound text (Err why))
+    ⊎ ((first : ClientFirst) × ReadsClientFirst unbound text (Ok first) × SpellsStruct kept (Err status))
+    ⊎ ((status ≡ statuses.TooLong) × ((challenge : Challenge) × Challenged unbound kept nonce text challenge
     × ¬ HasRoom challenge))
 
 -- the server-first message
-abbrev pub Challenges : Kept → List ℕ → List ℕ → Result (List ℕ) Status → Type 0
-Challenges kept nonce text (Ok message) = (challenge : Challenge) × Challenged kept nonce text challenge
-    × (message ≡ challenge.first)
-Challenges kept nonce text (Err status) = NotChallenged kept nonce text status
+abbrev pub Challenges : Bool → Kept → List ℕ → List ℕ → Result (List ℕ) Status → Type 0
+Challenges unbound kept nonce text (Ok message) = (challenge : Challenge)
+    × Challenged unbound kept nonce text challenge × (message ≡ challenge.first)
+Challenges unbound kept nonce text (Err status) = NotChallenged unbound kept nonce text status
 
 -- the struct after it
-abbrev pub Opens : Kept → List ℕ → List ℕ → Struct → Struct → Result (Unit {0}) Status → Type 0
-Opens kept nonce text before after (Ok done) = (challenge : Challenge) × Challenged kept nonce text challenge
-    × IsOpen after challenge
-Opens kept nonce text before after (Err status) = after ≡ before
+abbrev pub Opens : Bool → Kept → List ℕ → List ℕ → Struct → Struct → Result (Unit {0}) Status → Type 0
+Opens unbound kept nonce text before after (Ok done) = (challenge : Challenge)
+    × Challenged unbound kept nonce text challenge × IsOpen after challenge
+Opens unbound kept nonce text before after (Err status) = after ≡ before
 
--- the user whom the init's message names
+-- the user whom the message of an init names, behind either GS2 header
 abbrev pub NamesUser : List ℕ → Result (List ℕ) Status → Type 0
-NamesUser text (Ok name) = (first : ClientFirst) × ReadsClientFirst text (Ok first) × (name ≡ first.user)
+NamesUser text (Ok name) = (first : ClientFirst) × ReadsClientFirst true text (Ok first) × (name ≡ first.user)
 NamesUser text (Err status) = (why : ServerScramErrorKind) × (status ≡ server_status why)
-    × ReadsClientFirst text (Err why)
+    × ReadsClientFirst true text (Err why)
 
--- the struct's open challenge is answered by this message, where the record is that of its user
+-- the struct's open challenge is answered by this message, where the record is that of its user; whom a server takes
+-- plays no part once the challenge is open
 unfoldable pub Concluded : Kept → Struct → List ℕ → List ℕ → List ℕ → Type 0
 Concluded kept before text message user = (challenge : Challenge) × (shown : VersionedRecord) × IsOpen before challenge
     × Shows kept shown × (user ≡ challenge.user)
-    × ConcludesFrom (ServerFirstSent challenge) (one_user user shown) text (Ok (Some message)) (ServerFinalSent user)
+    × ConcludesFrom (ServerFirstSent challenge) (serving false (one_user user shown)) text (Ok (Some message))
+    (ServerFinalSent user)
 
 -- the server-final message, and the struct after it; or that no challenge is open, or one is and the struct of the
 -- record shows none, or it shows one and the message is refused
@@ -97,7 +108,7 @@ Concludes kept text before after (Err status) =
     ⊎ ((challenge : Challenge) × IsOpen before challenge × SpellsStruct kept (Err status))
     ⊎ ((why : ServerScramErrorKind) × (status ≡ server_status why)
     × ((challenge : Challenge) × (shown : VersionedRecord) × IsOpen before challenge × Shows kept shown
-    × ConcludesFrom (ServerFirstSent challenge) (one_user challenge.user shown) text (Err why)
+    × ConcludesFrom (ServerFirstSent challenge) (serving false (one_user challenge.user shown)) text (Err why)
     (ServerFirstSent challenge)))
 
 -- who has logged in

@@ -2,7 +2,7 @@
 
 ghost use Rattle.std.specs.Prelude.{◌≡◌, ◌≢◌, ◌<◌, ◌≤◌, ◌⊎◌, ◌+◌, ◌^◌, ℕ, List, Ok, length, map, option_map, string_bytes, IfOk, IfErr, OnErr, MatchOption};
 ghost use Rattle.std.specs.Str.{IsUtf8};
-ghost use Rattle.fe2o3_scram.specs.ScramServer.{challenge_kept, provider_in, state_in};
+ghost use Rattle.fe2o3_scram.specs.ScramServer.{challenge_kept, provider_in, state_in, unbound_in};
 ghost use Rattle.fe2o3_sasl_negotiation.specs.declared.standing.Standing.{Standing as StandingOf};
 ghost use Rattle.fe2o3_sasl_negotiation.specs.declared.standing.Standing.TheVariants.{Wanting};
 ghost use Rattle.fe2o3_sasl_negotiation.specs.ServerNegotiation.{ServerReceives};
@@ -17,7 +17,7 @@ ghost use Rattle.sasl_c.specs.declared.status.Status.TheVariants.{OutOfMemory as
 use crate::arrays::put;
 use crate::connection::Connection;
 use crate::records::ScramRecord;
-use crate::server::ScramServer;
+use crate::server::{ScramServer, server_over};
 use crate::status::{Status, number, text, version_of};
 use bytes::BytesMut;
 use fe2o3_sasl::plain_authenticator::plain_user;
@@ -34,7 +34,7 @@ use std::alloc::Global;
 #[derive(Drop)]
 pub struct SaslHost<'a> {
     /// Which mechanisms are offered: the sum of 1 for SCRAM of the version, 2 for PLAIN, 4 for ANONYMOUS, and 8 for
-    /// EXTERNAL. PLAIN shows the password to whoever reads the connection, and is for TLS alone.
+    /// EXTERNAL; and 16 where SCRAM takes a client whose GS2 header is `y,,` (`fe2o3_scram_server_first_unbound`). PLAIN shows the password to whoever reads the connection, and is for TLS alone.
     pub mechanisms: u32,
 
     /// 1, 256 or 512, for the hash of SCRAM and of the record.
@@ -84,6 +84,9 @@ struct Choice {
     plain: bool,
     anonymous: bool,
     external: bool,
+
+    /// Whether SCRAM takes a client that could bind a channel.
+    unbound: bool,
 }
 
 /// Whether a number is in a sum below its double, and the rest.
@@ -105,10 +108,11 @@ impl Choice {
     fn of(sum: u32) -> Option<Choice>
         ensures { MatchOption result ((choice : Choices) → sum_of choice ≢ sum) (λ choice. sum_of choice ≡ sum) }
     {
-        if sum > 15 {
+        if sum > 31 {
             return None;
         }
-        let (external, rest) = split(sum, 8);
+        let (unbound, rest) = split(sum, 16);
+        let (external, rest) = split(rest, 8);
         let (anonymous, rest) = split(rest, 4);
         let (plain, rest) = split(rest, 2);
         let (scram, _) = split(rest, 1);
@@ -117,6 +121,7 @@ impl Choice {
             plain,
             anonymous,
             external,
+            unbound,
         })
     }
 
@@ -148,8 +153,8 @@ fn joined(
     peer: String,
     asked: Option<Part>,
 ) -> All
-    ensures { provider_in scram ≡ store
-        → all_in result ≡ all_of store iterations (string_bytes peer) (state_in scram) asked }
+    ensures { provider_in scram ≡ store → all_in result
+        ≡ all_of (unbound_in scram) store iterations (string_bytes peer) (state_in scram) asked }
 {
     let last = OneOf::new(SaslAnonymousMechanism::new(), ExternalAcceptor::new(peer));
     let others = OneOf::new(PlainAuthenticator::new(store, iterations), last);
@@ -159,14 +164,16 @@ fn joined(
 /// The server of SCRAM that a struct is, over a store, and what was asked last. `OutOfMemory` is the only refusal.
 fn stands(
     alloc: Global,
+    accepts_unbound: bool,
     store: ScramCredentials,
     scram: &ScramServer,
 ) -> Result<(Scram, Option<Part>), Status>
     ensures provider { IfOk result (λ made. provider_in made.0 ≡ store) }
+    ensures unbound { IfOk result (λ made. unbound_in made.0 ≡ accepts_unbound) }
     ensures state { IfOk result (λ made. Stands scram.now (state_in made.0) made.1) }
     ensures err { IfErr result (λ status. status ≡ StatusOutOfMemory) }
 {
-    let fresh = ScramAuthenticator::new(store);
+    let fresh = server_over(store, accepts_unbound);
     match scram.challenge() {
         Some(challenge) => Ok((fresh.waiting_for(alloc, &challenge)?, Some(Part::First))),
         None => Ok((fresh, None)),
@@ -201,15 +208,21 @@ impl SaslHost<'_> {
     }
 
     /// All four mechanisms, in the exchange that the struct of SCRAM shows.
-    fn all(&self, alloc: Global, version: ScramVersion, scram: &ScramServer) -> Result<All, Status>
-        ensures ok { IfOk result (λ all. IsAll self.now version scram.now (all_in all)) }
+    fn all(
+        &self,
+        alloc: Global,
+        version: ScramVersion,
+        accepts_unbound: bool,
+        scram: &ScramServer,
+    ) -> Result<All, Status>
+        ensures ok { IfOk result (λ all. IsAll self.now version accepts_unbound scram.now (all_in all)) }
         ensures utf8 { IfOk result (λ _. IsUtf8 self.now.username.now × IsUtf8 self.now.peer.now) }
         ensures err { IfErr result (λ status. status ≢ StatusOutOfMemory → HasNoWords self.now status) }
         ensures room { IfErr result (λ status. status ≢ RoomTooSmall) }
     {
         let store = self.store(alloc, version)?;
         let peer = text(self.peer)?.to_string(alloc)?;
-        let (machine, asked) = stands(alloc, store.clone()?, scram)?;
+        let (machine, asked) = stands(alloc, accepts_unbound, store.clone()?, scram)?;
         Ok(joined(machine, store, self.iterations, peer, asked))
     }
 
@@ -227,7 +240,7 @@ impl SaslHost<'_> {
         let Some(choice) = Choice::of(self.mechanisms) else {
             return Err(Status::NoSuchMechanism);
         };
-        let all = match self.all(alloc, version, scram) {
+        let all = match self.all(alloc, version, choice.unbound, scram) {
             Ok(all) => all,
             Err(status) => return Err(status),
         };

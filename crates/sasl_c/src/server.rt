@@ -1,9 +1,10 @@
 //! A SCRAM server, which stands in a struct between its calls.
 
-ghost use Rattle.std.specs.Prelude.{◌≡◌, ◌≢◌, ◌<◌, ◌≤◌, ◌^◌, List, ℕ, length, Err, IfOk, IfErr, OnErr, MatchOption};
+ghost use Rattle.std.specs.Prelude.{false, true, ◌≡◌, ◌≢◌, ◌<◌, ◌≤◌, ◌^◌, List, ℕ, length, Err, IfOk, IfErr, OnErr, MatchOption};
 ghost use Rattle.fe2o3_scram.specs.ServerFirst.{Challenge};
-ghost use Rattle.fe2o3_scram.specs.ScramServer.{ServerFirstSent, challenge_kept, state_in};
-ghost use Rattle.sasl_c.specs.Server.{Challenged, Challenges, Concluded, Concludes, HasLoggedIn, HasRoom, IsOpen, NamesUser, NotChallenged, Opens, TellsUser};
+ghost use Rattle.fe2o3_scram.specs.ScramServer.{Initial, ServerFirstSent, challenge_kept, provider_in, state_in, unbound_in};
+ghost use Rattle.fe2o3_scram.specs.declared.scram_messages.gs2_header.Gs2Header.{Gs2Header as HeaderOf};
+ghost use Rattle.sasl_c.specs.Server.{Challenged, Challenges, Concluded, Concludes, HasLoggedIn, HasRoom, IsOpen, NamesUser, NotChallenged, Opens, TellsUser, open_number};
 ghost use Rattle.sasl_c.specs.Status.{Answers, Fills, FillsWithin};
 ghost use Rattle.sasl_c.specs.declared.status.Status.TheVariants.{OutOfMemory as StatusOutOfMemory, RoomTooSmall};
 
@@ -11,8 +12,8 @@ use crate::arrays::{head, padded, put};
 use crate::records::ScramRecord;
 use crate::status::{Status, number};
 use fe2o3_scram::{
-    ClientFirst, Meter, OpenChallenge, ScramAuthenticator, ServerScramErrorKind,
-    StoredScramCredential,
+    ClientFirst, Gs2Header, Meter, OpenChallenge, ScramAuthenticator, ScramCredentialProvider,
+    ServerScramErrorKind, StoredScramCredential,
 };
 use std::alloc::Global;
 
@@ -93,7 +94,7 @@ impl ScramServer {
             (λ server. HasRoom (challenge_kept challenge.now) × IsOpen server (challenge_kept challenge.now)) }
     {
         Some(ScramServer {
-            stands: 1,
+            stands: open_number(challenge.header),
             user: padded(challenge.username.as_bytes())?,
             user_len: challenge.username.len() as u32,
             bare: padded(challenge.client_first_message_bare)?,
@@ -106,15 +107,53 @@ impl ScramServer {
     }
 }
 
+/// The number of a struct that shows a challenge to a client with this GS2 header.
+fn open_number(header: Gs2Header) -> u32
+    ensures { result ≡ open_number header }
+{
+    match header {
+        Gs2Header::Unsupported => 1,
+        Gs2Header::Unoffered => 3,
+    }
+}
+
+/// The GS2 header of the challenge that a struct with this number shows, if it shows one.
+fn open_header(stands: u32) -> Option<Gs2Header>
+    ensures { MatchOption result ((header : HeaderOf) → open_number header ≢ stands)
+        (λ header. stands ≡ open_number header) }
+{
+    match stands {
+        1 => Some(Gs2Header::Unsupported),
+        3 => Some(Gs2Header::Unoffered),
+        _ => None,
+    }
+}
+
+/// A server over these credentials, which takes a client that could bind a channel where `accepts_unbound`
+/// says so.
+pub fn server_over<C: ScramCredentialProvider>(
+    credentials: C,
+    accepts_unbound: bool,
+) -> ScramAuthenticator<C>
+    ensures provider { provider_in result ≡ credentials }
+    ensures unbound { unbound_in result ≡ accepts_unbound }
+    ensures state { state_in result ≡ Initial }
+{
+    let fresh = ScramAuthenticator::new(credentials);
+    if accepts_unbound {
+        fresh.accepts_unbound()
+    } else {
+        fresh
+    }
+}
+
 impl ScramServer {
     /// The challenge that is open, where the struct shows one.
     pub fn challenge(&self) -> Option<OpenChallenge<'_>>
         ensures { MatchOption result ((challenge : Challenge) → ¬ IsOpen self.now challenge)
             (λ challenge. IsOpen self.now (challenge_kept challenge)) }
     {
-        if self.stands != 1 {
-            return None;
-        }
+        let header = open_header(self.stands)?;
         let user = head(&self.user, self.user_len)?;
         let bare = head(&self.bare, self.bare_len)?;
         let nonce = head(&self.nonce, self.nonce_len)?;
@@ -122,6 +161,7 @@ impl ScramServer {
         match str::from_utf8(user) {
             Ok(username) => Some(OpenChallenge {
                 username,
+                header,
                 client_first_message_bare: bare,
                 client_server_nonce: nonce,
                 server_first_message: first,
@@ -134,17 +174,18 @@ impl ScramServer {
 /// A server with an open challenge to a client-first message.
 fn challenged(
     alloc: Global,
+    accepts_unbound: bool,
     kept: &ScramRecord,
     nonce: &[u8; 32],
     client_first: &[u8],
 ) -> Result<Machine, Status>
     ensures ok { IfOk result (λ machine. (challenge : Challenge) × (state_in machine ≡ ServerFirstSent challenge)
-        × Challenged kept.now nonce.now client_first.now challenge) }
+        × Challenged accepts_unbound kept.now nonce.now client_first.now challenge) }
     ensures err { IfErr result (λ status. status ≢ StatusOutOfMemory
-        → NotChallenged kept.now nonce.now client_first.now status) }
+        → NotChallenged accepts_unbound kept.now nonce.now client_first.now status) }
     ensures room { IfErr result (λ status. status ≢ RoomTooSmall) }
 {
-    let first = match ClientFirst::parse(alloc, client_first) {
+    let first = match ClientFirst::parse_unbound(alloc, client_first, accepts_unbound) {
         Ok(first) => first,
         Err(why) => return Err(Status::from(why)),
     };
@@ -154,7 +195,7 @@ fn challenged(
         Err(status) => return Err(status),
     };
     let credential = StoredScramCredential::new(username, kept);
-    let mut machine = ScramAuthenticator::new(credential);
+    let mut machine = server_over(credential, accepts_unbound);
     match machine.compute_server_first_message(alloc, client_first, nonce) {
         Ok(Some(_)) => Ok(machine),
         Ok(None) => Err(Status::Server(ServerScramErrorKind::AuthenticationFailed)),
@@ -166,6 +207,7 @@ fn challenged(
 #[tactic(auto, using(crate::proofs::ServerLemmas::no_room))]
 fn first(
     alloc: Global,
+    accepts_unbound: bool,
     kept: &ScramRecord,
     server: &mut ScramServer,
     nonce: &[u8; 32],
@@ -173,11 +215,11 @@ fn first(
     out: &mut [u8],
     len: &mut usize,
 ) -> Result<(), Status>
-    ensures text { Fills (Challenges kept.now nonce.now client_first.now) (record { bytes = out.old; len = len.old })
-        (record { bytes = out.new; len = len.new }) result }
-    ensures moved { Opens kept.now nonce.now client_first.now server.old server.new result }
+    ensures text { Fills (Challenges accepts_unbound kept.now nonce.now client_first.now)
+        (record { bytes = out.old; len = len.old }) (record { bytes = out.new; len = len.new }) result }
+    ensures moved { Opens accepts_unbound kept.now nonce.now client_first.now server.old server.new result }
 {
-    let machine = challenged(alloc, kept, nonce, client_first)?;
+    let machine = challenged(alloc, accepts_unbound, kept, nonce, client_first)?;
     let Some(challenge) = machine.open_challenge() else {
         return Err(Status::TooLong);
     };
@@ -190,7 +232,7 @@ fn first(
 }
 
 /// Answers a client-first message with the server-first message, which starts an exchange afresh at any time. The
-/// record is that of the user whom the message names (`fe2o3_scram_server_user`), or one that is made up
+/// GS2 header of the message has to be `n,,`. The record is that of the user whom the message names (`fe2o3_scram_server_user`), or one that is made up
 /// (`fe2o3_scram_record_of_nobody`). The nonce is 32 random bytes, fresh for each.
 #[unsafe(no_mangle)]
 pub extern "C" fn fe2o3_scram_server_first(
@@ -202,11 +244,31 @@ pub extern "C" fn fe2o3_scram_server_first(
     out: &mut [u8],
     len: &mut usize,
 ) -> u32
-    ensures { Answers result (λ answer. Fills (Challenges kept.now nonce.now client_first.now)
+    ensures { Answers result (λ answer. Fills (Challenges false kept.now nonce.now client_first.now)
         (record { bytes = out.old; len = len.old }) (record { bytes = out.new; len = len.new }) answer
-        × Opens kept.now nonce.now client_first.now server.old server.new answer) }
+        × Opens false kept.now nonce.now client_first.now server.old server.new answer) }
 {
-    number(first(alloc, kept, server, nonce, client_first, out, len))
+    number(first(alloc, false, kept, server, nonce, client_first, out, len))
+}
+
+/// As `fe2o3_scram_server_first`, and the GS2 header may be `y,,` too: that of a client which could bind a
+/// channel and believes that the server cannot, since it was offered no mechanism with `-PLUS` (RFC 5802,
+/// section 6). Only for a server that offers none.
+#[unsafe(no_mangle)]
+pub extern "C" fn fe2o3_scram_server_first_unbound(
+    alloc: Global,
+    kept: &ScramRecord,
+    server: &mut ScramServer,
+    nonce: &[u8; 32],
+    client_first: &[u8],
+    out: &mut [u8],
+    len: &mut usize,
+) -> u32
+    ensures { Answers result (λ answer. Fills (Challenges true kept.now nonce.now client_first.now)
+        (record { bytes = out.old; len = len.old }) (record { bytes = out.new; len = len.new }) answer
+        × Opens true kept.now nonce.now client_first.now server.old server.new answer) }
+{
+    number(first(alloc, true, kept, server, nonce, client_first, out, len))
 }
 
 /// Writes the name of the user.
@@ -214,7 +276,7 @@ fn user(alloc: Global, client_first: &[u8], out: &mut [u8], len: &mut usize) -> 
     ensures { Fills (NamesUser client_first.now) (record { bytes = out.old; len = len.old })
         (record { bytes = out.new; len = len.new }) result }
 {
-    let first = match ClientFirst::parse(alloc, client_first) {
+    let first = match ClientFirst::parse_unbound(alloc, client_first, true) {
         Ok(first) => first,
         Err(why) => return Err(Status::from(why)),
     };
@@ -259,8 +321,9 @@ fn concluded(
         Ok(shown) => shown,
         Err(status) => return Err(status),
     };
-    match version.compute_server_final_message_metered(
+    match version.compute_server_final_message_behind(
         alloc,
+        challenge.header,
         client_final,
         challenge.client_server_nonce,
         challenge.client_first_message_bare,

@@ -1,6 +1,6 @@
 //! Whom the bytes of a connection, or the body of a frame, name to a server before it takes them.
 
-ghost use Rattle.std.specs.Prelude.{◌≡◌, ◌≢◌, ℕ, List, Ok, IfOk, IfErr, MatchOption};
+ghost use Rattle.std.specs.Prelude.{true, ◌≡◌, ◌≢◌, ℕ, List, Ok, IfOk, IfErr, MatchOption};
 ghost use Rattle.sasl_c.specs.SaslServer.{BodyNames, BodyNamesNobody, FrameNames, InitNames, Named, Names, NotNamed, ResponseNames};
 ghost use Rattle.fe2o3_sasl_wire.specs.FrameView.{shown, viewed_frame};
 ghost use Rattle.fe2o3_scram.specs.ClientFirst.{ClientFirst as FirstValues, ReadsClientFirst};
@@ -19,15 +19,15 @@ use fe2o3_sasl_wire::{FrameView, view_frame};
 use fe2o3_scram::{ClientFirst, ScramVersion, ServerScramErrorKind};
 use std::alloc::Global;
 
-/// The user whom a client-first message names, or `None` where it is none. `OutOfMemory` is the only refusal.
+/// The user whom a client-first message names, behind either GS2 header, or `None` where it is none. `OutOfMemory` is the only refusal.
 #[tactic(auto, using(crate::proofs::ServerUserLemmas::scram_user))]
 fn scram_user(alloc: Global, text: &[u8]) -> Result<Option<Vec<u8>>, Status>
     ensures ok { IfOk result (λ user. MatchOption user
-        ((first : FirstValues) → ¬ ReadsClientFirst text.now (Ok first))
-        (λ user. (first : FirstValues) × ReadsClientFirst text.now (Ok first) × (user.items ≡ first.user))) }
+        ((first : FirstValues) → ¬ ReadsClientFirst true text.now (Ok first))
+        (λ user. (first : FirstValues) × ReadsClientFirst true text.now (Ok first) × (user.items ≡ first.user))) }
     ensures err { IfErr result (λ status. status ≡ StatusOutOfMemory) }
 {
-    match ClientFirst::parse(alloc, text) {
+    match ClientFirst::parse_unbound(alloc, text, true) {
         Ok(first) => Ok(Some(first.username.as_bytes().to_vec(alloc)?)),
         Err(ServerScramErrorKind::OutOfMemory) => Err(Status::OutOfMemory),
         Err(_) => Ok(None),

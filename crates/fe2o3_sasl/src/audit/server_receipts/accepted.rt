@@ -63,7 +63,8 @@ fn response_again<'a>(
     let Ok((FrameView::Response(text), _)) = view_frame(body) else {
         return Err(OutOfMemory);
     };
-    let Ok(client_final) = ClientFinal::parse_behind(alloc, header, client_server_nonce, text) else {
+    let Ok(client_final) = ClientFinal::parse_behind(alloc, header, client_server_nonce, text)
+    else {
         return Err(OutOfMemory);
     };
     Ok(client_final)
@@ -81,9 +82,9 @@ fn receipt_of<C: ScramCredentialProvider>(
     ensures place { IfOk result (λ receipt. receipt.place ≡ place) }
     ensures accepted { IfOk result (λ receipt. (unbound : Bool)
         → OfAccepted (serving unbound (C.meaning credentials.now)) (record {
-      challenge = opened_challenge opened.now;
-      final = client_final_values client_final.entry;
-    }) (server_receipt receipt)) }
+          challenge = opened_challenge opened.now;
+          final = client_final_values client_final.entry;
+        }) (server_receipt receipt)) }
 {
     let version = *credentials.scram_version();
     let stored = &opened.stored_password;
