@@ -63,9 +63,9 @@ pub struct Accounts {
 
 /// To a proof the accounts are a version, and a list of names and records.
 impl Model for Accounts {
-    ghost use Rattle.fe2o3_scram.specs.Credentials.{Provider};
+    ghost use Rattle.fe2o3_scram.specs.Credentials.{Store};
 
-    ghost Value = { Provider };
+    ghost Value = { Store };
 
     ghost view = { λ store. record { version = store.version; records = store.accounts.items } };
 }

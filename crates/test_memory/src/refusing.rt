@@ -20,9 +20,9 @@ pub struct Refusing {
 }
 
 impl Model for Refusing {
-    ghost use Rattle.fe2o3_sasl.specs.Credentials.{Provider};
+    ghost use Rattle.fe2o3_sasl.specs.Credentials.{Store};
 
-    ghost Value = { Provider };
+    ghost Value = { Store };
 
     ghost view = { λ refusing. refusing.stored };
 }

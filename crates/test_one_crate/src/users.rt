@@ -98,9 +98,9 @@ pub struct Users {
 
 impl Model for Users {
     ghost use Rattle.std.specs.Prelude.{[], ◌∷◌};
-    ghost use Rattle.fe2o3_sasl.specs.Credentials.{Provider};
+    ghost use Rattle.fe2o3_sasl.specs.Credentials.{Store};
 
-    ghost Value = { Provider };
+    ghost Value = { Store };
 
     ghost view = { λ users. record {
       version = users.version;

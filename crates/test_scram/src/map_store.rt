@@ -22,10 +22,10 @@ struct MapStore {
 
 impl Model for MapStore {
     ghost use Rattle.std.specs.String.{string_bytes};
-    ghost use Rattle.fe2o3_scram.specs.Credentials.{Provider};
+    ghost use Rattle.fe2o3_scram.specs.Credentials.{Store};
     ghost use Rattle.fe2o3_scram.specs.Stores.{records_in};
 
-    ghost Value = { Provider };
+    ghost Value = { Store };
 
     ghost view = { λ store. record {
       version = store.scram_version;

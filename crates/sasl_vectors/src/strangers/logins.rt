@@ -39,9 +39,9 @@ pub struct Quick {
 
 impl Model for Quick {
     ghost use Rattle.std.specs.Prelude.{[], ◌∷◌};
-    ghost use Rattle.fe2o3_sasl.specs.Credentials.{Provider};
+    ghost use Rattle.fe2o3_sasl.specs.Credentials.{Store};
 
-    ghost Value = { Provider };
+    ghost Value = { Store };
 
     ghost view = { λ quick. record {
       version = quick.version;
