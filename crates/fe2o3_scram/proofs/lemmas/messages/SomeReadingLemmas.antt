@@ -18,7 +18,7 @@ use Rattle.fe2o3_scram.specs.ServerFirst.{Client, ServerFirst, HasSalt, HasCount
 use Rattle.fe2o3_scram.specs.declared.client_secret.IterationLimits.{IterationLimits}
 use Rattle.fe2o3_scram.specs.ClientKeys.{ClientKeys}
 use Rattle.fe2o3_scram.specs.ClientSecret.{Secret, Password, Keys, Both}
-use Rattle.fe2o3_scram.specs.Texts.{base64_text, Part, LastPart}
+use Rattle.fe2o3_scram.specs.Texts.{base64_text, Begins, Part, LastPart}
 use Rattle.base64.specs.GeneralPurpose.{IsBytes}
 use Rattle.fe2o3_scram.proofs.lemmas.messages.ClientFirstLemmas.{one_header}
 use Rattle.fe2o3_scram.proofs.lemmas.messages.ClientFinalLemmas.{no_proof, has_proof, proof_part, unread_proof}

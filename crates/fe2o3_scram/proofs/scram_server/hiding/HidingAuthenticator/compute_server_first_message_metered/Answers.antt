@@ -1,18 +1,28 @@
-use Rattle.std.proofs.Common.{rules, ◌≡◌, ℕ, List, [], ◌∷◌, Vec, Global, Option, Some, ap, ◌∙◌}
+use Rattle.std.proofs.Common.{rules, ◌≡◌, Bool, Ok, Err, subst, ℕ, List, [], ◌∷◌, Vec, Global, Option, Some, ap, ◌∙◌}
 use Rattle.std.proofs.lemmas.Result.{err_from_is_err_and}
 use Rattle.std.specs.Cow.{cow_str_bytes}
 use Rattle.fe2o3_scram.specs.declared.scram_messages.error.ServerScramErrorKind.TheVariants.{OutOfMemory}
-use Rattle.fe2o3_scram.specs.ClientFirst.{client_first_values}
+use Rattle.fe2o3_scram.specs.declared.scram_messages.error.ServerScramErrorKind.{ServerScramErrorKind}
+use Rattle.fe2o3_scram.specs.ClientFirst.{ClientFirst, ReadsClientFirst, client_first_values}
+use Rattle.std.specs.Prelude.{Result}
 use Rattle.fe2o3_scram.specs.Credentials.{serving}
 use Rattle.fe2o3_scram.specs.Nobody.{Nobody, nobody_record}
 use Rattle.fe2o3_scram.specs.ScramServer.{state_in, provider_in}
 use Rattle.fe2o3_scram.proofs.lemmas.messages.HidingServerLemmas.{keeps_made_up, reaches_made_up, read_or_refused, refusal_costs, wants_costs}
 use Rattle.fe2o3_scram.proofs.scram_server.hiding.HidingAuthenticator.compute_server_first_message_metered.Goals as goal
 
+-- what is read with one option is read with the same
+read_so : (text : List ℕ) (answer : Result ClientFirst ServerScramErrorKind) (unbound other : Bool) → unbound ≡ other
+    → ReadsClientFirst unbound text answer → ReadsClientFirst other text answer
+read_so text answer unbound other same reads =
+    subst (λ (option : Bool). ReadsClientFirst option text answer) same reads
+
 pub returns-in_err-made_up-clause-answer : goal.returns-in_err-made_up-clause-answer
 returns-in_err-made_up-clause-answer g c name named =
     let from = err_from_is_err_and c.from_residual-in_err-made_up.result c.from_residual-in_err-made_up.ensures.1 in
-    let reads = c.in_ok-client_first.ensures.answer in
+    let same : c.self.inside.authenticator.accepts_unbound ≡ c.args.self.now.unbound = search rules in
+    let reads = read_so c.args.client_first_message.now (Ok (client_first_values c.in_ok-client_first.client_first)) _ _
+    same c.in_ok-client_first.ensures.answer in
     let is : from.0 ≡ OutOfMemory = search rules in
     rw from.1 (
       λ memory. reaches_made_up (serving c.args.self.now.unbound
@@ -25,7 +35,9 @@ returns-in_err-made_up-clause-answer g c name named =
 pub returns-in_err-username-clause-answer : goal.returns-in_err-username-clause-answer
 returns-in_err-username-clause-answer g c name named =
     let from = err_from_is_err_and c.from_residual-in_err-username.result c.from_residual-in_err-username.ensures.1 in
-    let reads = c.in_ok-client_first.ensures.answer in
+    let same : c.self.inside.authenticator.accepts_unbound ≡ c.args.self.now.unbound = search rules in
+    let reads = read_so c.args.client_first_message.now (Ok (client_first_values c.in_ok-client_first.client_first)) _ _
+    same c.in_ok-client_first.ensures.answer in
     let is : from.0 ≡ OutOfMemory = search rules in
     rw from.1 (
       λ memory. reaches_made_up (serving c.args.self.now.unbound
@@ -38,36 +50,48 @@ returns-in_err-username-clause-answer g c name named =
 pub returns-in_err-made_up-clause-cost : goal.returns-in_err-made_up-clause-cost
 returns-in_err-made_up-clause-cost g c =
     let from = err_from_is_err_and c.from_residual-in_err-made_up.result c.from_residual-in_err-made_up.ensures.1 in
+    let same : c.self.inside.authenticator.accepts_unbound ≡ c.args.self.now.unbound = search rules in
+    let reads = read_so c.args.client_first_message.now (Ok (client_first_values c.in_ok-client_first.client_first)) _ _
+    same c.in_ok-client_first.ensures.answer in
     let is : from.0 ≡ OutOfMemory = search rules in
     rw (from.1, is) (wants_costs (Option (Vec ℕ Global)) c.args.self.now.unbound c.args.client_first_message.now
-    (client_first_values c.in_ok-client_first.client_first) c.args.meter.now _ c.in_ok-client_first.ensures.answer
+    (client_first_values c.in_ok-client_first.client_first) c.args.meter.now _ reads
     c.of_nobody_metered.ensures.counted)
 
 pub returns-in_err-username-clause-cost : goal.returns-in_err-username-clause-cost
 returns-in_err-username-clause-cost g c =
     let from = err_from_is_err_and c.from_residual-in_err-username.result c.from_residual-in_err-username.ensures.1 in
+    let same : c.self.inside.authenticator.accepts_unbound ≡ c.args.self.now.unbound = search rules in
+    let reads = read_so c.args.client_first_message.now (Ok (client_first_values c.in_ok-client_first.client_first)) _ _
+    same c.in_ok-client_first.ensures.answer in
     let is : from.0 ≡ OutOfMemory = search rules in
     rw (from.1, is) (wants_costs (Option (Vec ℕ Global)) c.args.self.now.unbound c.args.client_first_message.now
-    (client_first_values c.in_ok-client_first.client_first) c.args.meter.now _ c.in_ok-client_first.ensures.answer
+    (client_first_values c.in_ok-client_first.client_first) c.args.meter.now _ reads
     c.of_nobody_metered.ensures.counted)
 
 pub returns-in-Err-clause-cost : goal.returns-in-Err-clause-cost
 returns-in-Err-clause-cost g c =
+    let same : c.self.inside.authenticator.accepts_unbound ≡ c.args.self.now.unbound = search rules in
+    let reads = read_so c.args.client_first_message.now (Ok (client_first_values c.in_ok-client_first.client_first)) _ _
+    same c.in_ok-client_first.ensures.answer in
     refusal_costs (Option (Vec ℕ Global)) c.args.self.now.unbound c.args.client_first_message.now (client_first_values
     c.in_ok-client_first.client_first)
-    c.in-Err.kind c.args.meter.now _ c.in_ok-client_first.ensures.answer
-    (λ other. (c.in-Err.ensures.answer.1 other).0) c.of_nobody_metered.ensures.counted
+    c.in-Err.kind c.args.meter.now _ reads
+    (λ other. read_so c.args.client_first_message.now (Err c.in-Err.kind) _ _ same (c.in-Err.ensures.answer.1 other).0)
+    c.of_nobody_metered.ensures.counted
 
 pub returns-in-Err-clause-answer : goal.returns-in-Err-clause-answer
 returns-in-Err-clause-answer g c name named =
-    let reads = c.in_ok-client_first.ensures.answer in (
+    let same : c.self.inside.authenticator.accepts_unbound ≡ c.args.self.now.unbound = search rules in
+    let reads = read_so c.args.client_first_message.now (Ok (client_first_values c.in_ok-client_first.client_first)) _ _
+    same c.in_ok-client_first.ensures.answer in (
       λ memory. reaches_made_up (serving c.args.self.now.unbound
           (g.C.ScramCredentialProvider.meaning c.args.self.now.credentials)) c.args.self.now.nobody
           c.args.client_first_message.now name (client_first_values c.in_ok-client_first.client_first) reads
           (named _ reads),
       λ other. absurd (read_or_refused c.args.self.now.unbound c.args.client_first_message.now
           (client_first_values c.in_ok-client_first.client_first) c.in-Err.kind reads
-          (c.in-Err.ensures.answer.1 other).0),
+          (read_so c.args.client_first_message.now (Err c.in-Err.kind) _ _ same (c.in-Err.ensures.answer.1 other).0)),
     )
 
 pub invariant_of-self : goal.invariant_of-self
