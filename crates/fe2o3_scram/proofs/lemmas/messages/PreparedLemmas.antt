@@ -1,16 +1,13 @@
 -- A password of printable ASCII is taken alike as it is typed and prepared.
 use Rattle.std.proofs.Common.{◌≡◌, ◌↔◌, ℕ, List, Result, Ok, Err, inl, inr}
 use Rattle.fe2o3_scram.specs.declared.client_secret.IterationLimits.{IterationLimits}
-use Rattle.fe2o3_scram.specs.declared.hmac.ScramVersion.{ScramVersion}
 use Rattle.fe2o3_scram.specs.declared.keys.RecordError.{RecordError}
-use Rattle.fe2o3_scram.specs.declared.keys.RecordError.TheVariants.{OutOfMemory}
 use Rattle.fe2o3_scram.specs.declared.scram_messages.error.ScramErrorKind.{ScramErrorKind}
-use Rattle.fe2o3_scram.specs.ClientFinal.{Answer}
 use Rattle.fe2o3_scram.specs.ClientSecret.{Password}
 use Rattle.fe2o3_scram.specs.Credentials.{making_tests}
 use Rattle.fe2o3_scram.specs.Laws.{OneAnswerOfPassword, OneRecordOfPassword}
 use Rattle.fe2o3_scram.specs.Passwords.{Typed, Prepared}
-use Rattle.fe2o3_scram.specs.Readings.{Gives, NoneHolds, Reads}
+use Rattle.fe2o3_scram.specs.Readings.{NoneHolds, Reads}
 use Rattle.fe2o3_scram.specs.SaslprepAscii.{IsPrintable}
 use Rattle.fe2o3_scram.specs.ServerFirst.{ServerFirst, ReadsServerFirst, client_of}
 use Rattle.fe2o3_scram.proofs.lemmas.messages.KeptKeyLemmas.{goes_over}
@@ -34,19 +31,6 @@ reads_prepared : {V : Type 0} (text : List ℕ) (count : ℕ) (Names : V → Typ
 reads_prepared text count Names (Ok made) printable reads = ((λ un. un tt, reads.0.1), reads.1)
 reads_prepared text count Names (Err fault) printable (inl found) = absurd (found.0 printable)
 reads_prepared text count Names (Err fault) printable (inr found) = inr (λ un. un tt, found.1)
-
-pub gives_typed : {X V : Type 0} (view : X → V) (text : List ℕ) (count : ℕ) (Names : V → Type 0)
-    (result : Result X RecordError) → IsPrintable text
-    → Gives OutOfMemory (NoneHolds (making_tests (Prepared text) count)) view result
-    (Reads (making_tests (Prepared text) count) Names)
-    → Gives OutOfMemory (NoneHolds (making_tests (Typed text) count)) view result
-    (Reads (making_tests (Typed text) count) Names)
-gives_typed view text count Names (Ok value) printable gives =
-    reads_typed text count Names (Ok (view value)) printable gives
-gives_typed view text count Names (Err fault) printable gives = (
-  λ is. none_typed text count printable (gives.0 is),
-  λ other. reads_typed text count Names (Err fault) printable (gives.1 other),
-)
 
 pub one_record_of_password : OneRecordOfPassword
 one_record_of_password version text salt count answer printable =
