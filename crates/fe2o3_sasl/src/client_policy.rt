@@ -183,7 +183,10 @@ fn serves_scram(secret: &ClientSecret<'_>, version: ScramVersion) -> bool
     ensures { result ≡ is_some (secret_for version (secret_of secret.now)) }
 {
     match secret {
-        ClientSecret::Password(_) | ClientSecret::Both { .. } => true,
+        ClientSecret::Password(_)
+        | ClientSecret::Prepared(_)
+        | ClientSecret::Both { .. }
+        | ClientSecret::PreparedAndKeys { .. } => true,
         ClientSecret::Keys(keys) => keys.scram_version() == version,
     }
 }
@@ -252,6 +255,10 @@ fn scram_client(
             let password = String::from_str(alloc, password)?;
             Ok(Some(ScramClient::new(username, password, version)))
         }
+        ClientSecret::Prepared(password) => {
+            let password = String::from_str(alloc, password)?;
+            Ok(Some(ScramClient::with_prepared_password(username, password, version)))
+        }
         ClientSecret::Keys(keys) => {
             if keys.scram_version() != version {
                 return Ok(None);
@@ -266,6 +273,14 @@ fn scram_client(
             }
             let keys = ScramClientKeys::clone(keys)?;
             Ok(Some(ScramClient::with_password_and_keys(username, password, keys)))
+        }
+        ClientSecret::PreparedAndKeys { password, keys } => {
+            let password = String::from_str(alloc, password)?;
+            if keys.scram_version() != version {
+                return Ok(Some(ScramClient::with_prepared_password(username, password, version)));
+            }
+            let keys = ScramClientKeys::clone(keys)?;
+            Ok(Some(ScramClient::with_prepared_password_and_keys(username, password, keys)))
         }
     }
 }
@@ -300,8 +315,9 @@ fn plain_profile(
     ensures { IfOk result (λ profile. option_map profile_of profile ≡ plain_by username.now (secret_of secret.now)) }
 {
     let password = match secret {
-        ClientSecret::Password(password) => password,
-        ClientSecret::Both { password, .. } => password,
+        ClientSecret::Password(password) | ClientSecret::Prepared(password) => password,
+        ClientSecret::Both { password, .. } | ClientSecret::PreparedAndKeys { password, .. } =>
+            password,
         ClientSecret::Keys(_) => return Ok(None),
     };
     Ok(Some(SaslProfile::plain(
