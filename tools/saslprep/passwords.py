@@ -3,10 +3,10 @@
 
     tools/saslprep/passwords.py [--check]
 
-`prepared-records.txt` has records and `prepared-secrets.txt` the answers of clients. Texts are prepared by `answers.py`,
-where Python and GNU libidn have to agree; keys are those of Python's `hashlib` and `hmac`, and the records of SHA-1 and
-SHA-256 also those of GNU SASL (`apt-get install gsasl`), which prepares the text itself. With --check nothing is
-written, and the exit status is 1 where a file is not what would be written.
+`prepared-records.txt` has records and `prepared-secrets.txt` the answers of clients. Texts are prepared by
+`answers.py`, where Python and GNU libidn have to agree; keys are those of Python's `hashlib` and `hmac`, and the
+records of SHA-1 and SHA-256 also those of GNU SASL (`apt-get install gsasl`), which prepares the text itself. With
+--check nothing is written, and the exit status is 1 where a file is not what would be written.
 """
 import base64
 import hashlib
@@ -25,18 +25,17 @@ HASHES = {"SCRAM-SHA-1": "sha1", "SCRAM-SHA-256": "sha256", "SCRAM-SHA-512": "sh
 # that stay as they are, that have other spaces, and that are written from right to left.
 TYPED = [
     "pencil", "I\u00adX", "\u2168", "\u00aa", "p\u00e4ssw\u00f6rd", "pa\u0308sswo\u0308rd", "\ufb03 \u212b",
-    "\u30d1\u30b9\u30ef\u30fc\u30c9", "\uff8a\uff9f\uff7d\uff9c\uff70\uff84\uff9e", "pen\u00a0cil", "\u05e1\u05d5\u05d3",
-    "\U0001d538\U00010400",
+    "\u30d1\u30b9\u30ef\u30fc\u30c9", "\uff8a\uff9f\uff7d\uff9c\uff70\uff84\uff9e", "pen\u00a0cil",
+    "\u05e1\u05d5\u05d3", "\U0001d538\U00010400",
 ]
 
 RECORDS = """\
 # Passwords as they are typed, which SASLprep (RFC 4013) prepares, and the records of the prepared text. A row is
 #     RECORD TYPED => PREPARED made again and met, RECORD by the plain call
 #     RECORD TYPED => PREPARED made again and met, FAULT by the plain call
-# where the plain call is that for a password as it is typed, of which an answer is told in place of `RECORD` where it is
-# another. GNU libidn and Python's `stringprep` agree on the prepared texts; the keys are those of Python's `hashlib` and
-# `hmac`, and those of SHA-1 and SHA-256 also GNU SASL 2.2's, which prepares the typed text itself.
-# `tools/saslprep/passwords.py` wrote the rows.
+# where the plain call is that for a password as it is typed. GNU libidn and Python's `stringprep` agree on the prepared
+# texts; the keys are those of Python's `hashlib` and `hmac`, and those of SHA-1 and SHA-256 also GNU SASL 2.2's, which
+# prepares the typed text itself. `tools/saslprep/passwords.py` wrote the rows.
 
 """
 
@@ -65,7 +64,8 @@ def encoded(data):
 
 def word(text):
     """A text as a word of a row, its bytes escaped where they are not letters of ASCII or the like."""
-    return '"' + "".join(chr(b) if 0x20 <= b < 0x7F and b not in b'"\\' else f"\\x{b:02x}" for b in text.encode()) + '"'
+    plain = [0x20 <= b < 0x7F and b not in b'"\\' for b in text.encode()]
+    return '"' + "".join(chr(b) if p else f"\\x{b:02x}" for p, b in zip(plain, text.encode())) + '"'
 
 
 class Keys:
@@ -104,8 +104,8 @@ class Keys:
 
 def by_gsasl(mechanism, typed, salt, count):
     """The record that GNU SASL makes of the typed password."""
-    command = ["gsasl", "--mkpasswd", "--mechanism", mechanism, "--iteration-count", str(count), "--salt", encoded(salt),
-               "--password", typed]
+    command = ["gsasl", "--mkpasswd", "--mechanism", mechanism, "--iteration-count", str(count),
+               "--salt", encoded(salt), "--password", typed]
     line = subprocess.run(command, check=True, capture_output=True, text=True).stdout.strip()
     _, salt, stored, server = line.split("}")[1].split(",")
     return f"{mechanism}${count}:{salt}${stored}:{server}"

@@ -155,24 +155,27 @@ AreKeysOf keys password = keys ≡ keys_of keys.version password keys.salt keys.
 
 -- what is answered by the keys of a password is answered by the password
 abbrev pub KeysStandForPassword : Type 0
-KeysStandForPassword = (keys : ClientKeys) (password : PasswordText) (nonce bare text : List ℕ) (limits : IterationLimits)
-    (answer : Result Answer ScramErrorKind) → IsNormal password → AreKeysOf keys (password_bytes password)
+KeysStandForPassword = (keys : ClientKeys) (password : PasswordText) (nonce bare text : List ℕ)
+    (limits : IterationLimits) (answer : Result Answer ScramErrorKind) → IsNormal password
+    → AreKeysOf keys (password_bytes password)
     → answer ≢ Err OtherKeys
     → AnswersServerFirst keys.version (client_of nonce (Keys keys) limits) bare text answer
     → AnswersServerFirst keys.version (client_of nonce (Password password) limits) bare text answer
 
 -- what is answered by the password is answered by its keys, or else they are of another salt or another count
 abbrev pub KeysAnswerAsPassword : Type 0
-KeysAnswerAsPassword = (keys : ClientKeys) (password : PasswordText) (nonce bare text : List ℕ) (limits : IterationLimits)
-    (answer : Result Answer ScramErrorKind) → IsNormal password → AreKeysOf keys (password_bytes password)
+KeysAnswerAsPassword = (keys : ClientKeys) (password : PasswordText) (nonce bare text : List ℕ)
+    (limits : IterationLimits) (answer : Result Answer ScramErrorKind) → IsNormal password
+    → AreKeysOf keys (password_bytes password)
     → AnswersServerFirst keys.version (client_of nonce (Password password) limits) bare text answer
     → AnswersServerFirst keys.version (client_of nonce (Keys keys) limits) bare text answer
     ⊎ AnswersServerFirst keys.version (client_of nonce (Keys keys) limits) bare text (Err OtherKeys)
 
 -- a client with both answers as the one with the password, where its keys are those of it
 abbrev pub BothAnswerAsPassword : Type 0
-BothAnswerAsPassword = (keys : ClientKeys) (password : PasswordText) (nonce bare text : List ℕ) (limits : IterationLimits)
-    (answer : Result Answer ScramErrorKind) → IsNormal password → AreKeysOf keys (password_bytes password)
+BothAnswerAsPassword = (keys : ClientKeys) (password : PasswordText) (nonce bare text : List ℕ)
+    (limits : IterationLimits) (answer : Result Answer ScramErrorKind) → IsNormal password
+    → AreKeysOf keys (password_bytes password)
     → AnswersServerFirst keys.version (client_of nonce (Both password keys) limits) bare text answer
     ↔ AnswersServerFirst keys.version (client_of nonce (Password password) limits) bare text answer
 

@@ -96,4 +96,5 @@ Verifies kept password (Ok done) = (shown : VersionedRecord) × Shows kept shown
     × MeetsRecord shown.version (Typed password) shown.stored
 Verifies kept password (Err status) = (status ≢ statuses.OutOfMemory) → SpellsStruct kept (Err status)
     ⊎ ((shown : VersionedRecord) × Shows kept shown × (((status ≡ statuses.NotUtf8) × ¬ IsUtf8 password)
-    ⊎ ((status ≡ statuses.OtherPassword) × IsUtf8 password × ¬ MeetsRecord shown.version (Typed password) shown.stored)))
+    ⊎ ((status ≡ statuses.OtherPassword) × IsUtf8 password
+    × ¬ MeetsRecord shown.version (Typed password) shown.stored)))

@@ -139,10 +139,10 @@ impl ScramVersion {
     /// the password; one by keys is of theirs.
     ///
     /// Refused are, in this order: what `ServerFirst::parse` refuses up to `IterationCountParseError`;
-    /// `IterationCountTooSmall` and `IterationCountTooLarge`; and of the secret `NormalizeError`, where its
-    /// password is needed, is as it was typed, and is not printable ASCII, or `OtherKeys`, where there are keys alone and the
-    /// message names another salt or another count than they are of. `OutOfMemory` is answered only where
-    /// none of those before `Base64DecodeError` holds.
+    /// `IterationCountTooSmall` and `IterationCountTooLarge`; and of the secret `NormalizeError`, where a
+    /// password as it is typed is needed and is not printable ASCII, or `OtherKeys`, where there are keys alone
+    /// and the message names another salt or another count than they are of. `OutOfMemory` is answered only
+    /// where none of those before `Base64DecodeError` holds.
     ///
     /// The meter, of at most 2^63, counts the HMAC values: two by keys, by the password four and those of
     /// the count, and none for a refusal.

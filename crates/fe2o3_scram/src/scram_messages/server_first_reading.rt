@@ -66,9 +66,9 @@ impl<'a> ServerFirst<'a> {
     /// counts within these limits.
     ///
     /// Refused are, in this order: what `parse` refuses up to `IterationCountParseError`;
-    /// `IterationCountTooSmall` and `IterationCountTooLarge`; and of the secret `NormalizeError` where its
-    /// password is needed, is as it was typed, and is not printable ASCII, or `OtherKeys` where there are keys alone and the
-    /// message names another salt or another count than they are of.
+    /// `IterationCountTooSmall` and `IterationCountTooLarge`; and of the secret `NormalizeError` where a
+    /// password as it is typed is needed and is not printable ASCII, or `OtherKeys` where there are keys alone
+    /// and the message names another salt or another count than they are of.
     pub(super) fn read(
         alloc: Global,
         client_nonce: &str,

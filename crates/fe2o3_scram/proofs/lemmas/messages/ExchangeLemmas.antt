@@ -162,7 +162,8 @@ opened version (Both own keys) password salt count nonce opens = go (fit keys fi
     other (inr differs) holds = differs (fit_is keys first holds).1
 
     go : (fitting : Bool) → fitting ≡ fit keys first → Opens version (Both own keys) password salt count
-        → ((if fitting then keys else keys_of version (password_bytes own) salt count) ≡ keys_of version password salt count)
+        → ((if fitting then keys else keys_of version (password_bytes own) salt count)
+        ≡ keys_of version password salt count)
         × (T fitting ⊎ IsNormal own)
     go true is (inl same) = (same, inl tt)
     go false is (inl same) = absurd (subst T (sym is) (fits same))

@@ -92,7 +92,8 @@ same_answer keys password bare text first are fits =
     (same_keys keys (password_bytes password) first are fits)
 
 pub keys_stand : (keys : ClientKeys) (password : PasswordText) (nonce bare text : List ℕ) (limits : IterationLimits)
-    (answer : Result Answer ScramErrorKind) → IsNormal password → AreKeysOf keys (password_bytes password) → answer ≢ Err OtherKeys
+    (answer : Result Answer ScramErrorKind) → IsNormal password → AreKeysOf keys (password_bytes password)
+    → answer ≢ Err OtherKeys
     → AnswersServerFirst keys.version (client_of nonce (Keys keys) limits) bare text answer
     → AnswersServerFirst keys.version (client_of nonce (Password password) limits) bare text answer
 keys_stand keys password nonce bare text limits (Ok answer) printable are other (first, reads, is) = (
