@@ -1,5 +1,5 @@
 -- A password of printable ASCII is taken alike as it is typed and prepared.
-use Rattle.std.proofs.Common.{◌≡◌, ◌↔◌, ℕ, List, Result, Ok, Err, inl, inr}
+use Rattle.std.proofs.Common.{◌↔◌, ℕ, List, Result, Ok, Err, inl, inr}
 use Rattle.fe2o3_scram.specs.declared.client_secret.IterationLimits.{IterationLimits}
 use Rattle.fe2o3_scram.specs.declared.keys.RecordError.{RecordError}
 use Rattle.fe2o3_scram.specs.declared.scram_messages.error.ScramErrorKind.{ScramErrorKind}
