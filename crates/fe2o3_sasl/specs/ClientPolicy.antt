@@ -7,6 +7,7 @@ use Rattle.fe2o3_scram.specs.declared.client_secret.IterationLimits.{IterationLi
 use Rattle.fe2o3_scram.specs.ClientKeys.{ClientKeys}
 use Rattle.fe2o3_scram.specs.ClientSecret.{Secret, Password, Keys, Both, up_to, no_limit}
 use Rattle.fe2o3_scram.specs.Hmac.{mechanism_name}
+use Rattle.fe2o3_scram.specs.Passwords.{password_bytes}
 use Rattle.fe2o3_scram.specs.ScramClient.{ClientSide, Initial, with_limits}
 use Rattle.fe2o3_sasl.specs.Profiles.{Profile, ScramProfile, PlainProfile, AnonymousProfile, ExternalProfile}
 use Rattle.fe2o3_sasl.specs.declared.client_policy.ClientPolicy.{ClientPolicy}
@@ -72,9 +73,9 @@ scram_by limits user version (Some secret) = Some (ScramProfile (with_limits (fr
 
 -- and by PLAIN (RFC 4616, section 2), which sends the password
 abbrev pub plain_by : List ℕ → Secret → Option Profile
-plain_by user (Password password) = Some (PlainProfile user password)
+plain_by user (Password password) = Some (PlainProfile user (password_bytes password))
 plain_by user (Keys keys) = None
-plain_by user (Both password keys) = Some (PlainProfile user password)
+plain_by user (Both password keys) = Some (PlainProfile user (password_bytes password))
 
 -- the profile of a user with a secret by a mechanism, if the secret serves for it
 abbrev pub profile_by : IterationLimits → List ℕ → Secret → Mechanism → Option Profile

@@ -9,7 +9,7 @@ use Rattle.fe2o3_sasl.specs.ClientHistory.{Answering, AnswersAt, OpenAnswer, Cli
 use Rattle.fe2o3_scram.specs.ClientKeys.{ClientKeys}
 use Rattle.fe2o3_scram.specs.ClientSecret.{Password, Keys}
 use Rattle.fe2o3_scram.specs.Laws.{AreKeysOf}
-use Rattle.fe2o3_scram.specs.SaslprepAscii.{IsPrintable}
+use Rattle.fe2o3_scram.specs.Passwords.{PasswordText, IsNormal, password_bytes}
 use Rattle.fe2o3_scram.specs.Credentials.{Provider, Record, record_at}
 use Rattle.fe2o3_sasl.specs.Events.{Given, AreGiven, Login, IsLogin, IsRecord, IsSecret, ServerSays, Concluded, Failed, ClientSays, Refused, OtherKeys, OutOfMemory}
 use Rattle.fe2o3_sasl.specs.Runs.{Runs, AcceptorSteps, ProfileReplies, ProfileSteps}
@@ -62,9 +62,9 @@ KeysFit replies = (k : ℕ) → slice_get replies k ≢ Some (Refused OtherKeys)
 -- where they are never, a run of a SCRAM profile with the keys of a password is a run of the profile with the password
 -- (RFC 5802, section 3)
 abbrev pub KeyedRunsAreRuns : Type 0
-KeyedRunsAreRuns = (login : Login) (keys : ClientKeys) (password : List ℕ) (events : List Given)
-    (replies : List ClientSays) (last : Profile) → keys.version ≡ login.version → IsPrintable password
-    → AreKeysOf keys password
+KeyedRunsAreRuns = (login : Login) (keys : ClientKeys) (password : PasswordText) (events : List Given)
+    (replies : List ClientSays) (last : Profile) → keys.version ≡ login.version → IsNormal password
+    → AreKeysOf keys (password_bytes password)
     → Runs (ProfileSteps login.hostname) (scram_profile (record login { secret = Keys keys })) events replies last
     → KeysFit replies
     → (after : Profile)
@@ -73,9 +73,9 @@ KeyedRunsAreRuns = (login : Login) (keys : ClientKeys) (password : List ℕ) (ev
 
 -- and so (RFC 5802, section 3) a client history of the login with the password
 abbrev pub KeyedRunsAreHistories : Type 0
-KeyedRunsAreHistories = (login : Login) (keys : ClientKeys) (password : List ℕ) (events : List Given)
-    (replies : List ClientSays) (last : Profile) → keys.version ≡ login.version → IsPrintable password
-    → AreKeysOf keys password
+KeyedRunsAreHistories = (login : Login) (keys : ClientKeys) (password : PasswordText) (events : List Given)
+    (replies : List ClientSays) (last : Profile) → keys.version ≡ login.version → IsNormal password
+    → AreKeysOf keys (password_bytes password)
     → Runs (ProfileSteps login.hostname) (scram_profile (record login { secret = Keys keys })) events replies last
     → KeysFit replies → ClientHistory (record login { secret = Password password }) events replies
 

@@ -5,6 +5,7 @@ use Rattle.fe2o3_sasl_wire.specs.declared.amqp_types.SaslCode.TheVariants as out
 use Rattle.fe2o3_sasl_wire.specs.SaslFrames as frames
 use Rattle.fe2o3_sasl_wire.specs.SaslFrames.{SaslFrame}
 use Rattle.fe2o3_scram.specs.Credentials.{MeetsRecord, Store, Record, making_tests, record_at}
+use Rattle.fe2o3_scram.specs.Passwords.{Typed}
 use Rattle.fe2o3_scram.specs.Readings.{NoneHolds}
 use Rattle.fe2o3_scram.specs.Texts.{Without}
 use Rattle.fe2o3_sasl.specs.SaslAcceptor.{ends_with}
@@ -42,7 +43,7 @@ AsksPlain frame message = ⊥
 -- the user has a record, and the password is that of it (RFC 5802, section 3)
 abbrev pub HasPassword : Store → PlainParts → Type 0
 HasPassword provider message = (stored : Record) × (record_at provider.records message.user ≡ Some stored)
-    × MeetsRecord provider.version message.password stored
+    × MeetsRecord provider.version (Typed message.password) stored
 
 -- the frame logs this user in
 abbrev pub PlainLogsIn : Store → SaslFrame → List ℕ → Type 0
@@ -70,7 +71,7 @@ count_or count None = count
 abbrev pub TestsPassword : PlainServer → SaslFrame → ℕ → Type 0
 TestsPassword server frame count = (message : PlainParts) × AsksPlain frame message
     × (count ≡ count_or server.count (record_at server.provider.records message.user))
-    × NoneHolds (making_tests message.password count)
+    × NoneHolds (making_tests (Typed message.password) count)
 
 -- how many HMAC values it makes (RFC 5802, section 3): to test a password those of making its record, of an unknown
 -- user too, and else none

@@ -7,6 +7,7 @@ use Rattle.fe2o3_sasl_wire.specs.SaslFrames.{canonical, SaslFrame}
 use Rattle.fe2o3_sasl_wire.specs.SaslFrames as frames
 use Rattle.fe2o3_scram.specs.declared.hmac.ScramVersion.{ScramVersion}
 use Rattle.fe2o3_scram.specs.ClientSecret.{Password, up_to}
+use Rattle.fe2o3_scram.specs.Passwords.{Typed}
 use Rattle.fe2o3_sasl.specs.Events.{Given, Login, ServerSays, Challenged, Concluded, Failed, ClientSays, Started, Answered, Reported, Refused, ClientFault, Frame, OutOfMemory}
 use Rattle.fe2o3_sasl.specs.Bodies.{SpellsBody, carried}
 use Rattle.fe2o3_sasl.specs.Profiles.{Profile, profile_machine, scram_profile, StepAllocates}
@@ -132,7 +133,8 @@ abbrev pub client_answer : Result ClientReply ProfileError → ClientSays
 client_answer (Ok reply) = client_reply reply
 client_answer (Err fault) = Refused (client_fault fault)
 
--- the login of these words, without a hostname
+-- the login of these words, the password as it is typed, without a hostname
 abbrev pub login_of : ScramVersion → List ℕ → List ℕ → ℕ → Login
 login_of version user password limit =
-    record { user = user; secret = Password password; version = version; limits = up_to limit; hostname = None }
+    let secret = Password (Typed password) in
+    record { user = user; secret = secret; version = version; limits = up_to limit; hostname = None }

@@ -1,8 +1,9 @@
 //! Which mechanism a client takes of those that a server offers (AMQP 1.0, part 5, section 5.3.3.2).
 
-ghost use Rattle.std.specs.Prelude.{◌≡◌, ◌≢◌, ◌↔◌, true, false, Some, IfOk, IfErr, OnOk, MatchBool, MatchOption, List, ℕ, option_map, is_some};
+ghost use Rattle.std.specs.Prelude.{◌≡◌, ◌≢◌, ◌↔◌, true, false, Some, IfOk, IfErr, OnOk, MatchBool, MatchOption, List, ℕ, option_map, is_some, string_bytes};
 ghost use Rattle.std.specs.List.{AllByRecursion, Contains};
-ghost use Rattle.fe2o3_scram.specs.ClientSecret.{secret_of, up_to, no_limit};
+ghost use Rattle.fe2o3_scram.specs.ClientSecret.{Both, secret_of, up_to, no_limit};
+ghost use Rattle.fe2o3_scram.specs.Passwords.{Typed, Prepared};
 ghost use Rattle.fe2o3_sasl.specs.ClientPolicy.{by_strength, name_of, is_allowed, secret_for, fresh_client, scram_by, plain_by, profile_by, CanTake, IsFirstTaken};
 ghost use Rattle.fe2o3_sasl.specs.SaslProfile.{profile_of};
 ghost use Rattle.fe2o3_sasl.specs.declared.client_policy.ChoiceError.TheVariants.{OutOfMemory as OutOfMemoryError};
@@ -183,7 +184,10 @@ fn serves_scram(secret: &ClientSecret<'_>, version: ScramVersion) -> bool
     ensures { result ≡ is_some (secret_for version (secret_of secret.now)) }
 {
     match secret {
-        ClientSecret::Password(_) | ClientSecret::Both { .. } => true,
+        ClientSecret::Password(_)
+        | ClientSecret::Prepared(_)
+        | ClientSecret::Both { .. }
+        | ClientSecret::PreparedAndKeys { .. } => true,
         ClientSecret::Keys(keys) => keys.scram_version() == version,
     }
 }
@@ -235,6 +239,46 @@ fn first_taken(
     None
 }
 
+/// A client of the user by a password as it is typed, and by these keys where they are of this version.
+#[tactic(auto, using(crate::proofs::lemmas::machines::PolicyLemmas::keys))]
+fn client_with_keys(
+    alloc: Global,
+    username: String,
+    password: &str,
+    keys: &ScramClientKeys,
+    version: ScramVersion,
+) -> Result<ScramClient, OutOfMemory>
+    ensures { IfOk result (λ client. Some client ≡ option_map (fresh_client (string_bytes username) version)
+        (secret_for version (Both (Typed password.now) keys.now))) }
+{
+    let password = String::from_str(alloc, password)?;
+    if keys.scram_version() != version {
+        return Ok(ScramClient::new(username, password, version));
+    }
+    let keys = ScramClientKeys::clone(keys)?;
+    Ok(ScramClient::with_password_and_keys(username, password, keys))
+}
+
+/// The same by a prepared password.
+#[tactic(auto, using(crate::proofs::lemmas::machines::PolicyLemmas::keys))]
+fn prepared_client_with_keys(
+    alloc: Global,
+    username: String,
+    password: &str,
+    keys: &ScramClientKeys,
+    version: ScramVersion,
+) -> Result<ScramClient, OutOfMemory>
+    ensures { IfOk result (λ client. Some client ≡ option_map (fresh_client (string_bytes username) version)
+        (secret_for version (Both (Prepared password.now) keys.now))) }
+{
+    let password = String::from_str(alloc, password)?;
+    if keys.scram_version() != version {
+        return Ok(ScramClient::with_prepared_password(username, password, version));
+    }
+    let keys = ScramClientKeys::clone(keys)?;
+    Ok(ScramClient::with_prepared_password_and_keys(username, password, keys))
+}
+
 /// A client of the user by SCRAM of this version that accepts every count, if the secret serves for it.
 #[tactic(auto, using(crate::proofs::lemmas::machines::PolicyLemmas::keys))]
 fn scram_client(
@@ -252,6 +296,10 @@ fn scram_client(
             let password = String::from_str(alloc, password)?;
             Ok(Some(ScramClient::new(username, password, version)))
         }
+        ClientSecret::Prepared(password) => {
+            let password = String::from_str(alloc, password)?;
+            Ok(Some(ScramClient::with_prepared_password(username, password, version)))
+        }
         ClientSecret::Keys(keys) => {
             if keys.scram_version() != version {
                 return Ok(None);
@@ -260,12 +308,12 @@ fn scram_client(
             Ok(Some(ScramClient::with_keys(username, keys)))
         }
         ClientSecret::Both { password, keys } => {
-            let password = String::from_str(alloc, password)?;
-            if keys.scram_version() != version {
-                return Ok(Some(ScramClient::new(username, password, version)));
-            }
-            let keys = ScramClientKeys::clone(keys)?;
-            Ok(Some(ScramClient::with_password_and_keys(username, password, keys)))
+            let client = client_with_keys(alloc, username, password, keys, version)?;
+            Ok(Some(client))
+        }
+        ClientSecret::PreparedAndKeys { password, keys } => {
+            let client = prepared_client_with_keys(alloc, username, password, keys, version)?;
+            Ok(Some(client))
         }
     }
 }
@@ -300,8 +348,9 @@ fn plain_profile(
     ensures { IfOk result (λ profile. option_map profile_of profile ≡ plain_by username.now (secret_of secret.now)) }
 {
     let password = match secret {
-        ClientSecret::Password(password) => password,
-        ClientSecret::Both { password, .. } => password,
+        ClientSecret::Password(password) | ClientSecret::Prepared(password) => password,
+        ClientSecret::Both { password, .. } | ClientSecret::PreparedAndKeys { password, .. } =>
+            password,
         ClientSecret::Keys(_) => return Ok(None),
     };
     Ok(Some(SaslProfile::plain(

@@ -172,10 +172,10 @@ pub fn repeated_findings()
 {}
 
 /// A client logs in where no body is altered on the way, its secret opens the record that the server holds
-/// (a printable password, the keys of the record's password, salt and count, or a password beside keys that
-/// are of another salt or count), the count is from 1 on and within the client's limits, memory suffices on
-/// both sides, and no frame is too large; an audit of it has exactly two findings, and in both the sides
-/// agree.
+/// (a password that is printable ASCII or was handed in as prepared, the keys of the record's password, salt
+/// and count, or such a password beside keys that are of another salt or count), the count is from 1 on and
+/// within the client's limits, memory suffices on both sides, and no frame is too large; an audit of it has
+/// exactly two findings, and in both the sides agree.
 pub fn unaltered_runs()
     ensures client { ClientsLogIn }
     ensures server { ServersLogIn }

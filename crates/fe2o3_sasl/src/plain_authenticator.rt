@@ -4,6 +4,7 @@ ghost use Rattle.std.specs.Prelude.{◌≡◌, ◌≤◌, ◌+◌, ◌^◌, ◌�
 ghost use Rattle.std.proofs.Common.{ap};
 ghost use Rattle.fe2o3_sasl_wire.specs.AmqpTypes.{init_frame, response_frame};
 ghost use Rattle.fe2o3_scram.specs.Credentials.{CheckingCosts, record_at};
+ghost use Rattle.fe2o3_scram.specs.Passwords.{Typed};
 ghost use Rattle.fe2o3_scram.specs.Texts.{Cut};
 ghost use Rattle.fe2o3_sasl.specs.Costs.{CostsAtMost};
 ghost use Rattle.fe2o3_sasl.specs.PlainAuthenticator.{AsksPlain, HasPassword, IsTaken, PlainLogsIn, PlainParts, PlainServer, SpellsPlain, count_or, parts_of, plain_allocates, plain_hmacs, plain_machine, plain_server};
@@ -84,7 +85,7 @@ impl<C: ScramCredentialProvider> PlainAuthenticator<C> {
     fn has_password(&self, message: &PlainMessage<'_>, meter: &mut Meter) -> bool
         requires { meter.old ≤ 2 ^ 63 }
         ensures verdict { IsTrue result ↔ HasPassword (C.meaning self.now.credentials) (parts_of message.now) }
-        ensures cost { CheckingCosts message.now.password.now (count_or self.now.iterations
+        ensures cost { CheckingCosts (Typed message.now.password.now) (count_or self.now.iterations
             (record_at (C.meaning self.now.credentials).records message.now.username.now)) meter.old meter.new }
     {
         let scram_version = *self.credentials.scram_version();

@@ -25,9 +25,10 @@ pub fn connections()
 {}
 
 /// An honest client and an honest server that are joined both log in, in whatever pieces their bytes arrive, and
-/// the server names the client's user: where the server holds a record that the client's secret opens (a printable
-/// password, or keys of the record's), the count is from 1 on and within the client's limits, each side is handed
-/// what the other sends and takes all of it, and no frame is larger than 512 bytes or the limit of its receiver.
+/// the server names the client's user: where the server holds a record that the client's secret opens (a password
+/// that is printable ASCII or was handed in as prepared, or keys of the record's), the count is from 1 on and within
+/// the client's limits, each side is handed what the other sends and takes all of it, and no frame is larger than 512
+/// bytes or the limit of its receiver.
 pub fn unaltered_connections()
     ensures { JoinedSidesLogIn }
 {}

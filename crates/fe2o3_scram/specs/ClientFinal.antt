@@ -10,6 +10,7 @@ use Rattle.fe2o3_scram.specs.Texts.{base64_text, joined, Part, LastPart}
 use Rattle.fe2o3_scram.specs.Keys.{auth_message, client_proof, server_signature, recovered_client_key, MeetsStoredKey}
 use Rattle.fe2o3_scram.specs.ClientKeys.{ClientKeys, keys_of}
 use Rattle.fe2o3_scram.specs.ClientSecret.{Secret, Password, Keys, Both}
+use Rattle.fe2o3_scram.specs.Passwords.{password_bytes}
 use Rattle.fe2o3_scram.specs.ServerFirst.{ServerFirst}
 use Rattle.std.specs.Str.{IsUtf8}
 use Rattle.base64.specs.GeneralPurpose.{IsBytes}
@@ -64,10 +65,10 @@ fit keys first = pointwise nat_eq first.salt keys.salt && nat_eq first.count key
 
 -- the keys that a client answers by (RFC 5802, section 3)
 abbrev pub keys_for : ScramVersion → Secret → ServerFirst → ClientKeys
-keys_for version (Password password) first = keys_of version password first.salt first.count
+keys_for version (Password password) first = keys_of version (password_bytes password) first.salt first.count
 keys_for version (Keys keys) first = keys
 keys_for version (Both password keys) first =
-    if fit keys first then keys else keys_of version password first.salt first.count
+    if fit keys first then keys else keys_of version (password_bytes password) first.salt first.count
 
 -- the answer to a server-first message that names these values
 abbrev pub answer_of : ScramVersion → Secret → List ℕ → List ℕ → ServerFirst → Answer

@@ -5,6 +5,7 @@ use Rattle.fe2o3_scram.specs.declared.keys.RecordError.{RecordError}
 use Rattle.fe2o3_scram.specs.Credentials.{making_tests}
 use Rattle.fe2o3_scram.specs.Hmac.{digest_len}
 use Rattle.fe2o3_scram.specs.Keys.{client_key, server_key}
+use Rattle.fe2o3_scram.specs.Passwords.{PasswordText, password_bytes}
 use Rattle.fe2o3_scram.specs.Pbkdf2Hi.{salted_of}
 use Rattle.fe2o3_scram.specs.Readings.{Reads}
 
@@ -32,9 +33,9 @@ abbrev pub keys_of : ScramVersion → List ℕ → List ℕ → ℕ → ClientKe
 keys_of version password salt count = keys_of_salted version salt count (salted_of version password salt count)
 
 -- what comes of making the keys of a password (RFC 5802, section 3): the first refusal that holds, or its keys
-abbrev pub MakesKeys : ScramVersion → List ℕ → List ℕ → ℕ → Result ClientKeys RecordError → Type 0
+abbrev pub MakesKeys : ScramVersion → PasswordText → List ℕ → ℕ → Result ClientKeys RecordError → Type 0
 MakesKeys version password salt count answer =
-    Reads (making_tests password count) (λ made. made ≡ keys_of version password salt count) answer
+    Reads (making_tests password count) (λ made. made ≡ keys_of version (password_bytes password) salt count) answer
 
 -- both keys are as long as a digest (RFC 5802, section 3)
 abbrev pub AreSized : ClientKeys → Type 0

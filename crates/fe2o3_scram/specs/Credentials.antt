@@ -8,7 +8,7 @@ use Rattle.fe2o3_scram.specs.declared.keys.RecordError.TheVariants.{NormalizeErr
 use Rattle.fe2o3_scram.specs.Keys.{client_key, stored_key, server_key}
 use Rattle.fe2o3_scram.specs.Pbkdf2Hi.{salted_of}
 use Rattle.fe2o3_scram.specs.Readings.{NoneHolds, Reads}
-use Rattle.fe2o3_scram.specs.SaslprepAscii.{IsPrintable}
+use Rattle.fe2o3_scram.specs.Passwords.{PasswordText, IsNormal, password_bytes}
 
 -- what is kept of a password (RFC 5802, section 3)
 pub record Record : Type 0 where
@@ -39,13 +39,14 @@ abbrev pub versioned : ScramVersion → Record → VersionedRecord
 versioned version stored = record { version = version; stored = stored }
 
 -- the tests before a record is made of a password (RFC 4013, section 2; RFC 5802, section 5.1), in their order
-abbrev pub making_tests : List ℕ → ℕ → List (RecordError × Type 0)
-making_tests password count = (NormalizeError, ¬ IsPrintable password) ∷ (ZeroIterations, count ≡ 0) ∷ []
+abbrev pub making_tests : PasswordText → ℕ → List (RecordError × Type 0)
+making_tests password count = (NormalizeError, ¬ IsNormal password) ∷ (ZeroIterations, count ≡ 0) ∷ []
 
 -- what comes of making a record of a password (RFC 5802, section 3): the first refusal that holds, or its record
-abbrev pub MakesRecord : ScramVersion → List ℕ → List ℕ → ℕ → Result VersionedRecord RecordError → Type 0
+abbrev pub MakesRecord : ScramVersion → PasswordText → List ℕ → ℕ → Result VersionedRecord RecordError → Type 0
 MakesRecord version password salt count answer = Reads (making_tests password count)
-    (λ made. made ≡ record { version = version; stored = record_of version password salt count }) answer
+    (λ made. made ≡ record { version = version; stored = record_of version (password_bytes password) salt count })
+    answer
 
 -- its HMAC values (RFC 5802, section 3), as a meter shows them before and after: one for each iteration and one for
 -- each of two keys, none for a refusal, and at most so many where memory ran out
@@ -56,13 +57,13 @@ MakingCosts count (Err fault) before after = after ≡ before
 
 -- a password meets a record (RFC 5802, section 3): no test refuses it with the record's count, and the record that is
 -- made of it with this salt and this count is the same
-abbrev pub MeetsRecord : ScramVersion → List ℕ → Record → Type 0
+abbrev pub MeetsRecord : ScramVersion → PasswordText → Record → Type 0
 MeetsRecord version password stored = NoneHolds (making_tests password stored.count)
-    × (record_of version password stored.salt stored.count ≡ stored)
+    × (record_of version (password_bytes password) stored.salt stored.count ≡ stored)
 
 -- the HMAC values of that test (RFC 5802, section 3), as a meter shows them before and after: those of making the
 -- record, and none where a test refuses it
-abbrev pub CheckingCosts : List ℕ → ℕ → ℕ → ℕ → Type 0
+abbrev pub CheckingCosts : PasswordText → ℕ → ℕ → ℕ → Type 0
 CheckingCosts password count before after = (NoneHolds (making_tests password count) → after ≡ before + (count + 2))
     × (¬ NoneHolds (making_tests password count) → after ≡ before)
 

@@ -14,18 +14,18 @@ use Rattle.fe2o3_scram.specs.Credentials.{Record, record_of}
 use Rattle.fe2o3_scram.specs.Keys.{auth_message, client_key, client_proof}
 use Rattle.fe2o3_scram.specs.Pbkdf2Hi.{salted_of}
 use Rattle.fe2o3_scram.specs.ServerFinal.{server_final_of, ReadsServerFinal}
-use Rattle.fe2o3_scram.specs.SaslprepAscii.{IsPrintable}
+use Rattle.fe2o3_scram.specs.Passwords.{IsNormal, password_bytes}
 use Rattle.fe2o3_scram.specs.Texts.{NoComma}
 
 -- a client's secret opens the record of a password with this salt and this count (RFC 5802, section 3): it is that
--- password, which can be prepared, or its keys with that salt and that count; where it is both, the password is what
+-- password, in normal form, or its keys with that salt and that count; where it is both, the password is what
 -- opens a record of another salt or another count than the keys are of
 abbrev pub Opens : ScramVersion → Secret → List ℕ → List ℕ → ℕ → Type 0
-Opens version (Password own) password salt count = (own ≡ password) × IsPrintable own
+Opens version (Password own) password salt count = (password_bytes own ≡ password) × IsNormal own
 Opens version (Keys keys) password salt count = keys ≡ keys_of version password salt count
 Opens version (Both own keys) password salt count =
     (keys ≡ keys_of version password salt count)
-    ⊎ (((salt ≢ keys.salt) ⊎ (count ≢ keys.count)) × (own ≡ password) × IsPrintable own)
+    ⊎ (((salt ≢ keys.salt) ⊎ (count ≢ keys.count)) × (password_bytes own ≡ password) × IsNormal own)
 
 -- what an exchange starts from (RFC 5802, section 5): the client's GS2 header, user, secret and limits, whether the
 -- server takes a client that could bind a channel, the password, the salt and the count of the record, and the nonces

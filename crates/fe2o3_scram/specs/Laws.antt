@@ -10,10 +10,12 @@ use Rattle.fe2o3_scram.specs.declared.scram_messages.error.ServerScramErrorKind.
 use Rattle.fe2o3_scram.specs.ClientFirst.{ClientFirst, ReadsClientFirst}
 use Rattle.fe2o3_scram.specs.ClientKeys.{ClientKeys, keys_of}
 use Rattle.fe2o3_scram.specs.ClientSecret.{Password, Keys, Both}
+use Rattle.fe2o3_scram.specs.Passwords.{PasswordText, Typed, Prepared, IsNormal, password_bytes}
 use Rattle.fe2o3_scram.specs.SaslprepAscii.{IsPrintable}
 use Rattle.fe2o3_scram.specs.declared.client_secret.IterationLimits.{IterationLimits}
 use Rattle.fe2o3_scram.specs.declared.scram_messages.error.ScramErrorKind.TheVariants.{OtherKeys}
-use Rattle.fe2o3_scram.specs.Credentials.{Record, Records, VersionedRecord, record_of}
+use Rattle.fe2o3_scram.specs.Credentials.{MakesRecord, Record, Records, VersionedRecord, record_of}
+use Rattle.fe2o3_scram.specs.declared.keys.RecordError.{RecordError}
 use Rattle.fe2o3_scram.specs.Mixed.{MixedRecords, unversioned}
 use Rattle.fe2o3_scram.specs.Escape.{escaped}
 use Rattle.fe2o3_scram.specs.Exchanges.{Exchange, IsSound, Succeeds}
@@ -155,26 +157,42 @@ AreKeysOf keys password = keys ≡ keys_of keys.version password keys.salt keys.
 
 -- what is answered by the keys of a password is answered by the password
 abbrev pub KeysStandForPassword : Type 0
-KeysStandForPassword = (keys : ClientKeys) (password nonce bare text : List ℕ) (limits : IterationLimits)
-    (answer : Result Answer ScramErrorKind) → IsPrintable password → AreKeysOf keys password
+KeysStandForPassword = (keys : ClientKeys) (password : PasswordText) (nonce bare text : List ℕ)
+    (limits : IterationLimits) (answer : Result Answer ScramErrorKind) → IsNormal password
+    → AreKeysOf keys (password_bytes password)
     → answer ≢ Err OtherKeys
     → AnswersServerFirst keys.version (client_of nonce (Keys keys) limits) bare text answer
     → AnswersServerFirst keys.version (client_of nonce (Password password) limits) bare text answer
 
 -- what is answered by the password is answered by its keys, or else they are of another salt or another count
 abbrev pub KeysAnswerAsPassword : Type 0
-KeysAnswerAsPassword = (keys : ClientKeys) (password nonce bare text : List ℕ) (limits : IterationLimits)
-    (answer : Result Answer ScramErrorKind) → IsPrintable password → AreKeysOf keys password
+KeysAnswerAsPassword = (keys : ClientKeys) (password : PasswordText) (nonce bare text : List ℕ)
+    (limits : IterationLimits) (answer : Result Answer ScramErrorKind) → IsNormal password
+    → AreKeysOf keys (password_bytes password)
     → AnswersServerFirst keys.version (client_of nonce (Password password) limits) bare text answer
     → AnswersServerFirst keys.version (client_of nonce (Keys keys) limits) bare text answer
     ⊎ AnswersServerFirst keys.version (client_of nonce (Keys keys) limits) bare text (Err OtherKeys)
 
 -- a client with both answers as the one with the password, where its keys are those of it
 abbrev pub BothAnswerAsPassword : Type 0
-BothAnswerAsPassword = (keys : ClientKeys) (password nonce bare text : List ℕ) (limits : IterationLimits)
-    (answer : Result Answer ScramErrorKind) → IsPrintable password → AreKeysOf keys password
+BothAnswerAsPassword = (keys : ClientKeys) (password : PasswordText) (nonce bare text : List ℕ)
+    (limits : IterationLimits) (answer : Result Answer ScramErrorKind) → IsNormal password
+    → AreKeysOf keys (password_bytes password)
     → AnswersServerFirst keys.version (client_of nonce (Both password keys) limits) bare text answer
     ↔ AnswersServerFirst keys.version (client_of nonce (Password password) limits) bare text answer
+
+-- of a password of printable ASCII one record is made, whether it is handed in as it is typed or prepared
+abbrev pub OneRecordOfPassword : Type 0
+OneRecordOfPassword = (version : ScramVersion) (text salt : List ℕ) (count : ℕ)
+    (answer : Result VersionedRecord RecordError) → IsPrintable text
+    → MakesRecord version (Prepared text) salt count answer ↔ MakesRecord version (Typed text) salt count answer
+
+-- and a client with the one answers as the client with the other
+abbrev pub OneAnswerOfPassword : Type 0
+OneAnswerOfPassword = (version : ScramVersion) (password nonce bare text : List ℕ) (limits : IterationLimits)
+    (answer : Result Answer ScramErrorKind) → IsPrintable password
+    → AnswersServerFirst version (client_of nonce (Password (Prepared password)) limits) bare text answer
+    ↔ AnswersServerFirst version (client_of nonce (Password (Typed password)) limits) bare text answer
 
 -- what the code holds of a user: the count has 32 bits, and salt and keys are bytes
 abbrev pub HoldsBytes : List ℕ × Record → Type 0

@@ -1,6 +1,7 @@
 pub mod Texts
 pub mod Escape
 pub mod SaslprepAscii
+pub mod Passwords
 pub mod Hmac
 pub mod Pbkdf2Hi
 pub mod Keys

@@ -8,7 +8,7 @@ use Rattle.std.specs.Cow.{cow_str_bytes}
 use Rattle.base64.specs.GeneralPurpose.{IsBytes}
 use Rattle.fe2o3_scram.specs.Texts.{base64_text, IsCount, Part, joined}
 use Rattle.fe2o3_scram.specs.Readings.{NoneHolds, Reads}
-use Rattle.fe2o3_scram.specs.SaslprepAscii.{IsPrintable}
+use Rattle.fe2o3_scram.specs.Passwords.{IsNormal}
 use Rattle.std.specs.Fmt.{decimal}
 use Rattle.fe2o3_scram.specs.declared.scram_messages.error.ServerScramErrorKind.{ServerScramErrorKind}
 use Rattle.fe2o3_scram.specs.ClientFirst.{ClientFirst, ReadsClientFirst, HasEscapes}
@@ -83,9 +83,9 @@ NamesOther keys text = ¬ (HasSalt text keys.salt × HasCount text keys.count)
 
 -- its test of its secret: a password that is needed (RFC 4013, section 2), and keys alone (RFC 5802, section 3)
 abbrev pub secret_tests : Secret → List ℕ → List (ScramErrorKind × Type 0)
-secret_tests (Password password) text = (NormalizeError, ¬ IsPrintable password) ∷ []
+secret_tests (Password password) text = (NormalizeError, ¬ IsNormal password) ∷ []
 secret_tests (Keys keys) text = (OtherKeys, NamesOther keys text) ∷ []
-secret_tests (Both password keys) text = (NormalizeError, NamesOther keys text × ¬ IsPrintable password) ∷ []
+secret_tests (Both password keys) text = (NormalizeError, NamesOther keys text × ¬ IsNormal password) ∷ []
 
 -- all tests of the client, in their order
 abbrev pub server_first_tests : Client → List ℕ → List (ScramErrorKind × Type 0)

@@ -1,7 +1,9 @@
 //! By what a client proves who it is (RFC 5802, section 3), and the iteration counts that it accepts.
 
-ghost use Rattle.std.specs.Prelude.{◌≡◌};
-ghost use Rattle.fe2o3_scram.specs.ClientSecret.{kept_secret, no_limit, secret_of, up_to};
+ghost use Rattle.std.specs.Prelude.{◌≡◌, IfOk};
+ghost use Rattle.std.specs.String.{string_bytes};
+ghost use Rattle.fe2o3_scram.specs.ClientSecret.{Password, Both, kept_password, kept_secret, no_limit, secret_of, up_to};
+ghost use Rattle.fe2o3_scram.specs.Passwords.{Typed, Prepared};
 
 use crate::keys::ScramClientKeys;
 use std::alloc::AllocError;
@@ -12,6 +14,10 @@ pub enum ClientSecret<'a> {
     /// The password as it is typed, which has to be printable ASCII (RFC 4013, section 2).
     Password(&'a str),
 
+    /// The password as its caller has prepared it (RFC 4013, section 2), which is taken as it stands, whatever
+    /// it is.
+    Prepared(&'a str),
+
     /// The keys that an earlier login handed out. They serve where the server names the salt and the
     /// iteration count that they are of.
     Keys(&'a ScramClientKeys),
@@ -19,6 +25,15 @@ pub enum ClientSecret<'a> {
     /// Both: the keys where they serve, and else the password.
     Both {
         /// The password as it is typed.
+        password: &'a str,
+
+        /// The keys that an earlier login handed out.
+        keys: &'a ScramClientKeys,
+    },
+
+    /// The same of a prepared password.
+    PreparedAndKeys {
+        /// The password as its caller has prepared it.
         password: &'a str,
 
         /// The keys that an earlier login handed out.
@@ -53,13 +68,80 @@ impl IterationLimits {
     }
 }
 
+/// How a password was handed in.
+#[derive(Clone, Copy)]
+pub(crate) enum PasswordForm {
+    Typed,
+    Prepared,
+}
+
+/// The password as a client keeps it.
+#[derive(Drop)]
+pub(crate) struct KeptPassword {
+    pub form: PasswordForm,
+    pub text: String,
+}
+
+impl KeptPassword {
+    /// A password as it is typed.
+    pub(crate) fn typed(text: String) -> Self
+        ensures { kept_password result ≡ Typed (string_bytes text) }
+    {
+        Self {
+            form: PasswordForm::Typed,
+            text,
+        }
+    }
+
+    /// A prepared password.
+    pub(crate) fn prepared(text: String) -> Self
+        ensures { kept_password result ≡ Prepared (string_bytes text) }
+    {
+        Self {
+            form: PasswordForm::Prepared,
+            text,
+        }
+    }
+
+    /// The secret that it is.
+    fn lent(&self) -> ClientSecret<'_>
+        ensures { secret_of result ≡ Password (kept_password self.now) }
+    {
+        match self.form {
+            PasswordForm::Typed => ClientSecret::Password(&self.text),
+            PasswordForm::Prepared => ClientSecret::Prepared(&self.text),
+        }
+    }
+
+    /// The secret that it is with keys.
+    fn lent_with<'a>(&'a self, keys: &'a ScramClientKeys) -> ClientSecret<'a>
+        ensures { secret_of result ≡ Both (kept_password self.now) keys.now }
+    {
+        let password = &self.text;
+        match self.form {
+            PasswordForm::Typed => ClientSecret::Both { password, keys },
+            PasswordForm::Prepared => ClientSecret::PreparedAndKeys { password, keys },
+        }
+    }
+
+    /// The same password.
+    fn copy(&self) -> Result<KeptPassword, AllocError>
+        ensures { IfOk result (λ copy. kept_password copy ≡ kept_password self.now) }
+    {
+        Ok(Self {
+            form: self.form,
+            text: self.text.clone()?,
+        })
+    }
+}
+
 /// The secret as a client keeps it.
 #[derive(Drop)]
 pub(crate) enum KeptSecret {
-    Password(String),
+    Password(KeptPassword),
     Keys(ScramClientKeys),
     Both {
-        password: String,
+        password: KeptPassword,
         keys: ScramClientKeys,
     },
 }
@@ -70,9 +152,9 @@ impl KeptSecret {
         ensures { secret_of result ≡ kept_secret self.now }
     {
         match self {
-            KeptSecret::Password(password) => ClientSecret::Password(password),
+            KeptSecret::Password(password) => password.lent(),
             KeptSecret::Keys(keys) => ClientSecret::Keys(keys),
-            KeptSecret::Both { password, keys } => ClientSecret::Both { password, keys },
+            KeptSecret::Both { password, keys } => password.lent_with(keys),
         }
     }
 }
@@ -82,10 +164,10 @@ impl Clone for KeptSecret {
 
     fn clone(&self) -> Result<Self, AllocError> {
         Ok(match self {
-            KeptSecret::Password(password) => KeptSecret::Password(password.clone()?),
+            KeptSecret::Password(password) => KeptSecret::Password(password.copy()?),
             KeptSecret::Keys(keys) => KeptSecret::Keys(keys.clone()?),
             KeptSecret::Both { password, keys } => KeptSecret::Both {
-                password: password.clone()?,
+                password: password.copy()?,
                 keys: keys.clone()?,
             },
         })

@@ -4,7 +4,7 @@
 ghost use Rattle.std.specs.Prelude.{◌≡◌};
 ghost use Rattle.fe2o3_scram.specs.Agreement.{BelievedTextsAgree};
 ghost use Rattle.fe2o3_scram.specs.Logins.{AcceptedTextsLogIn, HiddenTextsLogIn, BelievedTextsAreSigned};
-ghost use Rattle.fe2o3_scram.specs.Laws.{OneVersion, OneFinalText, OneSignature, DigestsAreSized, MacsAreSized, OneBytesOfBase64, Base64IsReadAgain, NoCommaInBase64, PartsExist, OneListOfParts, OneEscapedName, NoCommaInEscapedNames, OneClientFirst, OneServerFirst, OneClientFinal, OneServerFinal, SomeClientFirst, SomeServerFirst, SomeClientFinal, SomeServerFinal, UnalteredExchangesSucceed, MadeRecordsAreReadable, OneRecord, OneSpelling, RecordsAreReadAgain, SomeRecord, OneUsersAnswer, SomeUsersAnswer, UsersAreReadAgain, OneMixedAnswer, SomeMixedAnswer, MixedAreReadAgain, MixedAreWrittenBack, NoMismatch, KeysStandForPassword, KeysAnswerAsPassword, BothAnswerAsPassword};
+ghost use Rattle.fe2o3_scram.specs.Laws.{OneVersion, OneFinalText, OneSignature, DigestsAreSized, MacsAreSized, OneBytesOfBase64, Base64IsReadAgain, NoCommaInBase64, PartsExist, OneListOfParts, OneEscapedName, NoCommaInEscapedNames, OneClientFirst, OneServerFirst, OneClientFinal, OneServerFinal, SomeClientFirst, SomeServerFirst, SomeClientFinal, SomeServerFinal, UnalteredExchangesSucceed, MadeRecordsAreReadable, OneRecord, OneSpelling, RecordsAreReadAgain, SomeRecord, OneUsersAnswer, SomeUsersAnswer, UsersAreReadAgain, OneMixedAnswer, SomeMixedAnswer, MixedAreReadAgain, MixedAreWrittenBack, NoMismatch, KeysStandForPassword, KeysAnswerAsPassword, BothAnswerAsPassword, OneRecordOfPassword, OneAnswerOfPassword};
 ghost use Rattle.fe2o3_scram.specs.MemoryExamples.{AnsweredClientsTakeNone, CommasTakeNone, ErrorsTakeNone, OtherNoncesTakeNone, UnboundTextsTakeNone, UnknownMechanismsTakeNone, UnknownUsersTakeNone};
 
 use crate::hmac::ScramVersion;
@@ -100,6 +100,13 @@ pub fn kept_keys()
     ensures stand { KeysStandForPassword }
     ensures answer { KeysAnswerAsPassword }
     ensures both { BothAnswerAsPassword }
+{}
+
+/// A password of printable ASCII is prepared to itself: handed in as it is typed or as prepared it gives one
+/// record, and a client one answer.
+pub fn printable_passwords()
+    ensures record { OneRecordOfPassword }
+    ensures answer { OneAnswerOfPassword }
 {}
 
 /// Users who can be written are read again from their lines. Each text of lines has one answer: the

@@ -5,12 +5,13 @@ ghost use Rattle.std.specs.String.{string_bytes};
 ghost use Rattle.fe2o3_scram.specs.Texts.{base64_text};
 ghost use Rattle.fe2o3_scram.specs.ClientFirst.{client_first};
 ghost use Rattle.fe2o3_scram.specs.ClientKeys.{ClientKeys};
-ghost use Rattle.fe2o3_scram.specs.ClientSecret.{Password, Keys, Both, kept_secret, no_limit, up_to};
+ghost use Rattle.fe2o3_scram.specs.ClientSecret.{Password, Keys, Both, kept_password, kept_secret, no_limit, up_to};
+ghost use Rattle.fe2o3_scram.specs.Passwords.{Typed, Prepared};
 ghost use Rattle.fe2o3_scram.specs.ScramClient.{Initial, ClientFirstSent, ClientFinalSent, AnswersIn, AnswerCostsIn, BelievesIn, ReachesSaltIn, ReachesVerifierIn, started, state_of, answer_keys, is_complete, login_keys, with_state, with_limits};
 ghost use Rattle.fe2o3_scram.specs.Readings.{Gives};
 
 use crate::OutOfMemory;
-use crate::client_secret::{IterationLimits, KeptSecret};
+use crate::client_secret::{IterationLimits, KeptPassword, KeptSecret};
 use crate::hmac::{Meter, ScramVersion};
 use crate::keys::ScramClientKeys;
 use crate::scram_messages::error::ScramErrorKind;
@@ -93,17 +94,41 @@ impl Model for ScramClient {
 
 impl ScramClient {
     /// A client that has sent nothing, and accepts every iteration count from 1 to 4294967295. The
-    /// user name is plain, and the password as it is typed: neither is prepared or tested here.
+    /// user name is plain, and the password as it is typed: neither is prepared or tested here. A password
+    /// that is not printable ASCII is refused by `NormalizeError` where it is needed, and a user name is any
+    /// text, which a caller prepares as it prepares passwords.
     pub fn new(username: String, password: String, scram_version: ScramVersion) -> Self
         ensures { result ≡ record {
           user = string_bytes username;
-          secret = Password (string_bytes password);
+          secret = Password (Typed (string_bytes password));
           version =
               scram_version;
           limits = up_to no_limit;
           state = Initial;
         } }
     {
+        let password = KeptPassword::typed(password);
+        ScramClient::by(username, KeptSecret::Password(password), scram_version)
+    }
+
+    /// The same by a prepared password (RFC 4013): any text, which is taken as it stands, and not tested or
+    /// prepared here. It logs in where the record was made of that very text. A caller prepares the user name
+    /// likewise.
+    pub fn with_prepared_password(
+        username: String,
+        password: String,
+        scram_version: ScramVersion,
+    ) -> Self
+        ensures { result ≡ record {
+          user = string_bytes username;
+          secret = Password (Prepared (string_bytes password));
+          version =
+              scram_version;
+          limits = up_to no_limit;
+          state = Initial;
+        } }
+    {
+        let password = KeptPassword::prepared(password);
         ScramClient::by(username, KeptSecret::Password(password), scram_version)
     }
 
@@ -128,7 +153,39 @@ impl ScramClient {
     pub fn with_password_and_keys(username: String, password: String, keys: ScramClientKeys) -> Self
         ensures { result ≡ record {
           user = string_bytes username;
-          secret = Both (string_bytes password) keys;
+          secret = Both (Typed (string_bytes password)) keys;
+          version =
+              keys.version;
+          limits = up_to no_limit;
+          state = Initial;
+        } }
+    {
+        ScramClient::by_both(username, KeptPassword::typed(password), keys)
+    }
+
+    /// The same by the keys and a prepared password, which is taken as it stands.
+    pub fn with_prepared_password_and_keys(
+        username: String,
+        password: String,
+        keys: ScramClientKeys,
+    ) -> Self
+        ensures { result ≡ record {
+          user = string_bytes username;
+          secret = Both (Prepared (string_bytes password)) keys;
+          version =
+              keys.version;
+          limits = up_to no_limit;
+          state = Initial;
+        } }
+    {
+        ScramClient::by_both(username, KeptPassword::prepared(password), keys)
+    }
+
+    /// A client by this password and these keys.
+    fn by_both(username: String, password: KeptPassword, keys: ScramClientKeys) -> Self
+        ensures { result ≡ record {
+          user = string_bytes username;
+          secret = Both (kept_password password) keys;
           version =
               keys.version;
           limits = up_to no_limit;

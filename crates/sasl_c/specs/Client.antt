@@ -8,6 +8,7 @@ use Rattle.fe2o3_scram.specs.ClientFinal.{Answer}
 use Rattle.fe2o3_scram.specs.ClientFirst.{client_first, client_first_bare}
 use Rattle.fe2o3_scram.specs.ClientKeys.{ClientKeys}
 use Rattle.fe2o3_scram.specs.ClientSecret.{Secret, Password, Keys, Both}
+use Rattle.fe2o3_scram.specs.Passwords.{Typed}
 use Rattle.fe2o3_scram.specs.ScramClient.{AnswersIn, BelievesIn, ClientSide, ClientState, Initial, ClientFirstSent, ClientFinalSent, Complete, started}
 use Rattle.fe2o3_scram.specs.Readings.{IsFirst, NoneHolds}
 use Rattle.fe2o3_scram.specs.Texts.{base64_text}
@@ -20,11 +21,11 @@ use Rattle.sasl_c.specs.Keys.{HasRoom, ShowsKeys}
 use Rattle.sasl_c.specs.Records.{IsVersion}
 use Rattle.sasl_c.specs.Status.{client_status}
 
--- the secret of a login: its password, its keys, or both
+-- the secret of a login: its password as it is typed, its keys, or both
 abbrev pub IsSecret : Login → Secret → Type 0
-IsSecret login (Password password) = (login.secret ≡ 0) × (password ≡ login.password.now)
+IsSecret login (Password password) = (login.secret ≡ 0) × (password ≡ Typed login.password.now)
 IsSecret login (Keys keys) = (login.secret ≡ 1) × ShowsKeys login.keys.now keys
-IsSecret login (Both password keys) = (login.secret ≡ 2) × (password ≡ login.password.now)
+IsSecret login (Both password keys) = (login.secret ≡ 2) × (password ≡ Typed login.password.now)
     × ShowsKeys login.keys.now keys
 
 -- a client of this login

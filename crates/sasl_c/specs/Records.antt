@@ -5,6 +5,7 @@ use Rattle.fe2o3_scram.specs.declared.hmac.ScramVersion.{ScramVersion}
 use Rattle.fe2o3_scram.specs.Credentials.{MeetsRecord, Record, VersionedRecord, record_of, versioned}
 use Rattle.fe2o3_scram.specs.Nobody.{nobody_record}
 use Rattle.fe2o3_scram.specs.Hmac.{digest_len, zero_filled}
+use Rattle.fe2o3_scram.specs.Passwords.{Typed}
 use Rattle.fe2o3_scram.specs.Readings.{Reads}
 use Rattle.fe2o3_scram.specs.RecordText.{ReadsRecord, record_text}
 use Rattle.fe2o3_scram.specs.SaslprepAscii.{IsPrintable}
@@ -92,7 +93,8 @@ MakesUp version secret name salt_len count answer = Reads (nobody_tests version 
 -- shows one and the password is not UTF-8, or it is and is another one
 abbrev pub Verifies : Struct → List ℕ → Result (Unit {0}) Status → Type 0
 Verifies kept password (Ok done) = (shown : VersionedRecord) × Shows kept shown
-    × MeetsRecord shown.version password shown.stored
+    × MeetsRecord shown.version (Typed password) shown.stored
 Verifies kept password (Err status) = (status ≢ statuses.OutOfMemory) → SpellsStruct kept (Err status)
     ⊎ ((shown : VersionedRecord) × Shows kept shown × (((status ≡ statuses.NotUtf8) × ¬ IsUtf8 password)
-    ⊎ ((status ≡ statuses.OtherPassword) × IsUtf8 password × ¬ MeetsRecord shown.version password shown.stored)))
+    ⊎ ((status ≡ statuses.OtherPassword) × IsUtf8 password
+    × ¬ MeetsRecord shown.version (Typed password) shown.stored)))

@@ -1,6 +1,7 @@
 //! Runs over bodies of frames, each with the replies of one side.
 
 mod clients;
+mod prepared;
 pub mod profiles;
 pub mod servers;
 pub mod words;
@@ -130,6 +131,8 @@ fn check_side(alloc: Global, run: &Run<'_>) -> Result<(), Unconfirmed> {
             profiles::check(alloc, profile, run, "none")
         }
         ["both", words @ ..] => check_both(alloc, run, words),
+        ["prepared", words @ ..] => prepared::check(alloc, run, words),
+        ["prepared-both", words @ ..] => prepared::check_both(alloc, run, words),
         _ => Err(Unconfirmed::Malformed),
     }
 }

@@ -8,6 +8,7 @@ mod logins;
 mod messages;
 mod names;
 mod odd_records;
+mod prepared;
 mod records;
 mod rows;
 
@@ -39,10 +40,12 @@ enum Table {
     RecordLines,
     OddRecords,
     MadeUpRecords,
+    PreparedRecords,
+    PreparedSecrets,
 }
 
 /// The tables, and the file of each.
-static TABLES: [(Table, &str); 17] = [
+static TABLES: [(Table, &str); 19] = [
     (Table::Digests, "digests.txt"),
     (Table::Hmac, "hmac.txt"),
     (Table::SaltedPasswords, "salted-passwords.txt"),
@@ -60,6 +63,8 @@ static TABLES: [(Table, &str); 17] = [
     (Table::RecordLines, "record-lines.txt"),
     (Table::OddRecords, "odd-records.txt"),
     (Table::MadeUpRecords, "made-up-records.txt"),
+    (Table::PreparedRecords, "prepared-records.txt"),
+    (Table::PreparedSecrets, "prepared-secrets.txt"),
 ];
 
 impl Answers for Table {
@@ -74,7 +79,9 @@ impl Answers for Table {
             Table::SentNames => names::sent_name(alloc, words),
             Table::ClientFirst => messages::client_first(alloc, words),
             Table::ServerFirst => messages::server_first(alloc, words),
-            Table::ClientSecrets => messages::client_secret(alloc, words),
+            Table::ClientSecrets | Table::PreparedSecrets => {
+                messages::client_secret(alloc, words)
+            }
             Table::ClientFinal => messages::client_final(alloc, words),
             Table::ServerFinal => messages::server_final(alloc, words),
             Table::Records => records::record(alloc, words),
@@ -82,6 +89,7 @@ impl Answers for Table {
             Table::RecordLines => records::record_lines(alloc, words),
             Table::OddRecords => odd_records::odd_record(alloc, words),
             Table::MadeUpRecords => records::made_up(alloc, words),
+            Table::PreparedRecords => prepared::record(alloc, words),
         }
     }
 }

@@ -129,6 +129,10 @@ pub fn client_secret(alloc: Global, words: &[&str]) -> Result<String, Unconfirme
             let password = text_of(alloc, password)?;
             asked.answer(alloc, ClientSecret::Password(&password))
         }
+        ["prepared", password] => {
+            let password = text_of(alloc, password)?;
+            asked.answer(alloc, ClientSecret::Prepared(&password))
+        }
         ["keys", keys @ ..] => {
             let keys = keys_of(alloc, keys)?;
             asked.answer(alloc, ClientSecret::Keys(&keys))
@@ -137,6 +141,15 @@ pub fn client_secret(alloc: Global, words: &[&str]) -> Result<String, Unconfirme
             let password = text_of(alloc, password)?;
             let keys = keys_of(alloc, keys)?;
             let both = ClientSecret::Both {
+                password: &password,
+                keys: &keys,
+            };
+            asked.answer(alloc, both)
+        }
+        ["prepared-both", password, keys @ ..] => {
+            let password = text_of(alloc, password)?;
+            let keys = keys_of(alloc, keys)?;
+            let both = ClientSecret::PreparedAndKeys {
                 password: &password,
                 keys: &keys,
             };

@@ -33,7 +33,11 @@ fn compared(
 }
 
 /// The record of this password, with the salt and the count of another.
-fn made_again(alloc: Global, record: &ScramRecord, password: &str) -> Result<String, Unconfirmed> {
+pub fn made_again(
+    alloc: Global,
+    record: &ScramRecord,
+    password: &str,
+) -> Result<String, Unconfirmed> {
     let kept = record.as_stored_password();
     let version = *record.scram_version();
     match &ScramRecord::from_password(alloc, version, password, kept.salt, kept.iterations) {

@@ -34,6 +34,8 @@ mod map_store;
 #[cfg(test)]
 mod mixed;
 #[cfg(test)]
+mod prepared;
+#[cfg(test)]
 mod providers;
 #[cfg(test)]
 mod published;

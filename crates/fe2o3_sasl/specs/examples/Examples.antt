@@ -8,6 +8,7 @@ use Rattle.fe2o3_scram.specs.declared.hmac.ScramVersion.TheVariants.{Sha256}
 use Rattle.fe2o3_scram.specs.Texts.{base64_text, joined}
 use Rattle.fe2o3_scram.specs.ClientSecret.{Password, no_limit, up_to}
 use Rattle.fe2o3_scram.specs.declared.scram_messages.gs2_header.Gs2Header.TheVariants.{Unsupported}
+use Rattle.fe2o3_scram.specs.Passwords.{Typed}
 use Rattle.fe2o3_scram.specs.Credentials.{Record, Provider, record_of}
 use Rattle.fe2o3_sasl.specs.ClientHistory.{Answering, answer_at, OpenAnswer}
 use Rattle.fe2o3_sasl.specs.Events.{Given, Login, IsLogin, IsRecord, Challenged, Concluded, Failed, Started, Answered, Reported, Refused, Frame}
@@ -47,7 +48,7 @@ salt = replicate 32 3
 abbrev pub login : Login
 login = record {
   user = codes "user";
-  secret = Password (codes "pencil");
+  secret = Password (Typed (codes "pencil"));
   version = Sha256;
   limits = up_to no_limit;
   hostname = None;

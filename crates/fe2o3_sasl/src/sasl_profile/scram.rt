@@ -3,7 +3,8 @@
 ghost use Rattle.std.specs.Prelude.{◌≡◌, ◌≢◌, MatchOption, Some, None, string_bytes};
 ghost use Rattle.fe2o3_scram.specs.declared.hmac.ScramVersion.{ScramVersion};
 ghost use Rattle.fe2o3_scram.specs.declared.hmac.ScramVersion.TheVariants.{Sha1, Sha256, Sha512};
-ghost use Rattle.fe2o3_scram.specs.ClientSecret.{Keys, Both, no_limit, up_to};
+ghost use Rattle.fe2o3_scram.specs.ClientSecret.{Password, Keys, Both, no_limit, up_to};
+ghost use Rattle.fe2o3_scram.specs.Passwords.{Typed, Prepared};
 ghost use Rattle.fe2o3_scram.specs.ScramClient.{Initial, login_keys, with_limits};
 ghost use Rattle.fe2o3_sasl.specs.Profiles.{ScramProfile, scram_profile};
 ghost use Rattle.fe2o3_sasl.specs.Runs.{login_of};
@@ -113,6 +114,22 @@ impl<V: OfVersion> SaslScram<V> {
         Self::of(ScramClient::new(username, password, V::version()))
     }
 
+    /// A client of this user with this prepared password (RFC 4013), which accepts every iteration count from
+    /// 1 on. The password is any text, taken as it stands, and not tested or prepared here; a caller prepares
+    /// the user name likewise.
+    pub fn with_prepared_password(username: String, password: String) -> Self
+        ensures { result ≡ record {
+          user = string_bytes username;
+          secret = Password (Prepared (string_bytes password));
+          version =
+              V.version;
+          limits = up_to no_limit;
+          state = Initial;
+        } }
+    {
+        Self::of(ScramClient::with_prepared_password(username, password, V::version()))
+    }
+
     /// A client of this user that keeps these keys in place of the password (RFC 5802, section 3), and
     /// accepts every iteration count from 1 on. `None` where the keys are of another version.
     ///
@@ -148,7 +165,7 @@ impl<V: OfVersion> SaslScram<V> {
             (λ scram. (keys.version ≡ V.version)
             × (scram ≡ record {
               user = string_bytes username;
-              secret = Both (string_bytes password) keys;
+              secret = Both (Typed (string_bytes password)) keys;
               version = V.version;
               limits = up_to no_limit;
               state =
@@ -156,6 +173,26 @@ impl<V: OfVersion> SaslScram<V> {
             })) }
     {
         Self::of_version(ScramClient::with_password_and_keys(username, password, keys))
+    }
+
+    /// As `with_password_and_keys`, with a prepared password, which is taken as it stands.
+    pub fn with_prepared_password_and_keys(
+        username: String,
+        password: String,
+        keys: ScramClientKeys,
+    ) -> Option<Self>
+        ensures { MatchOption result (keys.version ≢ V.version)
+            (λ scram. (keys.version ≡ V.version)
+            × (scram ≡ record {
+              user = string_bytes username;
+              secret = Both (Prepared (string_bytes password)) keys;
+              version = V.version;
+              limits = up_to no_limit;
+              state =
+                  Initial;
+            })) }
+    {
+        Self::of_version(ScramClient::with_prepared_password_and_keys(username, password, keys))
     }
 
     /// The same client, which refuses an iteration count above the limit. The limit is one for each

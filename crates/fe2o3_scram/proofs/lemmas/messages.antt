@@ -11,6 +11,7 @@ pub mod LoginLemmas
 pub mod MemoryExampleLemmas
 pub mod MixedLinesLemmas
 pub mod OneValueLemmas
+pub mod PreparedLemmas
 pub mod RecordLawLemmas
 pub mod RecordLinesLawLemmas
 pub mod RecordLinesLemmas

@@ -4,17 +4,17 @@ use Rattle.fe2o3_scram.specs.declared.scram_messages.error.ScramErrorKind.{Scram
 use Rattle.fe2o3_scram.specs.declared.scram_messages.error.ScramErrorKind.TheVariants.{NormalizeError, OtherKeys}
 use Rattle.fe2o3_scram.specs.ClientFinal.{fit}
 use Rattle.fe2o3_scram.specs.ClientSecret.{Secret, Password, Keys, Both}
-use Rattle.fe2o3_scram.specs.SaslprepAscii.{IsPrintable}
+use Rattle.fe2o3_scram.specs.Passwords.{IsNormal}
 use Rattle.fe2o3_scram.specs.ServerFirst.{ServerFirst}
 
 -- it does, where the message names these values
 abbrev pub Serves : Secret → ServerFirst → Type 0
-Serves (Password password) first = IsPrintable password
+Serves (Password password) first = IsNormal password
 Serves (Keys keys) first = T (fit keys first)
-Serves (Both password keys) first = T (fit keys first) ⊎ IsPrintable password
+Serves (Both password keys) first = T (fit keys first) ⊎ IsNormal password
 
 -- it does not, with this fault
 abbrev pub ServesNot : Secret → ServerFirst → ScramErrorKind → Type 0
-ServesNot (Password password) first fault = ¬ IsPrintable password × (fault ≡ NormalizeError)
+ServesNot (Password password) first fault = ¬ IsNormal password × (fault ≡ NormalizeError)
 ServesNot (Keys keys) first fault = ¬ T (fit keys first) × (fault ≡ OtherKeys)
-ServesNot (Both password keys) first fault = ¬ T (fit keys first) × ¬ IsPrintable password × (fault ≡ NormalizeError)
+ServesNot (Both password keys) first fault = ¬ T (fit keys first) × ¬ IsNormal password × (fault ≡ NormalizeError)

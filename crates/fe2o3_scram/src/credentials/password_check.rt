@@ -2,6 +2,7 @@
 
 ghost use Rattle.std.specs.Prelude.{◌≡◌, ◌≤◌, ◌+◌, ◌^◌, ◌↔◌, IsTrue};
 ghost use Rattle.fe2o3_scram.specs.Credentials.{CheckingCosts, MeetsRecord, kept, record_of};
+ghost use Rattle.fe2o3_scram.specs.Passwords.{Typed, Prepared};
 
 use crate::hmac::{Meter, ScramVersion};
 use crate::provider::StoredPassword;
@@ -17,7 +18,7 @@ impl StoredPassword<'_> {
     /// That keys are compared over the whole length, whatever the bytes are, is read in the code and
     /// not proved; no claim is made about time.
     pub fn verify_password(&self, scram_version: ScramVersion, password: &str) -> bool
-        ensures { IsTrue result ↔ MeetsRecord scram_version password.now (kept self.now) }
+        ensures { IsTrue result ↔ MeetsRecord scram_version (Typed password.now) (kept self.now) }
     {
         self.verify_password_metered(scram_version, password, &mut Meter::new())
     }
@@ -31,10 +32,38 @@ impl StoredPassword<'_> {
         meter: &mut Meter,
     ) -> bool
         requires { meter.old ≤ 2 ^ 63 }
-        ensures verdict { IsTrue result ↔ MeetsRecord scram_version password.now (kept self.now) }
-        ensures cost { CheckingCosts password.now self.now.iterations meter.old meter.new }
+        ensures verdict { IsTrue result ↔ MeetsRecord scram_version (Typed password.now) (kept self.now) }
+        ensures cost { CheckingCosts (Typed password.now) self.now.iterations meter.old meter.new }
     {
         if saslprep(password).is_err() || self.iterations == 0 {
+            return false;
+        }
+        self.has_keys_of(scram_version, password, meter)
+    }
+
+    /// Whether the prepared password (RFC 4013) is that of which this was kept: any text, which is taken as it
+    /// stands. It is not where the iteration count is 0 or a key is not as long as a digest. It takes no memory.
+    ///
+    /// Keys are compared as `verify_password` does.
+    pub fn verify_prepared_password(&self, scram_version: ScramVersion, password: &str) -> bool
+        ensures { IsTrue result ↔ MeetsRecord scram_version (Prepared password.now) (kept self.now) }
+    {
+        self.verify_prepared_password_metered(scram_version, password, &mut Meter::new())
+    }
+
+    /// As `verify_prepared_password`. The meter, of at most 2^63, counts the HMAC values: two more than the
+    /// iterations, and none where the count is 0.
+    pub fn verify_prepared_password_metered(
+        &self,
+        scram_version: ScramVersion,
+        password: &str,
+        meter: &mut Meter,
+    ) -> bool
+        requires { meter.old ≤ 2 ^ 63 }
+        ensures verdict { IsTrue result ↔ MeetsRecord scram_version (Prepared password.now) (kept self.now) }
+        ensures cost { CheckingCosts (Prepared password.now) self.now.iterations meter.old meter.new }
+    {
+        if self.iterations == 0 {
             return false;
         }
         self.has_keys_of(scram_version, password, meter)

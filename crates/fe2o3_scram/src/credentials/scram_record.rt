@@ -2,6 +2,7 @@
 
 ghost use Rattle.std.specs.Prelude.{◌≡◌, ◌≤◌, ◌^◌};
 ghost use Rattle.fe2o3_scram.specs.Credentials.{MakesRecord, MakingCosts, VersionedRecord, kept, making_tests};
+ghost use Rattle.fe2o3_scram.specs.Passwords.{Typed, Prepared};
 ghost use Rattle.fe2o3_scram.specs.Readings.{Gives, NoneHolds};
 
 use crate::hmac::{Meter, ScramVersion};
@@ -53,9 +54,9 @@ impl ScramRecord {
         salt: &[u8],
         iterations: u32,
     ) -> Result<Self, RecordError>
-        ensures { Gives RecordError.OutOfMemory (NoneHolds (making_tests password.now iterations))
+        ensures { Gives RecordError.OutOfMemory (NoneHolds (making_tests (Typed password.now) iterations))
             (λ (made : VersionedRecord). made) result
-            (MakesRecord scram_version password.now salt.now iterations) }
+            (MakesRecord scram_version (Typed password.now) salt.now iterations) }
     {
         ScramRecord::from_password_metered(
             alloc,
@@ -79,14 +80,66 @@ impl ScramRecord {
         meter: &mut Meter,
     ) -> Result<Self, RecordError>
         requires { meter.old ≤ 2 ^ 63 }
-        ensures record { Gives RecordError.OutOfMemory (NoneHolds (making_tests password.now iterations))
+        ensures record { Gives RecordError.OutOfMemory (NoneHolds (making_tests (Typed password.now) iterations))
             (λ (made : VersionedRecord). made) result
-            (MakesRecord scram_version password.now salt.now iterations) }
+            (MakesRecord scram_version (Typed password.now) salt.now iterations) }
         ensures cost { MakingCosts iterations result meter.old meter.new }
     {
         if saslprep(password).is_err() {
             return Err(RecordError::NormalizeError);
         }
+        ScramRecord::from_prepared_password_metered(
+            alloc,
+            scram_version,
+            password,
+            salt,
+            iterations,
+            meter,
+        )
+    }
+
+    /// The record of a prepared password (RFC 4013; RFC 5802, section 2.2): any text, which is taken as it
+    /// stands, and not tested or prepared here. A client logs in by that very text alone. The salt is that of
+    /// `from_password`, and of a printable ASCII password both make one record.
+    ///
+    /// Refused are, in this order: `ZeroIterations` where the count is 0, and `OutOfMemory`.
+    pub fn from_prepared_password(
+        alloc: Global,
+        scram_version: ScramVersion,
+        password: &str,
+        salt: &[u8],
+        iterations: u32,
+    ) -> Result<Self, RecordError>
+        ensures { Gives RecordError.OutOfMemory (NoneHolds (making_tests (Prepared password.now) iterations))
+            (λ (made : VersionedRecord). made) result
+            (MakesRecord scram_version (Prepared password.now) salt.now iterations) }
+    {
+        ScramRecord::from_prepared_password_metered(
+            alloc,
+            scram_version,
+            password,
+            salt,
+            iterations,
+            &mut Meter::new(),
+        )
+    }
+
+    /// As `from_prepared_password`. The meter, of at most 2^63, counts the HMAC values: two more than the
+    /// iterations, none where the count is refused, and at most so many where memory is.
+    pub fn from_prepared_password_metered(
+        alloc: Global,
+        scram_version: ScramVersion,
+        password: &str,
+        salt: &[u8],
+        iterations: u32,
+        meter: &mut Meter,
+    ) -> Result<Self, RecordError>
+        requires { meter.old ≤ 2 ^ 63 }
+        ensures record { Gives RecordError.OutOfMemory (NoneHolds (making_tests (Prepared password.now) iterations))
+            (λ (made : VersionedRecord). made) result
+            (MakesRecord scram_version (Prepared password.now) salt.now iterations) }
+        ensures cost { MakingCosts iterations result meter.old meter.new }
+    {
         if iterations == 0 {
             return Err(RecordError::ZeroIterations);
         }

@@ -6,6 +6,7 @@ ghost use Rattle.fe2o3_scram.specs.ClientKeys.{AreSized, ClientKeys, MakesKeys, 
 ghost use Rattle.fe2o3_scram.specs.Credentials.{MakingCosts, making_tests};
 ghost use Rattle.fe2o3_scram.specs.Hmac.{digest_bytes};
 ghost use Rattle.fe2o3_scram.specs.Keys.{client_proof};
+ghost use Rattle.fe2o3_scram.specs.Passwords.{Typed, Prepared};
 ghost use Rattle.fe2o3_scram.specs.Readings.{Gives, NoneHolds};
 ghost use Rattle.fe2o3_scram.specs.private.Pieces.{whole};
 
@@ -55,14 +56,44 @@ impl ScramClientKeys {
         meter: &mut Meter,
     ) -> Result<Self, RecordError>
         requires { meter.old ≤ 2 ^ 63 }
-        ensures keys { Gives RecordError.OutOfMemory (NoneHolds (making_tests password.now iterations))
+        ensures keys { Gives RecordError.OutOfMemory (NoneHolds (making_tests (Typed password.now) iterations))
             (λ (made : ClientKeys). made) result
-            (MakesKeys scram_version password.now salt.now iterations) }
+            (MakesKeys scram_version (Typed password.now) salt.now iterations) }
         ensures cost { MakingCosts iterations result meter.old meter.new }
     {
         if saslprep(password).is_err() {
             return Err(RecordError::NormalizeError);
         }
+        ScramClientKeys::from_prepared_password(
+            alloc,
+            scram_version,
+            password,
+            salt,
+            iterations,
+            meter,
+        )
+    }
+
+    /// The keys of a prepared password (RFC 4013; RFC 5802, section 2.2): any text, which is taken as it stands,
+    /// and not tested or prepared here. Of a printable ASCII password they are those of `from_password`.
+    ///
+    /// Refused are, in this order: `ZeroIterations` where the count is 0, and `OutOfMemory`. The meter, of at most
+    /// 2^63, counts the HMAC values: two more than the iterations, none where the count is refused, and at most so
+    /// many where memory is.
+    pub fn from_prepared_password(
+        alloc: Global,
+        scram_version: ScramVersion,
+        password: &str,
+        salt: &[u8],
+        iterations: u32,
+        meter: &mut Meter,
+    ) -> Result<Self, RecordError>
+        requires { meter.old ≤ 2 ^ 63 }
+        ensures keys { Gives RecordError.OutOfMemory (NoneHolds (making_tests (Prepared password.now) iterations))
+            (λ (made : ClientKeys). made) result
+            (MakesKeys scram_version (Prepared password.now) salt.now iterations) }
+        ensures cost { MakingCosts iterations result meter.old meter.new }
+    {
         if iterations == 0 {
             return Err(RecordError::ZeroIterations);
         }

@@ -5,6 +5,7 @@ ghost use Rattle.fe2o3_scram.specs.ClientFinal.{answer_by, answer_values, client
 ghost use Rattle.fe2o3_scram.specs.ClientKeys.{keys_of};
 ghost use Rattle.fe2o3_scram.specs.ClientSecret.{Password, no_limit, secret_of, up_to};
 ghost use Rattle.fe2o3_scram.specs.Keys.{auth_message};
+ghost use Rattle.fe2o3_scram.specs.Passwords.{Typed};
 ghost use Rattle.fe2o3_scram.specs.Readings.{Gives};
 ghost use Rattle.fe2o3_scram.specs.ServerFirst.{ReachesSalt, client_of, server_first_values};
 ghost use Rattle.fe2o3_scram.specs.ServerFirstAnswers.{AnswerCosts, AnswersServerFirst, SendsServerFirst, hmac_count, pair_values};
@@ -58,7 +59,7 @@ impl ScramVersion {
         client_first_message_bare: &[u8],
     ) -> Result<(Vec<u8>, Vec<u8>), ScramErrorKind>
         ensures { Gives ScramErrorKind.OutOfMemory (ReachesSalt client_nonce.now server_first.now) pair_values result
-            (SendsServerFirst self.now (client_of client_nonce.now (Password password.now) (up_to no_limit))
+            (SendsServerFirst self.now (client_of client_nonce.now (Password (Typed password.now)) (up_to no_limit))
             client_first_message_bare.now server_first.now) }
     {
         self.compute_client_final_message_metered(
@@ -85,9 +86,9 @@ impl ScramVersion {
         requires { meter.old ≤ 2 ^ 63 }
         ensures answer { Gives ScramErrorKind.OutOfMemory (ReachesSalt client_nonce.now server_first.now)
             pair_values result
-            (SendsServerFirst self.now (client_of client_nonce.now (Password password.now) (up_to no_limit))
+            (SendsServerFirst self.now (client_of client_nonce.now (Password (Typed password.now)) (up_to no_limit))
             client_first_message_bare.now server_first.now) }
-        ensures cost { AnswerCosts (client_of client_nonce.now (Password password.now) (up_to no_limit))
+        ensures cost { AnswerCosts (client_of client_nonce.now (Password (Typed password.now)) (up_to no_limit))
             server_first.now result meter.old meter.new }
     {
         self.compute_client_final_message_limited(
@@ -116,9 +117,9 @@ impl ScramVersion {
         requires { meter.old ≤ 2 ^ 63 }
         ensures answer { Gives ScramErrorKind.OutOfMemory (ReachesSalt client_nonce.now server_first.now)
             pair_values result
-            (SendsServerFirst self.now (client_of client_nonce.now (Password password.now) (up_to limit))
+            (SendsServerFirst self.now (client_of client_nonce.now (Password (Typed password.now)) (up_to limit))
             client_first_message_bare.now server_first.now) }
-        ensures cost { AnswerCosts (client_of client_nonce.now (Password password.now) (up_to limit))
+        ensures cost { AnswerCosts (client_of client_nonce.now (Password (Typed password.now)) (up_to limit))
             server_first.now result meter.old meter.new }
     {
         let answer = self.answer_server_first(
@@ -138,10 +139,10 @@ impl ScramVersion {
     /// the password; one by keys is of theirs.
     ///
     /// Refused are, in this order: what `ServerFirst::parse` refuses up to `IterationCountParseError`;
-    /// `IterationCountTooSmall` and `IterationCountTooLarge`; and of the secret `NormalizeError`, where its
-    /// password is needed and is not printable ASCII, or `OtherKeys`, where there are keys alone and the
-    /// message names another salt or another count than they are of. `OutOfMemory` is answered only where
-    /// none of those before `Base64DecodeError` holds.
+    /// `IterationCountTooSmall` and `IterationCountTooLarge`; and of the secret `NormalizeError`, where a
+    /// password as it is typed is needed and is not printable ASCII, or `OtherKeys`, where there are keys alone
+    /// and the message names another salt or another count than they are of. `OutOfMemory` is answered only
+    /// where none of those before `Base64DecodeError` holds.
     ///
     /// The meter, of at most 2^63, counts the HMAC values: two by keys, by the password four and those of
     /// the count, and none for a refusal.
@@ -190,9 +191,12 @@ impl ScramVersion {
         ensures counted { meter.new + 2 ≡ meter.old + hmac_count (secret_of secret.entry) (server_first_values first.entry) }
     {
         match secret {
-            ClientSecret::Password(password) => self.keys_of(password, first, meter),
+            ClientSecret::Password(password) | ClientSecret::Prepared(password) => {
+                self.keys_of(password, first, meter)
+            }
             ClientSecret::Keys(keys) => keys.with_salt(first.salt),
-            ClientSecret::Both { password, keys } => {
+            ClientSecret::Both { password, keys }
+            | ClientSecret::PreparedAndKeys { password, keys } => {
                 if keys.are_of(&first.salt, first.iterations) {
                     keys.with_salt(first.salt)
                 } else {

@@ -4,6 +4,7 @@ ghost use Rattle.std.specs.Prelude.{◌≡◌, ◌≢◌, ◌≤◌, ◌++◌, �
 ghost use Rattle.fe2o3_scram.specs.Readings.{Gives, IsFirst, NoneHolds};
 ghost use Rattle.fe2o3_scram.specs.ServerFirst.{ReachesSalt, ReadsServerFirst, client_of, server_first_values, HasSalt, HasCount, nonce_tests, salt_tests, count_tests};
 ghost use Rattle.fe2o3_scram.specs.ClientSecret.{Password, secret_of, up_to};
+ghost use Rattle.fe2o3_scram.specs.Passwords.{Typed};
 ghost use Rattle.fe2o3_scram.specs.SaslprepAscii.{IsPrintable};
 ghost use Rattle.fe2o3_scram.specs.Texts.{Part};
 ghost use Rattle.fe2o3_scram.specs.private.Serving.{Serves, ServesNot};
@@ -47,7 +48,7 @@ impl<'a> ServerFirst<'a> {
     ) -> Result<Self, ScramErrorKind>
         ensures reads { Gives ScramErrorKind.OutOfMemory (ReachesSalt client_nonce.now text.now)
             server_first_values result
-            (ReadsServerFirst (client_of client_nonce.now (Password password.now) (up_to limit)) text.now) }
+            (ReadsServerFirst (client_of client_nonce.now (Password (Typed password.now)) (up_to limit)) text.now) }
         ensures count { IfOk result (λ first. (1 ≤ first.iterations) × (first.iterations ≤ limit)) }
     {
         let limits = IterationLimits::up_to(limit);
@@ -65,9 +66,9 @@ impl<'a> ServerFirst<'a> {
     /// counts within these limits.
     ///
     /// Refused are, in this order: what `parse` refuses up to `IterationCountParseError`;
-    /// `IterationCountTooSmall` and `IterationCountTooLarge`; and of the secret `NormalizeError` where its
-    /// password is needed and is not printable ASCII, or `OtherKeys` where there are keys alone and the
-    /// message names another salt or another count than they are of.
+    /// `IterationCountTooSmall` and `IterationCountTooLarge`; and of the secret `NormalizeError` where a
+    /// password as it is typed is needed and is not printable ASCII, or `OtherKeys` where there are keys alone
+    /// and the message names another salt or another count than they are of.
     pub(super) fn read(
         alloc: Global,
         client_nonce: &str,
@@ -165,6 +166,7 @@ fn test_secret(secret: ClientSecret<'_>, first: &ServerFirst<'_>) -> Result<(), 
 {
     match secret {
         ClientSecret::Password(password) => test_password(password),
+        ClientSecret::Prepared(_) | ClientSecret::PreparedAndKeys { .. } => Ok(()),
         ClientSecret::Keys(keys) => {
             if keys.are_of(&first.salt, first.iterations) {
                 Ok(())

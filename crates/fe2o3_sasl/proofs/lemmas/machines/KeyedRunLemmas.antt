@@ -14,7 +14,7 @@ use Rattle.fe2o3_scram.specs.ClientFinal.{Answer}
 use Rattle.fe2o3_scram.specs.ClientKeys.{ClientKeys}
 use Rattle.fe2o3_scram.specs.ClientSecret.{Secret, Password, Keys}
 use Rattle.fe2o3_scram.specs.Laws.{AreKeysOf}
-use Rattle.fe2o3_scram.specs.SaslprepAscii.{IsPrintable}
+use Rattle.fe2o3_scram.specs.Passwords.{PasswordText, IsNormal, password_bytes}
 use Rattle.fe2o3_scram.specs.ScramClient.{ClientSide, ClientState, Initial, ClientFirstSent, ClientFinalSent, Complete, AnswersIn, BelievesIn, started}
 use Rattle.fe2o3_scram.proofs.lemmas.messages.KeptKeyLemmas.{keys_stand}
 use Rattle.fe2o3_sasl.specs.Events.{Given, Login, ClientSays, Refused, ClientFault, OtherKeys}
@@ -24,8 +24,8 @@ use Rattle.fe2o3_sasl.specs.Runs.{ProfileGives, ProfileReplies, ProfileSteps, Re
 use Rattle.fe2o3_sasl.specs.Bodies.{SpellsBody}
 use Rattle.fe2o3_sasl.proofs.lemmas.machines.ClientMachineLemmas.{profile_runs_are_histories}
 
-module _ (user : List ℕ) (limits : IterationLimits) (keys : ClientKeys) (password : List ℕ)
-    (printable : IsPrintable password) (are : AreKeysOf keys password) where
+module _ (user : List ℕ) (limits : IterationLimits) (keys : ClientKeys) (password : PasswordText)
+    (normal : IsNormal password) (are : AreKeysOf keys (password_bytes password)) where
   -- the client with this secret, and the two profiles
   abbrev side : Secret → ClientState → ClientSide
   side secret state =
@@ -53,10 +53,10 @@ module _ (user : List ℕ) (limits : IterationLimits) (keys : ClientKeys) (passw
   answer_alike (ClientFirstSent nonce bare) own text (Ok message) next fit is = (
     ClientFinalSent is.0.signature (Some is.0.keys),
     is.3,
-    (is.0, keys_stand keys password nonce bare text limits (Ok is.0) printable are (λ e. cc) is.1, is.2, refl),
+    (is.0, keys_stand keys password nonce bare text limits (Ok is.0) normal are (λ e. cc) is.1, is.2, refl),
   )
   answer_alike (ClientFirstSent nonce bare) own text (Err fault) next fit is =
-      (own, is.1, (keys_stand keys password nonce bare text limits (Err fault) printable are other is.0, refl))
+      (own, is.1, (keys_stand keys password nonce bare text limits (Err fault) normal are other is.0, refl))
     where
       same_fault : ◌≡◌ {A = Result Answer ScramErrorKind} (Err fault) (Err kinds.OtherKeys) → fault ≡ kinds.OtherKeys
       same_fault e = cc
@@ -206,15 +206,15 @@ profile_by login version secret = ScramProfile (record {
 })
 
 pub keyed_runs_are_runs : KeyedRunsAreRuns
-keyed_runs_are_runs login keys password events replies last same printable are run fit = subst
+keyed_runs_are_runs login keys password events replies last same normal are run fit = subst
     (λ (version : ScramVersion). Runs (ProfileSteps login.hostname) (profile_by login version (Keys keys)) events
     replies last → (after : Profile)
     × Runs (ProfileSteps login.hostname) (profile_by login version (Password password)) events replies after)
     same
-    (λ here. runs_alike login.user login.limits keys password printable are Initial login.hostname events replies last
+    (λ here. runs_alike login.user login.limits keys password normal are Initial login.hostname events replies last
     here fit) run
 
 pub keyed_runs_are_histories : KeyedRunsAreHistories
-keyed_runs_are_histories login keys password events replies last same printable are run fit =
-    let twins = keyed_runs_are_runs login keys password events replies last same printable are run fit in
+keyed_runs_are_histories login keys password events replies last same normal are run fit =
+    let twins = keyed_runs_are_runs login keys password events replies last same normal are run fit in
     profile_runs_are_histories (record login { secret = Password password }) events replies twins.0 twins.1

@@ -4,6 +4,7 @@ use Rattle.std.specs.Prelude.{None, Some, Result, Ok, Err, IfErr}
 use Rattle.fe2o3_sasl_wire.specs.SaslFrames as frames
 use Rattle.fe2o3_sasl_wire.specs.SaslFrames.{SaslFrame}
 use Rattle.fe2o3_scram.specs.Credentials.{CheckingCosts, MeetsRecord, Provider, Record, making_tests, record_at}
+use Rattle.fe2o3_scram.specs.Passwords.{Typed}
 use Rattle.fe2o3_scram.specs.Readings.{NoneHolds}
 use Rattle.fe2o3_scram.proofs.lemmas.providers.PasswordLemmas.{keyless}
 use Rattle.fe2o3_scram.proofs.lemmas.texts.DecisionLemmas.{both_or, not_or, printable_or, same_number_or}
@@ -14,9 +15,10 @@ use Rattle.fe2o3_sasl.proofs.lemmas.machines.PlainMessageLemmas.{one_message}
 -- an unknown user has none, and a record without keys is that of none
 pub unknown : (provider : Provider) (parts : PlainParts) (stored : Record) (met : Bool)
     → record_at provider.records parts.user ≡ None → stored.stored_key ≡ []
-    → (IsTrue met ↔ MeetsRecord provider.version parts.password stored) → (IsTrue met ↔ HasPassword provider parts)
+    → (IsTrue met ↔ MeetsRecord provider.version (Typed parts.password) stored)
+    → (IsTrue met ↔ HasPassword provider parts)
 unknown provider parts stored met none empty verdict = (
-  λ yes. absurd (keyless provider.version parts.password stored empty (verdict.0 yes)),
+  λ yes. absurd (keyless provider.version (Typed parts.password) stored empty (verdict.0 yes)),
   λ has. let wrong : None ≡ Some has.0 = sym none ∙ has.1 in absurd (cc),
 )
 
@@ -38,15 +40,16 @@ not_logged_in provider frame parts asks wrong user is =
 -- that of an answer to a frame that asks is that of the test of its password
 pub cost_of_test : (server : PlainServer) (frame : SaslFrame) (parts : PlainParts) (before after : ℕ)
     → AsksPlain frame parts
-    → CheckingCosts parts.password (count_or server.count (record_at server.provider.records parts.user)) before after
+    → CheckingCosts (Typed parts.password) (count_or server.count (record_at server.provider.records parts.user)) before
+    after
     → (n : ℕ) → plain_hmacs server frame n → after ≡ before + n
 cost_of_test server frame parts before after asks costs n (inl (count, tests, is)) =
     let same = one_asked frame tests.0 parts tests.1 asks in
     let count_is : count ≡ count_or server.count (record_at server.provider.records parts.user) =
     tests.2 ∙ ap (λ (parts : PlainParts). count_or server.count (record_at server.provider.records parts.user)) same in
-    let passed : NoneHolds (making_tests parts.password count) =
-    subst (λ (parts : PlainParts). NoneHolds (making_tests parts.password count)) same tests.3 in
-    let made = costs.0 (subst (λ (count : ℕ). NoneHolds (making_tests parts.password count)) count_is passed) in
+    let passed : NoneHolds (making_tests (Typed parts.password) count) =
+    subst (λ (parts : PlainParts). NoneHolds (making_tests (Typed parts.password) count)) same tests.3 in
+    let made = costs.0 (subst (λ (count : ℕ). NoneHolds (making_tests (Typed parts.password) count)) count_is passed) in
     omega (arith, made, count_is, is)
 cost_of_test server frame parts before after asks costs n (inr (none, zero)) =
     let same = costs.1 (λ passed. none (count_or server.count (record_at server.provider.records parts.user))
@@ -54,7 +57,8 @@ cost_of_test server frame parts before after asks costs n (inr (none, zero)) =
     omega (arith, same, zero)
 
 -- a test sets no meter back
-not_less : (password : List ℕ) (count before after : ℕ) → CheckingCosts password count before after → before ≤ after
+not_less : (password : List ℕ) (count before after : ℕ) → CheckingCosts (Typed password) count before after
+    → before ≤ after
 not_less password count before after costs = elim (both_or (not_or (not_or (printable_or password)))
     (both_or (not_or (same_number_or count 0)) (inl (tt {0})))) [
       | inl passed ↦ let made = costs.0 passed in omega (arith, made)
@@ -63,7 +67,8 @@ not_less password count before after costs = elim (both_or (not_or (not_or (prin
 
 pub most_of_test : (server : PlainServer) (frame : SaslFrame) (parts : PlainParts) (before after : ℕ)
     → AsksPlain frame parts
-    → CheckingCosts parts.password (count_or server.count (record_at server.provider.records parts.user)) before after
+    → CheckingCosts (Typed parts.password) (count_or server.count (record_at server.provider.records parts.user)) before
+    after
     → CostsAtMost plain_hmacs server frame before after
 most_of_test server frame parts before after asks costs = (
   not_less parts.password (count_or server.count (record_at server.provider.records parts.user)) before after costs,

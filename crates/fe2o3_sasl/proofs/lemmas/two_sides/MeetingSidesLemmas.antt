@@ -6,6 +6,7 @@ use Rattle.std.specs.Prelude.{if◌then◌else◌}
 use Rattle.fe2o3_scram.specs.ClientFinal.{fit, keys_for}
 use Rattle.fe2o3_scram.specs.ClientKeys.{AreSized, ClientKeys, keys_of}
 use Rattle.fe2o3_scram.specs.ClientSecret.{Secret, Password, Keys, Both}
+use Rattle.fe2o3_scram.specs.Passwords.{password_bytes}
 use Rattle.fe2o3_scram.specs.ServerFirst.{ServerFirst}
 use Rattle.fe2o3_sasl.specs.Events.{IsRecord, IsSecret, Login}
 use Rattle.fe2o3_scram.specs.Hmac.{digest_len, hmac_of}
@@ -36,10 +37,11 @@ sized_at login answer = sized login.version login.secret answer.first
 
     sized : (version : ScramVersion) (secret : Secret) (first : ServerFirst) → IsSecret secret
         → AreSized (keys_for version secret first)
-    sized version (Password password) first is = of_password version password first
+    sized version (Password password) first is = of_password version (password_bytes password) first
     sized version (Keys keys) first is = is
     sized version (Both password keys) first is =
-        either keys (keys_of version password first.salt first.count) is (of_password version password first)
+        either keys (keys_of version (password_bytes password) first.salt first.count) is
+        (of_password version (password_bytes password) first)
         (fit keys first)
 
 -- the signature that the client waited for is the one that the server gave

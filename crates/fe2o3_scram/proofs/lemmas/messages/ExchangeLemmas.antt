@@ -24,7 +24,7 @@ use Rattle.fe2o3_scram.specs.ServerFinal.{server_final_of, ReadsServerFinal}
 use Rattle.fe2o3_scram.specs.declared.hmac.ScramVersion.{ScramVersion}
 use Rattle.fe2o3_scram.specs.ClientKeys.{ClientKeys, keys_of}
 use Rattle.fe2o3_scram.specs.ClientSecret.{Secret, Password, Keys, Both}
-use Rattle.fe2o3_scram.specs.SaslprepAscii.{IsPrintable}
+use Rattle.fe2o3_scram.specs.Passwords.{IsNormal, password_bytes}
 use Rattle.fe2o3_scram.specs.private.Serving.{Serves}
 use Rattle.fe2o3_scram.proofs.lemmas.messages.FittingKeyLemmas.{fit_is, is_fit}
 use Rattle.fe2o3_scram.specs.ServerFirst.{ServerFirst, client_of, HasSalt, HasCount, NamesServerFirst, ReadsServerFirst}
@@ -174,8 +174,9 @@ opened version (Both own keys) password salt count nonce opens = go (fit keys fi
     other (inr differs) holds = differs (fit_is keys first holds).1
 
     go : (fitting : Bool) → fitting ≡ fit keys first → Opens version (Both own keys) password salt count
-        → ((if fitting then keys else keys_of version own salt count) ≡ keys_of version password salt count)
-        × (T fitting ⊎ IsPrintable own)
+        → ((if fitting then keys else keys_of version (password_bytes own) salt count)
+        ≡ keys_of version password salt count)
+        × (T fitting ⊎ IsNormal own)
     go true is (inl same) = (same, inl tt)
     go false is (inl same) = absurd (subst T (sym is) (fits same))
     go true is (inr (differs, same, printable)) = absurd (other differs (subst T is tt))

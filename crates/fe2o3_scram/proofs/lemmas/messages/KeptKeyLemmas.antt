@@ -9,7 +9,7 @@ use Rattle.fe2o3_scram.specs.ClientKeys.{ClientKeys, keys_of}
 use Rattle.fe2o3_scram.specs.ClientSecret.{Password, Keys, Both}
 use Rattle.fe2o3_scram.specs.Laws.{AreKeysOf}
 use Rattle.fe2o3_scram.specs.Readings.{IsFirst, NoneHolds, Reads}
-use Rattle.fe2o3_scram.specs.SaslprepAscii.{IsPrintable}
+use Rattle.fe2o3_scram.specs.Passwords.{PasswordText, IsNormal, password_bytes}
 use Rattle.fe2o3_scram.specs.ServerFirst.{ServerFirst, NamesOther, NamesServerFirst, ReadsServerFirst, client_of, nonce_tests, salt_tests, count_tests}
 use Rattle.fe2o3_scram.specs.ServerFirstAnswers.{AnswersServerFirst}
 use Rattle.fe2o3_scram.proofs.lemmas.messages.FittingKeyLemmas.{fit_is}
@@ -46,7 +46,7 @@ before nonce limits text = nonce_tests nonce text ++ (salt_tests text ++ count_t
 
 -- a reading goes over to a client whose last test is another: one that does not hold where a value is read, while
 -- what is refused is not refused by the first client's last test
-goes_over : (nonce text : List ℕ) (limits : IterationLimits) (fault other : ScramErrorKind) (A B : Type 0)
+pub goes_over : (nonce text : List ℕ) (limits : IterationLimits) (fault other : ScramErrorKind) (A B : Type 0)
     (answer : Result ServerFirst ScramErrorKind) → (is_ok answer ≡ true → ¬ B) → (A → answer ≢ Err fault)
     → Reads (before nonce limits text ++ last fault A) (NamesServerFirst text) answer
     → Reads (before nonce limits text ++ last other B) (NamesServerFirst text) answer
@@ -65,9 +65,9 @@ fitting keys nonce text limits first reads = elim (names_values_or keys text) [
       absurd ((none-split (before nonce limits text) (last OtherKeys (NamesOther keys text)) reads.0).1.0 other)
 ]
 
--- a message that keys do not refuse is read by a printable password as by them
-by_password : (keys : ClientKeys) (password nonce text : List ℕ) (limits : IterationLimits)
-    (answer : Result ServerFirst ScramErrorKind) → IsPrintable password → answer ≢ Err OtherKeys
+-- a message that keys do not refuse is read by a password in normal form as by them
+by_password : (keys : ClientKeys) (password : PasswordText) (nonce text : List ℕ) (limits : IterationLimits)
+    (answer : Result ServerFirst ScramErrorKind) → IsNormal password → answer ≢ Err OtherKeys
     → ReadsServerFirst (client_of nonce (Keys keys) limits) text answer
     → ReadsServerFirst (client_of nonce (Password password) limits) text answer
 unfolding ReadsServerFirst
@@ -83,15 +83,17 @@ same_keys keys password first are fits =
     ∙ ap (λ count. keys_of keys.version password first.salt count) (sym same.1)
 
 -- and so is the answer by them
-same_answer : (keys : ClientKeys) (password bare text : List ℕ) (first : ServerFirst) → AreKeysOf keys password
+same_answer : (keys : ClientKeys) (password : PasswordText) (bare text : List ℕ) (first : ServerFirst)
+    → AreKeysOf keys (password_bytes password)
     → T (fit keys first)
     → answer_of keys.version (Keys keys) bare text first ≡ answer_of keys.version (Password password) bare text first
 same_answer keys password bare text first are fits =
     ap (λ (made : ClientKeys). answer_by made bare text (without_proof first.nonce))
-    (same_keys keys password first are fits)
+    (same_keys keys (password_bytes password) first are fits)
 
-pub keys_stand : (keys : ClientKeys) (password nonce bare text : List ℕ) (limits : IterationLimits)
-    (answer : Result Answer ScramErrorKind) → IsPrintable password → AreKeysOf keys password → answer ≢ Err OtherKeys
+pub keys_stand : (keys : ClientKeys) (password : PasswordText) (nonce bare text : List ℕ) (limits : IterationLimits)
+    (answer : Result Answer ScramErrorKind) → IsNormal password → AreKeysOf keys (password_bytes password)
+    → answer ≢ Err OtherKeys
     → AnswersServerFirst keys.version (client_of nonce (Keys keys) limits) bare text answer
     → AnswersServerFirst keys.version (client_of nonce (Password password) limits) bare text answer
 keys_stand keys password nonce bare text limits (Ok answer) printable are other (first, reads, is) = (
@@ -104,8 +106,8 @@ keys_stand keys password nonce bare text limits (Err fault) printable are other 
     (λ is. let same : fault ≡ OtherKeys = cc in other (ap (λ (kind : ScramErrorKind). Err kind) same)) reads
 
 -- the keys read what the password reads, or they are of another salt or another count
-by_keys : (keys : ClientKeys) (password nonce text : List ℕ) (limits : IterationLimits)
-    (answer : Result ServerFirst ScramErrorKind) → IsPrintable password
+by_keys : (keys : ClientKeys) (password : PasswordText) (nonce text : List ℕ) (limits : IterationLimits)
+    (answer : Result ServerFirst ScramErrorKind) → IsNormal password
     → ReadsServerFirst (client_of nonce (Password password) limits) text answer
     → ReadsServerFirst (client_of nonce (Keys keys) limits) text answer
     ⊎ ReadsServerFirst (client_of nonce (Keys keys) limits) text (Err OtherKeys)
@@ -115,12 +117,12 @@ by_keys keys password nonce text limits (Err fault) printable reads =
 by_keys keys password nonce text limits (Ok first) printable reads = elim (names_values_or keys text) [
   | inl has ↦ inl (goes_over nonce text limits NormalizeError OtherKeys _ _ (Ok first) (λ _ other. other has)
       (λ un. absurd (un printable)) reads)
-  | inr other ↦ inr (last_holds (before nonce limits text) NormalizeError OtherKeys (¬ IsPrintable password)
+  | inr other ↦ inr (last_holds (before nonce limits text) NormalizeError OtherKeys (¬ IsNormal password)
       (NamesOther keys text) other reads.0)
 ]
 
-pub keys_answer : (keys : ClientKeys) (password nonce bare text : List ℕ) (limits : IterationLimits)
-    (answer : Result Answer ScramErrorKind) → IsPrintable password → AreKeysOf keys password
+pub keys_answer : (keys : ClientKeys) (password : PasswordText) (nonce bare text : List ℕ) (limits : IterationLimits)
+    (answer : Result Answer ScramErrorKind) → IsNormal password → AreKeysOf keys (password_bytes password)
     → AnswersServerFirst keys.version (client_of nonce (Password password) limits) bare text answer
     → AnswersServerFirst keys.version (client_of nonce (Keys keys) limits) bare text answer
     ⊎ AnswersServerFirst keys.version (client_of nonce (Keys keys) limits) bare text (Err OtherKeys)
@@ -136,9 +138,9 @@ keys_answer keys password nonce bare text limits (Ok answer) printable are (firs
 keys_answer keys password nonce bare text limits (Err fault) printable are reads =
     by_keys keys password nonce text limits (Err fault) printable reads
 
--- a client with both reads what a printable password reads
-read_by_both : (keys : ClientKeys) (password nonce text : List ℕ) (limits : IterationLimits)
-    (answer : Result ServerFirst ScramErrorKind) → IsPrintable password
+-- a client with both reads what a password in normal form reads
+read_by_both : (keys : ClientKeys) (password : PasswordText) (nonce text : List ℕ) (limits : IterationLimits)
+    (answer : Result ServerFirst ScramErrorKind) → IsNormal password
     → ReadsServerFirst (client_of nonce (Both password keys) limits) text answer
     ↔ ReadsServerFirst (client_of nonce (Password password) limits) text answer
 unfolding ReadsServerFirst
@@ -148,20 +150,21 @@ read_by_both keys password nonce text limits answer printable = (
 )
 
 -- and answers by the keys of that password
-answer_by_both : (keys : ClientKeys) (password bare text : List ℕ) (first : ServerFirst) → AreKeysOf keys password
+answer_by_both : (keys : ClientKeys) (password : PasswordText) (bare text : List ℕ) (first : ServerFirst)
+    → AreKeysOf keys (password_bytes password)
     → answer_of keys.version (Both password keys) bare text first
     ≡ answer_of keys.version (Password password) bare text first
 answer_by_both keys password bare text first are =
     ap (λ (made : ClientKeys). answer_by made bare text (without_proof first.nonce)) (go (fit keys first) refl)
   where
     go : (fits : Bool) → fits ≡ fit keys first
-        → (if fits then keys else keys_of keys.version password first.salt first.count)
-        ≡ keys_of keys.version password first.salt first.count
-    go true is = same_keys keys password first are (subst T is tt)
+        → (if fits then keys else keys_of keys.version (password_bytes password) first.salt first.count)
+        ≡ keys_of keys.version (password_bytes password) first.salt first.count
+    go true is = same_keys keys (password_bytes password) first are (subst T is tt)
     go false is = refl
 
-pub both_answer : (keys : ClientKeys) (password nonce bare text : List ℕ) (limits : IterationLimits)
-    (answer : Result Answer ScramErrorKind) → IsPrintable password → AreKeysOf keys password
+pub both_answer : (keys : ClientKeys) (password : PasswordText) (nonce bare text : List ℕ) (limits : IterationLimits)
+    (answer : Result Answer ScramErrorKind) → IsNormal password → AreKeysOf keys (password_bytes password)
     → AnswersServerFirst keys.version (client_of nonce (Both password keys) limits) bare text answer
     ↔ AnswersServerFirst keys.version (client_of nonce (Password password) limits) bare text answer
 both_answer keys password nonce bare text limits (Ok answer) printable are = (

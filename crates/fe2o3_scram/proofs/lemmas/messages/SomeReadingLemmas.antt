@@ -19,6 +19,7 @@ use Rattle.fe2o3_scram.specs.declared.client_secret.IterationLimits.{IterationLi
 use Rattle.fe2o3_scram.specs.ClientKeys.{ClientKeys}
 use Rattle.fe2o3_scram.specs.ClientSecret.{Secret, Password, Keys, Both}
 use Rattle.fe2o3_scram.specs.Texts.{base64_text, Begins, Part, LastPart}
+use Rattle.fe2o3_scram.specs.Passwords.{PasswordText, Typed, Prepared, IsNormal}
 use Rattle.base64.specs.GeneralPurpose.{IsBytes}
 use Rattle.fe2o3_scram.proofs.lemmas.messages.ClientFirstLemmas.{one_header}
 use Rattle.fe2o3_scram.proofs.lemmas.messages.ClientFinalLemmas.{no_proof, has_proof, proof_part, unread_proof}
@@ -179,11 +180,15 @@ names_values_or keys text = both_or
     (both_or (bytes_or keys.salt) (part_is_or text 1 (codes "s=" ++ base64_text keys.salt)))
     (this_count_or text keys.count)
 
+normal_or : (password : PasswordText) → Decided (IsNormal password)
+normal_or (Typed text) = printable_or text
+normal_or (Prepared text) = inl tt
+
 secret_decided : (secret : Secret) (text : List ℕ) → AllDecided (secret_tests secret text)
-secret_decided (Password password) text = (not_or (printable_or password), tt)
+secret_decided (Password password) text = (not_or (normal_or password), tt)
 secret_decided (Keys keys) text = (not_or (names_values_or keys text), tt)
 secret_decided (Both password keys) text =
-    (both_or (not_or (names_values_or keys text)) (not_or (printable_or password)), tt)
+    (both_or (not_or (names_values_or keys text)) (not_or (normal_or password)), tt)
 
 nonce_decided : (client_nonce text : List ℕ) → AllDecided (server_first.nonce_tests client_nonce text)
 nonce_decided client_nonce text = (

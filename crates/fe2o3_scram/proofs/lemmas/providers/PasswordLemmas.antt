@@ -5,6 +5,7 @@ use Rattle.fe2o3_scram.specs.declared.hmac.ScramVersion.TheVariants.{Sha1, Sha25
 use Rattle.fe2o3_scram.specs.Credentials.{MeetsRecord, Record}
 use Rattle.fe2o3_scram.specs.Hmac.{digest_len}
 use Rattle.fe2o3_scram.specs.Keys.{client_key}
+use Rattle.fe2o3_scram.specs.Passwords.{PasswordText, password_bytes}
 use Rattle.fe2o3_scram.specs.Pbkdf2Hi.{salted_of}
 use Rattle.fe2o3_scram.proofs.lemmas.hashes.DigestLemmas.{length-digest}
 
@@ -14,9 +15,9 @@ some_bytes Sha256 none = absurd (omega (arith, none))
 some_bytes Sha512 none = absurd (omega (arith, none))
 
 -- no password meets it
-pub keyless : (version : ScramVersion) (password : List ℕ) (stored : Record) → stored.stored_key ≡ []
+pub keyless : (version : ScramVersion) (password : PasswordText) (stored : Record) → stored.stored_key ≡ []
     → ¬ MeetsRecord version password stored
 keyless version password stored none meets =
-    let made : List ℕ = client_key version (salted_of version password stored.salt stored.count) in
+    let made : List ℕ = client_key version (salted_of version (password_bytes password) stored.salt stored.count) in
     some_bytes version (sym (length-digest version made)
     ∙ ap length (ap (λ (kept : Record). kept.stored_key) meets.1 ∙ none))

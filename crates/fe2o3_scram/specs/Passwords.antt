@@ -1,0 +1,19 @@
+-- A password as it is handed in (RFC 5802, section 2.2): as it is typed, or prepared by whoever hands it in.
+use Rattle.std.specs.Prelude.{ℕ, List}
+use Rattle.fe2o3_scram.specs.SaslprepAscii.{IsPrintable}
+
+-- the text of a password as it is typed, or the text that Normalize (RFC 5802, section 2.2) makes of it
+pub data PasswordText : Type 0 where
+  Typed : (text : List ℕ) → PasswordText
+  Prepared : (text : List ℕ) → PasswordText
+
+-- the bytes that keys are made of (RFC 5802, section 3)
+abbrev pub password_bytes : PasswordText → List ℕ
+password_bytes (Typed text) = text
+password_bytes (Prepared text) = text
+
+-- it is in normal form (RFC 4013, section 2): a typed one where it is printable ASCII, which is prepared to itself, and
+-- a prepared one as it stands, whatever it is
+abbrev pub IsNormal : PasswordText → Type 0
+IsNormal (Typed text) = IsPrintable text
+IsNormal (Prepared text) = Unit {0}
