@@ -3,6 +3,7 @@
 ghost use Rattle.std.specs.Prelude.{◌≡◌, ◌≤◌, ◌+◌, ◌^◌, ℕ, List, IfOk, IfErr, OnOk, OnErr};
 ghost use Rattle.fe2o3_sasl_wire.specs.AmqpTypes.{init_frame, response_frame};
 ghost use Rattle.std.proofs.Common.{ap};
+ghost use Rattle.fe2o3_scram.specs.Credentials.{serving};
 ghost use Rattle.fe2o3_scram.specs.HidingServer.{HidingServer, hiding_server};
 ghost use Rattle.fe2o3_scram.specs.ScramServer.{logged_in};
 ghost use Rattle.fe2o3_sasl.specs.Costs.{CostsAtMost};
@@ -34,7 +35,7 @@ impl<C: ScramCredentialProvider> SaslAcceptor for HidingAuthenticator<C> {
 
     ghost clone_keeps = { λ acceptor copy same.
         let kept = C.clone_keeps acceptor.credentials copy.credentials same.0 in
-        λ i. record { provider = kept i; nobody = same.1 i; state = same.2 i } };
+        λ i. record { provider = serving (same.1 i) (kept i); nobody = same.2 i; state = same.3 i } };
 
     fn mechanisms(&self, alloc: Global) -> Result<Array<Symbol>, OutOfMemory> {
         one_name(alloc, self.credentials().scram_version().mechanism())
