@@ -5,8 +5,8 @@ use Rattle.fe2o3_scram.proofs.scram_messages.gs2_header.Gs2Header.base64.Goals a
 
 pub returns-in-Unsupported : goal.returns-in-Unsupported
 unfolding base64_text encode_symbols
-returns-in-Unsupported c = refl
+returns-in-Unsupported c = rw c.in-Unsupported.is refl
 
 pub returns-in-Unoffered : goal.returns-in-Unoffered
 unfolding base64_text encode_symbols
-returns-in-Unoffered c = refl
+returns-in-Unoffered c = rw c.in-Unoffered.is refl
