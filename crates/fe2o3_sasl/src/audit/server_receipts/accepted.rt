@@ -1,6 +1,6 @@
 //! The receipt of an Ok, made of the open challenge and of the response that was accepted.
 
-ghost use Rattle.std.specs.Prelude.{◌≡◌, ◌↔◌, ◌++◌, ℕ, List, Ok, true, codes, IfOk, option_map};
+ghost use Rattle.std.specs.Prelude.{◌≡◌, ◌↔◌, ◌++◌, ℕ, List, Ok, true, codes, IfOk, option_map, Bool};
 ghost use Rattle.fe2o3_sasl_wire.specs.SaslFrames.{Response};
 ghost use Rattle.fe2o3_scram.specs.ClientFinal.{ClientFinal as Final, HasProof, client_final_values};
 ghost use Rattle.fe2o3_scram.specs.Keys.{auth_message as auth_message_of, recovered_client_key, server_signature};
