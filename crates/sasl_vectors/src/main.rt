@@ -194,10 +194,11 @@ fn replay_files<W: Write>(
 }
 
 /// The files of runs, of audits and of what the program does.
-static RUNS: [(Paragraphs, &str); 6] = [
+static RUNS: [(Paragraphs, &str); 7] = [
     (Paragraphs::Runs, "runs.txt"),
     (Paragraphs::Runs, "peer-runs.txt"),
     (Paragraphs::Runs, "named-runs.txt"),
+    (Paragraphs::Runs, "unbound-runs.txt"),
     (Paragraphs::Audits, "audits.txt"),
     (Paragraphs::NamedAudits, "named-audits.txt"),
     (Paragraphs::Commands, "commands.txt"),

@@ -5,7 +5,7 @@ use crate::Unconfirmed;
 use crate::runs::servers::credential;
 use crate::runs::words::{number_of, text_of, version_of};
 use crate::runs::{confirm_all, event_of};
-use fe2o3_sasl::audit::{AuditError, Finding, audit, audit_limited};
+use fe2o3_sasl::audit::{AuditError, Finding, audit, audit_limited, audit_unbound};
 use fe2o3_sasl::credentials::SingleScramCredential;
 use fe2o3_sasl::runs::Event;
 use sasl_commands::audit::line_of;
@@ -103,18 +103,22 @@ struct Sides<'a> {
     server_user: &'a str,
     server_password: &'a str,
     limit: Option<&'a str>,
+
+    /// Whether the server takes clients that could bind a channel.
+    unbound: bool,
 }
 
 /// The sides of a line: both of one user and password, the client with a limit if there is one, or the
-/// server of another user or password.
+/// server of another user or password, or one that takes clients that could bind a channel.
 fn sides_of<'a>(words: &[&'a str]) -> Result<Sides<'a>, Unconfirmed> {
     let [version, user, password, salt, rest @ ..] = words else {
         return Err(Unconfirmed::Malformed);
     };
-    let (limit, server_user, server_password) = match rest {
-        [] => (None, user, password),
-        [limit] => (Some(*limit), user, password),
-        [server_user, server_password] => (None, server_user, server_password),
+    let (limit, server_user, server_password, unbound) = match rest {
+        [] => (None, user, password, false),
+        ["unbound"] => (None, user, password, true),
+        [limit] => (Some(*limit), user, password, false),
+        [server_user, server_password] => (None, server_user, server_password, false),
         _ => return Err(Unconfirmed::Malformed),
     };
     Ok(Sides {
@@ -125,6 +129,7 @@ fn sides_of<'a>(words: &[&'a str]) -> Result<Sides<'a>, Unconfirmed> {
         server_user,
         server_password,
         limit,
+        unbound,
     })
 }
 
@@ -179,6 +184,12 @@ fn audited(
 ) -> Result<Vec<Finding>, Unconfirmed> {
     let version = version_of(sides.version)?;
     let found = match sides.limit {
+        None if sides.unbound => {
+            let limit = u32::MAX;
+            audit_unbound(
+                alloc, user, password, version, limit, client, true, credential, server,
+            )?
+        }
         None => audit(alloc, user, password, version, client, credential, server)?,
         Some(limit) => {
             let limit = number_of(limit)?;

@@ -108,7 +108,10 @@ pub fn event_of(alloc: Global, words: &str) -> Result<Event, Unconfirmed> {
 fn check_side(alloc: Global, run: &Run<'_>) -> Result<(), Unconfirmed> {
     match run.side.as_slice() {
         ["server", version, user, password, salt] => {
-            servers::check_one(alloc, run, version, user, password, salt)
+            servers::check_one(alloc, run, false, version, user, password, salt)
+        }
+        ["unbound", version, user, password, salt] => {
+            servers::check_one(alloc, run, true, version, user, password, salt)
         }
         ["records", version, records @ ..] => servers::check_records(alloc, run, version, records),
         ["acceptor", "ANONYMOUS"] => servers::check_anonymous(alloc, run),

@@ -9,7 +9,7 @@ use fe2o3_sasl::credentials::{
     AddRecordError, ScramCredentialProvider, ScramCredentials, ScramRecord, SingleScramCredential,
 };
 use fe2o3_sasl::hmac::ScramVersion;
-use fe2o3_sasl::runs::{Event, acceptor_step, run_acceptor, scram_server_run};
+use fe2o3_sasl::runs::{Event, acceptor_step, run_acceptor, scram_server_run_unbound};
 use fe2o3_sasl::sasl_acceptor::{SaslAcceptor, SaslAnonymousMechanism, SaslPlainMechanism};
 use fe2o3_sasl::scram_messages::ServerScramErrorKind;
 use fe2o3_sasl::scram_server::ScramAuthenticator;
@@ -42,10 +42,11 @@ pub fn credential(
     Ok(SingleScramCredential::new(alloc, user, &password, version, salt)?)
 }
 
-/// Checks a server of one user.
+/// Checks a server of one user, which takes clients that could bind a channel or not.
 pub fn check_one(
     alloc: Global,
     run: &Run<'_>,
+    accepts_unbound: bool,
     version: &str,
     user: &str,
     password: &str,
@@ -54,6 +55,7 @@ pub fn check_one(
     check_shared(
         alloc,
         run,
+        accepts_unbound,
         credential(alloc, version, user, password, salt)?,
     )
 }
@@ -69,7 +71,7 @@ pub fn check_records(
     for record in records {
         add_record(alloc, &mut store, record)?;
     }
-    check_shared(alloc, run, store)
+    check_shared(alloc, run, false, store)
 }
 
 /// Adds a record: name, salt, count, stored key and server key, with colons between them.
@@ -108,21 +110,28 @@ fn record_of(
 fn check_shared<C: ScramCredentialProvider + Drop>(
     alloc: Global,
     run: &Run<'_>,
+    accepts_unbound: bool,
     credentials: C,
 ) -> Result<(), Unconfirmed> {
-    check_run(alloc, run, &credentials)?;
+    check_run(alloc, run, accepts_unbound, &credentials)?;
     let shared = Rc::new(alloc, credentials)?;
-    check_run(alloc, run, &shared)?;
-    check_acceptor(alloc, run, &mut ScramAuthenticator::new(shared))
+    check_run(alloc, run, accepts_unbound, &shared)?;
+    let fresh = ScramAuthenticator::new(shared);
+    if accepts_unbound {
+        check_acceptor(alloc, run, &mut fresh.accepts_unbound())
+    } else {
+        check_acceptor(alloc, run, &mut { fresh })
+    }
 }
 
 /// Checks what a server of these credentials answers in a run.
 fn check_run<C: ScramCredentialProvider>(
     alloc: Global,
     run: &Run<'_>,
+    accepts_unbound: bool,
     credentials: &C,
 ) -> Result<(), Unconfirmed> {
-    let replies = scram_server_run(alloc, credentials, &run.events)?;
+    let replies = scram_server_run_unbound(alloc, accepts_unbound, credentials, &run.events)?;
     confirm_all(&server_words(alloc, &replies)?, &run.answers)
 }
 
