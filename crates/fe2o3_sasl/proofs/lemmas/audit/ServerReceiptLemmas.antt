@@ -19,7 +19,7 @@ use Rattle.fe2o3_sasl.specs.Bodies.{SpellsBody}
 use Rattle.fe2o3_sasl.specs.ServerHistory.{Challenging, Accepted, AcceptsAt, FitsAsInit, FitsAt, Open, ServerHistory, is_challenge, is_ok}
 use Rattle.fe2o3_sasl.specs.TwoSides.{HasParts}
 use Rattle.fe2o3_sasl.specs.private.Receipts.{ServerReceipt, OfAccepted, IsOkReceipt, ConcludesAt}
-use Rattle.fe2o3_sasl.specs.private.ServerReceipts.{ServerSoFar, OpenedFor, OkFor, ServerKeeps, OfAccepted}
+use Rattle.fe2o3_sasl.specs.private.ServerReceipts.{ServerSoFar, OpenedFor, OkFor, ServerKeeps}
 use Rattle.fe2o3_sasl.proofs.lemmas.audit.CoverLemmas.{covers_skip, covers_push}
 use Rattle.fe2o3_sasl.proofs.lemmas.frames.SpellingLemmas.{one_spelled_frame}
 use Rattle.fe2o3_sasl.proofs.lemmas.histories.OneServerHistoryLemmas.{one_fits}
