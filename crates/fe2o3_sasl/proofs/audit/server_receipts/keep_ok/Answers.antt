@@ -1,4 +1,5 @@
-use Rattle.std.proofs.Common.{rules}
+use Rattle.std.proofs.Common.{ap, map, ◌∙◌}
+use Rattle.std.proofs.lemmas.List.{map-append}
 use Rattle.fe2o3_sasl.specs.private.Findings.{server_receipt}
 use Rattle.fe2o3_sasl.specs.private.ServerReceipts.{opened_challenge}
 use Rattle.fe2o3_sasl.proofs.audit.server_receipts.keep_ok.Goals as goal
@@ -9,5 +10,5 @@ returns g c = (
   server_receipt c.in_ok-receipt.receipt,
   c.in_ok-opened.ensures.opened,
   rw c.deref.ensures.value at (c.in_ok-receipt.ensures c.args.accepts_unbound),
-  search rules,
+  ap (map server_receipt) c.in_ok-push.ensures.items ∙ map-append server_receipt _ _,
 )
