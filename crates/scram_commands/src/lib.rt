@@ -1,10 +1,11 @@
 //! The commands of the program `scram`, over any runtime, reader and writers: `record` makes the record of a
 //! password, `users` keeps a file of records, `client` and `server` play a login, and `explain` tells what its
-//! messages say.
+//! messages say, and what both sides of it have in common.
 #![tactic(auto)]
 
 ghost use Rattle.std.specs.Prelude.{◌≤◌, IfOk};
 
+pub mod audit;
 pub mod client;
 pub mod explain;
 pub mod frames;
