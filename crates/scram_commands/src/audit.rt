@@ -1,6 +1,11 @@
 //! `explain --audit`: what the bodies of a client and those of a server say of both. Both sides are made anew, the
 //! client by the password and the server by its users, and given the bodies that the real ones were given.
 
+ghost use Rattle.std.specs.Prelude.{◌≡◌, ◌↔◌, List, IfOk, IsOk, OnOk, IsTrue};
+ghost use Rattle.std.specs.List.{AllPass};
+ghost use Rattle.fe2o3_sasl.specs.declared.audit.Finding.{Finding as CodeFinding};
+ghost use Rattle.scram_commands.specs.Audit.{Finds, IsWhole, SomePasses, believes, means_one};
+
 pub mod half;
 pub mod sentences;
 
@@ -139,13 +144,10 @@ impl Sides {
         })
     }
 
-    /// Prints an audit: whom each side believes, and what both agree on.
-    fn audit<O: Write>(
-        &self,
-        alloc: Global,
-        login: &Login<'_>,
-        output: &mut O,
-    ) -> Result<(), Stop> {
+    /// Prints an audit: whom each side believes, and what both agree on. Ok says that both completed a login.
+    fn audit<O: Write>(&self, alloc: Global, login: &Login<'_>, output: &mut O) -> Result<(), Stop>
+        ensures { OnOk result ((findings : List CodeFinding) × Finds self.now login.now findings × IsWhole findings) }
+    {
         self.print_client(alloc, login, output)?;
         self.print_server(alloc, login, output)?;
         let findings = self.findings(alloc, login)?;
@@ -224,7 +226,9 @@ impl Sides {
     }
 
     /// What both sides have in common.
-    fn findings(&self, alloc: Global, login: &Login<'_>) -> Result<Vec<Finding>, Stop> {
+    fn findings(&self, alloc: Global, login: &Login<'_>) -> Result<Vec<Finding>, Stop>
+        ensures { IfOk result (λ findings. Finds self.now login.now findings.items) }
+    {
         Ok(audit_limited(
             alloc,
             login.user,
@@ -343,18 +347,47 @@ fn line_at(given: &[Given], position: usize) -> u64 {
     given.get(position).map_or(0, |given| given.line)
 }
 
-/// Whether both sides completed a login, and each finding is agreed.
-fn conclude(findings: &[Finding]) -> Result<(), Stop> {
-    let mut is_believed = false;
-    for finding in findings {
-        if !matches!(finding.verdict, Verdict::Agreed { .. }) {
-            return Err(Stop::OneProofOfTwo);
-        }
-        is_believed |= finding.kind == FindingKind::Verifier;
+/// Whether both sides completed a login, and each finding is agreed; else what is amiss.
+fn conclude(findings: &[Finding]) -> Result<(), Stop>
+    ensures { IsOk result ↔ IsWhole findings.now }
+{
+    if !all_agreed(findings) {
+        return Err(Stop::OneProofOfTwo);
     }
-    match (is_believed, findings.is_empty()) {
-        (true, _) => Ok(()),
-        (false, true) => Err(Stop::NothingInCommon),
-        (false, false) => Err(Stop::NotBelieved),
+    if some_believed(findings) {
+        return Ok(());
     }
+    Err(if findings.is_empty() {
+        Stop::NothingInCommon
+    } else {
+        Stop::NotBelieved
+    })
+}
+
+/// Whether each finding is agreed.
+fn all_agreed(findings: &[Finding]) -> bool
+    ensures { IsTrue result ↔ AllPass means_one findings.now }
+{
+    findings.iter().all(|finding| is_agreed(finding))
+}
+
+/// Whether by some finding the client believes the server.
+fn some_believed(findings: &[Finding]) -> bool
+    ensures { IsTrue result ↔ SomePasses believes findings.now }
+{
+    findings.iter().any(|finding| is_believed(finding))
+}
+
+/// Whether both sides mean one login.
+fn is_agreed(finding: &Finding) -> bool
+    ensures { result ≡ means_one finding.now }
+{
+    matches!(finding.verdict, Verdict::Agreed { .. })
+}
+
+/// Whether the client took a verifier, by which it believes the server.
+fn is_believed(finding: &Finding) -> bool
+    ensures { result ≡ believes finding.now }
+{
+    matches!(finding.kind, FindingKind::Verifier)
 }

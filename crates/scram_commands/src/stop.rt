@@ -1,6 +1,7 @@
 //! What stops the program before its end.
 
-ghost use Rattle.std.specs.Prelude.{◌≤◌};
+ghost use Rattle.std.specs.Prelude.{◌≡◌, ◌≤◌};
+ghost use Rattle.scram_commands.specs.Status.{status_of};
 
 use fe2o3_sasl::AuditError;
 use fe2o3_sasl_negotiation::ClosedBecause;
@@ -195,7 +196,8 @@ impl Stop {
 
     /// The status to end with.
     pub fn status(self) -> u8
-        ensures { result ≤ 4 }
+        ensures exactly { result ≡ status_of self }
+        ensures within { result ≤ 4 }
     {
         match self {
             Stop::Ended | Stop::RefusedByServer => 1,
