@@ -1,6 +1,6 @@
 -- When an audit of `scram explain` ends with status 0: the project's own, over the findings of `fe2o3_sasl`.
-use Rattle.std.specs.Prelude.{◌≡◌, ℕ, ◌<◌, Bool, true, false, List, length, map}
-use Rattle.std.specs.List.{AllPass, HoldsAt}
+use Rattle.std.specs.Prelude.{Bool, true, false, ◌&&◌, List, map}
+use Rattle.std.specs.List.{list_all, list_any}
 use Rattle.fe2o3_sasl.specs.Audit.{AuditsEvents, finding_of}
 use Rattle.fe2o3_sasl.specs.Runs.{given, login_of}
 use Rattle.fe2o3_sasl.specs.declared.audit.Finding.{Finding}
@@ -29,13 +29,9 @@ verifying kinds.Proof = false
 abbrev pub believes : Finding → Bool
 believes finding = verifying finding.kind
 
--- some element passes the test
-abbrev pub SomePasses : {X : Type 0} → (X → Bool) → List X → Type 0
-SomePasses p xs = (k : ℕ) × (k < length xs) × HoldsAt (λ x. p x ≡ true) xs k
-
 -- each finding is agreed, and by one the client believes the server
-abbrev pub IsWhole : List Finding → Type 0
-IsWhole findings = AllPass means_one findings × SomePasses believes findings
+abbrev pub is_whole : List Finding → Bool
+is_whole findings = list_all means_one findings && list_any believes findings
 
 -- what is found of the bodies that both sides were given
 abbrev pub Finds : Sides → Login → List Finding → Type 0

@@ -1,10 +1,10 @@
 //! `explain --audit`: what the bodies of a client and those of a server say of both. Both sides are made anew, the
 //! client by the password and the server by its users, and given the bodies that the real ones were given.
 
-ghost use Rattle.std.specs.Prelude.{◌≡◌, ◌↔◌, List, IfOk, IsOk, OnOk, IsTrue};
-ghost use Rattle.std.specs.List.{AllPass};
+ghost use Rattle.std.specs.Prelude.{◌≡◌, List, true, IfOk, OnOk, is_ok};
+ghost use Rattle.std.specs.List.{list_all, list_any};
 ghost use Rattle.fe2o3_sasl.specs.declared.audit.Finding.{Finding as CodeFinding};
-ghost use Rattle.scram_commands.specs.Audit.{Finds, IsWhole, SomePasses, believes, means_one};
+ghost use Rattle.scram_commands.specs.Audit.{Finds, believes, is_whole, means_one};
 
 pub mod half;
 pub mod sentences;
@@ -146,7 +146,7 @@ impl Sides {
 
     /// Prints an audit: whom each side believes, and what both agree on. Ok says that both completed a login.
     fn audit<O: Write>(&self, alloc: Global, login: &Login<'_>, output: &mut O) -> Result<(), Stop>
-        ensures { OnOk result ((findings : List CodeFinding) × Finds self.now login.now findings × IsWhole findings) }
+        ensures { OnOk result ((findings : List CodeFinding) × Finds self.now login.now findings × (is_whole findings ≡ true)) }
     {
         self.print_client(alloc, login, output)?;
         self.print_server(alloc, login, output)?;
@@ -349,31 +349,29 @@ fn line_at(given: &[Given], position: usize) -> u64 {
 
 /// Whether both sides completed a login, and each finding is agreed; else what is amiss.
 fn conclude(findings: &[Finding]) -> Result<(), Stop>
-    ensures { IsOk result ↔ IsWhole findings.now }
+    ensures { is_ok result ≡ is_whole findings.now }
 {
     if !all_agreed(findings) {
-        return Err(Stop::OneProofOfTwo);
-    }
-    if some_believed(findings) {
-        return Ok(());
-    }
-    Err(if findings.is_empty() {
-        Stop::NothingInCommon
+        Err(Stop::OneProofOfTwo)
+    } else if some_believed(findings) {
+        Ok(())
+    } else if findings.is_empty() {
+        Err(Stop::NothingInCommon)
     } else {
-        Stop::NotBelieved
-    })
+        Err(Stop::NotBelieved)
+    }
 }
 
 /// Whether each finding is agreed.
 fn all_agreed(findings: &[Finding]) -> bool
-    ensures { IsTrue result ↔ AllPass means_one findings.now }
+    ensures { result ≡ list_all means_one findings.now }
 {
     findings.iter().all(|finding| is_agreed(finding))
 }
 
 /// Whether by some finding the client believes the server.
 fn some_believed(findings: &[Finding]) -> bool
-    ensures { IsTrue result ↔ SomePasses believes findings.now }
+    ensures { result ≡ list_any believes findings.now }
 {
     findings.iter().any(|finding| is_believed(finding))
 }

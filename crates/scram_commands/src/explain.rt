@@ -114,6 +114,12 @@ impl Heard {
         }
     }
 
+    /// The nonce of the server's own, which stands behind the client's (RFC 5802, section 5.1, `r`).
+    pub(crate) fn server_nonce(&self) -> Option<&str> {
+        let (nonce, client_nonce) = (self.nonce.as_str(), self.client_nonce.as_str());
+        nonce.strip_prefix(client_nonce)
+    }
+
     /// Prints what is told of a message.
     fn print<O: Write>(&self, name: &str, told: Told, output: &mut O) -> Result<(), Stop> {
         write!(output, "{}", self.side).map_err(Stop::of_output)?;

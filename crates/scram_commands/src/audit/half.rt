@@ -176,13 +176,9 @@ impl Half {
         Ok(())
     }
 
-    /// Takes the nonce of a challenge, of which the client's stands first (RFC 5802, section 5.1, `r`).
+    /// Takes the server's nonce of a challenge.
     fn challenge(&mut self, alloc: Global) -> Result<(), Stop> {
-        let nonce = match self
-            .heard
-            .nonce
-            .strip_prefix(self.heard.client_nonce.as_str())
-        {
+        let nonce = match self.heard.server_nonce() {
             Some(nonce) => bytes_of(alloc, nonce)?,
             None => None,
         };
