@@ -1,5 +1,5 @@
 -- When an audit of `scram explain` ends with status 0: the project's own, over the findings of `fe2o3_sasl`.
-use Rattle.std.specs.Prelude.{Bool, true, false, ◌&&◌, List, map}
+use Rattle.std.specs.Prelude.{◌≡◌, Bool, true, false, ◌&&◌, List, map}
 use Rattle.std.specs.List.{list_all, list_any}
 use Rattle.fe2o3_sasl.specs.Audit.{AuditsEvents, finding_of}
 use Rattle.fe2o3_sasl.specs.Runs.{given, login_of}
@@ -39,3 +39,7 @@ Finds sides login findings =
     AuditsEvents (login_of login.version login.user.now login.password.now login.limit)
     (map given sides.client.events.items) login.credentials.now (map given sides.server.events.items)
     (map finding_of findings)
+
+-- what is found is whole
+abbrev pub FindsWhole : Sides → Login → Type 0
+FindsWhole sides login = (findings : List Finding) × Finds sides login findings × (is_whole findings ≡ true)

@@ -1,10 +1,9 @@
 //! `explain --audit`: what the bodies of a client and those of a server say of both. Both sides are made anew, the
 //! client by the password and the server by its users, and given the bodies that the real ones were given.
 
-ghost use Rattle.std.specs.Prelude.{◌≡◌, List, true, IfOk, OnOk, is_ok};
+ghost use Rattle.std.specs.Prelude.{◌≡◌, IfOk, OnOk, is_ok};
 ghost use Rattle.std.specs.List.{list_all, list_any};
-ghost use Rattle.fe2o3_sasl.specs.declared.audit.Finding.{Finding as CodeFinding};
-ghost use Rattle.scram_commands.specs.Audit.{Finds, believes, is_whole, means_one};
+ghost use Rattle.scram_commands.specs.Audit.{Finds, FindsWhole, believes, is_whole, means_one};
 
 pub mod half;
 pub mod sentences;
@@ -146,7 +145,7 @@ impl Sides {
 
     /// Prints an audit: whom each side believes, and what both agree on. Ok says that both completed a login.
     fn audit<O: Write>(&self, alloc: Global, login: &Login<'_>, output: &mut O) -> Result<(), Stop>
-        ensures { OnOk result ((findings : List CodeFinding) × Finds self.now login.now findings × (is_whole findings ≡ true)) }
+        ensures { OnOk result (FindsWhole self.now login.now) }
     {
         self.print_client(alloc, login, output)?;
         self.print_server(alloc, login, output)?;

@@ -1,5 +1,8 @@
 //! The bodies of one side: those that it was given, and what it answered.
 
+ghost use Rattle.std.specs.Prelude.{◌≢◌, ℕ, List, length, IfOk, MatchOption};
+ghost use Rattle.fe2o3_scram.specs.Texts.{IsBase64};
+
 use crate::explain::Heard;
 use crate::stop::Stop;
 use base64::DecodeAllocError;
@@ -196,7 +199,10 @@ impl Half {
 }
 
 /// The 32 bytes that a nonce is the base64 of, or none where it is not that of so many.
-fn bytes_of(alloc: Global, nonce: &str) -> Result<Option<[u8; 32]>, AllocError> {
+fn bytes_of(alloc: Global, nonce: &str) -> Result<Option<[u8; 32]>, AllocError>
+    ensures { IfOk result (λ found. MatchOption found
+        ((bytes : List ℕ) → IsBase64 nonce.now bytes → length bytes ≢ 32) (λ bytes. IsBase64 nonce.now bytes)) }
+{
     match STANDARD.decode(alloc, nonce.as_bytes()) {
         Ok(bytes) => Ok(<[u8; 32]>::try_from(bytes.as_slice()).ok()),
         Err(DecodeAllocError::OutOfMemory) => Err(AllocError),
