@@ -1,2 +1,2 @@
-pub mod Status
-pub mod Audit
+pub mod Stop
+pub mod private

@@ -3,7 +3,7 @@
 
 ghost use Rattle.std.specs.Prelude.{◌≡◌, IfOk, OnOk, is_ok};
 ghost use Rattle.std.specs.List.{list_all, list_any};
-ghost use Rattle.scram_commands.specs.Audit.{Finds, FindsWhole, believes, is_whole, means_one};
+ghost use Rattle.scram_commands.specs.private.Audit.{Finds, FindsWhole, believes, is_whole, means_one};
 
 pub mod half;
 pub mod sentences;

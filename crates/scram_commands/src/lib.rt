@@ -4,7 +4,7 @@
 #![tactic(auto)]
 
 ghost use Rattle.std.specs.Prelude.{◌≡◌, ◌≤◌, IfOk};
-ghost use Rattle.scram_commands.specs.Status.{status_of};
+ghost use Rattle.scram_commands.specs.Stop.{status_of};
 
 pub mod audit;
 pub mod client;

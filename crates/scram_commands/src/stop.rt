@@ -1,7 +1,7 @@
 //! What stops the program before its end.
 
 ghost use Rattle.std.specs.Prelude.{◌≡◌, ◌≤◌};
-ghost use Rattle.scram_commands.specs.Status.{status_of};
+ghost use Rattle.scram_commands.specs.Stop.{status_of};
 
 use fe2o3_sasl::AuditError;
 use fe2o3_sasl_negotiation::ClosedBecause;
