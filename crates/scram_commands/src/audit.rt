@@ -306,7 +306,7 @@ fn print_client<O: Write>(given: &Given, answer: &Answer<'_>, output: &mut O) ->
     if !answer.is_that_of(given) {
         writeln!(
             output,
-            "audit: line {line}: the client answers otherwise than by this password"
+            "audit: line {line}: the client does not answer as by this password"
         )?;
     }
     if answer.is_ok {
@@ -321,7 +321,7 @@ fn print_server<O: Write>(given: &Given, answer: &Answer<'_>, output: &mut O) ->
     if !answer.is_that_of(given) {
         writeln!(
             output,
-            "audit: line {line}: the server answers otherwise than by these records"
+            "audit: line {line}: the server does not answer as by these records"
         )?;
     }
     if answer.is_ok {

@@ -1,4 +1,4 @@
--- When an audit of `scram explain` ends with status 0, over the findings of `fe2o3_sasl`. No public clause cites this file.
+-- When `scram explain --audit` ends with status 0, over the findings of `fe2o3_sasl`. No public clause cites this file.
 use Rattle.std.specs.Prelude.{◌≡◌, Bool, true, false, ◌&&◌, List, map}
 use Rattle.std.specs.List.{list_all, list_any}
 use Rattle.fe2o3_sasl.specs.Audit.{AuditsEvents, finding_of}

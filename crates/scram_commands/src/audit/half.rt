@@ -117,11 +117,12 @@ impl Half {
         is_open: bool,
         body: Vec<u8>,
     ) -> Result<(), Stop> {
+        let answer = if is_open { self.early.take() } else { None };
         let given = Given {
             line,
             user: self.heard.user.as_str().to_string(alloc)?,
-            is_open: is_open && self.early.is_none(),
-            answer: self.early.take(),
+            is_open: is_open && answer.is_none(),
+            answer,
         };
         let nonce = self.nonce;
         self.events.push(Event { body, nonce })?;
