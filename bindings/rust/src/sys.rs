@@ -374,7 +374,8 @@ pub struct ScramClient {
 #[derive(Clone, Copy)]
 pub struct SaslHost {
     /// Which mechanisms are offered: the sum of 1 for SCRAM of the version, 2 for PLAIN, 4 for ANONYMOUS, and 8 for
-    /// EXTERNAL. PLAIN shows the password to whoever reads the connection, and is for TLS alone.
+    /// EXTERNAL; and of 16 where SCRAM takes a client whose GS2 header is `y,,`, as `fe2o3_scram_server_first_unbound`
+    /// does. PLAIN shows the password to whoever reads the connection, and is for TLS alone.
     pub mechanisms: u32,
     /// 1, 256 or 512, for the hash of SCRAM and of the record.
     pub version: u32,
@@ -590,9 +591,23 @@ extern "C" {
         len: *mut usize) -> u32;
 
     /// Answers a client-first message with the server-first message, which starts an exchange afresh at any time. The
-    /// record is that of the user whom the message names (`fe2o3_scram_server_user`), or one that is made up
-    /// (`fe2o3_scram_record_of_nobody`). The nonce is 32 random bytes, fresh for each.
+    /// GS2 header of the message has to be `n,,`. The record is that of the user whom the message names
+    /// (`fe2o3_scram_server_user`), or one that is made up (`fe2o3_scram_record_of_nobody`). The nonce is 32 random
+    /// bytes, fresh for each.
     pub fn fe2o3_scram_server_first(
+        kept: *const ScramRecord,
+        server: *mut ScramServer,
+        nonce: *const [u8; 32],
+        client_first: *const u8,
+        client_first_len: usize,
+        out: *mut u8,
+        out_room: usize,
+        len: *mut usize) -> u32;
+
+    /// As `fe2o3_scram_server_first`, and the GS2 header may be `y,,` too: that of a client which could bind a channel
+    /// and believes that the server cannot, since it was offered no mechanism with `-PLUS` (RFC 5802, section 6). Only
+    /// for a server that offers none.
+    pub fn fe2o3_scram_server_first_unbound(
         kept: *const ScramRecord,
         server: *mut ScramServer,
         nonce: *const [u8; 32],
