@@ -5,6 +5,8 @@ use Rattle.std.specs.Str.{IsUtf8}
 use Rattle.std.proofs.lemmas.List.{length-take-le, length-take}
 use Rattle.fe2o3_scram.specs.declared.hmac.ScramVersion.{ScramVersion}
 use Rattle.fe2o3_scram.specs.declared.hmac.ScramVersion.TheVariants as versions
+use Rattle.fe2o3_scram.specs.declared.scram_messages.gs2_header.Gs2Header.{Gs2Header}
+use Rattle.fe2o3_scram.specs.declared.scram_messages.gs2_header.Gs2Header.TheVariants.{Unsupported, Unoffered}
 use Rattle.fe2o3_scram.specs.Credentials.{Record, Records, VersionedRecord, versioned}
 use Rattle.fe2o3_scram.specs.Readings.{IsFirst, NoneHolds}
 use Rattle.fe2o3_scram.specs.ScramServer.{ServerState, Initial, ServerFirstSent, open_challenge}
@@ -29,7 +31,7 @@ use Rattle.sasl_c.specs.declared.status.Status.TheVariants as statuses
 use Rattle.sasl_c.specs.Connection.{Keeps}
 use Rattle.sasl_c.specs.Records.{IsVersion, Shows, SpellsStruct}
 use Rattle.sasl_c.specs.SaslServer.{All, Code, Comes, HasNoWords, HasNoStruct, HasRecords, IsAll, IsNoHost, IsOf, IsServer, HasNone, ShowsBy, ShowsOpen, ShowsSide, ShowsStanding, ShowsState, ShowsUser, Stands, State, allowed_of, all_of, host_tests, one_where, open_in, server_of, side_in, state_names, state_of, sum_of, user_in}
-use Rattle.sasl_c.specs.Server.{HasLoggedIn, HasRoom, IsOpen}
+use Rattle.sasl_c.specs.Server.{HasLoggedIn, HasRoom, IsOpen, open_number}
 use Rattle.sasl_c.specs.Status.{version_number}
 use Rattle.sasl_c.proofs.StatusLemmas.{carried}
 
@@ -264,12 +266,17 @@ pub shows_challenge : (scram : ScramStruct) (standing : Standing) (opened : Opti
 shows_challenge scram standing opened user challenge wants some is =
     stands_so scram standing Wanting opened (Some challenge) user user wants some refl is
 
+-- no number of an open challenge is 0
+never_zero : (header : Gs2Header) → 0 ≡ open_number header → ⊥
+never_zero Unsupported same = omega (arith, same)
+never_zero Unoffered same = omega (arith, same)
+
 pub shows_no_challenge : (scram : ScramStruct) (standing : Standing) (opened : Option Challenge)
     (user : Option (List ℕ)) → standing ≡ Wanting → opened ≡ None → scram.stands ≡ 0
     → ShowsStanding scram standing opened user
 shows_no_challenge scram standing opened user wants none fresh =
     stands_so scram standing Wanting opened None user user wants none refl
-    (λ challenge is. let one : ◌≡◌ {A = ℕ} 0 1 = sym fresh ∙ is.0 in absurd (omega (arith, one)))
+    (λ challenge is. never_zero challenge.header (sym fresh ∙ is.0))
 
 pub no_challenge_room : (standing : Standing) (opened : Option Challenge) (user : Option (List ℕ))
     (challenge : Challenge) → standing ≡ Wanting → opened ≡ Some challenge → ¬ HasRoom challenge

@@ -17,28 +17,28 @@ returns-in-Err-read-clause-err c = λ other.
 
 pub returns-in-Ok-Some-clause-ok : goal.returns-in-Ok-Some-clause-ok
 returns-in-Ok-Some-clause-ok c =
-    let held = carried (λ answer. ChallengesFrom (state_in c.server_over.result) (served_by (λ (store : Store). store) c.server_over.result)
+    let held = carried (λ answer. ChallengesFrom (state_in c.server_over-machine.result) (served_by (λ (store : Store). store) c.server_over-machine.result)
     c.args.nonce.now c.args.client_first.now (Ok (option_map (λ message. message.items) answer))
     (state_in c.compute_server_first_message.new.self)) c.in-Ok-Some.field-0 (Some c.in-Ok-Some.field-0-0)
     c.in-Ok-Some.field-0-is c.in-Ok-Some.ensures.answer in
     challenged c.args.accepts_unbound c.args.kept.now c.args.nonce.now c.args.client_first.now _ _ c.in-Ok-read.kept
-    (provider_in c.server_over.result) (state_in c.server_over.result) _
-    c.in-Ok-read.ensures.ok (c.server_over.ensures.provider ∙ c.new-credential.ensures) held
+    (provider_in c.server_over-machine.result) (state_in c.server_over-machine.result) _
+    c.in-Ok-read.ensures.ok (c.server_over-machine.ensures.provider ∙ c.new-credential.ensures) held
 
 pub returns-in-Ok-None-clause-err : goal.returns-in-Ok-None-clause-err
 returns-in-Ok-None-clause-err c = λ _.
-    let held = carried (λ answer. ChallengesFrom (state_in c.server_over.result) (served_by (λ (store : Store). store) c.server_over.result)
+    let held = carried (λ answer. ChallengesFrom (state_in c.server_over-machine.result) (served_by (λ (store : Store). store) c.server_over-machine.result)
     c.args.nonce.now c.args.client_first.now (Ok (option_map (λ message. message.items) answer))
     (state_in c.compute_server_first_message.new.self)) c.in-Ok-None.field-0 None
     c.in-Ok-None.field-0-is c.in-Ok-None.ensures.answer in
     never_unknown c.args.accepts_unbound c.args.kept.now c.args.nonce.now c.args.client_first.now _ c.in-Ok-read.kept
-    (provider_in c.server_over.result) (state_in c.server_over.result) _ (client_first_values c.in-Ok.first) _
+    (provider_in c.server_over-machine.result) (state_in c.server_over-machine.result) _ (client_first_values c.in-Ok.first) _
     c.in-Ok.ensures.answer c.in_ok-username.ensures.ok
-    (c.server_over.ensures.provider ∙ c.new-credential.ensures) held
+    (c.server_over-machine.ensures.provider ∙ c.new-credential.ensures) held
 
 pub returns-in-Err-compute_server_first_message-clause-err : goal.returns-in-Err-compute_server_first_message-clause-err
 returns-in-Err-compute_server_first_message-clause-err c =
-    failed c.args.accepts_unbound c.args.kept.now c.args.nonce.now c.args.client_first.now (provider_in c.server_over.result)
-    (state_in c.server_over.result) _ c.in-Err-compute_server_first_message.why
+    failed c.args.accepts_unbound c.args.kept.now c.args.nonce.now c.args.client_first.now (provider_in c.server_over-machine.result)
+    (state_in c.server_over-machine.result) _ c.in-Err-compute_server_first_message.why
     c.from-in-Err-compute_server_first_message.result c.in-Err-compute_server_first_message.ensures.answer.1
     c.from-in-Err-compute_server_first_message.ensures

@@ -8,7 +8,9 @@ pub returns-in_default-clause-err : goal.returns-in_default-clause-err
 returns-in_default-clause-err c = search (rules, not_open)
 
 pub returns-in-Err-clause-err : goal.returns-in-Err-clause-err
-returns-in-Err-clause-err c = search (rules, keeps_none)
+returns-in-Err-clause-err c = λ _.
+    keeps_none c.args.kept.now c.args.server.now c.args.client_final.now (challenge_kept c.in-Some.challenge) c.in-Err.status
+    c.in-Some.ensures c.in-Err.ensures.err
 
 pub returns-in-Ok-compute_server_final_message_behind-clause-ok :
     goal.returns-in-Ok-compute_server_final_message_behind-clause-ok
