@@ -1,6 +1,6 @@
 -- What a server answers to a client-first message, by the struct of its user's record.
 use Rattle.std.proofs.Common.{Bool, arith, refl, sym, ap, inl, inr, ◌∙◌, ◌≡◌, ◌≢◌, ◌≤◌, ℕ, List, length, take}
-use Rattle.std.specs.Prelude.{Some, None, Ok, Err, codes}
+use Rattle.std.specs.Prelude.{Option, Result, Some, None, Ok, Err, codes}
 use Rattle.std.proofs.lemmas.List.{length-append}
 use Rattle.fe2o3_scram.specs.declared.scram_messages.error.ServerScramErrorKind.{ServerScramErrorKind}
 use Rattle.fe2o3_scram.specs.declared.scram_messages.error.ServerScramErrorKind.TheVariants.{IllegalAuthenticatorState, OutOfMemory as NoMemory}
@@ -44,6 +44,14 @@ pub no_room : (unbound : Bool) (kept : Kept) (nonce text : List ℕ) (challenge 
     → ¬ HasRoom challenge → NotChallenged unbound kept nonce text statuses.TooLong
 unfolding NotChallenged
 no_room unbound kept nonce text challenge held wide = inr (inr (refl, (challenge, held, wide)))
+
+-- a server that takes whom another takes answers what that one answers
+pub challenges_so : (state next : ServerState) (store : Store) (own unbound : Bool) (nonce text : List ℕ)
+    (answer : Result (Option (List ℕ)) ServerScramErrorKind) → own ≡ unbound
+    → ChallengesFrom state (serving own store) nonce text answer next
+    → ChallengesFrom state (serving unbound store) nonce text answer next
+challenges_so state next store own unbound nonce text answer same held =
+    carried (λ (option : Bool). ChallengesFrom state (serving option store) nonce text answer next) own unbound same held
 
 -- the machine's answers
 pub challenged : (unbound : Bool) (kept : Kept) (nonce text user message : List ℕ) (shown : VersionedRecord)

@@ -2,8 +2,8 @@ use Rattle.std.proofs.Common.{rules, ◌∙◌, Ok, option_map}
 use Rattle.std.specs.Prelude.{Some, None}
 use Rattle.fe2o3_scram.specs.ClientFirst.{client_first_values}
 use Rattle.fe2o3_scram.specs.Credentials.{Store}
-use Rattle.fe2o3_scram.specs.ScramServer.{ChallengesFrom, provider_in, served_by, state_in}
-use Rattle.sasl_c.proofs.ServerLemmas.{challenged, failed, never_unknown, not_shown, unread}
+use Rattle.fe2o3_scram.specs.ScramServer.{ChallengesFrom, provider_in, served_by, state_in, unbound_in}
+use Rattle.sasl_c.proofs.ServerLemmas.{challenged, challenges_so, failed, never_unknown, not_shown, unread}
 use Rattle.sasl_c.proofs.StatusLemmas.{carried}
 use Rattle.sasl_c.proofs.server.challenged.Goals as goal
 
@@ -23,7 +23,9 @@ returns-in-Ok-Some-clause-ok c =
     c.in-Ok-Some.field-0-is c.in-Ok-Some.ensures.answer in
     challenged c.args.accepts_unbound c.args.kept.now c.args.nonce.now c.args.client_first.now _ _ c.in-Ok-read.kept
     (provider_in c.server_over-machine.result) (state_in c.server_over-machine.result) _
-    c.in-Ok-read.ensures.ok (c.server_over-machine.ensures.provider ∙ c.new-credential.ensures) held
+    c.in-Ok-read.ensures.ok (c.server_over-machine.ensures.provider ∙ c.new-credential.ensures)
+    (challenges_so _ _ _ (unbound_in c.server_over-machine.result) c.args.accepts_unbound c.args.nonce.now c.args.client_first.now
+    _ c.server_over-machine.ensures.unbound held)
 
 pub returns-in-Ok-None-clause-err : goal.returns-in-Ok-None-clause-err
 returns-in-Ok-None-clause-err c = λ _.
@@ -34,11 +36,14 @@ returns-in-Ok-None-clause-err c = λ _.
     never_unknown c.args.accepts_unbound c.args.kept.now c.args.nonce.now c.args.client_first.now _ c.in-Ok-read.kept
     (provider_in c.server_over-machine.result) (state_in c.server_over-machine.result) _ (client_first_values c.in-Ok.first) _
     c.in-Ok.ensures.answer c.in_ok-username.ensures.ok
-    (c.server_over-machine.ensures.provider ∙ c.new-credential.ensures) held
+    (c.server_over-machine.ensures.provider ∙ c.new-credential.ensures)
+    (challenges_so _ _ _ (unbound_in c.server_over-machine.result) c.args.accepts_unbound c.args.nonce.now c.args.client_first.now
+    _ c.server_over-machine.ensures.unbound held)
 
 pub returns-in-Err-compute_server_first_message-clause-err : goal.returns-in-Err-compute_server_first_message-clause-err
 returns-in-Err-compute_server_first_message-clause-err c =
     failed c.args.accepts_unbound c.args.kept.now c.args.nonce.now c.args.client_first.now (provider_in c.server_over-machine.result)
     (state_in c.server_over-machine.result) _ c.in-Err-compute_server_first_message.why
-    c.from-in-Err-compute_server_first_message.result c.in-Err-compute_server_first_message.ensures.answer.1
+    c.from-in-Err-compute_server_first_message.result (λ other. challenges_so _ _ _ (unbound_in c.server_over-machine.result) c.args.accepts_unbound c.args.nonce.now c.args.client_first.now _
+    c.server_over-machine.ensures.unbound (c.in-Err-compute_server_first_message.ensures.answer.1 other))
     c.from-in-Err-compute_server_first_message.ensures
