@@ -1,4 +1,4 @@
-use Rattle.std.proofs.Common.{rules, ◌∙◌, Ok, option_map}
+use Rattle.std.proofs.Common.{rules, ◌∙◌, Ok, Err, option_map}
 use Rattle.std.specs.Prelude.{Some, None}
 use Rattle.fe2o3_scram.specs.ClientFirst.{client_first_values}
 use Rattle.fe2o3_scram.specs.Credentials.{Store}
@@ -42,8 +42,11 @@ returns-in-Ok-None-clause-err c = λ _.
 
 pub returns-in-Err-compute_server_first_message-clause-err : goal.returns-in-Err-compute_server_first_message-clause-err
 returns-in-Err-compute_server_first_message-clause-err c =
-    failed c.args.accepts_unbound c.args.kept.now c.args.nonce.now c.args.client_first.now (provider_in c.server_over-machine.result)
-    (state_in c.server_over-machine.result) _ c.in-Err-compute_server_first_message.why
-    c.from-in-Err-compute_server_first_message.result (λ other. challenges_so _ _ _ (unbound_in c.server_over-machine.result) c.args.accepts_unbound c.args.nonce.now c.args.client_first.now _
-    c.server_over-machine.ensures.unbound (c.in-Err-compute_server_first_message.ensures.answer.1 other))
+    let machine = c.server_over-machine.result in
+    let why = c.in-Err-compute_server_first_message.why in
+    failed c.args.accepts_unbound c.args.kept.now c.args.nonce.now c.args.client_first.now (provider_in machine)
+    (state_in machine) _ why c.from-in-Err-compute_server_first_message.result
+    (λ other. challenges_so _ _ (provider_in machine) (unbound_in machine) c.args.accepts_unbound c.args.nonce.now
+    c.args.client_first.now (Err why) c.server_over-machine.ensures.unbound
+    (c.in-Err-compute_server_first_message.ensures.answer.1 other))
     c.from-in-Err-compute_server_first_message.ensures
