@@ -39,13 +39,18 @@ fn choice_of(number: u32) -> Option<Unassigned>
 }
 
 /// What the bytes are prepared to.
+#[tactic(auto, using(crate::proofs::SaslprepLemmas::prepares_to))]
 fn prepared(alloc: Global, bytes: &[u8], unassigned: u32) -> Result<CowStr<'_>, Status>
     ensures ok { IfOk result (λ out. PreparesTo unassigned bytes.now (Ok (cow_str_bytes out))) }
     ensures err { IfErr result (λ status. status ≢ StatusOutOfMemory → PreparesTo unassigned bytes.now (Err status)) }
     ensures room { IfErr result (λ status. status ≢ RoomTooSmall) }
 {
-    let choice = choice_of(unassigned).ok_or(Status::NoSuchChoice)?;
-    let text = text(bytes)?;
+    let Some(choice) = choice_of(unassigned) else {
+        return Err(Status::NoSuchChoice);
+    };
+    let Ok(text) = text(bytes) else {
+        return Err(Status::NotUtf8);
+    };
     match saslprep(alloc, text, choice) {
         Ok(out) => Ok(out),
         Err(why) => Err(Status::from(why)),

@@ -355,7 +355,9 @@ fn verify(
     ensures { Verifies kept.now (in_form form password.now) result }
 {
     let kept = kept.read(alloc)?;
-    let password = text(password)?;
+    let Ok(password) = text(password) else {
+        return Err(Status::NotUtf8);
+    };
     let version = *kept.scram_version();
     if form.meets(version, &kept.as_stored_password(), password) {
         Ok(())
