@@ -374,8 +374,9 @@ struct fe2o3_scram_client {
 /* What a server offers, and whose record it has: lent for each call. */
 struct fe2o3_sasl_host {
     /* Which mechanisms are offered: the sum of 1 for SCRAM of the version, 2 for PLAIN, 4 for ANONYMOUS, and 8 for
-     * EXTERNAL; and 16 where SCRAM takes a client whose GS2 header is `y,,` (`fe2o3_scram_server_first_unbound`). PLAIN shows the password to whoever reads the connection, and is for TLS alone.
-     */
+     * EXTERNAL; and of 16 where SCRAM takes a client whose GS2 header is `y,,`, as
+     * `fe2o3_scram_server_first_unbound` does. PLAIN shows the password to whoever reads the connection, and is for
+     * TLS alone. */
     uint32_t mechanisms;
     /* 1, 256 or 512, for the hash of SCRAM and of the record. */
     uint32_t version;
@@ -627,8 +628,9 @@ uint32_t fe2o3_sasl_server_receive(
     size_t *len);
 
 /* Answers a client-first message with the server-first message, which starts an exchange afresh at any time. The
- * GS2 header of the message has to be `n,,`. The record is that of the user whom the message names (`fe2o3_scram_server_user`), or one that is made up
- * (`fe2o3_scram_record_of_nobody`). The nonce is 32 random bytes, fresh for each. */
+ * GS2 header of the message has to be `n,,`. The record is that of the user whom the message names
+ * (`fe2o3_scram_server_user`), or one that is made up (`fe2o3_scram_record_of_nobody`). The nonce is 32 random
+ * bytes, fresh for each. */
 uint32_t fe2o3_scram_server_first(
     const struct fe2o3_scram_record *kept,
     struct fe2o3_scram_server *server,

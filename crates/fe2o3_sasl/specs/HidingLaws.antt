@@ -1,5 +1,5 @@
 -- What runs of an acceptor are that hides unknown users. Each is the contract of a clause of `laws::hidden_users`.
-use Rattle.std.specs.Prelude.{ℕ, List, ◌++◌, ◌≡◌, Option, Some, None, Ok, codes}
+use Rattle.std.specs.Prelude.{ℕ, List, ◌++◌, ◌≡◌, Option, Some, None, Ok, codes, Bool}
 use Rattle.std.specs.List.{AllByRecursion, Contains}
 use Rattle.fe2o3_sasl_wire.specs.declared.amqp_types.SaslCode.TheVariants as outcomes
 use Rattle.fe2o3_sasl_wire.specs.SaslFrames as frames
@@ -23,16 +23,16 @@ abbrev pub hiding : Provider → Nobody → ServerState → HidingServer
 hiding provider nobody state = record { provider = provider; nobody = nobody; state = state }
 
 -- the names hold that of the body's client-first message, where it is an init with one that is read
-abbrev pub HoldsName : List (List ℕ) → Given → Type 0
-HoldsName names event = (mechanism text : List ℕ) (hostname : Option (List ℕ)) (client : ClientFirst)
-    → SpellsBody event.body (Ok (frames.Init mechanism (Some text) hostname)) → ReadsClientFirst provider.unbound text (Ok client)
-    → Contains names client.user
+abbrev pub HoldsName : Bool → List (List ℕ) → Given → Type 0
+HoldsName unbound names event = (mechanism text : List ℕ) (hostname : Option (List ℕ)) (client : ClientFirst)
+    → SpellsBody event.body (Ok (frames.Init mechanism (Some text) hostname))
+    → ReadsClientFirst unbound text (Ok client) → Contains names client.user
 
 -- over any list of bodies a run of its machine is a run of the SCRAM acceptor over the provider with the made-up
 -- records of the bodies' names behind its own, so that all laws of such runs hold of it
 abbrev pub HiddenRunsAreRuns : Type 0
 HiddenRunsAreRuns = (provider : Provider) (nobody : Nobody) (names : List (List ℕ)) (events : List Given)
-    (replies : List ServerSays) (last : HidingServer) → AllByRecursion (HoldsName names) events
+    (replies : List ServerSays) (last : HidingServer) → AllByRecursion (HoldsName provider.unbound names) events
     → Runs (AcceptorSteps hiding_machine) (hiding provider nobody Initial) events replies last
     → Runs (AcceptorSteps acceptor_machine) (ScramAcceptor (with_nobody provider nobody names) Initial) events replies
     (ScramAcceptor (with_nobody provider nobody names) last.state)
@@ -40,7 +40,7 @@ HiddenRunsAreRuns = (provider : Provider) (nobody : Nobody) (names : List (List 
 -- and so a server history, of which the headline speaks
 abbrev pub HiddenRunsAreHistories : Type 0
 HiddenRunsAreHistories = (provider : Provider) (nobody : Nobody) (names : List (List ℕ)) (events : List Given)
-    (replies : List ServerSays) (last : HidingServer) → AllByRecursion (HoldsName names) events
+    (replies : List ServerSays) (last : HidingServer) → AllByRecursion (HoldsName provider.unbound names) events
     → Runs (AcceptorSteps hiding_machine) (hiding provider nobody Initial) events replies last
     → ServerHistory (with_nobody provider nobody names) events replies
 

@@ -1,5 +1,7 @@
 //! `explain`: what the messages of an exchange say, which come in base64, a line for each, in their order.
 
+ghost use Rattle.std.specs.Prelude.{◌<◌, IfSome};
+
 use crate::stop::Stop;
 use crate::{input, wire};
 use fe2o3_sasl_wire::{Error, FrameView, SymbolsView, view_frame};
@@ -11,12 +13,18 @@ use std::io::{BufRead, Write};
 
 /// What the messages so far have named.
 #[derive(Drop)]
-struct Heard {
+pub(crate) struct Heard {
+    /// What is printed before each message: whose it is, or nothing.
+    side: &'static str,
+
+    /// The user of the client's first message, plain.
+    pub(crate) user: String,
+
     /// The nonce of the client's first message.
-    client_nonce: String,
+    pub(crate) client_nonce: String,
 
     /// The nonce of the server's first message.
-    nonce: String,
+    pub(crate) nonce: String,
 }
 
 /// Why a message is refused.
@@ -42,10 +50,7 @@ pub fn explain<I: BufRead, O: Write>(
     input: &mut I,
     output: &mut O,
 ) -> Result<(), Stop> {
-    let mut heard = Heard {
-        client_nonce: String::new(alloc),
-        nonce: String::new(alloc),
-    };
+    let mut heard = Heard::new(alloc, "");
     if frames {
         return heard.bodies(alloc, input, output);
     }
@@ -59,17 +64,6 @@ static NAMES: [&str; 4] = [
     "client-final",
     "server-final",
 ];
-
-/// Prints what is told of a message.
-fn print<O: Write>(name: &str, told: Told, output: &mut O) -> Result<(), Stop> {
-    match told {
-        Ok(said) => writeln!(output, "{name}: {said}").map_err(Stop::of_output),
-        Err(refusal) => {
-            refuse(name, refusal, output).map_err(Stop::of_output)?;
-            Err(refusal.stop())
-        }
-    }
-}
 
 /// Prints why a message is refused.
 fn refuse<O: Write>(name: &str, refusal: Refusal, output: &mut O) -> std::io::Result<()> {
@@ -110,6 +104,34 @@ impl From<AllocError> for Refusal {
 }
 
 impl Heard {
+    /// Nothing so far, of messages before each of which this is printed.
+    pub(crate) fn new(alloc: Global, side: &'static str) -> Heard {
+        Heard {
+            side,
+            user: String::new(alloc),
+            client_nonce: String::new(alloc),
+            nonce: String::new(alloc),
+        }
+    }
+
+    /// The nonce of the server's own, which stands behind the client's (RFC 5802, section 5.1, `r`).
+    pub(crate) fn server_nonce(&self) -> Option<&str> {
+        let (nonce, client_nonce) = (self.nonce.as_str(), self.client_nonce.as_str());
+        nonce.strip_prefix(client_nonce)
+    }
+
+    /// Prints what is told of a message.
+    fn print<O: Write>(&self, name: &str, told: Told, output: &mut O) -> Result<(), Stop> {
+        write!(output, "{}", self.side).map_err(Stop::of_output)?;
+        match told {
+            Ok(said) => writeln!(output, "{name}: {said}").map_err(Stop::of_output),
+            Err(refusal) => {
+                refuse(name, refusal, output).map_err(Stop::of_output)?;
+                Err(refusal.stop())
+            }
+        }
+    }
+
     /// Prints what each text says.
     fn texts<I: BufRead, O: Write>(
         &mut self,
@@ -122,7 +144,8 @@ impl Heard {
                 return Ok(());
             };
             let message = wire::bytes_of(alloc, &line)?;
-            print(NAMES[place], self.tell(alloc, place, &message), output)?;
+            let told = self.tell(alloc, place, &message);
+            self.print(NAMES[place], told, output)?;
         }
         match input::next_line(alloc, input)? {
             Some(_) => Err(Stop::Behind),
@@ -148,25 +171,22 @@ impl Heard {
     }
 
     /// Prints what a body says, and the text in it.
-    fn body<O: Write>(&mut self, alloc: Global, body: &[u8], output: &mut O) -> Result<(), Stop> {
+    pub(crate) fn body<O: Write>(
+        &mut self,
+        alloc: Global,
+        body: &[u8],
+        output: &mut O,
+    ) -> Result<(), Stop> {
         let view = match view_frame(body) {
             Ok((view, _)) => view,
-            Err(fault) => return print("frame", Err(Refusal::Frame(fault)), output),
+            Err(fault) => return self.print("frame", Err(Refusal::Frame(fault)), output),
         };
-        print(name_of(&view), told_of(alloc, &view), output)?;
-        match view {
-            FrameView::Init {
-                initial_response: Some(text),
-                ..
-            } => print(NAMES[0], self.client_first(alloc, text), output),
-            FrameView::Challenge(text) => print(NAMES[1], self.server_first(alloc, text), output),
-            FrameView::Response(text) => print(NAMES[2], self.client_final(alloc, text), output),
-            FrameView::Outcome {
-                additional_data: Some(text),
-                ..
-            } => print(NAMES[3], server_final(alloc, text), output),
-            _ => Ok(()),
-        }
+        self.print(name_of(&view), told_of(alloc, &view), output)?;
+        let Some((place, text)) = text_in(&view) else {
+            return Ok(());
+        };
+        let told = self.tell(alloc, place, text);
+        self.print(NAMES[place], told, output)
     }
 
     /// What is told of the message at a place.
@@ -182,6 +202,7 @@ impl Heard {
     /// What a client-first message says.
     fn client_first(&mut self, alloc: Global, message: &[u8]) -> Told {
         let first = ClientFirst::parse(alloc, message)?;
+        self.user = first.username.as_str().to_string(alloc)?;
         self.client_nonce = first.client_nonce.to_string(alloc)?;
         let (user, nonce) = (first.username.as_str(), first.client_nonce);
         Ok(format!(in alloc; "the user {user:?} asks, with the nonce {nonce:?}")?)
@@ -208,7 +229,7 @@ impl Heard {
 }
 
 /// The bytes that a line spells in hexadecimal digits.
-fn body_of(alloc: Global, line: &str) -> Result<Vec<u8>, Stop> {
+pub(crate) fn body_of(alloc: Global, line: &str) -> Result<Vec<u8>, Stop> {
     match hex::decode(alloc, line) {
         Ok(body) => Ok(body),
         Err(hex::FromHexError::OutOfMemory) => Err(Stop::OutOfMemory),
@@ -224,6 +245,25 @@ fn name_of(view: &FrameView<'_>) -> &'static str {
         FrameView::Challenge(_) => "sasl-challenge",
         FrameView::Response(_) => "sasl-response",
         FrameView::Outcome { .. } => "sasl-outcome",
+    }
+}
+
+/// The text in a frame, and its place among the messages.
+fn text_in<'a>(view: &FrameView<'a>) -> Option<(usize, &'a [u8])>
+    ensures { IfSome result (λ found. found.0 < 4) }
+{
+    match view {
+        FrameView::Init {
+            initial_response: Some(text),
+            ..
+        } => Some((0, *text)),
+        FrameView::Challenge(text) => Some((1, *text)),
+        FrameView::Response(text) => Some((2, *text)),
+        FrameView::Outcome {
+            additional_data: Some(text),
+            ..
+        } => Some((3, *text)),
+        _ => None,
     }
 }
 

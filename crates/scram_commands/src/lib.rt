@@ -1,10 +1,12 @@
 //! The commands of the program `scram`, over any runtime, reader and writers: `record` makes the record of a
 //! password, `users` keeps a file of records, `client` and `server` play a login, and `explain` tells what its
-//! messages say.
+//! messages say, and what both sides of it have in common.
 #![tactic(auto)]
 
-ghost use Rattle.std.specs.Prelude.{◌≤◌, IfOk};
+ghost use Rattle.std.specs.Prelude.{◌≡◌, ◌≤◌, IfOk};
+ghost use Rattle.scram_commands.specs.Stop.{status_of};
 
+pub mod audit;
 pub mod client;
 pub mod explain;
 pub mod frames;
@@ -80,7 +82,7 @@ where
     R: Files + RandomSource + AllocGlobal,
     I: BufRead,
     O: Write,
-    ensures { IfOk result (λ status. status ≤ 4) }
+    ensures { IfOk result (λ status. status ≡ 0) }
 {
     task.run(rt, streams)?;
     Ok(0)
@@ -104,7 +106,8 @@ fn show<O: Write, E: Write>(error: &clap::Error, output: &mut O, errors: &mut E)
 
 /// Tells why it stops, and answers the status.
 pub fn tell<E: Write>(stop: Stop, errors: &mut E) -> u8
-    ensures { result ≤ 4 }
+    ensures exactly { result ≡ status_of stop }
+    ensures within { result ≤ 4 }
 {
     // It stops, whether or not that can be told.
     let _ = writeln!(errors, "scram: {stop}");

@@ -31,7 +31,7 @@ fn print_word<O: Write>(output: &mut O, word: &Word) -> Result<()> {
     match word.kind {
         Kind::Place | Kind::MechanismPlace => write!(output, ".TP\n.I {name}\n{help}.\n"),
         Kind::Flag => write!(output, ".TP\n.B \\-\\-{name}\n{help}.\n"),
-        Kind::Text | Kind::Mechanism | Kind::Count => {
+        Kind::Text | Kind::Mechanism | Kind::Count | Kind::CountOf(_) => {
             write!(output, ".TP\n.BI \\-\\-{name} \" {value}\"\n{help}.\n")
         }
         Kind::DefaultMechanism => {

@@ -25,6 +25,9 @@ pub enum Kind {
     /// An option with an iteration count.
     Count,
 
+    /// The same, which needs another option.
+    CountOf(&'static str),
+
     /// The name of a mechanism at its place.
     MechanismPlace,
 
@@ -70,8 +73,8 @@ pub static ABOUT: &str = "Makes, keeps and tries the records of SCRAM (RFC 5802,
 /// What holds of every command.
 pub static BEHIND: &str = "\
 A password is the first line of standard input, in printable ASCII, and never a word. Status: 0 done, 1 refused
-by the other side, 2 wrong words, 3 this side refuses the other, 4 an input that cannot be read, or a file,
-memory or an output that fails.";
+by the other side, 2 wrong words, 3 this side refuses the other or an audit finds no whole login, 4 an input that
+cannot be read or audited, or a file, memory or an output that fails.";
 
 /// What `users` does.
 pub static USERS: &str = "Keeps a file of records, a line for each: NAME RECORD";
@@ -174,6 +177,21 @@ const BODIES: Word = Word {
     help: "Each line is the body of a frame of AMQP in hexadecimal digits",
 };
 
+const AUDIT: Word = Word {
+    kind: Kind::Text,
+    name: "audit",
+    value: "FILE",
+    help: "Audits both sides by this file of users: behind the password, each line is client or server and one of \
+        its bodies, whose nonces are the base64 of 32 bytes",
+};
+
+const AUDITED_LIMIT: Word = Word {
+    kind: Kind::CountOf("audit"),
+    name: "limit",
+    value: "N",
+    help: "The largest iteration count that the client of an audit accepts; else it is 1000000",
+};
+
 /// The commands that stand alone.
 pub static COMMANDS: [Words; 5] = [
     Words {
@@ -194,7 +212,7 @@ pub static COMMANDS: [Words; 5] = [
     Words {
         name: "explain",
         about: "Tells what the messages of a login say: each line is one in base64",
-        words: &[BODIES],
+        words: &[BODIES, AUDIT, AUDITED_LIMIT],
     },
     Words {
         name: "man",
@@ -229,11 +247,11 @@ pub static USERS_COMMANDS: [Words; 4] = [
 
 impl Word {
     /// The word for the parser.
-    fn arg<'a>(&self, alloc: Global) -> Arg<'a> {
+    fn arg<'a>(&self, alloc: Global) -> Result<Arg<'a>, AllocError> {
         let arg = Arg::new(alloc, self.name)
             .action(ArgAction::Set)
             .help(self.help);
-        match self.kind {
+        Ok(match self.kind {
             Kind::Place => arg.required(true),
             Kind::Text => self.option(arg),
             Kind::Mechanism => self.option(arg).value_parser(MECHANISMS.as_slice()),
@@ -249,8 +267,12 @@ impl Word {
             Kind::Count => self
                 .option(arg)
                 .value_parser(ValueParser::unsigned(1, 4294967295)),
+            Kind::CountOf(other) => self
+                .option(arg)
+                .value_parser(ValueParser::unsigned(1, 4294967295))
+                .requires_arg(other)?,
             Kind::MechanismPlace => arg.required(true).value_parser(MECHANISMS.as_slice()),
-        }
+        })
     }
 }
 
@@ -266,7 +288,7 @@ impl Words {
     fn command<'a>(&self, alloc: Global) -> Result<Command<'a>, AllocError> {
         let mut args = Vec::new(alloc);
         for word in self.words {
-            args.push(word.arg(alloc))?;
+            args.push(word.arg(alloc)?)?;
         }
         Command::new(alloc, self.name).about(self.about).args(args)
     }

@@ -1,7 +1,9 @@
 //! What stops the program before its end.
 
-ghost use Rattle.std.specs.Prelude.{◌≤◌};
+ghost use Rattle.std.specs.Prelude.{◌≡◌, ◌≤◌};
+ghost use Rattle.scram_commands.specs.Stop.{status_of};
 
+use fe2o3_sasl::AuditError;
 use fe2o3_sasl_negotiation::ClosedBecause;
 use fe2o3_scram::{
     ReadLinesError, ReadLinesErrorKind, RecordError, ScramErrorKind, ServerScramErrorKind,
@@ -126,6 +128,34 @@ pub enum Stop {
     #[error("A message is refused.")]
     MessageRefused,
 
+    /// A line names no side.
+    #[error("A line of standard input does not begin with client or server and a space.")]
+    NoSide,
+
+    /// A nonce is none of an audit, which makes both sides anew from nonces of 32 bytes.
+    #[error("The bodies cannot be audited: a nonce is not the base64 of 32 bytes.")]
+    OtherNonces,
+
+    /// No init of the client is for a mechanism that has records.
+    #[error("The bodies cannot be audited: the client asks for no login by SCRAM.")]
+    NoLogin,
+
+    /// Two inits of the client differ in the user or the mechanism.
+    #[error("The bodies cannot be audited: the client asks for two users or by two mechanisms.")]
+    TwoLogins,
+
+    /// Nothing is found in an audit.
+    #[error("The two sides have no login in common.")]
+    NothingInCommon,
+
+    /// The server has accepted the client, which has not heard so, or does not believe it.
+    #[error("The client does not believe the server that accepts it.")]
+    NotBelieved,
+
+    /// Two logins have one proof or one signature.
+    #[error("A proof or a signature is of two logins.")]
+    OneProofOfTwo,
+
     /// A request for memory was refused.
     #[error("There is not enough memory.")]
     OutOfMemory,
@@ -166,7 +196,8 @@ impl Stop {
 
     /// The status to end with.
     pub fn status(self) -> u8
-        ensures { result ≤ 4 }
+        ensures exactly { result ≡ status_of self }
+        ensures within { result ≤ 4 }
     {
         match self {
             Stop::Ended | Stop::RefusedByServer => 1,
@@ -177,7 +208,10 @@ impl Stop {
             | Stop::Server(_)
             | Stop::UnknownUser
             | Stop::Closed(_)
-            | Stop::MessageRefused => 3,
+            | Stop::MessageRefused
+            | Stop::NothingInCommon
+            | Stop::NotBelieved
+            | Stop::OneProofOfTwo => 3,
             Stop::NoPassword
             | Stop::WrongPassword
             | Stop::LongLine
@@ -191,6 +225,10 @@ impl Stop {
             | Stop::NotBase64
             | Stop::NotHex
             | Stop::Behind
+            | Stop::NoSide
+            | Stop::OtherNonces
+            | Stop::NoLogin
+            | Stop::TwoLogins
             | Stop::WrongKeys
             | Stop::OtherMechanism
             | Stop::Unwritten(_)
@@ -233,6 +271,14 @@ impl From<ServerScramErrorKind> for Stop {
         match kind {
             ServerScramErrorKind::OutOfMemory => Stop::OutOfMemory,
             _ => Stop::Server(kind),
+        }
+    }
+}
+
+impl From<AuditError> for Stop {
+    fn from(fault: AuditError) -> Stop {
+        match fault {
+            AuditError::OutOfMemory => Stop::OutOfMemory,
         }
     }
 }

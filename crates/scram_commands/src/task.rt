@@ -1,5 +1,6 @@
 //! What the words ask for.
 
+use crate::audit::{Audited, audit};
 use crate::client::{Login, log_in};
 use crate::explain::explain;
 use crate::record::NewRecord;
@@ -47,6 +48,9 @@ pub enum Task<'a> {
     /// Tells what messages say: those of bodies of frames, or texts.
     Explain(bool),
 
+    /// Tells what messages of both sides say, and what both have in common.
+    Audit(Audited<'a>),
+
     /// Prints the page of the manual.
     Man,
 }
@@ -58,7 +62,7 @@ impl<'a> Task<'a> {
             Some(("users", found)) => Task::of_users(found),
             Some(("client", found)) => Task::Client(login(found)),
             Some(("server", found)) => Task::Server(service(found)),
-            Some(("explain", found)) => Task::Explain(found.get_flag("frames")),
+            Some(("explain", found)) => Task::of_explain(found),
             Some(("man", _)) => Task::Man,
             Some((_, found)) => Task::Record(new_record(found)),
             None => Task::Record(new_record(matches)),
@@ -73,6 +77,17 @@ impl<'a> Task<'a> {
             Some(("check", found)) => Task::Check(named(found)),
             Some((_, found)) => Task::List(text(found, "FILE")),
             None => Task::List(text(matches, "FILE")),
+        }
+    }
+
+    /// Reads what a parse found behind `explain`.
+    fn of_explain(matches: &ArgMatches<'a>) -> Task<'a> {
+        match matches.get_str("audit") {
+            Some(file) => Task::Audit(Audited {
+                file,
+                limit: matches.get_one::<u32>("limit").unwrap_or(1_000_000),
+            }),
+            None => Task::Explain(matches.get_flag("frames")),
         }
     }
 
@@ -102,6 +117,7 @@ impl<'a> Task<'a> {
             Task::Client(login) => log_in(rt, login, streams.input, streams.output),
             Task::Server(service) => serve(rt, service, streams.input, streams.output),
             Task::Explain(frames) => explain(alloc, *frames, streams.input, streams.output),
+            Task::Audit(asked) => audit(rt, asked, streams.input, streams.output),
             Task::Man => man::print(streams.output).map_err(Stop::of_output),
         }
     }

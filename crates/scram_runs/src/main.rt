@@ -28,7 +28,7 @@ fn replay<W: Write>(alloc: Global, name: &str, text: &str, output: &mut W) -> io
 }
 
 /// The files of runs.
-static FILES: [&str; 7] = [
+static FILES: [&str; 8] = [
     "words.txt",
     "records.txt",
     "users.txt",
@@ -36,6 +36,7 @@ static FILES: [&str; 7] = [
     "frames.txt",
     "explained.txt",
     "bodies.txt",
+    "audits.txt",
 ];
 
 /// Replays every file.

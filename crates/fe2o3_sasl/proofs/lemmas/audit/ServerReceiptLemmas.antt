@@ -1,6 +1,6 @@
 -- The receipts of a server's run.
-use Rattle.std.proofs.Common.{◌≡◌, ℕ, suc, ◌≤◌, ◌+◌, false, true≢false, Some, List, [], ◌∷◌, ◌++◌, length, refl, sym, ap, ◌∙◌, subst, arith, Ok}
-use Rattle.std.specs.Prelude.{slice_get}
+use Rattle.std.proofs.Common.{◌≡◌, ℕ, suc, ◌≤◌, ◌+◌, false, true≢false, Some, List, [], ◌∷◌, ◌++◌, length, refl, sym, ap, ◌∙◌, subst, arith, Ok, Bool, Result, Err}
+use Rattle.std.specs.Prelude.{slice_get, IfOk}
 use Rattle.std.proofs.lemmas.Option.{same_Some}
 use Rattle.fe2o3_sasl_wire.specs.declared.amqp_types.SaslCode.TheVariants as outcomes
 use Rattle.fe2o3_sasl_wire.specs.SaslFrames as frames
@@ -8,7 +8,7 @@ use Rattle.fe2o3_sasl_wire.specs.SaslFrames.{SaslFrame}
 use Rattle.fe2o3_scram.specs.ClientFinal.{ClientFinal, HasProof, ReadsFinalText}
 use Rattle.fe2o3_scram.specs.declared.scram_messages.gs2_header.Gs2Header.{Gs2Header}
 use Rattle.fe2o3_scram.specs.ClientFirst.{ClientFirst, ReadsClientFirst}
-use Rattle.fe2o3_scram.specs.Credentials.{Provider, Record, record_at}
+use Rattle.fe2o3_scram.specs.Credentials.{Provider, Record, Store, record_at, serving}
 use Rattle.fe2o3_scram.specs.ServerFirst.{Challenge, challenge_of, AnswersClientFirst}
 use Rattle.fe2o3_scram.proofs.lemmas.messages.ClientFinalLemmas.{names_final_text, one_proof}
 use Rattle.fe2o3_scram.proofs.lemmas.messages.OneValueLemmas.{one_client_first_value}
@@ -51,6 +51,24 @@ challenge_again provider nonce text challenge client stored answers reads known 
 pub proof_again : (header : Gs2Header) (nonce text : List ℕ) (final : ClientFinal)
     → ReadsFinalText header nonce text (Ok final) → HasProof text final
 proof_again header nonce text final reads = (names_final_text header nonce text final reads).proof
+
+-- the receipt of an accepted response, whatever GS2 headers the server takes
+pub receipt_for : {R E : Type 0} (view : R → ServerReceipt) (store : Store) (position : ℕ) (challenge : Challenging)
+    (body text : List ℕ) (final : ClientFinal) (result : Result R E) → SpellsBody body (Ok (frames.Response text))
+    → HasProof text final → IfOk result (λ receipt. (view receipt).place ≡ position)
+    → IfOk result (λ receipt. (unbound : Bool)
+    → OfAccepted (serving unbound store) (record { challenge = challenge; final = final }) (view receipt))
+    → IfOk result (λ receipt. (unbound : Bool)
+    → OkFor (serving unbound store) position challenge body (view receipt))
+receipt_for view store position challenge body text final (Ok receipt) spells has is accepted = λ unbound. record {
+  place = is;
+  text = text;
+  final = final;
+  spells = spells;
+  proof = has;
+  accepted = accepted unbound;
+}
+receipt_for view store position challenge body text final (Err fault) spells has is accepted = tt
 
 -- a challenge that is made again is the one that fitted
 same_init : (provider : Provider) (init : Given) (frame : SaslFrame) (challenge opened : Challenging)

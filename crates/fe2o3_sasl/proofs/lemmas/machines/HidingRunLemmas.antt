@@ -160,7 +160,7 @@ module _ (provider : Provider) (nobody : Nobody) (names : List (List ℕ)) where
   HoldsFrame frame = Unit {0}
 
   machine_alike : (state moved : ServerState) (nonce name : List ℕ) (frame reply : SaslFrame) → HoldsOpen state
-      → HoldsFrame frame → NamedAt state frame name
+      → HoldsFrame frame → NamedAt (hiding provider nobody state) frame name
       → acceptor_machine (ScramAcceptor (one name) state) nonce frame reply (ScramAcceptor (one name) moved)
       → acceptor_machine (ScramAcceptor all state) nonce frame reply (ScramAcceptor all moved) × HoldsOpen moved
   machine_alike state moved nonce name (frames.Init mechanism None hostname) reply opened holds named (is, same) =
@@ -216,7 +216,7 @@ module _ (provider : Provider) (nobody : Nobody) (names : List (List ℕ)) where
       (sent.0, sent.1, inr (reply, ScramAcceptor all to, alike.0, sent.2), sent.3)
 
   gives_alike : (state : ServerState) (next : HidingServer) (event : Given) (spelled : Result SaslFrame Error)
-      (says : ServerSays) → SpellsBody event.body spelled → HoldsOpen state → HoldsName names event
+      (says : ServerSays) → SpellsBody event.body spelled → HoldsOpen state → HoldsName provider.unbound names event
       → AcceptorGives hiding_machine (hiding provider nobody state) event spelled says next
       → EndsIn next (λ after. AcceptorGives acceptor_machine (ScramAcceptor all state) event spelled says
       (ScramAcceptor all after))
@@ -236,7 +236,7 @@ module _ (provider : Provider) (nobody : Nobody) (names : List (List ℕ)) where
       (λ client reads. holds mechanism text hostname client spells reads) is
 
   runs_alike : (state : ServerState) (events : List Given) (replies : List ServerSays) (last : HidingServer)
-      → HoldsOpen state → AllByRecursion (HoldsName names) events
+      → HoldsOpen state → AllByRecursion (HoldsName provider.unbound names) events
       → Runs (AcceptorSteps hiding_machine) (hiding provider nobody state) events replies last
       → Runs (AcceptorSteps acceptor_machine) (ScramAcceptor all state) events replies (ScramAcceptor all last.state)
   runs_alike state [] replies last opened holds (none, same) =

@@ -3,7 +3,7 @@ use Rattle.std.proofs.Common.{◌≡◌, ◌↔◌, ◌≤◌, ◌+◌, ℕ, Boo
 use Rattle.std.specs.Prelude.{None, Some, Result, Ok, Err, IfErr}
 use Rattle.fe2o3_sasl_wire.specs.SaslFrames as frames
 use Rattle.fe2o3_sasl_wire.specs.SaslFrames.{SaslFrame}
-use Rattle.fe2o3_scram.specs.Credentials.{CheckingCosts, MeetsRecord, Provider, Record, making_tests, record_at}
+use Rattle.fe2o3_scram.specs.Credentials.{CheckingCosts, MeetsRecord, Store, Record, making_tests, record_at}
 use Rattle.fe2o3_scram.specs.Passwords.{Typed}
 use Rattle.fe2o3_scram.specs.Readings.{NoneHolds}
 use Rattle.fe2o3_scram.proofs.lemmas.providers.PasswordLemmas.{keyless}
@@ -13,7 +13,7 @@ use Rattle.fe2o3_sasl.specs.PlainAuthenticator.{AsksPlain, HasPassword, PlainLog
 use Rattle.fe2o3_sasl.proofs.lemmas.machines.PlainMessageLemmas.{one_message}
 
 -- an unknown user has none, and a record without keys is that of none
-pub unknown : (provider : Provider) (parts : PlainParts) (stored : Record) (met : Bool)
+pub unknown : (provider : Store) (parts : PlainParts) (stored : Record) (met : Bool)
     → record_at provider.records parts.user ≡ None → stored.stored_key ≡ []
     → (IsTrue met ↔ MeetsRecord provider.version (Typed parts.password) stored)
     → (IsTrue met ↔ HasPassword provider parts)
@@ -30,7 +30,7 @@ one_asked (frames.Init mechanism (Some text) hostname) parts other asks too =
 one_asked frame parts other asks too = absurd asks
 
 -- one by a message that has not the password of its user logs nobody in
-pub not_logged_in : (provider : Provider) (frame : SaslFrame) (parts : PlainParts) → AsksPlain frame parts
+pub not_logged_in : (provider : Store) (frame : SaslFrame) (parts : PlainParts) → AsksPlain frame parts
     → ¬ HasPassword provider parts → (user : List ℕ) → ¬ PlainLogsIn provider frame user
 not_logged_in provider frame parts asks wrong user is =
     wrong (subst (HasPassword provider) (one_asked frame is.0 parts is.1 asks) is.2)

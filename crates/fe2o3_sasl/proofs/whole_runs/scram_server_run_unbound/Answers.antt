@@ -12,8 +12,8 @@ returns-clause-history g c =
     let m = g.C.ScramCredentialProvider in
     let kept = g.met.C.ScramCredentialProvider.clone_keeps c.args.credentials.now c.in_ok-provider.provider
     c.in_ok-provider.ensures.cases in
-    let made = c.server_over.ensures.served ∙ ap (serving c.args.accepts_unbound) kept in
-    let begun = c.server_over.ensures.state in
+    let made = c.server_over-authenticator.ensures.served ∙ ap (serving c.args.accepts_unbound) kept in
+    let begun = c.server_over-authenticator.ensures.state in
     if_ok_map _ _ c.run_acceptor.result (λ replies run. server_run_is_history (serving c.args.accepts_unbound (m.meaning c.args.credentials.now)) _ _
     (map given c.args.events.now) (map server_answer replies.items) (λ i. ScramAcceptor (made i) (begun i)) run)
     c.run_acceptor.ensures.replies

@@ -1,0 +1,2 @@
+-- Nobody has to believe these: they say what the code holds, and only private contracts cite them.
+pub mod Audit
