@@ -24,7 +24,7 @@ pub const NOT_PRINTABLE: u32 = 6;
 /// The iteration count is 0.
 pub const ZERO_ITERATIONS: u32 = 7;
 
-/// There is no such secret: 0 is the password, 1 the keys, and 2 both.
+/// There is no such secret: 0 is the password, 1 the keys, and 2 both; 3 is a prepared password, and 4 both with one.
 pub const NO_SUCH_SECRET: u32 = 8;
 
 /// The struct of keys shows none.
@@ -210,6 +210,19 @@ pub const REFUSED_SYS_PERM: u32 = 83;
 /// The login is refused by a system error that may pass.
 pub const REFUSED_SYS_TEMP: u32 = 84;
 
+/// There is no such choice: 0 refuses unassigned code points, and 1 allows them.
+pub const NO_SUCH_CHOICE: u32 = 85;
+
+/// What the text is prepared to holds a character that RFC 4013, section 2.3, prohibits.
+pub const PROHIBITED_CHARACTER: u32 = 86;
+
+/// What the text is prepared to holds a right-to-left character, and a left-to-right one too or another at its begin or
+/// end (RFC 3454, section 6).
+pub const MIXED_DIRECTIONS: u32 = 87;
+
+/// The text holds a code point that Unicode 3.2 does not assign, or is prepared to one.
+pub const UNASSIGNED_CODE_POINT: u32 = 88;
+
 /// What a side of a connection keeps between its calls. All zeros is a connection of which no byte has come.
 #[repr(C)]
 #[derive(Clone, Copy)]
@@ -335,8 +348,9 @@ pub struct Text {
 pub struct Login {
     /// 1, 256 or 512, for the mechanism's hash.
     pub version: u32,
-    /// 0 for the password, 1 for the keys, and 2 for the keys where the server names the salt and the count that they
-    /// are of, and else the password.
+    /// 0 for the password as it is typed, 1 for the keys, and 2 for the keys where the server names the salt and the
+    /// count that they are of, and else the password as it is typed. 3 and 4 are 0 and 2 with a prepared password, as
+    /// `fe2o3_saslprep` writes one.
     pub secret: u32,
     /// The lowest iteration count that is answered. RFC 7677 asks for 4096 at least.
     pub least_iterations: u32,
@@ -345,7 +359,7 @@ pub struct Login {
     /// The plain name of the user.
     pub username: *const u8,
     pub username_len: usize,
-    /// The password, as it is typed.
+    /// The password, as it is typed or prepared.
     pub password: *const u8,
     pub password_len: usize,
     /// The keys that an earlier login handed out.
@@ -497,6 +511,17 @@ extern "C" {
         iterations: u32,
         keys: *mut ClientKeys) -> u32;
 
+    /// Makes the keys of a prepared password (RFC 4013), for a server that keeps this salt and this count: any text,
+    /// which is taken as it stands.
+    pub fn fe2o3_scram_keys_make_prepared(
+        version: u32,
+        password: *const u8,
+        password_len: usize,
+        salt: *const u8,
+        salt_len: usize,
+        iterations: u32,
+        keys: *mut ClientKeys) -> u32;
+
     /// Finds the record of this version that a user has in a text of users, a line for each: the name, with each comma
     /// as `=2C` and each equals sign as `=3D`, a space, the text of the record, and a line feed. Of several lines for
     /// one name and version the first counts. Where nothing is found, `line` says which line is not read, counted from
@@ -520,8 +545,31 @@ extern "C" {
         out_room: usize,
         len: *mut usize) -> u32;
 
+    /// Writes what SASLprep (RFC 4013) prepares a text to, as a password is before it is compared or hashed: printable
+    /// ASCII to itself, and any other ASCII is refused. Unassigned is 0 where code points that Unicode 3.2 does not
+    /// assign are refused, as in a text that is stored, and 1 where they are allowed, as in one that is only compared
+    /// with stored ones (RFC 3454, section 7). What is prepared is handed in where a prepared password is asked for.
+    pub fn fe2o3_saslprep(
+        text: *const u8,
+        text_len: usize,
+        unassigned: u32,
+        out: *mut u8,
+        out_room: usize,
+        len: *mut usize) -> u32;
+
     /// Makes the record of a password. Where the number is not 0, the struct stays as it was.
     pub fn fe2o3_scram_record_make(
+        version: u32,
+        password: *const u8,
+        password_len: usize,
+        salt: *const u8,
+        salt_len: usize,
+        iterations: u32,
+        kept: *mut ScramRecord) -> u32;
+
+    /// Makes the record of a prepared password (RFC 4013), as `fe2o3_saslprep` writes one that is stored: any text,
+    /// which is taken as it stands. A client logs in by that very text alone.
+    pub fn fe2o3_scram_record_make_prepared(
         version: u32,
         password: *const u8,
         password_len: usize,
@@ -552,6 +600,12 @@ extern "C" {
     /// Whether a password that was told, as by PLAIN, is that of the record: 0 where it is. It hashes as often as the
     /// record's count says, so the record is to be one of the caller's own.
     pub fn fe2o3_scram_record_verify(kept: *const ScramRecord, password: *const u8, password_len: usize) -> u32;
+
+    /// Whether a prepared password (RFC 4013), which is taken as it stands, is that of the record: 0 where it is.
+    pub fn fe2o3_scram_record_verify_prepared(
+        kept: *const ScramRecord,
+        password: *const u8,
+        password_len: usize) -> u32;
 
     /// Writes the header of SASL, with which a client begins a connection.
     pub fn fe2o3_sasl_client_open(out: *mut u8, out_room: usize, len: *mut usize) -> u32;
