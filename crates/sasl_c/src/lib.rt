@@ -17,6 +17,7 @@ mod connection;
 mod frames;
 mod keys;
 mod lines;
+mod others;
 mod records;
 mod sasl_client;
 mod sasl_server;
