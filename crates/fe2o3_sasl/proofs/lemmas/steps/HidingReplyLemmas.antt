@@ -1,5 +1,5 @@
 -- What the machine of a hiding acceptor replies and costs, from what a hiding server answers.
-use Rattle.std.proofs.Common.{◌≡◌, ◌≢◌, ◌≤◌, ◌+◌, ℕ, Option, None, Some, List, [], ap, refl, inl, inr, Result, Ok, Err, arith}
+use Rattle.std.proofs.Common.{◌≡◌, ◌≢◌, ◌≤◌, ◌+◌, ℕ, Option, None, Some, List, refl, inl, inr, Result, Ok, Err, arith}
 use Rattle.std.specs.Prelude.{IfOk, IfErr, OnOk}
 use Rattle.fe2o3_sasl_wire.specs.declared.amqp_types.SaslCode.TheVariants as outcomes
 use Rattle.fe2o3_sasl_wire.specs.SaslFrames as frames
@@ -10,7 +10,7 @@ use Rattle.fe2o3_scram.specs.ClientFirst.{ClientFirst, ReadsClientFirst}
 use Rattle.fe2o3_scram.specs.HidingServer.{HidingServer, HidingCosts, NamedBy, NamedIn, hiding_name}
 use Rattle.fe2o3_scram.specs.Hmac.{mechanism_name}
 use Rattle.fe2o3_scram.specs.Readings.{Gives}
-use Rattle.fe2o3_scram.specs.ScramServer.{ServerState, ChallengesFrom, ConcludesFrom, FinalCostsFrom, ReachesBase64In}
+use Rattle.fe2o3_scram.specs.ScramServer.{ChallengesFrom, ConcludesFrom, FinalCostsFrom, ReachesBase64In}
 use Rattle.fe2o3_scram.specs.ServerFirst.{ReachesChallenge}
 use Rattle.fe2o3_scram.proofs.lemmas.messages.HidingServerLemmas.{read_or_refused, some_name, some_user}
 use Rattle.fe2o3_scram.proofs.lemmas.messages.SomeReadingLemmas.{some_client_first}
@@ -18,7 +18,7 @@ use Rattle.fe2o3_sasl.specs.Costs.{CostsAtMost, acceptor_hmacs}
 use Rattle.fe2o3_sasl.specs.HidingAcceptor.{ReachesLookUp, hiding_allocates, hiding_hmacs, hiding_machine, with_name}
 use Rattle.fe2o3_sasl.specs.SaslAcceptor.{ends_with, server_frame}
 use Rattle.fe2o3_sasl.proofs.lemmas.machines.ResponseCostLemmas.{response_costs, answer_costs, refusal_costs}
-use Rattle.fe2o3_sasl.proofs.lemmas.steps.AcceptorReplyLemmas.{init_answered, init_refused, init_wants, response_answered, response_refused, response_wants}
+use Rattle.fe2o3_sasl.proofs.lemmas.steps.AcceptorReplyLemmas.{init_answered, response_answered}
 
 -- the acceptor of the same provider in another state
 moved : (server after : HidingServer) → after.provider ≡ server.provider → after.nobody ≡ server.nobody

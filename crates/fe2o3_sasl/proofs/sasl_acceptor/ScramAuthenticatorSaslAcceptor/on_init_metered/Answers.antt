@@ -1,4 +1,4 @@
-use Rattle.std.proofs.Common.{rules, ap, Ok, ℕ}
+use Rattle.std.proofs.Common.{rules, Ok, ℕ}
 use Rattle.std.specs.Prelude.{option_map, string_bytes, Vec}
 use Rattle.std.specs.declared.alloc.Global.{Global}
 use Rattle.fe2o3_scram.specs.Credentials.{serving}

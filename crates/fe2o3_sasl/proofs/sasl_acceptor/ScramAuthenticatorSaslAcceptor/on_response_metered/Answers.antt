@@ -1,4 +1,4 @@
-use Rattle.std.proofs.Common.{◌≡◌, ap, Ok, Err, ℕ}
+use Rattle.std.proofs.Common.{◌≡◌, Ok, Err, ℕ}
 use Rattle.std.specs.Prelude.{⊤, option_map, Vec}
 use Rattle.std.specs.declared.alloc.Global.{Global}
 use Rattle.fe2o3_scram.specs.Credentials.{serving}

@@ -1,5 +1,5 @@
-use Rattle.std.proofs.Common.{◌≡◌, rules, ap, subst, Ok, Err, ℕ, List, Option}
-use Rattle.std.specs.Prelude.{⊤, option_map, string_bytes, Vec}
+use Rattle.std.proofs.Common.{◌≡◌, rules, subst, Ok, Err, ℕ, List, Option}
+use Rattle.std.specs.Prelude.{option_map, string_bytes, Vec}
 use Rattle.std.specs.declared.alloc.Global.{Global}
 use Rattle.fe2o3_scram.specs.Credentials.{serving}
 use Rattle.fe2o3_scram.specs.HidingServer.{HidingCosts, hiding_name, hiding_server}
