@@ -92,10 +92,10 @@ shows_none kept statuses.RefusedAuth shown wrong is = absurd wrong
 shows_none kept statuses.RefusedSys shown wrong is = absurd wrong
 shows_none kept statuses.RefusedSysPerm shown wrong is = absurd wrong
 shows_none kept statuses.RefusedSysTemp shown wrong is = absurd wrong
-shows_none kept statuses.NoSuchChoice shown wrong is = absurd wrong
-shows_none kept statuses.ProhibitedCharacter shown wrong is = absurd wrong
-shows_none kept statuses.MixedDirections shown wrong is = absurd wrong
 shows_none kept statuses.UnassignedCodePoint shown wrong is = absurd wrong
+shows_none kept statuses.MixedDirections shown wrong is = absurd wrong
+shows_none kept statuses.ProhibitedCharacter shown wrong is = absurd wrong
+shows_none kept statuses.NoSuchChoice shown wrong is = absurd wrong
 
 -- a number is that of one version
 one_number : (version other : ScramVersion) → version_number version ≡ version_number other → version ≡ other
