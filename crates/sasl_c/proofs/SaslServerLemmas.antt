@@ -211,7 +211,7 @@ pub no_offer : (host : Host) (version : ScramVersion) (choice : Choice) (scram :
     (names : List (List ℕ)) (server : State) → IsVersion host.version version → sum_of choice ≡ host.mechanisms
     → names ≡ allowed_of version choice → server ≡ record { inner = all; allowed = names }
     → IsAll host version choice.unbound scram all → IsUtf8 host.username.now → IsUtf8 host.peer.now
-        → state_names server ≡ []
+    → state_names server ≡ []
     → IsNoHost host statuses.NoSuchMechanism
 unfolding IsNoHost
 no_offer host version choice scram all names server known sum named is (records, state, asked, has, stands, same)

@@ -64,7 +64,7 @@ module _ (server : HidingServer) (nonce mechanism text : List ℕ) (hostname : O
     pub hiding_refused : {X V E : Type 0} (Allocates : List ℕ → Type 0) (sent : X → SaslFrame)
         (view : V → Option (List ℕ)) (kind : ServerScramErrorKind) (result : Result X E)
         → ((name : List ℕ) → NamedIn server.provider.unbound text name → Gives OutOfMemory (Allocates name) view
-            (Err kind)
+        (Err kind)
         (λ answer. ChallengesFrom server.state (hiding_name server name) nonce text answer after.state))
         → IfOk result (λ frame. (kind ≢ OutOfMemory) × (sent frame ≡ ends_with outcomes.Auth))
         → IfOk result (λ frame. hiding_machine server nonce init (sent frame) after)
@@ -92,7 +92,7 @@ module _ (server : HidingServer) (nonce mechanism text : List ℕ) (hostname : O
         (some_name server.provider.unbound text).1 in (is.0.0, is_name, is.0.1)
     answer_reads (Some message) from =
         let is = from (some_name server.provider.unbound text).0 (some_name server.provider.unbound text).1 in
-            (is.1.0, is_name, is.1.2)
+        (is.1.0, is_name, is.1.2)
 
     -- what it costs
     pub answer_takes : (answer : Option (List ℕ)) (before most n : ℕ)
@@ -104,7 +104,7 @@ module _ (server : HidingServer) (nonce mechanism text : List ℕ) (hostname : O
 
     refused_most : (A : Type 0) (kind : ServerScramErrorKind) (before most n : ℕ)
         → HidingCosts {A = A} server.provider.unbound text (Err kind) before most → hiding_hmacs server init n
-            → most ≤ before + n
+        → most ≤ before + n
     refused_most A OutOfMemory before most n costs (inl takes) =
         let three = takes.1 in let within = costs.1 in omega (within, three, arith)
     refused_most A OutOfMemory before most n costs (inr takes) = go (some_client_first server.provider.unbound text)
@@ -131,7 +131,7 @@ module _ (server : HidingServer) (nonce mechanism text : List ℕ) (hostname : O
 
     pub refusal_most : (A : Type 0) (kind : ServerScramErrorKind) (before most : ℕ)
         → HidingCosts {A = A} server.provider.unbound text (Err kind) before most
-            → CostsAtMost hiding_hmacs server init before most
+        → CostsAtMost hiding_hmacs server init before most
     refusal_most A kind before most costs = (
       rises A kind before most costs,
       λ n takes. refused_most A kind before most n costs takes,
@@ -153,7 +153,7 @@ module _ (server : HidingServer) (nonce mechanism text : List ℕ) (hostname : O
     pub refusal_takes : {X E : Type 0} (A V : Type 0) (Allocates : List ℕ → Type 0) (sends : X → Type 0)
         (view : V → Option (List ℕ)) (kind : ServerScramErrorKind) (sent : Result X E) (before most : ℕ)
         → ((name : List ℕ) → NamedIn server.provider.unbound text name → Gives OutOfMemory (Allocates name) view
-            (Err kind)
+        (Err kind)
         (λ answer. ChallengesFrom server.state (hiding_name server name) nonce text answer after.state))
         → HidingCosts {A = A} server.provider.unbound text (Err kind) before most
         → IfOk sent (λ frame. (kind ≢ OutOfMemory) × sends frame)
