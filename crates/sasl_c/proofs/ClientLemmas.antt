@@ -26,7 +26,7 @@ use Rattle.sasl_c.specs.declared.client.Login.{Login}
 use Rattle.sasl_c.specs.declared.client.ScramClient.{ScramClient as Struct}
 use Rattle.sasl_c.specs.Client.{Answered, Believes, Holds, IsAnswer, IsLogin, IsNoLogin, IsNoSecret, IsReached, IsSecret, IsSide, IsState, NotAnswered, Responds, name_tests}
 use Rattle.sasl_c.specs.Records.{IsVersion}
-use Rattle.sasl_c.proofs.LoginLemmas.{neither_keys, neither_password, no_keys, no_password, other_secret}
+use Rattle.sasl_c.proofs.LoginLemmas.{no_secrets}
 use Rattle.sasl_c.proofs.StatusLemmas.{carried, client_not_room}
 use Rattle.sasl_c.proofs.TextLemmas.{short, short_text, text_length}
 use Rattle.sasl_c.specs.Status.{client_status}
@@ -349,7 +349,7 @@ pub mapped_err : {A F : Type 0} (P Q : F → Type 0) (result : Result A F) → I
 mapped_err P Q (Ok a) held map = held
 mapped_err P Q (Err fault) held map = map fault held
 
-pub ruleset secrets = (unanswered, no_password, no_keys, neither_password, neither_keys, other_secret)
+pub ruleset secrets = (unanswered, no_secrets)
 
 pub ruleset answers = (answered_by, refused_by, no_login, not_due, client_not_room)
 

@@ -11,4 +11,5 @@ pub mod SaslServerLemmas
 pub mod ServerCallLemmas
 pub mod ServerUserLemmas
 pub mod LoginLemmas
+pub mod SaslprepLemmas
 pub mod StepLemmas

@@ -18,7 +18,12 @@ no_secret login known status is utf8 wrong = inr (((λ none. none known is), ((�
 pub no_password : (login : Login) (status : Status) → login.secret ≡ 0 → status ≡ statuses.NotUtf8
     → ¬ IsUtf8 login.password.now → IsNoSecret login status
 unfolding IsNoSecret
-no_password login status is same wrong = inl (is, same, wrong)
+no_password login status is same wrong = inl (inl is, same, wrong)
+
+pub no_prepared : (login : Login) (status : Status) → login.secret ≡ 3 → status ≡ statuses.NotUtf8
+    → ¬ IsUtf8 login.password.now → IsNoSecret login status
+unfolding IsNoSecret
+no_prepared login status is same wrong = inl (inr is, same, wrong)
 
 pub no_keys : (login : Login) (status : Status) → login.secret ≡ 1 → IsFirst (keys_tests login) status
     → IsNoSecret login status
@@ -28,15 +33,34 @@ no_keys login status is first = inr (inl (is, first))
 pub neither_password : (login : Login) (status : Status) → login.secret ≡ 2 → status ≡ statuses.NotUtf8
     → ¬ IsUtf8 login.password.now → IsNoSecret login status
 unfolding IsNoSecret
-neither_password login status is same wrong = inr (inr (inl (is, inl (wrong, same))))
+neither_password login status is same wrong = inr (inr (inl (inl is, inl (wrong, same))))
+
+pub neither_prepared : (login : Login) (status : Status) → login.secret ≡ 4 → status ≡ statuses.NotUtf8
+    → ¬ IsUtf8 login.password.now → IsNoSecret login status
+unfolding IsNoSecret
+neither_prepared login status is same wrong = inr (inr (inl (inr is, inl (wrong, same))))
 
 pub neither_keys : (login : Login) (status : Status) → login.secret ≡ 2 → IsUtf8 login.password.now
     → IsFirst (keys_tests login) status → IsNoSecret login status
 unfolding IsNoSecret
-neither_keys login status is utf8 first = inr (inr (inl (is, inr ((λ other. other utf8), first))))
+neither_keys login status is utf8 first = inr (inr (inl (inl is, inr ((λ other. other utf8), first))))
 
-pub other_secret : (login : Login) → 2 < login.secret → IsNoSecret login statuses.NoSuchSecret
+pub prepared_no_keys : (login : Login) (status : Status) → login.secret ≡ 4 → IsUtf8 login.password.now
+    → IsFirst (keys_tests login) status → IsNoSecret login status
+unfolding IsNoSecret
+prepared_no_keys login status is utf8 first = inr (inr (inl (inr is, inr ((λ other. other utf8), first))))
+
+pub other_secret : (login : Login) → 4 < login.secret → IsNoSecret login statuses.NoSuchSecret
 unfolding IsNoSecret
 other_secret login wide = inr (inr (inr (wide, refl)))
 
-pub ruleset no_secrets = (no_password, no_keys, neither_password, neither_keys, other_secret)
+pub ruleset no_secrets = (
+  no_password,
+  no_prepared,
+  no_keys,
+  neither_password,
+  neither_prepared,
+  neither_keys,
+  prepared_no_keys,
+  other_secret,
+)

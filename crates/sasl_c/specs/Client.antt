@@ -8,7 +8,7 @@ use Rattle.fe2o3_scram.specs.ClientFinal.{Answer}
 use Rattle.fe2o3_scram.specs.ClientFirst.{client_first, client_first_bare}
 use Rattle.fe2o3_scram.specs.ClientKeys.{ClientKeys}
 use Rattle.fe2o3_scram.specs.ClientSecret.{Secret, Password, Keys, Both}
-use Rattle.fe2o3_scram.specs.Passwords.{Typed}
+use Rattle.fe2o3_scram.specs.Passwords.{Prepared, Typed}
 use Rattle.fe2o3_scram.specs.ScramClient.{AnswersIn, BelievesIn, ClientSide, ClientState, Initial, ClientFirstSent, ClientFinalSent, Complete, started}
 use Rattle.fe2o3_scram.specs.Readings.{IsFirst, NoneHolds}
 use Rattle.fe2o3_scram.specs.Texts.{base64_text}
@@ -21,11 +21,15 @@ use Rattle.sasl_c.specs.Keys.{HasRoom, ShowsKeys}
 use Rattle.sasl_c.specs.Records.{IsVersion}
 use Rattle.sasl_c.specs.Status.{client_status}
 
--- the secret of a login: its password as it is typed, its keys, or both
+-- the secret of a login: its password as it is typed, its keys, or both; or its password as it was prepared, or both
+-- with that
 abbrev pub IsSecret : Login → Secret → Type 0
-IsSecret login (Password password) = (login.secret ≡ 0) × (password ≡ Typed login.password.now)
+IsSecret login (Password (Typed text)) = (login.secret ≡ 0) × (text ≡ login.password.now)
 IsSecret login (Keys keys) = (login.secret ≡ 1) × ShowsKeys login.keys.now keys
-IsSecret login (Both password keys) = (login.secret ≡ 2) × (password ≡ Typed login.password.now)
+IsSecret login (Both (Typed text) keys) = (login.secret ≡ 2) × (text ≡ login.password.now)
+    × ShowsKeys login.keys.now keys
+IsSecret login (Password (Prepared text)) = (login.secret ≡ 3) × (text ≡ login.password.now)
+IsSecret login (Both (Prepared text) keys) = (login.secret ≡ 4) × (text ≡ login.password.now)
     × ShowsKeys login.keys.now keys
 
 -- a client of this login
@@ -43,10 +47,12 @@ keys_tests login = (statuses.NoKeys, (keys : ClientKeys) → ¬ ShowsKeys login.
 
 -- the tests of its secret, by what it has: a password is UTF-8
 unfoldable pub IsNoSecret : Login → Status → Type 0
-IsNoSecret login status = ((login.secret ≡ 0) × (status ≡ statuses.NotUtf8) × ¬ IsUtf8 login.password.now)
+IsNoSecret login status = ((login.secret ≡ 0 ⊎ login.secret ≡ 3)
+    × (status ≡ statuses.NotUtf8) × ¬ IsUtf8 login.password.now)
     ⊎ ((login.secret ≡ 1) × IsFirst (keys_tests login) status)
-    ⊎ ((login.secret ≡ 2) × IsFirst ((statuses.NotUtf8, ¬ IsUtf8 login.password.now) ∷ keys_tests login) status)
-    ⊎ ((2 < login.secret) × (status ≡ statuses.NoSuchSecret))
+    ⊎ ((login.secret ≡ 2 ⊎ login.secret ≡ 4)
+    × IsFirst ((statuses.NotUtf8, ¬ IsUtf8 login.password.now) ∷ keys_tests login) status)
+    ⊎ ((4 < login.secret) × (status ≡ statuses.NoSuchSecret))
 
 -- the tests of its version and its user, in their order
 abbrev pub name_tests : Login → List (Status × Type 0)

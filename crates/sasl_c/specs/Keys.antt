@@ -3,6 +3,7 @@ use Rattle.std.specs.Prelude.{◌≡◌, ◌<◌, ◌≤◌, ℕ, List, length, 
 use Rattle.fe2o3_scram.specs.declared.hmac.ScramVersion.{ScramVersion}
 use Rattle.fe2o3_scram.specs.ClientKeys.{AreSized, ClientKeys, keys_of, keys_with}
 use Rattle.fe2o3_scram.specs.Hmac.{digest_len, zero_filled}
+use Rattle.fe2o3_scram.specs.Passwords.{PasswordText, password_bytes}
 use Rattle.fe2o3_scram.specs.Readings.{Reads}
 use Rattle.sasl_c.specs.declared.keys.ClientKeys.{ClientKeys as Struct}
 use Rattle.sasl_c.specs.declared.status.Status.{Status}
@@ -42,7 +43,7 @@ ShowsNoKeys kept statuses.TooLong = 128 < kept.salt_len
 ShowsNoKeys kept status = ⊥
 
 -- what comes of making the keys of a password (RFC 5802, section 3): the first refusal that holds, or their struct
-abbrev pub MakesStruct : ℕ → List ℕ → List ℕ → ℕ → Result Struct Status → Type 0
+abbrev pub MakesStruct : ℕ → PasswordText → List ℕ → ℕ → Result Struct Status → Type 0
 MakesStruct version password salt count answer = Reads (making_tests version password salt count)
-    (λ made. (known : ScramVersion) × IsVersion version known × (made ≡ struct_of (keys_of known password salt count)))
-    answer
+    (λ made. (known : ScramVersion) × IsVersion version known
+    × (made ≡ struct_of (keys_of known (password_bytes password) salt count))) answer

@@ -1,4 +1,5 @@
 pub mod Status
+pub mod Passwords
 pub mod Records
 pub mod Keys
 pub mod Client
@@ -9,3 +10,4 @@ pub mod Frames
 pub mod Lines
 pub mod SaslServer
 pub mod Steps
+pub mod Saslprep

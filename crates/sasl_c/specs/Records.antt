@@ -5,10 +5,9 @@ use Rattle.fe2o3_scram.specs.declared.hmac.ScramVersion.{ScramVersion}
 use Rattle.fe2o3_scram.specs.Credentials.{MeetsRecord, Record, VersionedRecord, record_of, versioned}
 use Rattle.fe2o3_scram.specs.Nobody.{nobody_record}
 use Rattle.fe2o3_scram.specs.Hmac.{digest_len, zero_filled}
-use Rattle.fe2o3_scram.specs.Passwords.{Typed}
+use Rattle.fe2o3_scram.specs.Passwords.{IsNormal, PasswordText, password_bytes}
 use Rattle.fe2o3_scram.specs.Readings.{Reads}
 use Rattle.fe2o3_scram.specs.RecordText.{ReadsRecord, record_text}
-use Rattle.fe2o3_scram.specs.SaslprepAscii.{IsPrintable}
 use Rattle.sasl_c.specs.declared.records.ScramRecord.{ScramRecord as Struct}
 use Rattle.sasl_c.specs.declared.status.Status.{Status}
 use Rattle.sasl_c.specs.declared.status.Status.TheVariants as statuses
@@ -49,17 +48,17 @@ Shows kept shown = IsVersion kept.version shown.version × (kept.salt_len ≤ 12
     × (shown.stored ≡ stored_of shown.version kept)
 
 -- the tests before a record is made of a password (RFC 4013, section 2; RFC 5802, section 5.1), in their order
-abbrev pub making_tests : ℕ → List ℕ → List ℕ → ℕ → List (Status × Type 0)
+abbrev pub making_tests : ℕ → PasswordText → List ℕ → ℕ → List (Status × Type 0)
 making_tests version password salt count =
     (statuses.NoSuchVersion, (known : ScramVersion) → ¬ IsVersion version known)
-    ∷ (statuses.NotUtf8, ¬ IsUtf8 password) ∷ (statuses.TooLong, 128 < length salt)
-    ∷ (statuses.NotPrintable, ¬ IsPrintable password) ∷ (statuses.ZeroIterations, count ≡ 0) ∷ []
+    ∷ (statuses.NotUtf8, ¬ IsUtf8 (password_bytes password)) ∷ (statuses.TooLong, 128 < length salt)
+    ∷ (statuses.NotPrintable, ¬ IsNormal password) ∷ (statuses.ZeroIterations, count ≡ 0) ∷ []
 
 -- what comes of making a record of a password (RFC 5802, section 3): the first refusal that holds, or its struct
-abbrev pub MakesStruct : ℕ → List ℕ → List ℕ → ℕ → Result Struct Status → Type 0
+abbrev pub MakesStruct : ℕ → PasswordText → List ℕ → ℕ → Result Struct Status → Type 0
 MakesStruct version password salt count answer = Reads (making_tests version password salt count)
-    (λ made. (known : ScramVersion) × IsVersion version known
-    × (made ≡ struct_of (record { version = known; stored = record_of known password salt count }))) answer
+    (λ made. (known : ScramVersion) × IsVersion version known × (made ≡ struct_of
+    (record { version = known; stored = record_of known (password_bytes password) salt count }))) answer
 
 -- what comes of reading a record's text (RFC 5803, section 2): its struct, or why it is none
 abbrev pub ParsesStruct : List ℕ → Result Struct Status → Type 0
@@ -91,10 +90,11 @@ MakesUp version secret name salt_len count answer = Reads (nobody_tests version 
 
 -- whether a password that was told is that of the record (RFC 5802, section 3); or that the struct shows none, or it
 -- shows one and the password is not UTF-8, or it is and is another one
-abbrev pub Verifies : Struct → List ℕ → Result (Unit {0}) Status → Type 0
+abbrev pub Verifies : Struct → PasswordText → Result (Unit {0}) Status → Type 0
 Verifies kept password (Ok done) = (shown : VersionedRecord) × Shows kept shown
-    × MeetsRecord shown.version (Typed password) shown.stored
+    × MeetsRecord shown.version password shown.stored
 Verifies kept password (Err status) = (status ≢ statuses.OutOfMemory) → SpellsStruct kept (Err status)
-    ⊎ ((shown : VersionedRecord) × Shows kept shown × (((status ≡ statuses.NotUtf8) × ¬ IsUtf8 password)
-    ⊎ ((status ≡ statuses.OtherPassword) × IsUtf8 password
-    × ¬ MeetsRecord shown.version (Typed password) shown.stored)))
+    ⊎ ((shown : VersionedRecord) × Shows kept shown
+    × (((status ≡ statuses.NotUtf8) × ¬ IsUtf8 (password_bytes password))
+    ⊎ ((status ≡ statuses.OtherPassword) × IsUtf8 (password_bytes password)
+    × ¬ MeetsRecord shown.version password shown.stored)))

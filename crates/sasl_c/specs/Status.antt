@@ -103,6 +103,10 @@ status_number statuses.RefusedAuth = 81
 status_number statuses.RefusedSys = 82
 status_number statuses.RefusedSysPerm = 83
 status_number statuses.RefusedSysTemp = 84
+status_number statuses.NoSuchChoice = 85
+status_number statuses.ProhibitedCharacter = 86
+status_number statuses.MixedDirections = 87
+status_number statuses.UnassignedCodePoint = 88
 
 -- why a call is not done where a client refuses a message
 abbrev pub client_status : ScramErrorKind → Status

@@ -29,8 +29,9 @@ pub struct Login<'a> {
     /// 1, 256 or 512, for the mechanism's hash.
     pub version: u32,
 
-    /// 0 for the password, 1 for the keys, and 2 for the keys where the server names the salt and the count that
-    /// they are of, and else the password.
+    /// 0 for the password as it is typed, 1 for the keys, and 2 for the keys where the server names the salt and the
+    /// count that they are of, and else the password as it is typed. 3 and 4 are 0 and 2 with a prepared password, as
+    /// `fe2o3_saslprep` writes one.
     pub secret: u32,
 
     /// The lowest iteration count that is answered. RFC 7677 asks for 4096 at least.
@@ -42,7 +43,7 @@ pub struct Login<'a> {
     /// The plain name of the user.
     pub username: &'a [u8],
 
-    /// The password, as it is typed.
+    /// The password, as it is typed or prepared.
     pub password: &'a [u8],
 
     /// The keys that an earlier login handed out.
@@ -289,6 +290,39 @@ impl Login<'_> {
                 let password = self.password(alloc)?;
                 let keys = self.keys(alloc)?;
                 Ok(Machine::with_password_and_keys(username, password, keys))
+            }
+            _ => self.by_prepared(alloc, username, version),
+        }
+    }
+
+    /// The same where the number of the secret is above 2, as that of a prepared password is.
+    #[tactic(auto, using(crate::proofs::LoginLemmas::no_secrets))]
+    fn by_prepared(
+        &self,
+        alloc: Global,
+        username: String,
+        version: ScramVersion,
+    ) -> Result<Machine, Status>
+        requires { 2 < self.now.secret }
+        ensures ok { IfOk result (λ side. IsSecret self.now side.secret × (side.user ≡ string_bytes username)
+            × (side.state ≡ Initial)) }
+        ensures version { IfOk result (λ side. IsVersion self.now.version version
+            → IsVersion self.now.version side.version) }
+        ensures err { IfErr result (λ status. status ≢ StatusOutOfMemory → IsNoSecret self.now status) }
+        ensures room { IfErr result (λ status. status ≢ RoomTooSmall) }
+    {
+        match self.secret {
+            3 => Ok(Machine::with_prepared_password(
+                username,
+                self.password(alloc)?,
+                version,
+            )),
+            4 => {
+                let password = self.password(alloc)?;
+                let keys = self.keys(alloc)?;
+                Ok(Machine::with_prepared_password_and_keys(
+                    username, password, keys,
+                ))
             }
             _ => Err(Status::NoSuchSecret),
         }

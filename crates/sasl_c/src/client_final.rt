@@ -68,6 +68,54 @@ fn answered_by(
     }
 }
 
+/// The answer of a client that has sent its client-first message, by the secret of its login, whose number is above 2,
+/// as that of a prepared password is.
+#[tactic(auto, using(crate::proofs::ClientLemmas::secrets))]
+fn answered_of_prepared(
+    alloc: Global,
+    login: &Login<'_>,
+    version: ScramVersion,
+    client: &ScramClient,
+    server_first: &str,
+    meter: &mut Meter,
+) -> Result<ClientAnswer, Status>
+    requires secret { 2 < login.now.secret }
+    requires room { meter.old ≤ 2 ^ 63 }
+    ensures ok { IfOk result (λ answer. IsVersion login.now.version version → client.now.sent ≡ 1
+        → IsAnswer login.now client.now server_first.now (answer_values answer)) }
+    ensures err { IfErr result (λ status. status ≢ StatusOutOfMemory → NoneHolds (name_tests login.now)
+        → IsVersion login.now.version version → client.now.sent ≡ 1
+        → NotAnswered login.now client.now server_first.now status) }
+    ensures room { IfErr result (λ status. status ≢ RoomTooSmall) }
+{
+    match login.secret {
+        3 => {
+            let password = match text(login.password) {
+                Ok(password) => password,
+                Err(status) => return Err(status),
+            };
+            let secret = ClientSecret::Prepared(password);
+            answered_by(alloc, login, version, secret, client, server_first, meter)
+        }
+        4 => {
+            let password = match text(login.password) {
+                Ok(password) => password,
+                Err(status) => return Err(status),
+            };
+            let keys = match login.keys(alloc) {
+                Ok(keys) => keys,
+                Err(status) => return Err(status),
+            };
+            let secret = ClientSecret::PreparedAndKeys {
+                password,
+                keys: &keys,
+            };
+            answered_by(alloc, login, version, secret, client, server_first, meter)
+        }
+        _ => Err(Status::NoSuchSecret),
+    }
+}
+
 /// The answer of a client that has sent its client-first message, by the secret of its login.
 #[tactic(auto, using(crate::proofs::ClientLemmas::secrets))]
 fn answered_of(
@@ -118,7 +166,7 @@ fn answered_of(
             };
             answered_by(alloc, login, version, secret, client, server_first, meter)
         }
-        _ => Err(Status::NoSuchSecret),
+        _ => answered_of_prepared(alloc, login, version, client, server_first, meter),
     }
 }
 

@@ -1,16 +1,19 @@
 //! What a client keeps in place of its password, as a struct.
 
 ghost use Rattle.std.specs.Prelude.{◌≡◌, ◌≢◌, MatchOption, IfOk, IfErr};
+ghost use Rattle.fe2o3_scram.specs.Passwords.{Prepared, Typed};
 ghost use Rattle.fe2o3_scram.specs.Readings.{Gives, NoneHolds};
 ghost use Rattle.sasl_c.specs.Keys.{HasRoom, MakesStruct, ShowsKeys, ShowsNoKeys, struct_of};
+ghost use Rattle.sasl_c.specs.Passwords.{in_form};
 ghost use Rattle.sasl_c.specs.Records.{making_tests};
 ghost use Rattle.sasl_c.specs.Status.{Answers, Makes};
 ghost use Rattle.sasl_c.specs.declared.keys.ClientKeys.{ClientKeys as Struct};
 ghost use Rattle.sasl_c.specs.declared.status.Status.TheVariants.{OutOfMemory as StatusOutOfMemory};
 
 use crate::arrays::{head, padded};
+use crate::passwords::PasswordForm;
 use crate::status::{Status, digest_len, number, number_of, text, version_of};
-use fe2o3_scram::{Meter, ScramClientKeys, saslprep};
+use fe2o3_scram::{Meter, ScramClientKeys};
 use std::alloc::Global;
 
 /// What a client keeps in place of its password: a secret, with which one can log in.
@@ -98,19 +101,20 @@ impl ClientKeys {
 fn made(
     alloc: Global,
     version: u32,
+    form: PasswordForm,
     password: &[u8],
     salt: &[u8],
     iterations: u32,
 ) -> Result<ClientKeys, Status>
-    ensures { Gives StatusOutOfMemory (NoneHolds (making_tests version password.now salt.now iterations))
-        (λ (keys : Struct). keys) result (MakesStruct version password.now salt.now iterations) }
+    ensures { Gives StatusOutOfMemory (NoneHolds (making_tests version (in_form form password.now) salt.now iterations))
+        (λ (keys : Struct). keys) result (MakesStruct version (in_form form password.now) salt.now iterations) }
 {
     let version = version_of(version).ok_or(Status::NoSuchVersion)?;
     let password = text(password)?;
     if salt.len() > 128 {
         return Err(Status::TooLong);
     }
-    if saslprep(password).is_err() {
+    if form.refuses(password) {
         return Err(Status::NotPrintable);
     }
     if iterations == 0 {
@@ -118,7 +122,7 @@ fn made(
     }
     let mut meter = Meter::new();
     // (what it refuses besides is told by now)
-    let Ok(keys) = ScramClientKeys::from_password(
+    let Ok(keys) = ScramClientKeys::from_prepared_password(
         alloc, version, password, salt, iterations, &mut meter,
     ) else {
         return Err(Status::OutOfMemory);
@@ -133,15 +137,16 @@ fn made(
 fn make(
     alloc: Global,
     version: u32,
+    form: PasswordForm,
     password: &[u8],
     salt: &[u8],
     iterations: u32,
     keys: &mut ClientKeys,
 ) -> Result<(), Status>
-    ensures { Makes (NoneHolds (making_tests version password.now salt.now iterations))
-        (MakesStruct version password.now salt.now iterations) keys.old keys.new result }
+    ensures { Makes (NoneHolds (making_tests version (in_form form password.now) salt.now iterations))
+        (MakesStruct version (in_form form password.now) salt.now iterations) keys.old keys.new result }
 {
-    match made(alloc, version, password, salt, iterations) {
+    match made(alloc, version, form, password, salt, iterations) {
         Ok(made) => {
             *keys = made;
             Ok(())
@@ -160,8 +165,41 @@ pub extern "C" fn fe2o3_scram_keys_make(
     iterations: u32,
     keys: &mut ClientKeys,
 ) -> u32
-    ensures { Answers result (Makes (NoneHolds (making_tests version password.now salt.now iterations))
-        (MakesStruct version password.now salt.now iterations) keys.old keys.new) }
+    ensures { Answers result (Makes (NoneHolds (making_tests version (Typed password.now) salt.now iterations))
+        (MakesStruct version (Typed password.now) salt.now iterations) keys.old keys.new) }
 {
-    number(make(alloc, version, password, salt, iterations, keys))
+    number(make(
+        alloc,
+        version,
+        PasswordForm::Typed,
+        password,
+        salt,
+        iterations,
+        keys,
+    ))
+}
+
+/// Makes the keys of a prepared password (RFC 4013), for a server that keeps this salt and this count: any text, which is
+/// taken as it stands.
+#[unsafe(no_mangle)]
+pub extern "C" fn fe2o3_scram_keys_make_prepared(
+    alloc: Global,
+    version: u32,
+    password: &[u8],
+    salt: &[u8],
+    iterations: u32,
+    keys: &mut ClientKeys,
+) -> u32
+    ensures { Answers result (Makes (NoneHolds (making_tests version (Prepared password.now) salt.now iterations))
+        (MakesStruct version (Prepared password.now) salt.now iterations) keys.old keys.new) }
+{
+    number(make(
+        alloc,
+        version,
+        PasswordForm::Prepared,
+        password,
+        salt,
+        iterations,
+        keys,
+    ))
 }

@@ -1,4 +1,5 @@
-//! SCRAM for C, and for whoever calls C: clients, servers, records and keys (RFC 5802, RFC 7677).
+//! SCRAM for C, and for whoever calls C: clients, servers, records and keys (RFC 5802, RFC 7677), and what passwords are
+//! prepared to (RFC 4013).
 //!
 //! What an exchange keeps between its calls is a struct of numbers and arrays in the caller's own memory: there is no
 //! handle, nothing to free, and no value of a struct that a call cannot be given. All zeros is a fresh one. A call
@@ -17,6 +18,8 @@ mod connection;
 mod frames;
 mod keys;
 mod lines;
+mod passwords;
+mod preparation;
 mod records;
 mod sasl_client;
 mod sasl_server;

@@ -4,14 +4,17 @@ ghost use Rattle.std.specs.Prelude.{◌≡◌, ◌≢◌, MatchOption, IfOk, IfE
 ghost use Rattle.fe2o3_scram.specs.Readings.{Gives, NoneHolds};
 ghost use Rattle.fe2o3_scram.specs.Credentials.{kept, versioned};
 ghost use Rattle.fe2o3_scram.specs.RecordText.{ReachesValues};
+ghost use Rattle.fe2o3_scram.specs.Passwords.{Prepared, Typed};
+ghost use Rattle.sasl_c.specs.Passwords.{in_form};
 ghost use Rattle.sasl_c.specs.Status.{Answers, Fills, Makes};
 ghost use Rattle.sasl_c.specs.Records.{HasRoom, Shows, struct_of, making_tests, MakesStruct, MakesUp, nobody_tests, ParsesStruct, SpellsStruct, Verifies};
 ghost use Rattle.sasl_c.specs.declared.records.ScramRecord.{ScramRecord as Struct};
 ghost use Rattle.sasl_c.specs.declared.status.Status.TheVariants.{OutOfMemory as StatusOutOfMemory, RoomTooSmall};
 
 use crate::arrays::{head, padded, put};
+use crate::passwords::PasswordForm;
 use crate::status::{Status, digest_len, number, number_of, text, version_of};
-use fe2o3_scram::{RecordTextError, ScramVersion, StoredPassword, saslprep};
+use fe2o3_scram::{RecordTextError, ScramVersion, StoredPassword};
 use std::alloc::Global;
 
 /// What a server keeps of a password.
@@ -100,26 +103,27 @@ impl ScramRecord {
 fn made(
     alloc: Global,
     version: u32,
+    form: PasswordForm,
     password: &[u8],
     salt: &[u8],
     iterations: u32,
 ) -> Result<ScramRecord, Status>
-    ensures { Gives StatusOutOfMemory (NoneHolds (making_tests version password.now salt.now iterations))
-        (λ (kept : Struct). kept) result (MakesStruct version password.now salt.now iterations) }
+    ensures { Gives StatusOutOfMemory (NoneHolds (making_tests version (in_form form password.now) salt.now iterations))
+        (λ (kept : Struct). kept) result (MakesStruct version (in_form form password.now) salt.now iterations) }
 {
     let version = version_of(version).ok_or(Status::NoSuchVersion)?;
     let password = text(password)?;
     if salt.len() > 128 {
         return Err(Status::TooLong);
     }
-    if saslprep(password).is_err() {
+    if form.refuses(password) {
         return Err(Status::NotPrintable);
     }
     if iterations == 0 {
         return Err(Status::ZeroIterations);
     }
     // (what it refuses besides is told by now)
-    let Ok(kept) = fe2o3_scram::ScramRecord::from_password(
+    let Ok(kept) = fe2o3_scram::ScramRecord::from_prepared_password(
         alloc, version, password, salt, iterations,
     ) else {
         return Err(Status::OutOfMemory);
@@ -134,15 +138,16 @@ fn made(
 fn make(
     alloc: Global,
     version: u32,
+    form: PasswordForm,
     password: &[u8],
     salt: &[u8],
     iterations: u32,
     kept: &mut ScramRecord,
 ) -> Result<(), Status>
-    ensures { Makes (NoneHolds (making_tests version password.now salt.now iterations))
-        (MakesStruct version password.now salt.now iterations) kept.old kept.new result }
+    ensures { Makes (NoneHolds (making_tests version (in_form form password.now) salt.now iterations))
+        (MakesStruct version (in_form form password.now) salt.now iterations) kept.old kept.new result }
 {
-    match made(alloc, version, password, salt, iterations) {
+    match made(alloc, version, form, password, salt, iterations) {
         Ok(made) => {
             *kept = made;
             Ok(())
@@ -161,10 +166,43 @@ pub extern "C" fn fe2o3_scram_record_make(
     iterations: u32,
     kept: &mut ScramRecord,
 ) -> u32
-    ensures { Answers result (Makes (NoneHolds (making_tests version password.now salt.now iterations))
-        (MakesStruct version password.now salt.now iterations) kept.old kept.new) }
+    ensures { Answers result (Makes (NoneHolds (making_tests version (Typed password.now) salt.now iterations))
+        (MakesStruct version (Typed password.now) salt.now iterations) kept.old kept.new) }
 {
-    number(make(alloc, version, password, salt, iterations, kept))
+    number(make(
+        alloc,
+        version,
+        PasswordForm::Typed,
+        password,
+        salt,
+        iterations,
+        kept,
+    ))
+}
+
+/// Makes the record of a prepared password (RFC 4013), as `fe2o3_saslprep` writes one that is stored: any text, which is
+/// taken as it stands. A client logs in by that very text alone.
+#[unsafe(no_mangle)]
+pub extern "C" fn fe2o3_scram_record_make_prepared(
+    alloc: Global,
+    version: u32,
+    password: &[u8],
+    salt: &[u8],
+    iterations: u32,
+    kept: &mut ScramRecord,
+) -> u32
+    ensures { Answers result (Makes (NoneHolds (making_tests version (Prepared password.now) salt.now iterations))
+        (MakesStruct version (Prepared password.now) salt.now iterations) kept.old kept.new) }
+{
+    number(make(
+        alloc,
+        version,
+        PasswordForm::Prepared,
+        password,
+        salt,
+        iterations,
+        kept,
+    ))
 }
 
 /// The struct of the record that a text spells.
@@ -308,13 +346,20 @@ pub extern "C" fn fe2o3_scram_record_of_nobody(
 }
 
 /// Whether a password is that of the record.
-fn verify(alloc: Global, kept: &ScramRecord, password: &[u8]) -> Result<(), Status>
-    ensures { Verifies kept.now password.now result }
+fn verify(
+    alloc: Global,
+    kept: &ScramRecord,
+    form: PasswordForm,
+    password: &[u8],
+) -> Result<(), Status>
+    ensures { Verifies kept.now (in_form form password.now) result }
 {
     let kept = kept.read(alloc)?;
-    let password = text(password)?;
+    let Ok(password) = text(password) else {
+        return Err(Status::NotUtf8);
+    };
     let version = *kept.scram_version();
-    if kept.as_stored_password().verify_password(version, password) {
+    if form.meets(version, &kept.as_stored_password(), password) {
         Ok(())
     } else {
         Err(Status::OtherPassword)
@@ -329,7 +374,19 @@ pub extern "C" fn fe2o3_scram_record_verify(
     kept: &ScramRecord,
     password: &[u8],
 ) -> u32
-    ensures { Answers result (Verifies kept.now password.now) }
+    ensures { Answers result (Verifies kept.now (Typed password.now)) }
 {
-    number(verify(alloc, kept, password))
+    number(verify(alloc, kept, PasswordForm::Typed, password))
+}
+
+/// Whether a prepared password (RFC 4013), which is taken as it stands, is that of the record: 0 where it is.
+#[unsafe(no_mangle)]
+pub extern "C" fn fe2o3_scram_record_verify_prepared(
+    alloc: Global,
+    kept: &ScramRecord,
+    password: &[u8],
+) -> u32
+    ensures { Answers result (Verifies kept.now (Prepared password.now)) }
+{
+    number(verify(alloc, kept, PasswordForm::Prepared, password))
 }

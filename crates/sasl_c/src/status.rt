@@ -34,7 +34,8 @@ pub enum Status {
     /// The iteration count is 0.
     ZeroIterations,
 
-    /// There is no such secret: 0 is the password, 1 the keys, and 2 both.
+    /// There is no such secret: 0 is the password, 1 the keys, and 2 both; 3 is a prepared password, and 4 both with
+    /// one.
     NoSuchSecret,
 
     /// The struct of keys shows none.
@@ -118,6 +119,19 @@ pub enum Status {
 
     /// The login is refused by a system error that may pass.
     RefusedSysTemp,
+
+    /// There is no such choice: 0 refuses unassigned code points, and 1 allows them.
+    NoSuchChoice,
+
+    /// What the text is prepared to holds a character that RFC 4013, section 2.3, prohibits.
+    ProhibitedCharacter,
+
+    /// What the text is prepared to holds a right-to-left character, and a left-to-right one too or another at its begin
+    /// or end (RFC 3454, section 6).
+    MixedDirections,
+
+    /// The text holds a code point that Unicode 3.2 does not assign, or is prepared to one.
+    UnassignedCodePoint,
 }
 
 impl From<AllocError> for Status {
@@ -191,6 +205,10 @@ impl Status {
             Status::RefusedSys => 82,
             Status::RefusedSysPerm => 83,
             Status::RefusedSysTemp => 84,
+            Status::NoSuchChoice => 85,
+            Status::ProhibitedCharacter => 86,
+            Status::MixedDirections => 87,
+            Status::UnassignedCodePoint => 88,
         }
     }
 }

@@ -92,6 +92,10 @@ fn text_of(status: u32) -> &'static [u8] {
         82 => b"Connection: The login is refused by a system error\0",
         83 => b"Connection: The login is refused by a system error that stays\0",
         84 => b"Connection: The login is refused by a system error that may pass\0",
+        85 => b"No such choice\0",
+        86 => b"The text holds a prohibited character\0",
+        87 => b"The text mixes directions\0",
+        88 => b"The text holds an unassigned code point\0",
         _ => b"Unknown status\0",
     }
 }

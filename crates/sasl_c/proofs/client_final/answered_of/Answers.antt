@@ -1,7 +1,6 @@
 use Rattle.std.proofs.Common.{rules}
 use Rattle.sasl_c.proofs.ClientLemmas.{mapped_err, mapped_ok, unanswered}
-use Rattle.sasl_c.proofs.LoginLemmas.{neither_keys, neither_password, no_keys, no_password, other_secret}
-use Rattle.sasl_c.specs.declared.status.Status.TheVariants as statuses
+use Rattle.sasl_c.proofs.LoginLemmas.{neither_keys, neither_password, no_keys, no_password}
 use Rattle.sasl_c.proofs.client_final.answered_of.Goals as goal
 
 pub returns-in-Err-clause-err : goal.returns-in-Err-clause-err
@@ -23,11 +22,6 @@ pub returns-in-Err-keys-2-clause-err : goal.returns-in-Err-keys-2-clause-err
 returns-in-Err-keys-2-clause-err c = λ other none is sent.
     unanswered c.args.login.now c.args.client.now c.args.server_first.now c.args.version c.in-Err-keys-2.status is none
     (neither_keys c.args.login.now c.in-Err-keys-2.status c.in-2.is c.in-Ok-text.ensures.1 (c.in-Err-keys-2.ensures.err other))
-
-pub returns-in_default-clause-err : goal.returns-in_default-clause-err
-returns-in_default-clause-err c = λ other none is sent.
-    unanswered c.args.login.now c.args.client.now c.args.server_first.now c.args.version statuses.NoSuchSecret is none
-    (search (rules, other_secret))
 
 pub returns-in-Ok-keys-clause-ok : goal.returns-in-Ok-keys-clause-ok
 returns-in-Ok-keys-clause-ok c = mapped_ok _ _ c.answered_by-in-1.result c.answered_by-in-1.ensures.ok

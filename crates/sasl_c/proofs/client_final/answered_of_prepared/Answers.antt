@@ -1,0 +1,33 @@
+use Rattle.std.proofs.Common.{rules}
+use Rattle.sasl_c.proofs.ClientLemmas.{mapped_err, mapped_ok, unanswered}
+use Rattle.sasl_c.proofs.LoginLemmas.{neither_prepared, no_prepared, other_secret, prepared_no_keys}
+use Rattle.sasl_c.specs.declared.status.Status.TheVariants as statuses
+use Rattle.sasl_c.proofs.client_final.answered_of_prepared.Goals as goal
+
+pub returns-in-Err-clause-err : goal.returns-in-Err-clause-err
+returns-in-Err-clause-err c = λ other none is sent.
+    unanswered c.args.login.now c.args.client.now c.args.server_first.now c.args.version c.in-Err.status is none
+    (no_prepared c.args.login.now c.in-Err.status c.in-3.is c.in-Err.ensures.0 c.in-Err.ensures.1)
+
+pub returns-in-Err-text-clause-err : goal.returns-in-Err-text-clause-err
+returns-in-Err-text-clause-err c = λ other none is sent.
+    unanswered c.args.login.now c.args.client.now c.args.server_first.now c.args.version c.in-Err-text.status is none
+    (neither_prepared c.args.login.now c.in-Err-text.status c.in-4.is c.in-Err-text.ensures.0 c.in-Err-text.ensures.1)
+
+pub returns-in-Err-keys-clause-err : goal.returns-in-Err-keys-clause-err
+returns-in-Err-keys-clause-err c = λ other none is sent.
+    unanswered c.args.login.now c.args.client.now c.args.server_first.now c.args.version c.in-Err-keys.status is none
+    (prepared_no_keys c.args.login.now c.in-Err-keys.status c.in-4.is c.in-Ok-text.ensures.1 (c.in-Err-keys.ensures.err other))
+
+pub returns-in_default-clause-err : goal.returns-in_default-clause-err
+returns-in_default-clause-err c = λ other none is sent.
+    unanswered c.args.login.now c.args.client.now c.args.server_first.now c.args.version statuses.NoSuchSecret is none
+    (search (rules, other_secret))
+
+pub returns-in-Ok-keys-clause-ok : goal.returns-in-Ok-keys-clause-ok
+returns-in-Ok-keys-clause-ok c = mapped_ok _ _ c.answered_by-in-4.result c.answered_by-in-4.ensures.ok
+    (λ answer held is sent. held is (search rules) sent)
+
+pub returns-in-Ok-keys-clause-err : goal.returns-in-Ok-keys-clause-err
+returns-in-Ok-keys-clause-err c = mapped_err _ _ c.answered_by-in-4.result c.answered_by-in-4.ensures.err
+    (λ status held other none is sent. held other is (search rules) sent)

@@ -1,0 +1,94 @@
+//! What texts are prepared to (RFC 4013), as passwords past ASCII are.
+
+ghost use Rattle.std.specs.Prelude.{◌≡◌, ◌≢◌, Ok, Err, IfOk, IfErr, MatchOption};
+ghost use Rattle.std.specs.Cow.{cow_str_bytes};
+ghost use Rattle.saslprep.specs.declared.Unassigned.{Unassigned as Choice};
+ghost use Rattle.sasl_c.specs.Saslprep.{PreparesTo, choice_number, saslprep_status};
+ghost use Rattle.sasl_c.specs.Status.{Answers, Fills};
+ghost use Rattle.sasl_c.specs.declared.status.Status.TheVariants.{OutOfMemory as StatusOutOfMemory, RoomTooSmall};
+
+use crate::arrays::put;
+use crate::status::{Status, number, text};
+use saslprep::{SaslprepError, Unassigned, saslprep};
+use std::alloc::Global;
+use std::borrow::CowStr;
+
+impl From<SaslprepError> for Status {
+    ghost from_gives = { λ why status. status ≡ saslprep_status why };
+
+    fn from(why: SaslprepError) -> Self {
+        match why {
+            SaslprepError::ProhibitedCharacter(_) => Status::ProhibitedCharacter,
+            SaslprepError::MixedDirections => Status::MixedDirections,
+            SaslprepError::UnassignedCodePoint(_) => Status::UnassignedCodePoint,
+            SaslprepError::OutOfMemory => Status::OutOfMemory,
+        }
+    }
+}
+
+/// The choice of a number.
+fn choice_of(number: u32) -> Option<Unassigned>
+    ensures { MatchOption result ((choice : Choice) → choice_number choice ≢ number)
+        (λ choice. choice_number choice ≡ number) }
+{
+    match number {
+        0 => Some(Unassigned::Refused),
+        1 => Some(Unassigned::Allowed),
+        _ => None,
+    }
+}
+
+/// What the bytes are prepared to.
+#[tactic(auto, using(crate::proofs::SaslprepLemmas::prepares_to))]
+fn prepared(alloc: Global, bytes: &[u8], unassigned: u32) -> Result<CowStr<'_>, Status>
+    ensures ok { IfOk result (λ out. PreparesTo unassigned bytes.now (Ok (cow_str_bytes out))) }
+    ensures err { IfErr result (λ status. status ≢ StatusOutOfMemory → PreparesTo unassigned bytes.now (Err status)) }
+    ensures room { IfErr result (λ status. status ≢ RoomTooSmall) }
+{
+    let Some(choice) = choice_of(unassigned) else {
+        return Err(Status::NoSuchChoice);
+    };
+    let Ok(text) = text(bytes) else {
+        return Err(Status::NotUtf8);
+    };
+    match saslprep(alloc, text, choice) {
+        Ok(out) => Ok(out),
+        Err(why) => Err(Status::from(why)),
+    }
+}
+
+/// Writes what the bytes are prepared to.
+fn prepare(
+    alloc: Global,
+    bytes: &[u8],
+    unassigned: u32,
+    out: &mut [u8],
+    len: &mut usize,
+) -> Result<(), Status>
+    ensures { Fills (PreparesTo unassigned bytes.now) (record { bytes = out.old; len = len.old })
+        (record { bytes = out.new; len = len.new }) result }
+{
+    let text = match prepared(alloc, bytes, unassigned) {
+        Ok(text) => text,
+        Err(status) => return Err(status),
+    };
+    put(text.as_bytes(), out, len)
+}
+
+/// Writes what SASLprep (RFC 4013) prepares a text to, as a password is before it is compared or hashed: printable ASCII
+/// to itself, and any other ASCII is refused. Unassigned is 0 where code points that Unicode 3.2 does not assign are
+/// refused, as in a text that is stored, and 1 where they are allowed, as in one that is only compared with stored ones
+/// (RFC 3454, section 7). What is prepared is handed in where a prepared password is asked for.
+#[unsafe(no_mangle)]
+pub extern "C" fn fe2o3_saslprep(
+    alloc: Global,
+    text: &[u8],
+    unassigned: u32,
+    out: &mut [u8],
+    len: &mut usize,
+) -> u32
+    ensures { Answers result (Fills (PreparesTo unassigned text.now) (record { bytes = out.old; len = len.old })
+        (record { bytes = out.new; len = len.new })) }
+{
+    number(prepare(alloc, text, unassigned, out, len))
+}
