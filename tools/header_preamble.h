@@ -52,11 +52,25 @@ extern "C" {
 #define FE2O3_ANONYMOUS 2u
 #define FE2O3_EXTERNAL 3u
 
-/* What a server offers: a sum of these. */
+/* By what a client logs in: its password as it is typed, its keys, or both; or by a prepared password, or both with
+ * that. */
+#define FE2O3_BY_PASSWORD 0u
+#define FE2O3_BY_KEYS 1u
+#define FE2O3_BY_PASSWORD_AND_KEYS 2u
+#define FE2O3_BY_PREPARED 3u
+#define FE2O3_BY_PREPARED_AND_KEYS 4u
+
+/* Whether a text that is prepared may hold code points that Unicode 3.2 does not assign. */
+#define FE2O3_UNASSIGNED_REFUSED 0u
+#define FE2O3_UNASSIGNED_ALLOWED 1u
+
+/* What a server offers: a sum of these. The last is no mechanism, but lets SCRAM take a client whose GS2 header is
+ * `y,,`. */
 #define FE2O3_OFFER_SCRAM 1u
 #define FE2O3_OFFER_PLAIN 2u
 #define FE2O3_OFFER_ANONYMOUS 4u
 #define FE2O3_OFFER_EXTERNAL 8u
+#define FE2O3_TAKE_UNBOUND 16u
 
 /* How a connection stands. */
 #define FE2O3_WANTING 0u

@@ -52,11 +52,25 @@ extern "C" {
 #define FE2O3_ANONYMOUS 2u
 #define FE2O3_EXTERNAL 3u
 
-/* What a server offers: a sum of these. */
+/* By what a client logs in: its password as it is typed, its keys, or both; or by a prepared password, or both with
+ * that. */
+#define FE2O3_BY_PASSWORD 0u
+#define FE2O3_BY_KEYS 1u
+#define FE2O3_BY_PASSWORD_AND_KEYS 2u
+#define FE2O3_BY_PREPARED 3u
+#define FE2O3_BY_PREPARED_AND_KEYS 4u
+
+/* Whether a text that is prepared may hold code points that Unicode 3.2 does not assign. */
+#define FE2O3_UNASSIGNED_REFUSED 0u
+#define FE2O3_UNASSIGNED_ALLOWED 1u
+
+/* What a server offers: a sum of these. The last is no mechanism, but lets SCRAM take a client whose GS2 header is
+ * `y,,`. */
 #define FE2O3_OFFER_SCRAM 1u
 #define FE2O3_OFFER_PLAIN 2u
 #define FE2O3_OFFER_ANONYMOUS 4u
 #define FE2O3_OFFER_EXTERNAL 8u
+#define FE2O3_TAKE_UNBOUND 16u
 
 /* How a connection stands. */
 #define FE2O3_WANTING 0u
@@ -84,7 +98,8 @@ enum fe2o3_status {
     FE2O3_NOT_PRINTABLE = 6,
     /* The iteration count is 0. */
     FE2O3_ZERO_ITERATIONS = 7,
-    /* There is no such secret: 0 is the password, 1 the keys, and 2 both. */
+    /* There is no such secret: 0 is the password, 1 the keys, and 2 both; 3 is a prepared password, and 4 both with
+     * one. */
     FE2O3_NO_SUCH_SECRET = 8,
     /* The struct of keys shows none. */
     FE2O3_NO_KEYS = 9,
@@ -210,7 +225,16 @@ enum fe2o3_status {
     /* The login is refused by a system error that stays. */
     FE2O3_REFUSED_SYS_PERM = 83,
     /* The login is refused by a system error that may pass. */
-    FE2O3_REFUSED_SYS_TEMP = 84
+    FE2O3_REFUSED_SYS_TEMP = 84,
+    /* There is no such choice: 0 refuses unassigned code points, and 1 allows them. */
+    FE2O3_NO_SUCH_CHOICE = 85,
+    /* What the text is prepared to holds a character that RFC 4013, section 2.3, prohibits. */
+    FE2O3_PROHIBITED_CHARACTER = 86,
+    /* What the text is prepared to holds a right-to-left character, and a left-to-right one too or another at its begin
+     * or end (RFC 3454, section 6). */
+    FE2O3_MIXED_DIRECTIONS = 87,
+    /* The text holds a code point that Unicode 3.2 does not assign, or is prepared to one. */
+    FE2O3_UNASSIGNED_CODE_POINT = 88
 };
 
 /* What a side of a connection keeps between its calls. All zeros is a connection of which no byte has come. */
@@ -328,8 +352,9 @@ struct fe2o3_text {
 struct fe2o3_login {
     /* 1, 256 or 512, for the mechanism's hash. */
     uint32_t version;
-    /* 0 for the password, 1 for the keys, and 2 for the keys where the server names the salt and the count that
-     * they are of, and else the password. */
+    /* 0 for the password as it is typed, 1 for the keys, and 2 for the keys where the server names the salt and the
+     * count that they are of, and else the password as it is typed. 3 and 4 are 0 and 2 with a prepared password, as
+     * `fe2o3_saslprep` writes one. */
     uint32_t secret;
     /* The lowest iteration count that is answered. RFC 7677 asks for 4096 at least. */
     uint32_t least_iterations;
@@ -338,7 +363,7 @@ struct fe2o3_login {
     /* The plain name of the user. */
     const uint8_t *username;
     size_t username_len;
-    /* The password, as it is typed. */
+    /* The password, as it is typed or prepared. */
     const uint8_t *password;
     size_t password_len;
     /* The keys that an earlier login handed out. */
@@ -363,7 +388,9 @@ struct fe2o3_scram_client {
 /* What a server offers, and whose record it has: lent for each call. */
 struct fe2o3_sasl_host {
     /* Which mechanisms are offered: the sum of 1 for SCRAM of the version, 2 for PLAIN, 4 for ANONYMOUS, and 8 for
-     * EXTERNAL. PLAIN shows the password to whoever reads the connection, and is for TLS alone. */
+     * EXTERNAL; and of 16 where SCRAM takes a client whose GS2 header is `y,,`, as
+     * `fe2o3_scram_server_first_unbound` does. PLAIN shows the password to whoever reads the connection, and is for
+     * TLS alone. */
     uint32_t mechanisms;
     /* 1, 256 or 512, for the hash of SCRAM and of the record. */
     uint32_t version;
@@ -478,6 +505,17 @@ uint32_t fe2o3_scram_keys_make(
     uint32_t iterations,
     struct fe2o3_client_keys *keys);
 
+/* Makes the keys of a prepared password (RFC 4013), for a server that keeps this salt and this count: any text, which is
+ * taken as it stands. */
+uint32_t fe2o3_scram_keys_make_prepared(
+    uint32_t version,
+    const uint8_t *password,
+    size_t password_len,
+    const uint8_t *salt,
+    size_t salt_len,
+    uint32_t iterations,
+    struct fe2o3_client_keys *keys);
+
 /* Finds the record of this version that a user has in a text of users, a line for each: the name, with each comma as
  * `=2C` and each equals sign as `=3D`, a space, the text of the record, and a line feed. Of several lines for one name
  * and version the first counts. Where nothing is found, `line` says which line is not read, counted from 1, or 0 where
@@ -501,8 +539,31 @@ uint32_t fe2o3_scram_line(
     size_t out_room,
     size_t *len);
 
+/* Writes what SASLprep (RFC 4013) prepares a text to, as a password is before it is compared or hashed: printable ASCII
+ * to itself, and any other ASCII is refused. Unassigned is 0 where code points that Unicode 3.2 does not assign are
+ * refused, as in a text that is stored, and 1 where they are allowed, as in one that is only compared with stored ones
+ * (RFC 3454, section 7). What is prepared is handed in where a prepared password is asked for. */
+uint32_t fe2o3_saslprep(
+    const uint8_t *text,
+    size_t text_len,
+    uint32_t unassigned,
+    uint8_t *out,
+    size_t out_room,
+    size_t *len);
+
 /* Makes the record of a password. Where the number is not 0, the struct stays as it was. */
 uint32_t fe2o3_scram_record_make(
+    uint32_t version,
+    const uint8_t *password,
+    size_t password_len,
+    const uint8_t *salt,
+    size_t salt_len,
+    uint32_t iterations,
+    struct fe2o3_scram_record *kept);
+
+/* Makes the record of a prepared password (RFC 4013), as `fe2o3_saslprep` writes one that is stored: any text, which is
+ * taken as it stands. A client logs in by that very text alone. */
+uint32_t fe2o3_scram_record_make_prepared(
     uint32_t version,
     const uint8_t *password,
     size_t password_len,
@@ -533,6 +594,12 @@ uint32_t fe2o3_scram_record_of_nobody(
 /* Whether a password that was told, as by PLAIN, is that of the record: 0 where it is. It hashes as often as the
  * record's count says, so the record is to be one of the caller's own. */
 uint32_t fe2o3_scram_record_verify(
+    const struct fe2o3_scram_record *kept,
+    const uint8_t *password,
+    size_t password_len);
+
+/* Whether a prepared password (RFC 4013), which is taken as it stands, is that of the record: 0 where it is. */
+uint32_t fe2o3_scram_record_verify_prepared(
     const struct fe2o3_scram_record *kept,
     const uint8_t *password,
     size_t password_len);
@@ -575,9 +642,23 @@ uint32_t fe2o3_sasl_server_receive(
     size_t *len);
 
 /* Answers a client-first message with the server-first message, which starts an exchange afresh at any time. The
- * record is that of the user whom the message names (`fe2o3_scram_server_user`), or one that is made up
- * (`fe2o3_scram_record_of_nobody`). The nonce is 32 random bytes, fresh for each. */
+ * GS2 header of the message has to be `n,,`. The record is that of the user whom the message names
+ * (`fe2o3_scram_server_user`), or one that is made up (`fe2o3_scram_record_of_nobody`). The nonce is 32 random
+ * bytes, fresh for each. */
 uint32_t fe2o3_scram_server_first(
+    const struct fe2o3_scram_record *kept,
+    struct fe2o3_scram_server *server,
+    const uint8_t nonce[32],
+    const uint8_t *client_first,
+    size_t client_first_len,
+    uint8_t *out,
+    size_t out_room,
+    size_t *len);
+
+/* As `fe2o3_scram_server_first`, and the GS2 header may be `y,,` too: that of a client which could bind a
+ * channel and believes that the server cannot, since it was offered no mechanism with `-PLUS` (RFC 5802,
+ * section 6). Only for a server that offers none. */
+uint32_t fe2o3_scram_server_first_unbound(
     const struct fe2o3_scram_record *kept,
     struct fe2o3_scram_server *server,
     const uint8_t nonce[32],

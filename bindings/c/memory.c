@@ -61,7 +61,7 @@ static struct {
     struct fe2o3_scram_server server;
     struct fe2o3_sasl_client client_side;
     struct fe2o3_sasl_server server_side;
-    struct text out, client_first, server_first, client_final, server_final, user, line;
+    struct text out, client_first, server_first, client_final, server_final, user, line, password;
     size_t taken, line_number;
 } all;
 
@@ -110,6 +110,19 @@ static uint32_t make_keys(void)
 {
     return fe2o3_scram_keys_make(FE2O3_SHA_256, TEXT("pencil"), salt, 16, 4096, &all.keys);
 }
+static uint32_t prepare(void)
+{
+    return fe2o3_saslprep(TEXT("pe\xcc\x81ncil"), FE2O3_UNASSIGNED_REFUSED, ROOM(all.password));
+}
+static uint32_t make_prepared(void)
+{
+    return fe2o3_scram_record_make_prepared(FE2O3_SHA_256, GIVEN(all.password), salt, 16, 4096, &all.read);
+}
+static uint32_t verify_prepared(void) { return fe2o3_scram_record_verify_prepared(&all.read, GIVEN(all.password)); }
+static uint32_t make_prepared_keys(void)
+{
+    return fe2o3_scram_keys_make_prepared(FE2O3_SHA_256, GIVEN(all.password), salt, 16, 4096, &all.keys);
+}
 static uint32_t make_up(void)
 {
     return fe2o3_scram_record_of_nobody(FE2O3_SHA_256, secret, 32, TEXT("who"), 16, 4096, &all.nobody);
@@ -119,6 +132,11 @@ static uint32_t user(void) { return fe2o3_scram_server_user(GIVEN(all.client_fir
 static uint32_t challenge(void)
 {
     return fe2o3_scram_server_first(&all.record, &all.server, nonce, GIVEN(all.client_first), ROOM(all.server_first));
+}
+static uint32_t challenge_unbound(void)
+{
+    return fe2o3_scram_server_first_unbound(
+        &all.record, &all.server, nonce, GIVEN(all.client_first), ROOM(all.server_first));
 }
 static uint32_t answer(void)
 {
@@ -202,12 +220,24 @@ int main(void)
     tried("line", spell_line);
     tried("lines_find", find);
     tried("keys_make", make_keys);
+    tried("saslprep", prepare);
+    tried("record_make_prepared", make_prepared);
+    tried("record_verify_prepared", verify_prepared);
+    tried("keys_make_prepared", make_prepared_keys);
     tried("client_first", first);
     tried("server_user", user);
+    tried("server_first_unbound", challenge_unbound);
     tried("server_first", challenge);
     tried("client_final", answer);
     tried("server_final", conclude);
     tried("client_verify", verify);
+    login.secret = FE2O3_BY_PREPARED_AND_KEYS;
+    login.keys = &all.keys;
+    tried("client_first, prepared", first);
+    tried("server_first, prepared", challenge);
+    tried("client_final, prepared", answer);
+    tried("server_final, prepared", conclude);
+    tried("client_verify, prepared", verify);
     puts("a connection, SCRAM-SHA-256");
     connection(FE2O3_SCRAM, "us,er");
     puts("a connection, PLAIN");

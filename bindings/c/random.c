@@ -104,7 +104,7 @@ static void field(struct text *to, uint8_t kind, const void *bytes, size_t len)
 static struct seen {
     const char *name;
     long calls, of[STATUSES];
-} calls[20];
+} calls[24];
 
 static struct seen *seen(const char *name)
 {
@@ -276,7 +276,10 @@ static void with_a_server(void)
     ADD(&client_first, "n,,n=user,r=");
     add_base64(&client_first, 32);
     unproved(&drawn.server, &client_final);
+    client_first.bytes[0] = below(2) ? 'n' : 'y';
     answered("server_first", fe2o3_scram_server_first(&all.record, &all.server, nonce, GIVEN(client_first), ROOM));
+    answered("server_first_unbound",
+        fe2o3_scram_server_first_unbound(&all.record, &all.server, nonce, GIVEN(client_first), ROOM));
     answered("server_final", fe2o3_scram_server_final(&all.record, &all.server, GIVEN(client_final), ROOM));
     answered("server_logged_in", fe2o3_scram_server_logged_in(&all.server, ROOM));
 }
@@ -286,6 +289,22 @@ static void with_a_record(void)
     answered("record_text", fe2o3_scram_record_text(&all.record, ROOM));
     answered("line", fe2o3_scram_line(TEXT("user"), &all.record, ROOM));
     answered("record_verify", fe2o3_scram_record_verify(&all.record, TEXT("pencil")));
+    answered("record_verify_prepared", fe2o3_scram_record_verify_prepared(&all.record, TEXT("pencil")));
+}
+
+/* Some characters of one to four bytes, seldom with a byte among them that begins none. */
+static void with_a_text(void)
+{
+    static const char *const characters[] = {"a", "Z", " ", "\x07", "\xc2\xad", "\xc2\xaa", "\xc8\xa1", "\xcc\x81",
+        "\xd8\xa7", "\xe1\x84\x80", "\xe1\x85\xa1", "\xe2\x80\x8b", "\xe2\x85\xa8", "\xf0\x9d\x90\x80"};
+    struct text typed = {{0}, 0};
+    for (uint32_t left = below(9); left > 0; left--) {
+        const char *character = characters[below(sizeof characters / sizeof *characters)];
+        add(&typed, character, strlen(character));
+    }
+    if (below(8) == 0)
+        ADD(&typed, "\xff");
+    answered("saslprep", fe2o3_saslprep(GIVEN(typed), below(8) == 0 ? any() : below(2), ROOM));
 }
 
 /* What a server sends next, to a client of this mechanism. */
@@ -362,7 +381,7 @@ static void to_server(const struct fe2o3_sasl_server *side, struct text *came)
 
 static void with_a_side_of_a_server(void)
 {
-    struct fe2o3_sasl_host host = {.mechanisms = below(17), .version = FE2O3_SHA_256, .iterations = below(9),
+    struct fe2o3_sasl_host host = {.mechanisms = below(33), .version = FE2O3_SHA_256, .iterations = below(9),
         .username = TEXT("user"), .record = &all.record, .peer = TEXT("peer")};
     struct text came = {{0}, 0};
     uint32_t status;
@@ -394,11 +413,12 @@ static void one_round(void)
     fill(nonce, sizeof nonce);
     all = drawn;
     login = (struct fe2o3_login){.version = below(4) ? drawn.keys.version : ONE_OF(1, 2, 256, 512),
-        .secret = below(2) ? 0 : below(4), .least_iterations = below(3), .most_iterations = 5 + below(4),
+        .secret = below(2) ? 0 : below(6), .least_iterations = below(3), .most_iterations = 5 + below(4),
         .username = TEXT("user"), .password = TEXT("pencil"), .keys = &drawn.keys};
     with_a_client();
     with_a_server();
     with_a_record();
+    with_a_text();
     with_a_side_of_a_client();
     with_a_side_of_a_server();
 }
@@ -419,16 +439,27 @@ int main(void)
     never("client_verify", seen("client_verify")->of[FE2O3_DONE] != 0);
     never("server_final", seen("server_final")->of[FE2O3_DONE] != 0);
     never("record_verify", seen("record_verify")->of[FE2O3_DONE] != 0);
+    never("record_verify_prepared", seen("record_verify_prepared")->of[FE2O3_DONE] != 0);
     reached("client_first", FE2O3_DONE);
     reached("client_final", FE2O3_DONE);
     reached("client_verify", FE2O3_CLIENT_SERVER_SIGNATURE_MISMATCH);
     reached("client_keys", FE2O3_DONE);
+    reached("client_final", FE2O3_NO_SUCH_SECRET);
     reached("server_first", FE2O3_DONE);
+    reached("server_first", FE2O3_SERVER_CANNOT_PARSE_GS2_HEADER);
+    reached("server_first_unbound", FE2O3_DONE);
     reached("server_final", FE2O3_SERVER_AUTHENTICATION_FAILED);
     reached("server_logged_in", FE2O3_DONE);
     reached("record_text", FE2O3_DONE);
     reached("line", FE2O3_DONE);
     reached("record_verify", FE2O3_OTHER_PASSWORD);
+    reached("record_verify_prepared", FE2O3_OTHER_PASSWORD);
+    reached("saslprep", FE2O3_DONE);
+    reached("saslprep", FE2O3_NOT_UTF8);
+    reached("saslprep", FE2O3_NO_SUCH_CHOICE);
+    reached("saslprep", FE2O3_PROHIBITED_CHARACTER);
+    reached("saslprep", FE2O3_MIXED_DIRECTIONS);
+    reached("saslprep", FE2O3_UNASSIGNED_CODE_POINT);
     reached("sasl_client_receive", FE2O3_DONE);
     reached("sasl_client_receive", FE2O3_ENDED);
     reached("sasl_client_receive", FE2O3_NOT_KEPT);

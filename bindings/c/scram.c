@@ -21,6 +21,26 @@ static const uint8_t known_salt[] = {0x5b, 0x6d, 0x99, 0x68, 0x9d, 0x12, 0x35, 0
 static const char known_record[] = "SCRAM-SHA-256$4096:W22ZaJ0SNY7soEsUEjb6gQ==$"
     "WG5d8oPm3OtcPnkdi4Uo7BkeZkBFzpcXkuLmtbsT4qY=:wfPLwcE6nTWhTAmQ7tl2KeoiWGPlZqQxSrmfPwDl2dU=";
 
+/* A password past ASCII as it is typed, what SASLprep prepares it to, and the records of that with this salt. The text
+ * is that of Python's stringprep and unicodedata, and the keys are those of its hashlib and hmac. */
+#define TYPED "pe\xcc\x81nci\xc2\xadl"
+#define PREPARED "p\xc3\xa9ncil"
+static const char prepared_1[] = "SCRAM-SHA-1$4096:W22ZaJ0SNY7soEsUEjb6gQ==$"
+    "Ht246LvWj4JbiUgVboZaa3Roj10=:VnM/xDSMFNP7iA5XaO6kdgL3zFE=";
+static const char prepared_256[] = "SCRAM-SHA-256$4096:W22ZaJ0SNY7soEsUEjb6gQ==$"
+    "GvjFZBfZSolQ8xuwIHAJlAq3MY+MGTjIrstgvbZu83E=:a+w26Tb6NHrNXdjMF/QgL5GZ3qvfbaNAgGoK6yh4x/E=";
+static const char prepared_512[] = "SCRAM-SHA-512$4096:W22ZaJ0SNY7soEsUEjb6gQ==$"
+    "KsGVSzjR/2GTgnCTFuoXTEgtTdhv1X2UYlOIB436eFfyQZSvN7Wcfc90BvtmTOMVnB4GiRHOZJJHNA85LTOSKw==:"
+    "g6s6sk5II26TgxYONS1psawypQCoArOrIGmhgNDCAgMpL7vo0MABNZh1G+EXYl037K3ZabWKSRDbDdobxkbHUA==";
+
+/* The messages of a client of SCRAM-SHA-256 that could bind a channel, by the password "pencil", the nonces below and
+ * this salt: its proof and the server's signature are those of Python's hashlib and hmac. */
+#define CLIENT_NONCE "AQAAAAAAAAAAAAAAAAAAAAAAAAAAAAAAAAAAAAAAAAA="
+#define BOTH_NONCES CLIENT_NONCE "AgAAAAAAAAAAAAAAAAAAAAAAAAAAAAAAAAAAAAAAAAA="
+#define UNBOUND_FIRST "y,,n=user,r=" CLIENT_NONCE
+#define UNBOUND_FINAL "c=eSws,r=" BOTH_NONCES ",p=SJ1/Pm0x+vAkhmfEkR72IPuVMVkUt0BF477aSDSc3vM="
+#define PLAIN_FINAL "c=biws,r=" BOTH_NONCES ",p=MIHdNcfet0LbDJOcfcN6eFJrJahL13kbab8XbO3ku+k="
+
 struct text {
     uint8_t bytes[512];
     size_t len;
@@ -135,6 +155,104 @@ static void cases(uint32_t version)
     told(version, "a room that is too small, and then large enough", rooms(&login, &one));
 }
 
+/* A password past ASCII: what it is prepared to, the record of that, and logins by it and by its keys. */
+static void prepared(uint32_t version, const char *words)
+{
+    struct fe2o3_client_keys no_keys = {0}, keys = {0}, made = {0};
+    struct fe2o3_scram_record record = {0}, other = {0};
+    struct text password = {{0}, 0}, text = {{0}, 0};
+    struct exchange one;
+    struct fe2o3_login login = {.version = version, .secret = FE2O3_BY_PREPARED, .least_iterations = 4096,
+        .most_iterations = 4096, .username = TEXT("user"), .password = FE2O3_NONE, .keys = &no_keys};
+
+    told(version, "a password past ASCII is prepared",
+        fe2o3_saslprep(TEXT(TYPED), FE2O3_UNASSIGNED_REFUSED, ROOM(password)) == FE2O3_DONE
+            && spells(&password, PREPARED));
+    told(version, "the record of a prepared password",
+        fe2o3_scram_record_make_prepared(version, GIVEN(password), known_salt, sizeof known_salt, 4096, &record)
+                == FE2O3_DONE
+            && fe2o3_scram_record_text(&record, ROOM(text)) == FE2O3_DONE && spells(&text, words));
+    told(version, "the record knows its prepared password",
+        fe2o3_scram_record_verify_prepared(&record, GIVEN(password)) == FE2O3_DONE
+            && fe2o3_scram_record_verify_prepared(&record, TEXT(TYPED)) == FE2O3_OTHER_PASSWORD
+            && fe2o3_scram_record_verify(&record, GIVEN(password)) == FE2O3_OTHER_PASSWORD);
+    login.password = password.bytes;
+    login.password_len = password.len;
+    told(version, "a login by a prepared password", run(&one, &login, &record) == FE2O3_DONE);
+    told(version, "its keys",
+        fe2o3_scram_client_keys(&one.client, &keys) == FE2O3_DONE
+            && fe2o3_scram_keys_make_prepared(version, GIVEN(password), known_salt, sizeof known_salt, 4096, &made)
+                == FE2O3_DONE
+            && memcmp(&keys, &made, sizeof keys) == 0);
+    login.secret = FE2O3_BY_PREPARED_AND_KEYS;
+    told(version, "a login by both without keys", run(&one, &login, &record) == FE2O3_NO_KEYS);
+    login.keys = &keys;
+    fe2o3_scram_record_make_prepared(version, GIVEN(password), other_salt, sizeof other_salt, 4096, &other);
+    told(version, "a login by both, also with another salt",
+        run(&one, &login, &record) == FE2O3_DONE && run(&one, &login, &other) == FE2O3_DONE);
+    login.secret = FE2O3_BY_PASSWORD;
+    told(version, "the same as a typed one is refused",
+        run(&one, &login, &record) == FE2O3_CLIENT_NORMALIZE_ERROR
+            && fe2o3_scram_record_make(version, GIVEN(password), salt, sizeof salt, 4096, &other)
+                == FE2O3_NOT_PRINTABLE);
+    login.secret = 5;
+    told(version, "a secret that is none", run(&one, &login, &record) == FE2O3_NO_SUCH_SECRET);
+}
+
+/* The examples of RFC 4013, section 3, and the refusals that they do not show. */
+static void preparing(void)
+{
+    static const struct {
+        const char *typed, *prepared;
+        uint32_t unassigned, number;
+    } rows[] = {
+        {"I\xc2\xadX", "IX", 0, FE2O3_DONE},
+        {"user", "user", 0, FE2O3_DONE},
+        {"USER", "USER", 0, FE2O3_DONE},
+        {"\xc2\xaa", "a", 0, FE2O3_DONE},
+        {"\xe2\x85\xa8", "IX", 0, FE2O3_DONE},
+        {"\x07", "", 0, FE2O3_PROHIBITED_CHARACTER},
+        {"\xd8\xa7\x31", "", 0, FE2O3_MIXED_DIRECTIONS},
+        {"\xc8\xa1", "", 0, FE2O3_UNASSIGNED_CODE_POINT},
+        {"\xc8\xa1", "\xc8\xa1", 1, FE2O3_DONE},
+        {"\xff", "", 0, FE2O3_NOT_UTF8},
+        {"\xff", "", 2, FE2O3_NO_SUCH_CHOICE},
+    };
+    struct text out = {{0}, 0};
+    int holds = 1;
+    for (size_t at = 0; at < sizeof rows / sizeof *rows; at++) {
+        const uint8_t *typed = (const uint8_t *)rows[at].typed;
+        out.len = 0;
+        holds &= fe2o3_saslprep(typed, strlen(rows[at].typed), rows[at].unassigned, ROOM(out)) == rows[at].number;
+        holds &= spells(&out, rows[at].prepared);
+    }
+    holds &= fe2o3_saslprep(TEXT(TYPED), 0, out.bytes, 6, &out.len) == FE2O3_ROOM_TOO_SMALL && out.len == 7;
+    told(0, "texts are prepared, or refused", holds);
+}
+
+/* A client that could bind a channel, at a server that takes it and at one that does not. */
+static void unbound(void)
+{
+    struct fe2o3_scram_record record = {0};
+    struct fe2o3_scram_server server = {0};
+    struct text text = {{0}, 0};
+    fe2o3_scram_record_make(FE2O3_SHA_256, TEXT("pencil"), known_salt, sizeof known_salt, 4096, &record);
+    told(FE2O3_SHA_256, "the header `y,,` is refused",
+        fe2o3_scram_server_first(&record, &server, server_nonce, TEXT(UNBOUND_FIRST), ROOM(text))
+            == FE2O3_SERVER_CANNOT_PARSE_GS2_HEADER);
+    told(FE2O3_SHA_256, "the header `y,,` is taken on wish",
+        fe2o3_scram_server_user(TEXT(UNBOUND_FIRST), ROOM(text)) == FE2O3_DONE && spells(&text, "user")
+            && fe2o3_scram_server_first_unbound(&record, &server, server_nonce, TEXT(UNBOUND_FIRST), ROOM(text))
+                == FE2O3_DONE
+            && spells(&text, "r=" BOTH_NONCES ",s=W22ZaJ0SNY7soEsUEjb6gQ==,i=4096"));
+    told(FE2O3_SHA_256, "the last message repeats it",
+        fe2o3_scram_server_final(&record, &server, TEXT(PLAIN_FINAL), ROOM(text))
+                == FE2O3_SERVER_INVALID_CHANNEL_BINDING
+            && fe2o3_scram_server_final(&record, &server, TEXT(UNBOUND_FINAL), ROOM(text)) == FE2O3_DONE
+            && spells(&text, "v=mZx4E2gu+jcdDC0u/pNy5NPrR0Zh6PMH8UcHTIgvIxU=")
+            && fe2o3_scram_server_logged_in(&server, ROOM(text)) == FE2O3_DONE && spells(&text, "user"));
+}
+
 int main(void)
 {
     struct fe2o3_scram_record record = {0};
@@ -145,5 +263,10 @@ int main(void)
     cases(FE2O3_SHA_1);
     cases(FE2O3_SHA_256);
     cases(FE2O3_SHA_512);
+    preparing();
+    prepared(FE2O3_SHA_1, prepared_1);
+    prepared(FE2O3_SHA_256, prepared_256);
+    prepared(FE2O3_SHA_512, prepared_512);
+    unbound();
     return differences != 0;
 }

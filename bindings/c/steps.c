@@ -30,6 +30,12 @@ static const uint8_t salt[] = {0x5b, 0x6d, 0x99, 0x68, 0x9d, 0x12, 0x35, 0x8e,
     "c=biws,r=" BOTH_NONCES ",p=MIHdNcfet0LbDJOcfcN6eFJrJahL13kbab8XbO3ku+k="
 #define OUTCOME_OK "\2\1\0\0\0\x53\x44\xc0\x33\2\x50\0\xa0\x2ev=50uHbJV+ANf1NSOfnBbK910b8IC4PmQ5G06TO7VnXz8="
 
+/* The same of a client that could bind a channel. */
+#define UNBOUND_INIT "\2\1\0\0\0\x53\x41\xc0\x50\3\xa3\15SCRAM-SHA-256\xa0\x38y,,n=user,r=" NONCE "\xa1\4host"
+#define UNBOUND_RESPONSE "\2\1\0\0\0\x53\x43\xc0\x93\1\xa0\x90" \
+    "c=eSws,r=" BOTH_NONCES ",p=SJ1/Pm0x+vAkhmfEkR72IPuVMVkUt0BF477aSDSc3vM="
+#define UNBOUND_OK "\2\1\0\0\0\x53\x44\xc0\x33\2\x50\0\xa0\x2ev=mZx4E2gu+jcdDC0u/pNy5NPrR0Zh6PMH8UcHTIgvIxU="
+
 /* An outcome Ok, and one Auth, without more. */
 #define BARE_OK "\2\1\0\0\0\x53\x44\xc0\3\1\x50\0"
 #define BARE_AUTH "\2\1\0\0\0\x53\x44\xc0\3\1\x50\1"
@@ -299,6 +305,29 @@ static void out_of_turn(void)
             && stands == FE2O3_REFUSED_AUTH && spells(&out, TEXT(BARE_AUTH)) && names_nobody(&server));
 }
 
+/* A client that could bind a channel, at a server that takes it and at one that does not. */
+static void unbound(void)
+{
+    struct fe2o3_scram_record record = record_by(FE2O3_SHA_256);
+    struct fe2o3_sasl_host host = host_of(&record);
+    struct fe2o3_scram_server server = fresh_server;
+    struct body out;
+    uint32_t stands = 9;
+    told("SCRAM-SHA-256", "the header `y,,` is refused",
+        fe2o3_sasl_server_step(&host, &server, TEXT(UNBOUND_INIT), server_nonce, &stands, ROOM(out)) == FE2O3_DONE
+            && stands == FE2O3_REFUSED_AUTH && spells(&out, TEXT(BARE_AUTH)) && names_nobody(&server));
+    host.mechanisms = FE2O3_OFFER_SCRAM | FE2O3_TAKE_UNBOUND;
+    told("SCRAM-SHA-256", "the header `y,,` is taken on wish",
+        fe2o3_sasl_server_step(&host, &server, TEXT(UNBOUND_INIT), server_nonce, &stands, ROOM(out)) == FE2O3_DONE
+            && stands == FE2O3_WANTING && spells(&out, TEXT(CHALLENGE))
+            && fe2o3_sasl_server_step(&host, &server, TEXT(UNBOUND_RESPONSE), server_nonce, &stands, ROOM(out))
+                == FE2O3_DONE
+            && stands == FE2O3_LOGGED_IN && spells(&out, TEXT(UNBOUND_OK)) && names(&server, TEXT("user")));
+    host.mechanisms = FE2O3_TAKE_UNBOUND;
+    told("nothing", "offered, but to take `y,,`",
+        fe2o3_sasl_server_offer(&host, ROOM(out)) == FE2O3_NO_SUCH_MECHANISM);
+}
+
 int main(void)
 {
     by_hand();
@@ -307,5 +336,6 @@ int main(void)
     by_scram("SCRAM-SHA-512", FE2O3_SHA_512);
     by_others();
     out_of_turn();
+    unbound();
     return differences != 0;
 }

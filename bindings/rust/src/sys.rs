@@ -24,7 +24,7 @@ pub const NOT_PRINTABLE: u32 = 6;
 /// The iteration count is 0.
 pub const ZERO_ITERATIONS: u32 = 7;
 
-/// There is no such secret: 0 is the password, 1 the keys, and 2 both.
+/// There is no such secret: 0 is the password, 1 the keys, and 2 both; 3 is a prepared password, and 4 both with one.
 pub const NO_SUCH_SECRET: u32 = 8;
 
 /// The struct of keys shows none.
@@ -210,6 +210,19 @@ pub const REFUSED_SYS_PERM: u32 = 83;
 /// The login is refused by a system error that may pass.
 pub const REFUSED_SYS_TEMP: u32 = 84;
 
+/// There is no such choice: 0 refuses unassigned code points, and 1 allows them.
+pub const NO_SUCH_CHOICE: u32 = 85;
+
+/// What the text is prepared to holds a character that RFC 4013, section 2.3, prohibits.
+pub const PROHIBITED_CHARACTER: u32 = 86;
+
+/// What the text is prepared to holds a right-to-left character, and a left-to-right one too or another at its begin or
+/// end (RFC 3454, section 6).
+pub const MIXED_DIRECTIONS: u32 = 87;
+
+/// The text holds a code point that Unicode 3.2 does not assign, or is prepared to one.
+pub const UNASSIGNED_CODE_POINT: u32 = 88;
+
 /// What a side of a connection keeps between its calls. All zeros is a connection of which no byte has come.
 #[repr(C)]
 #[derive(Clone, Copy)]
@@ -335,8 +348,9 @@ pub struct Text {
 pub struct Login {
     /// 1, 256 or 512, for the mechanism's hash.
     pub version: u32,
-    /// 0 for the password, 1 for the keys, and 2 for the keys where the server names the salt and the count that they
-    /// are of, and else the password.
+    /// 0 for the password as it is typed, 1 for the keys, and 2 for the keys where the server names the salt and the
+    /// count that they are of, and else the password as it is typed. 3 and 4 are 0 and 2 with a prepared password, as
+    /// `fe2o3_saslprep` writes one.
     pub secret: u32,
     /// The lowest iteration count that is answered. RFC 7677 asks for 4096 at least.
     pub least_iterations: u32,
@@ -345,7 +359,7 @@ pub struct Login {
     /// The plain name of the user.
     pub username: *const u8,
     pub username_len: usize,
-    /// The password, as it is typed.
+    /// The password, as it is typed or prepared.
     pub password: *const u8,
     pub password_len: usize,
     /// The keys that an earlier login handed out.
@@ -374,7 +388,8 @@ pub struct ScramClient {
 #[derive(Clone, Copy)]
 pub struct SaslHost {
     /// Which mechanisms are offered: the sum of 1 for SCRAM of the version, 2 for PLAIN, 4 for ANONYMOUS, and 8 for
-    /// EXTERNAL. PLAIN shows the password to whoever reads the connection, and is for TLS alone.
+    /// EXTERNAL; and of 16 where SCRAM takes a client whose GS2 header is `y,,`, as `fe2o3_scram_server_first_unbound`
+    /// does. PLAIN shows the password to whoever reads the connection, and is for TLS alone.
     pub mechanisms: u32,
     /// 1, 256 or 512, for the hash of SCRAM and of the record.
     pub version: u32,
@@ -496,6 +511,17 @@ extern "C" {
         iterations: u32,
         keys: *mut ClientKeys) -> u32;
 
+    /// Makes the keys of a prepared password (RFC 4013), for a server that keeps this salt and this count: any text,
+    /// which is taken as it stands.
+    pub fn fe2o3_scram_keys_make_prepared(
+        version: u32,
+        password: *const u8,
+        password_len: usize,
+        salt: *const u8,
+        salt_len: usize,
+        iterations: u32,
+        keys: *mut ClientKeys) -> u32;
+
     /// Finds the record of this version that a user has in a text of users, a line for each: the name, with each comma
     /// as `=2C` and each equals sign as `=3D`, a space, the text of the record, and a line feed. Of several lines for
     /// one name and version the first counts. Where nothing is found, `line` says which line is not read, counted from
@@ -519,8 +545,31 @@ extern "C" {
         out_room: usize,
         len: *mut usize) -> u32;
 
+    /// Writes what SASLprep (RFC 4013) prepares a text to, as a password is before it is compared or hashed: printable
+    /// ASCII to itself, and any other ASCII is refused. Unassigned is 0 where code points that Unicode 3.2 does not
+    /// assign are refused, as in a text that is stored, and 1 where they are allowed, as in one that is only compared
+    /// with stored ones (RFC 3454, section 7). What is prepared is handed in where a prepared password is asked for.
+    pub fn fe2o3_saslprep(
+        text: *const u8,
+        text_len: usize,
+        unassigned: u32,
+        out: *mut u8,
+        out_room: usize,
+        len: *mut usize) -> u32;
+
     /// Makes the record of a password. Where the number is not 0, the struct stays as it was.
     pub fn fe2o3_scram_record_make(
+        version: u32,
+        password: *const u8,
+        password_len: usize,
+        salt: *const u8,
+        salt_len: usize,
+        iterations: u32,
+        kept: *mut ScramRecord) -> u32;
+
+    /// Makes the record of a prepared password (RFC 4013), as `fe2o3_saslprep` writes one that is stored: any text,
+    /// which is taken as it stands. A client logs in by that very text alone.
+    pub fn fe2o3_scram_record_make_prepared(
         version: u32,
         password: *const u8,
         password_len: usize,
@@ -551,6 +600,12 @@ extern "C" {
     /// Whether a password that was told, as by PLAIN, is that of the record: 0 where it is. It hashes as often as the
     /// record's count says, so the record is to be one of the caller's own.
     pub fn fe2o3_scram_record_verify(kept: *const ScramRecord, password: *const u8, password_len: usize) -> u32;
+
+    /// Whether a prepared password (RFC 4013), which is taken as it stands, is that of the record: 0 where it is.
+    pub fn fe2o3_scram_record_verify_prepared(
+        kept: *const ScramRecord,
+        password: *const u8,
+        password_len: usize) -> u32;
 
     /// Writes the header of SASL, with which a client begins a connection.
     pub fn fe2o3_sasl_client_open(out: *mut u8, out_room: usize, len: *mut usize) -> u32;
@@ -590,9 +645,23 @@ extern "C" {
         len: *mut usize) -> u32;
 
     /// Answers a client-first message with the server-first message, which starts an exchange afresh at any time. The
-    /// record is that of the user whom the message names (`fe2o3_scram_server_user`), or one that is made up
-    /// (`fe2o3_scram_record_of_nobody`). The nonce is 32 random bytes, fresh for each.
+    /// GS2 header of the message has to be `n,,`. The record is that of the user whom the message names
+    /// (`fe2o3_scram_server_user`), or one that is made up (`fe2o3_scram_record_of_nobody`). The nonce is 32 random
+    /// bytes, fresh for each.
     pub fn fe2o3_scram_server_first(
+        kept: *const ScramRecord,
+        server: *mut ScramServer,
+        nonce: *const [u8; 32],
+        client_first: *const u8,
+        client_first_len: usize,
+        out: *mut u8,
+        out_room: usize,
+        len: *mut usize) -> u32;
+
+    /// As `fe2o3_scram_server_first`, and the GS2 header may be `y,,` too: that of a client which could bind a channel
+    /// and believes that the server cannot, since it was offered no mechanism with `-PLUS` (RFC 5802, section 6). Only
+    /// for a server that offers none.
+    pub fn fe2o3_scram_server_first_unbound(
         kept: *const ScramRecord,
         server: *mut ScramServer,
         nonce: *const [u8; 32],

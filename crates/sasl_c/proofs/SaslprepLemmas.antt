@@ -27,9 +27,11 @@ unfolding PreparesTo
 accepts number text given out choice is same utf8 none whole = (
   choice,
   is,
-  utf8,
-  ap (λ (bytes : List ℕ). refusal choice (chars bytes)) (sym same) ∙ none,
-  whole ∙ ap (λ (bytes : List ℕ). encode_utf8_all (prepared (chars bytes))) same,
+  (
+    utf8,
+    ap (λ (bytes : List ℕ). refusal choice (chars bytes)) (sym same) ∙ none,
+    whole ∙ ap (λ (bytes : List ℕ). encode_utf8_all (prepared (chars bytes))) same,
+  ),
 )
 
 pub refuses : (number : ℕ) (text given : List ℕ) (choice : Unassigned) (why : SaslprepError) (status : Status)
@@ -40,13 +42,13 @@ unfolding PreparesTo
 refuses number text given choice faults.OutOfMemory status is same utf8 says gives other = absurd (other gives)
 refuses number text given choice (faults.ProhibitedCharacter c) status is same utf8 says gives other =
     let told = ap (λ (bytes : List ℕ). refusal choice (chars bytes)) (sym same) ∙ says (λ odd. absurd (cc)) in
-    rw gives (choice, is, utf8, (faults.ProhibitedCharacter c, told, refl))
+    rw gives (choice, is, (utf8, (faults.ProhibitedCharacter c, told, refl)))
 refuses number text given choice faults.MixedDirections status is same utf8 says gives other =
     let told = ap (λ (bytes : List ℕ). refusal choice (chars bytes)) (sym same) ∙ says (λ odd. absurd (cc)) in
-    rw gives (choice, is, utf8, (faults.MixedDirections, told, refl))
+    rw gives (choice, is, (utf8, (faults.MixedDirections, told, refl)))
 refuses number text given choice (faults.UnassignedCodePoint c) status is same utf8 says gives other =
     let told = ap (λ (bytes : List ℕ). refusal choice (chars bytes)) (sym same) ∙ says (λ odd. absurd (cc)) in
-    rw gives (choice, is, utf8, (faults.UnassignedCodePoint c, told, refl))
+    rw gives (choice, is, (utf8, (faults.UnassignedCodePoint c, told, refl)))
 
 pub not_room : (why : SaslprepError) → saslprep_status why ≢ statuses.RoomTooSmall
 not_room faults.OutOfMemory = λ same. absurd (cc)

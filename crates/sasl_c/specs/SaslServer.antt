@@ -10,7 +10,7 @@ use Rattle.fe2o3_scram.specs.ClientFirst.{ClientFirst, ReadsClientFirst}
 use Rattle.fe2o3_scram.specs.Credentials.{Record, Records, Store, serving, versioned}
 use Rattle.fe2o3_scram.specs.Hmac.{mechanism_name}
 use Rattle.fe2o3_scram.specs.Readings.{IsFirst, NoneHolds}
-use Rattle.fe2o3_scram.specs.ScramServer.{ServerState, Initial, ServerFirstSent, open_challenge, provider_in, state_in}
+use Rattle.fe2o3_scram.specs.ScramServer.{ServerState, Initial, ServerFirstSent, open_challenge, served_by, state_in}
 use Rattle.fe2o3_scram.specs.ServerFirst.{Challenge}
 use Rattle.fe2o3_sasl.specs.declared.external_acceptor.ExternalAcceptor.{ExternalAcceptor}
 use Rattle.fe2o3_sasl.specs.declared.offers_only.OffersOnly.{OffersOnly}
@@ -341,17 +341,17 @@ Names server bytes (Err status) = NotNamed server bytes status
 
 -- the acceptor's type
 abbrev pub Code : Type 0
-Code = OffersOnly (OneOf (ScramAuthenticator Provider) (OneOf (PlainAuthenticator Provider)
+Code = OffersOnly (OneOf (ScramAuthenticator Store) (OneOf (PlainAuthenticator Store)
     (OneOf SaslAnonymousMechanism ExternalAcceptor)))
 
 -- the acceptor of SCRAM that a value is
-abbrev pub scram_state : ScramAuthenticator Provider → Acceptor
-scram_state machine = ScramAcceptor (provider_in machine) (state_in machine)
+abbrev pub scram_state : ScramAuthenticator Store → Acceptor
+scram_state machine = ScramAcceptor (served_by (λ (store : Store). store) machine) (state_in machine)
 
 -- the four that a value is
-abbrev pub all_in : OneOf (ScramAuthenticator Provider) (OneOf (PlainAuthenticator Provider)
+abbrev pub all_in : OneOf (ScramAuthenticator Store) (OneOf (PlainAuthenticator Store)
     (OneOf SaslAnonymousMechanism ExternalAcceptor)) → All
-all_in all = parts_of scram_state (parts_of (plain_server (λ provider. provider))
+all_in all = parts_of scram_state (parts_of (plain_server (λ store. store))
     (parts_of (λ _. AnonymousAcceptor) external_of)) all
 
 -- its state

@@ -1,6 +1,6 @@
 //! The client's answer to a server-first message: the client-final message.
 
-ghost use Rattle.std.specs.Prelude.{◌≡◌, ◌≢◌, ◌≤◌, ◌+◌, ◌^◌, length, IfOk, OnErr, IfErr, List, ℕ};
+ghost use Rattle.std.specs.Prelude.{◌≡◌, ◌≢◌, ◌<◌, ◌≤◌, ◌+◌, ◌^◌, length, IfOk, OnErr, IfErr, List, ℕ};
 ghost use Rattle.fe2o3_scram.specs.Readings.{NoneHolds};
 ghost use Rattle.sasl_c.specs.Records.{IsVersion};
 ghost use Rattle.fe2o3_scram.specs.ClientFinal.{answer_values};

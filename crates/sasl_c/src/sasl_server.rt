@@ -34,7 +34,9 @@ use std::alloc::Global;
 #[derive(Drop)]
 pub struct SaslHost<'a> {
     /// Which mechanisms are offered: the sum of 1 for SCRAM of the version, 2 for PLAIN, 4 for ANONYMOUS, and 8 for
-    /// EXTERNAL; and 16 where SCRAM takes a client whose GS2 header is `y,,` (`fe2o3_scram_server_first_unbound`). PLAIN shows the password to whoever reads the connection, and is for TLS alone.
+    /// EXTERNAL; and of 16 where SCRAM takes a client whose GS2 header is `y,,`, as
+    /// `fe2o3_scram_server_first_unbound` does. PLAIN shows the password to whoever reads the connection, and is for
+    /// TLS alone.
     pub mechanisms: u32,
 
     /// 1, 256 or 512, for the hash of SCRAM and of the record.

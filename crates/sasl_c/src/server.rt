@@ -232,8 +232,9 @@ fn first(
 }
 
 /// Answers a client-first message with the server-first message, which starts an exchange afresh at any time. The
-/// GS2 header of the message has to be `n,,`. The record is that of the user whom the message names (`fe2o3_scram_server_user`), or one that is made up
-/// (`fe2o3_scram_record_of_nobody`). The nonce is 32 random bytes, fresh for each.
+/// GS2 header of the message has to be `n,,`. The record is that of the user whom the message names
+/// (`fe2o3_scram_server_user`), or one that is made up (`fe2o3_scram_record_of_nobody`). The nonce is 32 random
+/// bytes, fresh for each.
 #[unsafe(no_mangle)]
 pub extern "C" fn fe2o3_scram_server_first(
     alloc: Global,

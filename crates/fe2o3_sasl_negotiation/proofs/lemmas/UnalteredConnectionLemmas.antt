@@ -232,7 +232,7 @@ module _ (login : Login) (provider : Provider) (password salt : List ℕ) (count
       (Some (client_first login.user (base64_text zeroth.nonce))) login.hostname) ≡ Some init)
       (first : ServerTakes server_limit turns.Init first_acceptor init client_sends server_sends server) where
     abbrev exchange : Exchange
-    exchange = step.exchange_of login password salt count zeroth.nonce first.nonce
+    exchange = step.exchange_of login provider.unbound password salt count zeroth.nonce first.nonce
 
     abbrev client_events : List Given
     client_events = event offer zeroth.nonce ∷ []
