@@ -151,7 +151,7 @@ static int identify(struct exchange *one, sasl_client_params_t *params, sasl_int
         return refused(one, utils, SASL_BADPARAM, "the name of the user is empty, or has a zero byte");
     if (user->len > 0 && (user->len != name->len || memcmp(user->text, name->text, name->len) != 0))
         return refused(one, utils, SASL_NOAUTHZ, "an authorization identity is not supported");
-    code = prepare(one, utils, &word->text, &word->len, 1);
+    code = prepare(one, utils, &word->text, &word->len, FE2O3_UNASSIGNED_ALLOWED);
     if (code != SASL_OK)
         return code == SASL_NOVERIFY ? SASL_BADPARAM : code;
     if (word->len > sizeof one->password)
@@ -166,7 +166,8 @@ static int client_answer(struct exchange *one, enum due due, const sasl_utils_t 
     const char *in, unsigned in_len)
 {
     static const struct fe2o3_client_keys no_keys;
-    const struct fe2o3_login login = {one->mechanism->version, one->prepares ? 3 : 0, LEAST_ITERATIONS, MOST_ITERATIONS,
+    const struct fe2o3_login login = {one->mechanism->version,
+        one->prepares ? FE2O3_BY_PREPARED : FE2O3_BY_PASSWORD, LEAST_ITERATIONS, MOST_ITERATIONS,
         BYTES(who->authid, who->alen), BYTES(one->password, one->password_len), &no_keys};
     uint8_t nonce[32];
     switch (due) {
@@ -247,7 +248,7 @@ static int from_password(struct exchange *one, const sasl_utils_t *utils, const 
     uint32_t version = one->mechanism->version, count = iterations(utils, one->mechanism->name), status;
     uint8_t salt[SALT_LEN];
     size_t len = strlen(password);
-    int code = prepare(one, utils, &password, &len, 0);
+    int code = prepare(one, utils, &password, &len, FE2O3_UNASSIGNED_REFUSED);
     if (code != SASL_OK)
         return code == SASL_BADPARAM ? SASL_NOVERIFY : code;
     if (len == 0)
