@@ -153,7 +153,9 @@ class CyrusSasl(Peer):
         yield cell("it may bind its channel and chooses, and sends `y,,`",
                    self.serve(mechanism, USER, binds="choose", unbound=True), done,
                    USER if mechanism == "SCRAM-SHA-512" else None, "unbound")
-        yield cell("the same, where `y,,` is not taken", self.serve(mechanism, USER, binds="choose"), no_header)
+        yield cell("it may bind its channel and chooses, and sends `y,,`, which is not taken",
+                   self.serve(mechanism, USER, binds="choose"), no_header)
         yield cell("it has to bind its channel, and sends `p=..,,`", self.serve(mechanism, USER, binds="must"),
                    no_header, USER if mechanism == "SCRAM-SHA-256" else None)
-        yield cell("the same, where `y,,` is taken", self.serve(mechanism, USER, binds="must", unbound=True), no_header)
+        yield cell("it has to bind its channel, where `y,,` is taken",
+                   self.serve(mechanism, USER, binds="must", unbound=True), no_header)

@@ -352,7 +352,7 @@ class PostgreSql(Peer):
         yield cell("under TLS, where it sends `n,,`", self.serve(USER, USER, tls=CANNOT_BIND), done)
         yield cell("under TLS, where it sends `y,,`", self.serve(USER, USER, tls=BINDS_NOT, unbound=True), done,
                    User("", USER.password), "unbound")
-        yield cell("the same, where `y,,` is not taken", self.serve(USER, USER, tls=BINDS_NOT),
+        yield cell("under TLS, where it sends `y,,`, which is not taken", self.serve(USER, USER, tls=BINDS_NOT),
                    Ending("not logged in: Server: Cannot parse GS2-header", False), User("", USER.password))
         yield cell("`n,,`, where `y,,` is taken", self.serve(USER, USER, unbound=True), done)
 
