@@ -78,6 +78,7 @@ __all__ = [
     "Status",
     "library_version",
     "offers",
+    "saslprep",
     "view_frame",
 ]
 
@@ -164,6 +165,10 @@ class Status(enum.IntEnum):
     REFUSED_SYS = 82
     REFUSED_SYS_PERM = 83
     REFUSED_SYS_TEMP = 84
+    NO_SUCH_CHOICE = 85
+    PROHIBITED_CHARACTER = 86
+    MIXED_DIRECTIONS = 87
+    UNASSIGNED_CODE_POINT = 88
 
 
 class Standing(enum.IntEnum):
@@ -351,15 +356,20 @@ def _load(name: str) -> ctypes.CDLL:
         "fe2o3_scram_client_final": (number, [login, client, read, length, *written]),
         "fe2o3_scram_client_verify": (number, [login, client, read, length]),
         "fe2o3_scram_client_keys": (number, [client, keys]),
+        "fe2o3_saslprep": (number, [read, length, number, *written]),
         "fe2o3_scram_keys_make": (number, [number, read, length, read, length, number, keys]),
+        "fe2o3_scram_keys_make_prepared": (number, [number, read, length, read, length, number, keys]),
         "fe2o3_scram_record_make": (number, [number, read, length, read, length, number, record]),
+        "fe2o3_scram_record_make_prepared": (number, [number, read, length, read, length, number, record]),
         "fe2o3_scram_record_parse": (number, [read, length, record]),
         "fe2o3_scram_record_text": (number, [record, *written]),
         "fe2o3_scram_record_of_nobody": (number, [number, read, length, read, length, length, number, record]),
         "fe2o3_scram_record_verify": (number, [record, read, length]),
+        "fe2o3_scram_record_verify_prepared": (number, [record, read, length]),
         "fe2o3_scram_lines_find": (number, [read, length, read, length, number, count, record]),
         "fe2o3_scram_line": (number, [read, length, record, *written]),
         "fe2o3_scram_server_first": (number, [record, server, read, read, length, *written]),
+        "fe2o3_scram_server_first_unbound": (number, [record, server, read, read, length, *written]),
         "fe2o3_scram_server_user": (number, [read, length, *written]),
         "fe2o3_scram_server_final": (number, [record, server, read, length, *written]),
         "fe2o3_scram_server_logged_in": (number, [server, *written]),
@@ -445,6 +455,29 @@ def _number(value: int, most: int = 0xFFFFFFFF) -> int:
     return number
 
 
+def _salt(given: Optional[Bytes]) -> bytes:
+    return secrets.token_bytes(16) if given is None else _bytes(given)
+
+
+def _make(
+    call: Callable[..., int], struct: ctypes.Structure, version: int, password: Text, salt: Bytes, iterations: int
+) -> None:
+    """Makes the struct of a password."""
+    secret, salt = _text(password), _bytes(salt)
+    _done(call(_number(version), secret, len(secret), salt, len(salt), _number(iterations), ctypes.byref(struct)))
+
+
+def saslprep(text: Text, *, unassigned: bool = False) -> str:
+    """The text as SASLprep (RFC 4013) prepares it, as a password is before it is compared or hashed: printable ASCII to
+    itself, and any other ASCII is refused. Code points that Unicode 3.2 does not assign are refused, as in a text that
+    is stored; `unassigned` allows them, as in one that is only compared with stored ones (RFC 3454, section 7)."""
+    typed = _text(text)
+    prepared = _written(
+        len(typed), lambda *room: _library.fe2o3_saslprep(typed, len(typed), int(bool(unassigned)), *room)
+    )
+    return prepared.decode("utf-8")
+
+
 class Keys:
     """What a client keeps in place of its password: a secret, with which one can log in. It does not change."""
 
@@ -475,12 +508,15 @@ class Keys:
     @classmethod
     def make(cls, version: int, password: Text, salt: Bytes, iterations: int) -> Keys:
         """The keys that stand in place of a password, for a server that keeps this salt and this count."""
-        struct, secret, salt = _KeysStruct(), _text(password), _bytes(salt)
-        _done(
-            _library.fe2o3_scram_keys_make(
-                _number(version), secret, len(secret), salt, len(salt), _number(iterations), ctypes.byref(struct)
-            )
-        )
+        struct = _KeysStruct()
+        _make(_library.fe2o3_scram_keys_make, struct, version, password, salt, iterations)
+        return cls._of(struct)
+
+    @classmethod
+    def make_prepared(cls, version: int, password: Text, salt: Bytes, iterations: int) -> Keys:
+        """The same of a prepared password (`saslprep`): any text, which is taken as it stands."""
+        struct = _KeysStruct()
+        _make(_library.fe2o3_scram_keys_make_prepared, struct, version, password, salt, iterations)
         return cls._of(struct)
 
     @property
@@ -531,13 +567,18 @@ class Record:
     @classmethod
     def make(cls, version: int, password: Text, *, salt: Optional[Bytes] = None, iterations: int = 4096) -> Record:
         """The record of a password. Where no salt is given it is 16 random bytes."""
-        struct, secret = _RecordStruct(), _text(password)
-        salt = secrets.token_bytes(16) if salt is None else _bytes(salt)
-        _done(
-            _library.fe2o3_scram_record_make(
-                _number(version), secret, len(secret), salt, len(salt), _number(iterations), ctypes.byref(struct)
-            )
-        )
+        struct = _RecordStruct()
+        _make(_library.fe2o3_scram_record_make, struct, version, password, _salt(salt), iterations)
+        return cls._of(struct)
+
+    @classmethod
+    def make_prepared(
+        cls, version: int, password: Text, *, salt: Optional[Bytes] = None, iterations: int = 4096
+    ) -> Record:
+        """The same of a prepared password (`saslprep`): any text, which is taken as it stands. A client logs in by that
+        very text alone."""
+        struct = _RecordStruct()
+        _make(_library.fe2o3_scram_record_make_prepared, struct, version, password, _salt(salt), iterations)
         return cls._of(struct)
 
     @classmethod
@@ -600,8 +641,15 @@ class Record:
     def verify(self, password: Text) -> bool:
         """Whether a password that was told, as by PLAIN, is that of the record. Raises `Refused` where it is not
         UTF-8 or memory ran out."""
+        return self._meets(_library.fe2o3_scram_record_verify, password)
+
+    def verify_prepared(self, password: Text) -> bool:
+        """Whether a prepared password is that of the record, as `verify`."""
+        return self._meets(_library.fe2o3_scram_record_verify_prepared, password)
+
+    def _meets(self, call: Callable[..., int], password: Text) -> bool:
         told = _text(password)
-        status = _library.fe2o3_scram_record_verify(self._struct, told, len(told))
+        status = call(self._struct, told, len(told))
         if status == Status.OTHER_PASSWORD:
             return False
         _done(status)
@@ -628,7 +676,8 @@ class Record:
 
 class Client:
     """One who logs in: by the password, by the keys of an earlier login, or by both: then by the keys where the server
-    names the salt and the count that they are of, and else by the password.
+    names the salt and the count that they are of, and else by the password. The password is one as it is typed, of
+    printable ASCII, or a prepared one (`saslprep`), which is any text, taken as it stands.
 
     The calls come in the order `first`, `final`, `verify`, and `first` starts afresh at any time. `verify` is the one
     that tells whether the login is done.
@@ -643,16 +692,21 @@ class Client:
         password: Optional[Text] = None,
         keys: Optional[Keys] = None,
         *,
+        prepared_password: Optional[Text] = None,
         least_iterations: int = 4096,
         most_iterations: int = 1_000_000,
     ) -> None:
         """A client that has sent nothing. It answers no iteration count below the least, which a server could name to
         learn the password sooner (RFC 7677 asks for 4096 at least), and none above the most, which costs time."""
-        if password is None and keys is None:
+        if password is None and prepared_password is None and keys is None:
             raise ValueError("a login takes a password, keys, or both")
-        name, typed = _text(username), b"" if password is None else _text(password)
-        # 0 is the password, 1 the keys, 2 both.
-        secret = 0 if keys is None else 1 if password is None else 2
+        if password is not None and prepared_password is not None:
+            raise ValueError("a login takes one password")
+        given = password if prepared_password is None else prepared_password
+        name, typed = _text(username), b"" if given is None else _text(given)
+        # 0 is the password, 1 the keys, 2 both; 3 and 4 are 0 and 2 with a prepared password.
+        secret = 0 if keys is None else 1 if given is None else 2
+        secret += 0 if prepared_password is None else 3 if keys is None else 2
         held = _KeysStruct() if keys is None else keys._struct
         self._login = _LoginStruct(
             version=_number(version),
@@ -951,12 +1005,14 @@ class ClientSteps(_Steps, _ClientSide):
 
 
 class Offer(enum.IntFlag):
-    """The mechanisms of a server. PLAIN shows the password to whoever reads the connection, and is for TLS alone."""
+    """The mechanisms of a server. PLAIN shows the password to whoever reads the connection, and is for TLS alone.
+    TAKE_UNBOUND is no mechanism: with it SCRAM takes a client whose GS2 header is `y,,`, as `Server.first` can."""
 
     SCRAM = 1
     PLAIN = 2
     ANONYMOUS = 4
     EXTERNAL = 8
+    TAKE_UNBOUND = 16
 
 
 class _ServerSide(_Login):
@@ -1109,16 +1165,16 @@ class Server:
         name = _written(256, lambda *room: _library.fe2o3_scram_server_user(message, len(message), *room))
         return name.decode("utf-8")
 
-    def first(self, record: Record, client_first: Bytes) -> bytes:
+    def first(self, record: Record, client_first: Bytes, *, unbound: bool = False) -> bytes:
         """The server-first message, with a fresh nonce, which answers the client-first message. The record is that of
-        the user whom the message names, or `Record.of_nobody`."""
+        the user whom the message names, or `Record.of_nobody`.
+
+        The GS2 header of the message has to be `n,,`. With `unbound` it may be `y,,` too: that of a client which could
+        bind a channel, and was offered no mechanism with `-PLUS` (RFC 5802, section 6). Only for a server that offers
+        none."""
         message, nonce, opened = _bytes(client_first), secrets.token_bytes(32), _ServerStruct()
-        answer = _written(
-            1024,
-            lambda *room: _library.fe2o3_scram_server_first(
-                record._struct, opened, nonce, message, len(message), *room
-            ),
-        )
+        call = _library.fe2o3_scram_server_first_unbound if unbound else _library.fe2o3_scram_server_first
+        answer = _written(1024, lambda *room: call(record._struct, opened, nonce, message, len(message), *room))
         with self._lock:
             self._exchange = record, opened
         return answer

@@ -47,9 +47,9 @@ class Secret:
             self.iterations,
         )
 
-    def finals(self, bare: bytes, server_first: bytes) -> tuple[bytes, bytes]:
+    def finals(self, bare: bytes, server_first: bytes, header: bytes = b"n,,") -> tuple[bytes, bytes]:
         """The client-final and the server-final message."""
-        without_proof = b"c=biws," + server_first.split(b",")[0]
+        without_proof = b"c=" + base64_of(header) + b"," + server_first.split(b",")[0]
         exchange = b",".join((bare, server_first, without_proof))
         proof = exclusive_or(self.client_key, mac(self.version, self.stored_key, exchange))
         client_final = without_proof + b",p=" + base64_of(proof)
@@ -233,18 +233,19 @@ class Plain(Side):
 class Login(Side):
     """SCRAM (RFC 5802)."""
 
-    def __init__(self, version: int, name: str, password: str) -> None:
+    def __init__(self, version: int, name: str, password: str, header: bytes = b"n,,") -> None:
         self.version, self.name, self.password, self.mechanism = version, name, password, MECHANISMS[version]
+        self.header = header
 
     def first(self) -> bytes:
         self.bare = bare_of(self.name, bytes(32))
-        message = b"n,," + self.bare
+        message = self.header + self.bare
         return short(0xA0, message) if len(message) < 200 else NULL
 
     def answer(self, challenge: bytes) -> bytes:
         _, salt, count = challenge.split(b",")
         secret = Secret(self.version, self.password, base64.b64decode(salt[2:]), int(count[2:]))
-        client_final, self.server_final = secret.finals(self.bare, challenge)
+        client_final, self.server_final = secret.finals(self.bare, challenge, self.header)
         return client_final
 
     def believes(self, unit: bytes) -> bool:

@@ -9,8 +9,10 @@ import hmac
 import os
 import random
 import re
+import stringprep
 import struct
 import threading
+import unicodedata
 import unittest
 from pathlib import Path
 from typing import Any, Callable, Optional
@@ -232,6 +234,106 @@ class Logins(Case):
         for thread in threads:
             thread.join()
         self.assertEqual(sorted(done), sorted([f"user {number}" for number in range(50)] * 4))
+
+
+def prepared_apart(typed: str) -> str:
+    """What SASLprep prepares an accepted text to (RFC 4013, sections 2.1 and 2.2)."""
+    spaced = "".join(" " if stringprep.in_table_c12(c) else c for c in typed)
+    kept = "".join(c for c in spaced if not stringprep.in_table_b1(c))
+    return unicodedata.ucd_3_2_0.normalize("NFKC", kept)
+
+
+class Prepared(Case):
+    TYPED = ["pe\u0301nci\u00adl", "\u00aa\u2168", "\u1100\u1161\u00a0\uff21", "\u0627\u0628", "\U0001d400", "pencil"]
+
+    def test_texts(self) -> None:
+        for typed in self.TYPED:
+            self.assertEqual(fe2o3_sasl.saslprep(typed), prepared_apart(typed))
+            self.assertEqual(fe2o3_sasl.saslprep(typed.encode(), unassigned=True), prepared_apart(typed))
+        # RFC 4013, section 3
+        rows = {"I\u00adX": "IX", "user": "user", "USER": "USER", "\u00aa": "a", "\u2168": "IX"}
+        for typed, prepared in rows.items():
+            self.assertEqual(fe2o3_sasl.saslprep(typed), prepared)
+        self.refused(Status.PROHIBITED_CHARACTER, fe2o3_sasl.saslprep, "\u0007")
+        self.refused(Status.MIXED_DIRECTIONS, fe2o3_sasl.saslprep, "\u0627\u0031")
+        self.refused(Status.UNASSIGNED_CODE_POINT, fe2o3_sasl.saslprep, "\u0221")
+        self.assertEqual(fe2o3_sasl.saslprep("\u0221", unassigned=True), "\u0221")
+        self.refused(Status.NOT_UTF8, fe2o3_sasl.saslprep, b"\xff")
+        status = LIBRARY.fe2o3_saslprep(b"a", 1, 2, ctypes.create_string_buffer(1), 1, ctypes.byref(ctypes.c_size_t()))
+        self.assertEqual(status, Status.NO_SUCH_CHOICE)
+
+    def test_logins(self) -> None:
+        for version in VERSIONS:
+            for typed in self.TYPED:
+                with self.subTest(version=version, typed=typed):
+                    password = fe2o3_sasl.saslprep(typed)
+                    known = Secret(version, prepared_apart(typed), SALT, 4096)
+                    record = Record.make_prepared(version, password, salt=SALT)
+                    other = Record.make_prepared(version, password, salt=OTHER_SALT)
+                    self.assertEqual(record.text(), known.record_text())
+                    self.assertTrue(record.verify_prepared(password))
+                    self.assertEqual(record.verify_prepared(typed), typed == password)
+                    self.assertEqual(record.verify(password), password.isascii())
+                    client, server = Client(version, "user", prepared_password=password), Server()
+                    login(client, server, record)
+                    self.assertEqual(server.logged_in(), "user")
+                    keys, made = client.keys(), Keys.make_prepared(version, password, SALT, 4096)
+                    self.assertEqual((keys.client_key, keys.server_key), (known.client_key, known.server_key))
+                    self.assertEqual(bytes(keys._struct), bytes(made._struct))
+                    both = Client(version, "user", keys=keys, prepared_password=password)
+                    login(both, Server(), record)
+                    login(both, Server(), other)
+                    self.assertEqual(both.keys().salt, OTHER_SALT)
+                    side = ClientConnection(Client(version, "user", prepared_password=password))
+                    connected(side, Broker(known, MECHANISMS[version]), 4096)
+                    self.assertEqual(side.standing, Standing.LOGGED_IN)
+                    steps = ClientSteps(Client(version, "user", keys=keys, prepared_password=password))
+                    stepped(steps, Broker(known, MECHANISMS[version]))
+                    self.assertEqual(steps.standing, Standing.LOGGED_IN)
+                    if not password.isascii():
+                        plain = Client(version, "user", password)
+                        self.refused(Status.CLIENT_NORMALIZE_ERROR, login, plain, Server(), record)
+                        self.refused(Status.NOT_PRINTABLE, Record.make, version, password)
+                        self.refused(Status.NOT_PRINTABLE, Keys.make, version, password, SALT, 4096)
+        for make in (Record.make_prepared, lambda *given: Keys.make_prepared(*given, SALT, 4096)):
+            self.refused(Status.NOT_UTF8, make, SHA_1, b"\xff")
+        with self.assertRaises(ValueError):
+            Client(SHA_1, "user", "pencil", prepared_password="pencil")
+
+
+class Unbound(Case):
+    def test_texts(self) -> None:
+        client_nonce = os.urandom(32)
+        for version in VERSIONS:
+            known, record = Secret(version, "pencil", SALT, 4096), Record.make(version, "pencil", salt=SALT)
+            server, bare = Server(), bare_of("user", client_nonce)
+            self.refused(Status.SERVER_CANNOT_PARSE_GS2_HEADER, server.first, record, b"y,," + bare)
+            self.assertEqual(Server.user(b"y,," + bare), "user")
+            for header in (b"y,,", b"n,,"):
+                server_first = server.first(record, header + bare, unbound=True)
+                client_final, server_final = known.finals(bare, server_first, header)
+                other_final, _ = known.finals(bare, server_first, b"n,," if header == b"y,," else b"y,,")
+                self.refused(Status.SERVER_INVALID_CHANNEL_BINDING, server.final, other_final)
+                self.assertEqual(server.final(client_final), server_final)
+                self.assertEqual(server.logged_in(), "user")
+
+    def test_sides(self) -> None:
+        for version in VERSIONS:
+            known = {"user": Record.make(version, "pencil", salt=SALT)}
+            for header in (b"y,,", b"n,,"):
+                for mechanisms in (Offer.SCRAM, Offer.SCRAM | Offer.TAKE_UNBOUND, Offer.SCRAM | Offer.PLAIN | 16):
+                    by = Login(version, "user", "pencil", header)
+                    taken = header == b"n,," or mechanisms != Offer.SCRAM
+                    connection = ServerConnection(known.get, mechanisms=mechanisms, version=version)
+                    by.begin()
+                    served(connection, by, 7)
+                    steps = ServerSteps(known.get, mechanisms=mechanisms, version=version)
+                    steps_served(steps, by)
+                    for side in (connection, steps):
+                        self.assertEqual(side.standing == Standing.LOGGED_IN, taken)
+                        if taken:
+                            self.assertEqual(side.logged_in(), "user")
+                    self.assertEqual(by.logged_in, taken)
 
 
 class Connections(Case):
@@ -1062,7 +1164,7 @@ class RandomStructs(Case):
             version = self.random.choice([*VERSIONS, 0, 2]) if self.chance() else keys.version
             who = fe2o3_sasl._LoginStruct(
                 version=version,
-                secret=self.random.randrange(4),
+                secret=self.random.randrange(6),
                 least_iterations=self.random.randrange(3),
                 most_iterations=self.random.randrange(2, 9),
                 username=b"user",
@@ -1098,7 +1200,7 @@ class RandomStructs(Case):
             if final is not None:
                 self.assertEqual((sent, client.sent), (1, 2))
                 known = Secret(version, "pencil", salt, count)
-                if who.secret == 1 or (who.secret == 2 and keys.iterations == count):
+                if who.secret == 1 or (who.secret in (2, 4) and keys.iterations == count):
                     digest = len(known.client_key)
                     known.client_key = bytes(keys.client_key)[:digest]
                     known.server_key = bytes(keys.server_key)[:digest]
@@ -1117,7 +1219,9 @@ class RandomStructs(Case):
         for _ in range(self.COUNT):
             server, record = self.filled(fe2o3_sasl._ServerStruct), self.filled(fe2o3_sasl._RecordStruct)
             if self.chance():
-                server.stands = self.random.randrange(4)
+                server.stands = self.random.randrange(5)
+            # (3 is an open challenge to a client whose GS2 header is `y,,`)
+            header = b"y,," if server.stands == 3 else b"n,,"
             for field, most in (("user", 256), ("bare", 1024), ("nonce", 512), ("first", 1024)):
                 if self.random.random() < 0.9:
                     setattr(server, field + "_len", self.random.randrange(most + 2))
@@ -1142,27 +1246,29 @@ class RandomStructs(Case):
                 parts = (
                     bytes(server.bare)[: server.bare_len],
                     bytes(server.first)[: server.first_len],
-                    b"c=biws,r=" + bytes(server.nonce)[: server.nonce_len],
+                    b"c=" + base64_of(header) + b",r=" + bytes(server.nonce)[: server.nonce_len],
                 )
                 proof = exclusive_or(client_key, mac(version, stored, b",".join(parts)))
                 if self.random.random() < 0.1:
                     proof = proof[::-1]
-            client_final = b"c=biws,r=" + bytes(server.nonce)[: min(server.nonce_len, 512)] + b",p=" + base64_of(proof)
+            said = b"c=" + base64_of(header) + b",r=" + bytes(server.nonce)[: min(server.nonce_len, 512)]
+            client_final = said + b",p=" + base64_of(proof)
             stands = server.stands
             self.ask("fe2o3_scram_server_logged_in", (server,), server, room=self.random.choice((0, 256)))
             self.ask("fe2o3_scram_record_text", (record,), record, room=self.random.choice((200, 384)))
             again = fe2o3_sasl._ServerStruct.from_buffer_copy(server)
-            first = b"n,,n=user,r=" + base64_of(os.urandom(32))
-            self.ask(
-                "fe2o3_scram_server_first",
-                (again, record),
-                record,
-                again,
-                os.urandom(32),
-                first,
-                len(first),
-                room=self.random.choice((100, 1024)),
-            )
+            first = self.random.choice((b"n,,", b"y,,")) + b"n=user,r=" + base64_of(os.urandom(32))
+            for export in ("fe2o3_scram_server_first", "fe2o3_scram_server_first_unbound"):
+                self.ask(
+                    export,
+                    (again, record),
+                    record,
+                    again,
+                    os.urandom(32),
+                    first,
+                    len(first),
+                    room=self.random.choice((100, 1024)),
+                )
             for message in (self.marred(client_final), self.marred(first), os.urandom(self.random.randrange(40))):
                 for export in ("fe2o3_scram_server_first", "fe2o3_scram_server_final"):
                     other = fe2o3_sasl._ServerStruct.from_buffer_copy(server)
@@ -1178,7 +1284,7 @@ class RandomStructs(Case):
                 room=self.random.choice((89, 90, 90, 90)),
             )
             if final is not None:
-                self.assertEqual((stands, server.stands), (1, 2))
+                self.assertIn((stands, server.stands), ((1, 2), (3, 2)))
                 key = bytes(record.server_key)[: len(proof)]
                 self.assertEqual(final, b"v=" + base64_of(mac(record.version, key, b",".join(parts))))
             # (a count of random bytes could take hours)
@@ -1188,8 +1294,9 @@ class RandomStructs(Case):
                 known = Secret(record.version, "pencil", bytes(record.salt)[: record.salt_len], record.iterations)
                 ctypes.memmove(record.stored_key, known.stored_key, len(known.stored_key))
                 ctypes.memmove(record.server_key, known.server_key, len(known.server_key))
-            verified = self.ask("fe2o3_scram_record_verify", (record,), record, b"pencil", 6)
-            self.assertEqual(verified is not None, meets)
+            for export in ("fe2o3_scram_record_verify", "fe2o3_scram_record_verify_prepared"):
+                verified = self.ask(export, (record,), record, b"pencil", 6)
+                self.assertEqual(verified is not None, meets)
         for name, statuses in self.answers.items():
             self.assertIn(Status.DONE, statuses, name)
             self.assertGreater(len(statuses), 1, name)

@@ -1,6 +1,6 @@
 //! What all calls of the library share.
 
-use crate::sys;
+use crate::{sys, RecordError, ScramVersion};
 use std::io::Read;
 use std::mem::size_of;
 
@@ -70,6 +70,27 @@ pub(crate) fn done(status: u32) -> Result<(), u32> {
     } else {
         Err(status)
     }
+}
+
+/// An export that makes a struct of a password, a salt and a count.
+type Makes<S> = unsafe extern "C" fn(u32, *const u8, usize, *const u8, usize, u32, *mut S) -> u32;
+
+/// The struct that such an export makes in the place of this one.
+pub(crate) fn made<S>(
+    make: Makes<S>,
+    mut of: S,
+    version: ScramVersion,
+    password: &str,
+    salt: &[u8],
+    iterations: u32,
+) -> Result<S, RecordError> {
+    // SAFETY: `make` is an export of the library; the texts are slices that live through the call, and the struct is one
+    // of this function.
+    let status = unsafe {
+        make(version.number(), password.as_ptr(), password.len(), salt.as_ptr(), salt.len(), iterations, &mut of)
+    };
+    done(status).map_err(RecordError::of)?;
+    Ok(of)
 }
 
 /// The text that a call writes into a room of so many bytes, or else into one that suffices by what the call says.

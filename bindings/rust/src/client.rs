@@ -13,6 +13,8 @@ pub(crate) const NOTHING_SENT: sys::ScramClient =
 const PASSWORD: u32 = 0;
 const KEYS: u32 = 1;
 const PASSWORD_AND_KEYS: u32 = 2;
+const PREPARED: u32 = 3;
+const PREPARED_AND_KEYS: u32 = 4;
 
 /// Who logs in, and by what.
 #[derive(Clone)]
@@ -95,9 +97,19 @@ pub struct ScramClient {
 }
 
 impl ScramClient {
-    /// A client that logs in by a password.
+    /// A client that logs in by a password as it is typed.
     pub fn new(username: impl Into<String>, password: impl Into<String>, scram_version: ScramVersion) -> Self {
         Self::by(username.into(), password.into(), NO_KEYS, PASSWORD, scram_version)
+    }
+
+    /// A client that logs in by a prepared password ([`saslprep`](crate::saslprep)): any text, which is taken as it
+    /// stands.
+    pub fn with_prepared_password(
+        username: impl Into<String>,
+        password: impl Into<String>,
+        scram_version: ScramVersion,
+    ) -> Self {
+        Self::by(username.into(), password.into(), NO_KEYS, PREPARED, scram_version)
     }
 
     /// A client that logs in by the keys of an earlier login.
@@ -113,6 +125,15 @@ impl ScramClient {
         keys: ScramClientKeys,
     ) -> Self {
         Self::by(username.into(), password.into(), keys.0, PASSWORD_AND_KEYS, keys.version())
+    }
+
+    /// The same with a prepared password.
+    pub fn with_prepared_password_and_keys(
+        username: impl Into<String>,
+        password: impl Into<String>,
+        keys: ScramClientKeys,
+    ) -> Self {
+        Self::by(username.into(), password.into(), keys.0, PREPARED_AND_KEYS, keys.version())
     }
 
     fn by(username: String, password: String, keys: sys::ClientKeys, secret: u32, version: ScramVersion) -> Self {

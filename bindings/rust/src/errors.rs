@@ -94,7 +94,7 @@ kinds! {
         IterationCountTooSmall = CLIENT_ITERATION_COUNT_TOO_SMALL,
         /// The iteration count is above the client's limit.
         IterationCountTooLarge = CLIENT_ITERATION_COUNT_TOO_LARGE,
-        /// The password is not printable ASCII.
+        /// The password as it is typed is not printable ASCII.
         NormalizeError = CLIENT_NORMALIZE_ERROR,
         /// The message names another salt or another iteration count than the client's keys are of, and the client has
         /// no password. Whoever is on the way can bring this about: it is no reason to forget the keys.
@@ -117,7 +117,7 @@ kinds! {
     ServerScramErrorKind {
         /// The message is not UTF-8.
         Utf8Error = SERVER_UTF8_ERROR,
-        /// The client-first message does not begin with `n,,`.
+        /// The client-first message does not begin with `n,,`, nor with `y,,` where that is taken.
         CannotParseGs2Header = SERVER_CANNOT_PARSE_GS2_HEADER,
         /// The client-first message does not name a user, or not as a user name is escaped.
         CannotParseUsername = SERVER_CANNOT_PARSE_USERNAME,
@@ -131,7 +131,7 @@ kinds! {
         NormalizeError = SERVER_NORMALIZE_ERROR,
         /// The client-final message does not begin with `c=`, or its second part is absent or does not begin with `r=`.
         CannotParseClientFinalMessage = SERVER_CANNOT_PARSE_CLIENT_FINAL_MESSAGE,
-        /// The channel binding is not `n,,`.
+        /// The channel binding is not the header with which the client-first message began.
         InvalidChannelBinding = SERVER_INVALID_CHANNEL_BINDING,
         /// A channel binding or a proof is not base64.
         Base64DecodeError = SERVER_BASE64_DECODE_ERROR,
@@ -157,7 +157,7 @@ kinds! {
 kinds! {
     /// Why there is no record, or there are no keys, of a password or of parts.
     RecordError {
-        /// The password is not printable ASCII.
+        /// The password as it is typed is not printable ASCII.
         NotPrintable = NOT_PRINTABLE,
         /// The iteration count is 0.
         ZeroIterations = ZERO_ITERATIONS,
@@ -185,6 +185,21 @@ kinds! {
         KeyLengthMismatch = RECORD_KEY_LENGTH_MISMATCH,
         /// The salt is longer than 128 bytes.
         TooLong = TOO_LONG,
+        /// There was no memory.
+        OutOfMemory = OUT_OF_MEMORY,
+    }
+}
+
+kinds! {
+    /// Why SASLprep refuses a text.
+    SaslprepError {
+        /// What the text is prepared to holds a character that RFC 4013, section 2.3, prohibits.
+        ProhibitedCharacter = PROHIBITED_CHARACTER,
+        /// What the text is prepared to holds a right-to-left character, and a left-to-right one too or another at its
+        /// begin or end (RFC 3454, section 6).
+        MixedDirections = MIXED_DIRECTIONS,
+        /// The text holds a code point that Unicode 3.2 does not assign, or is prepared to one.
+        UnassignedCodePoint = UNASSIGNED_CODE_POINT,
         /// There was no memory.
         OutOfMemory = OUT_OF_MEMORY,
     }

@@ -1,6 +1,6 @@
 //! What a client keeps in place of its password.
 
-use crate::calls::{done, head, put};
+use crate::calls::{done, head, made, put};
 use crate::{sys, RecordError, ScramVersion};
 use std::fmt;
 
@@ -29,28 +29,24 @@ pub(crate) const NO_KEYS: sys::ClientKeys = sys::ClientKeys {
 pub struct ScramClientKeys(pub(crate) sys::ClientKeys);
 
 impl ScramClientKeys {
-    /// The keys of a password.
+    /// The keys of a password as it is typed.
     pub fn from_password(
         version: ScramVersion,
         password: &str,
         salt: &[u8],
         iterations: u32,
     ) -> Result<Self, RecordError> {
-        let mut keys = NO_KEYS;
-        // SAFETY: the texts are slices that live through the call, and the struct is one of this function.
-        let status = unsafe {
-            sys::fe2o3_scram_keys_make(
-                version.number(),
-                password.as_ptr(),
-                password.len(),
-                salt.as_ptr(),
-                salt.len(),
-                iterations,
-                &mut keys,
-            )
-        };
-        done(status).map_err(RecordError::of)?;
-        Ok(Self(keys))
+        made(sys::fe2o3_scram_keys_make, NO_KEYS, version, password, salt, iterations).map(Self)
+    }
+
+    /// The keys of a prepared password ([`saslprep`](crate::saslprep)): any text, which is taken as it stands.
+    pub fn from_prepared_password(
+        version: ScramVersion,
+        password: &str,
+        salt: &[u8],
+        iterations: u32,
+    ) -> Result<Self, RecordError> {
+        made(sys::fe2o3_scram_keys_make_prepared, NO_KEYS, version, password, salt, iterations).map(Self)
     }
 
     /// Keys as they were kept, part by part.

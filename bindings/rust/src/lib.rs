@@ -34,6 +34,7 @@ mod client;
 mod connection;
 mod errors;
 mod keys;
+mod preparation;
 mod records;
 mod server;
 mod serving;
@@ -46,8 +47,11 @@ mod version;
 pub use calls::{fits, generate_nonce, library_version};
 pub use client::ScramClient;
 pub use connection::{ClientNegotiation, Received, SaslProfile, Standing};
-pub use errors::{ConnectionError, RecordError, RecordTextError, ScramErrorKind, ServerScramErrorKind, Status};
+pub use errors::{
+    ConnectionError, RecordError, RecordTextError, SaslprepError, ScramErrorKind, ServerScramErrorKind, Status,
+};
 pub use keys::ScramClientKeys;
+pub use preparation::{saslprep, Unassigned};
 pub use records::{ScramRecord, StoredPassword};
 pub use server::{ScramAuthenticator, ScramCredentialProvider, SingleScramCredential};
 pub use serving::{Offers, ServerNegotiation};

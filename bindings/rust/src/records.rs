@@ -1,6 +1,6 @@
 //! What a server keeps of a password.
 
-use crate::calls::{done, filled, head, put};
+use crate::calls::{done, filled, head, made, put};
 use crate::{sys, RecordError, RecordTextError, ScramVersion};
 use std::fmt;
 use std::str::FromStr;
@@ -56,28 +56,36 @@ impl fmt::Debug for StoredPassword<'_> {
 pub struct ScramRecord(pub(crate) sys::ScramRecord);
 
 impl ScramRecord {
-    /// The record of a password. The salt is random, and fresh for each record.
+    /// The record of a password as it is typed. The salt is random, and fresh for each record.
     pub fn from_password(
         version: ScramVersion,
         password: &str,
         salt: &[u8],
         iterations: u32,
     ) -> Result<Self, RecordError> {
-        let mut record = NO_RECORD;
-        // SAFETY: the texts are slices that live through the call, and the struct is one of this function.
-        let status = unsafe {
-            sys::fe2o3_scram_record_make(
-                version.number(),
-                password.as_ptr(),
-                password.len(),
-                salt.as_ptr(),
-                salt.len(),
-                iterations,
-                &mut record,
-            )
-        };
-        done(status).map_err(RecordError::of)?;
-        Ok(Self(record))
+        made(sys::fe2o3_scram_record_make, NO_RECORD, version, password, salt, iterations).map(Self)
+    }
+
+    /// The record of a prepared password: any text, which is taken as it stands.
+    ///
+    /// ```
+    /// use fe2o3_sasl_proved::{saslprep, ScramRecord, ScramVersion, Unassigned};
+    ///
+    /// # fn main() -> Result<(), Box<dyn std::error::Error>> {
+    /// let prepared = saslprep("pe\u{301}ncil", Unassigned::Refused)?;
+    /// assert_eq!(prepared, "p\u{e9}ncil");
+    /// let record = ScramRecord::from_prepared_password(ScramVersion::Sha256, &prepared, b"random bytes", 4096)?;
+    /// assert!(record.verify_prepared_password(&prepared) && !record.verify_password(&prepared));
+    /// # Ok(())
+    /// # }
+    /// ```
+    pub fn from_prepared_password(
+        version: ScramVersion,
+        password: &str,
+        salt: &[u8],
+        iterations: u32,
+    ) -> Result<Self, RecordError> {
+        made(sys::fe2o3_scram_record_make_prepared, NO_RECORD, version, password, salt, iterations).map(Self)
     }
 
     /// The record that a store lends in parts.
@@ -153,6 +161,13 @@ impl ScramRecord {
     pub fn verify_password(&self, password: &str) -> bool {
         // SAFETY: the record is borrowed, and the password is a slice that lives through the call.
         let status = unsafe { sys::fe2o3_scram_record_verify(&self.0, password.as_ptr(), password.len()) };
+        done(status).is_ok()
+    }
+
+    /// Whether a prepared password is that of the record. It is not where there is no memory.
+    pub fn verify_prepared_password(&self, password: &str) -> bool {
+        // SAFETY: the record is borrowed, and the password is a slice that lives through the call.
+        let status = unsafe { sys::fe2o3_scram_record_verify_prepared(&self.0, password.as_ptr(), password.len()) };
         done(status).is_ok()
     }
 

@@ -19,8 +19,11 @@ pub(crate) const NO_CHALLENGE: sys::ScramServer = sys::ScramServer {
     first: [0; 1024],
 };
 
-/// How a server's struct says that a challenge is open.
-const CHALLENGE_IS_OPEN: u32 = 1;
+/// How a server's struct says that a challenge is open: to a client whose GS2 header is `n,,`, and `y,,`.
+const CHALLENGE_IS_OPEN: [u32; 2] = [1, 3];
+
+/// The GS2 header of a client that could bind a channel, and was offered no mechanism that does (RFC 5802, section 6).
+const UNBOUND: &[u8] = b"y,,";
 
 /// A store of credentials.
 pub trait ScramCredentialProvider {
@@ -128,6 +131,7 @@ struct Nobody {
 pub struct ScramAuthenticator<C: ScramCredentialProvider + Clone> {
     credentials: C,
     nobody: Option<Nobody>,
+    unbound: bool,
     challenged: String,
     state: sys::ScramServer,
 }
@@ -135,13 +139,25 @@ pub struct ScramAuthenticator<C: ScramCredentialProvider + Clone> {
 impl<C: ScramCredentialProvider + Clone> ScramAuthenticator<C> {
     /// A server without an open challenge, which answers an unknown user by `None`.
     pub fn new(credentials: C) -> Self {
-        Self { credentials, nobody: None, challenged: String::new(), state: NO_CHALLENGE }
+        Self { credentials, nobody: None, unbound: false, challenged: String::new(), state: NO_CHALLENGE }
     }
 
     /// The same server, which answers an unknown user by a record that is made up ([`ScramRecord::of_nobody`]).
     pub fn hiding_unknown_users(mut self, secret: [u8; 32], salt_len: usize, iterations: u32) -> Self {
         self.nobody = Some(Nobody { secret, salt_len, iterations });
         self
+    }
+
+    /// The same server, which takes a client whose GS2 header is `y,,` too: one that could bind a channel, and was
+    /// offered no mechanism with `-PLUS` (RFC 5802, section 6). Only for a server that offers none.
+    pub fn accepts_unbound(mut self) -> Self {
+        self.unbound = true;
+        self
+    }
+
+    /// Whether it takes such a client.
+    pub(crate) fn takes_unbound(&self) -> bool {
+        self.unbound
     }
 
     /// The store of credentials.
@@ -168,17 +184,22 @@ impl<C: ScramCredentialProvider + Clone> ScramAuthenticator<C> {
         client_first: &[u8],
         nonce: &[u8; 32],
     ) -> Result<Option<Vec<u8>>, ServerScramErrorKind> {
+        // (the call that names the user takes both headers)
+        if !self.unbound && client_first.starts_with(UNBOUND) && std::str::from_utf8(client_first).is_ok() {
+            return Err(ServerScramErrorKind::CannotParseGs2Header);
+        }
         let username = named_user(client_first)?;
         let record = match self.record(&username)? {
             Some(record) => record,
             None => return Ok(None),
         };
         let state = &mut self.state;
+        let answer = if self.unbound { sys::fe2o3_scram_server_first_unbound } else { sys::fe2o3_scram_server_first };
         let message = filled(client_first.len() + 256, |out, len| {
-            // SAFETY: the record, the nonce and the message are borrowed and live through the call; the state, the room
-            // and its length are borrowed for writing, and so overlap nothing.
+            // SAFETY: both exports have the same parameters; the record, the nonce and the message are borrowed and live
+            // through the call; the state, the room and its length are borrowed for writing, and so overlap nothing.
             unsafe {
-                sys::fe2o3_scram_server_first(
+                answer(
                     &record.0,
                     state,
                     nonce,
@@ -201,7 +222,7 @@ impl<C: ScramCredentialProvider + Clone> ScramAuthenticator<C> {
         &mut self,
         client_final: &[u8],
     ) -> Result<Option<Vec<u8>>, ServerScramErrorKind> {
-        if self.state.stands != CHALLENGE_IS_OPEN {
+        if !CHALLENGE_IS_OPEN.contains(&self.state.stands) {
             return Err(ServerScramErrorKind::IllegalAuthenticatorState);
         }
         let record = match self.record(&self.challenged)? {

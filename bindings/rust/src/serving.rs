@@ -21,6 +21,9 @@ const NO_RECORD: sys::ScramRecord = sys::ScramRecord {
     server_key: [0; 64],
 };
 
+/// What is added to the sum of the mechanisms where SCRAM takes a client whose GS2 header is `y,,`.
+const TAKE_UNBOUND: u32 = 16;
+
 /// Which mechanisms a server offers.
 #[derive(Clone, Copy, Debug, Default, PartialEq, Eq)]
 pub struct Offers {
@@ -85,7 +88,7 @@ impl<C: ScramCredentialProvider + Clone> Host<C> {
     pub(crate) fn lend<'a>(&'a self, name: Option<&'a str>, record: Option<&'a ScramRecord>) -> LentHost<'a> {
         let username = name.unwrap_or_default();
         let host = sys::SaslHost {
-            mechanisms: self.offers.sum(),
+            mechanisms: self.offers.sum() + TAKE_UNBOUND * u32::from(self.authenticator.takes_unbound()),
             version: self.authenticator.credentials().scram_version().number(),
             iterations: DEFAULT_SCRAM_ITERATIONS,
             username: username.as_ptr(),
@@ -136,8 +139,8 @@ pub struct ServerNegotiation<C: ScramCredentialProvider + Clone> {
 }
 
 impl<C: ScramCredentialProvider + Clone> ServerNegotiation<C> {
-    /// A new connection over the credentials of this server, which hides unknown users where the server does. Its own
-    /// challenge, if one is open, does not count.
+    /// A new connection over the credentials of this server, which hides unknown users and takes clients that could bind
+    /// a channel where the server does. Its own challenge, if one is open, does not count.
     pub fn new(authenticator: ScramAuthenticator<C>, offers: Offers) -> Self {
         let state = sys::SaslServer { connection: FRESH, scram: NO_CHALLENGE };
         Self { host: Host::new(authenticator, offers), state }

@@ -165,6 +165,23 @@ fn both_sides() {
     }
 }
 
+/// A client that could bind a channel, apart from the library: its init alone, since a proof takes hashes.
+#[test]
+fn a_client_that_could_bind_a_channel() {
+    let init = frame(0x41, &[b"\xa3\x0dSCRAM-SHA-256", &binary(b"y,,n=user,r=x")]);
+    let came = [HEADER, &init].concat();
+    let mut side = ServerNegotiation::new(server(ScramVersion::Sha256), Offers::scram());
+    side.receive(&came).unwrap();
+    assert_eq!(side.standing(), Standing::Closed(ConnectionError::RefusedAuth));
+    let mut side = ServerNegotiation::new(server(ScramVersion::Sha256).accepts_unbound(), Offers::scram());
+    let sent = side.receive(&came).unwrap().sent;
+    assert_eq!(side.standing(), Standing::Wanting);
+    let challenge = fields(&sent[offer("SCRAM-SHA-256").len()..]);
+    assert!(challenge[0].as_deref().unwrap().starts_with(b"r=x"));
+    let mut side = ServerNegotiation::new(server(ScramVersion::Sha256).accepts_unbound(), Offers::default());
+    assert_eq!(side.receive(HEADER), Err(ConnectionError::NoSuchMechanism));
+}
+
 #[test]
 fn a_server_that_offers_nothing() {
     let mut side = ServerNegotiation::new(server(ScramVersion::Sha1), Offers::default());

@@ -7,6 +7,10 @@ const SALT: [u8; 16] = [4; 16];
 const OTHER_SALT: [u8; 16] = [5; 16];
 const SECRET: [u8; 32] = [3; 32];
 
+/// The salt of the example in RFC 7677.
+const RFC_SALT: [u8; 16] =
+    [0x5b, 0x6d, 0x99, 0x68, 0x9d, 0x12, 0x35, 0x8e, 0xec, 0xa0, 0x4b, 0x14, 0x12, 0x36, 0xfa, 0x81];
+
 type Server = ScramAuthenticator<SingleScramCredential>;
 
 /// Where an exchange was refused.
@@ -143,8 +147,101 @@ fn records() {
 fn the_record_of_the_example_in_rfc_7677() {
     let text = "SCRAM-SHA-256$4096:W22ZaJ0SNY7soEsUEjb6gQ==$\
         WG5d8oPm3OtcPnkdi4Uo7BkeZkBFzpcXkuLmtbsT4qY=:wfPLwcE6nTWhTAmQ7tl2KeoiWGPlZqQxSrmfPwDl2dU=";
-    let salt = [0x5b, 0x6d, 0x99, 0x68, 0x9d, 0x12, 0x35, 0x8e, 0xec, 0xa0, 0x4b, 0x14, 0x12, 0x36, 0xfa, 0x81];
-    assert_eq!(record(ScramVersion::Sha256, &salt).to_text(), text);
+    assert_eq!(record(ScramVersion::Sha256, &RFC_SALT).to_text(), text);
+}
+
+/// A password past ASCII as it is typed, what SASLprep prepares it to, and the records of that with the salt
+/// above: the text by Python's `stringprep` and `unicodedata`, the keys by its `hashlib` and `hmac`.
+const TYPED: &str = "pe\u{301}nci\u{ad}l";
+const PREPARED: &str = "p\u{e9}ncil";
+const PREPARED_RECORDS: [&str; 3] = [
+    "SCRAM-SHA-1$4096:W22ZaJ0SNY7soEsUEjb6gQ==$Ht246LvWj4JbiUgVboZaa3Roj10=:VnM/xDSMFNP7iA5XaO6kdgL3zFE=",
+    "SCRAM-SHA-256$4096:W22ZaJ0SNY7soEsUEjb6gQ==$\
+        GvjFZBfZSolQ8xuwIHAJlAq3MY+MGTjIrstgvbZu83E=:a+w26Tb6NHrNXdjMF/QgL5GZ3qvfbaNAgGoK6yh4x/E=",
+    "SCRAM-SHA-512$4096:W22ZaJ0SNY7soEsUEjb6gQ==$\
+        KsGVSzjR/2GTgnCTFuoXTEgtTdhv1X2UYlOIB436eFfyQZSvN7Wcfc90BvtmTOMVnB4GiRHOZJJHNA85LTOSKw==:\
+        g6s6sk5II26TgxYONS1psawypQCoArOrIGmhgNDCAgMpL7vo0MABNZh1G+EXYl037K3ZabWKSRDbDdobxkbHUA==",
+];
+
+#[test]
+fn prepared_passwords() {
+    assert_eq!(saslprep(TYPED, Unassigned::Refused).as_deref(), Ok(PREPARED));
+    for (version, text) in VERSIONS.into_iter().zip(PREPARED_RECORDS) {
+        let record = ScramRecord::from_prepared_password(version, PREPARED, &RFC_SALT, 4096).unwrap();
+        assert_eq!(record.to_text(), text);
+        assert!(record.verify_prepared_password(PREPARED) && !record.verify_prepared_password(TYPED));
+        assert!(!record.verify_password(PREPARED));
+
+        let server = || ScramAuthenticator::new(SingleScramCredential::with_record("user", record.clone()));
+        let other = ScramRecord::from_prepared_password(version, PREPARED, &OTHER_SALT, 4096).unwrap();
+        let mut client = ScramClient::with_prepared_password("user", PREPARED, version);
+        assert_eq!(log_in(&mut client, &mut server()), Ok(()));
+        let keys = client.keys().unwrap();
+        let made = ScramClientKeys::from_prepared_password(version, PREPARED, &RFC_SALT, 4096).unwrap();
+        assert!(keys.client_key() == made.client_key() && keys.server_key() == made.server_key());
+        let mut by_both = ScramClient::with_prepared_password_and_keys("user", PREPARED, keys);
+        assert_eq!(log_in(&mut by_both, &mut server()), Ok(()));
+        let mut another = ScramAuthenticator::new(SingleScramCredential::with_record("user", other));
+        assert_eq!(log_in(&mut by_both, &mut another), Ok(()));
+
+        let refused = Err(Refused::ByClient(ScramErrorKind::NormalizeError));
+        assert_eq!(log_in(&mut ScramClient::new("user", PREPARED, version), &mut server()), refused);
+        let refused = Err(Refused::ByServer(ServerScramErrorKind::AuthenticationFailed));
+        let mut unprepared = ScramClient::with_prepared_password("user", TYPED, version);
+        assert_eq!(log_in(&mut unprepared, &mut server()), refused);
+    }
+}
+
+#[test]
+fn what_texts_are_prepared_to() {
+    use SaslprepError::*;
+    // RFC 4013, section 3, and an unassigned code point
+    for (typed, prepared) in [
+        ("I\u{ad}X", Ok("IX")),
+        ("user", Ok("user")),
+        ("\u{aa}", Ok("a")),
+        ("\u{2168}", Ok("IX")),
+        ("\u{7}", Err(ProhibitedCharacter)),
+        ("\u{627}1", Err(MixedDirections)),
+        ("\u{221}", Err(UnassignedCodePoint)),
+    ] {
+        assert_eq!(saslprep(typed, Unassigned::Refused), prepared.map(str::to_owned), "{:?}", typed);
+    }
+    assert_eq!(saslprep("\u{221}", Unassigned::Allowed).as_deref(), Ok("\u{221}"));
+    // one that is prepared to more bytes than it has
+    assert_eq!(saslprep("\u{fdfa}", Unassigned::Refused).map(|text| text.len()), Ok(33));
+}
+
+/// A client that could bind a channel: its proof and the server's signature are those of Python's `hashlib` and `hmac`.
+#[test]
+fn a_client_that_could_bind_a_channel() {
+    use ServerScramErrorKind::*;
+    let (mut first, mut second) = ([0; 32], [0; 32]);
+    (first[0], second[0]) = (1, 2);
+    let nonce = "AQAAAAAAAAAAAAAAAAAAAAAAAAAAAAAAAAAAAAAAAAA=";
+    let nonces = format!("{}AgAAAAAAAAAAAAAAAAAAAAAAAAAAAAAAAAAAAAAAAAA=", nonce);
+    let client_first = format!("y,,n=user,r={}", nonce);
+    let client_final = format!("c=eSws,r={},p=SJ1/Pm0x+vAkhmfEkR72IPuVMVkUt0BF477aSDSc3vM=", nonces);
+    let other_final = format!("c=biws,r={},p=MIHdNcfet0LbDJOcfcN6eFJrJahL13kbab8XbO3ku+k=", nonces);
+
+    let mut server = server(ScramVersion::Sha256, &RFC_SALT);
+    for unread in ["y,,", "y,,n=user", "y,,n=nobody,r=x", &client_first] {
+        assert_eq!(server.compute_server_first_message(unread.as_bytes()), Err(CannotParseGs2Header));
+    }
+    assert_eq!(server.compute_server_first_message(b"y,,\xff"), Err(Utf8Error));
+
+    let mut server = server.accepts_unbound();
+    let server_first = server.compute_server_first_message_with(client_first.as_bytes(), &second).unwrap().unwrap();
+    assert_eq!(text(&server_first), format!("r={},s=W22ZaJ0SNY7soEsUEjb6gQ==,i=4096", nonces));
+    assert_eq!(server.compute_server_final_message(other_final.as_bytes()), Err(InvalidChannelBinding));
+    let server_final = server.compute_server_final_message(client_final.as_bytes()).unwrap().unwrap();
+    assert_eq!(text(&server_final), "v=mZx4E2gu+jcdDC0u/pNy5NPrR0Zh6PMH8UcHTIgvIxU=");
+    assert_eq!(server.user().as_deref(), Some("user"));
+
+    // and one that could not
+    let mut client = ScramClient::new("user", "pencil", ScramVersion::Sha256);
+    assert_eq!(text(&client.compute_client_first_message_with(&first).unwrap()), format!("n,,n=user,r={}", nonce));
+    assert_eq!(log_in(&mut client, &mut server), Ok(()));
 }
 
 #[test]
@@ -320,6 +417,7 @@ fn errors_have_the_texts_of_the_library() {
     assert_eq!(shown(&ServerScramErrorKind::AuthenticationFailed), "Server: Authentication failed");
     assert_eq!(shown(&RecordError::ZeroIterations), "The iteration count is 0");
     assert_eq!(shown(&RecordTextError::UnknownMechanism), "Record: Unknown SCRAM mechanism");
+    assert_eq!(shown(&SaslprepError::MixedDirections), "The text mixes directions");
 }
 
 #[test]

@@ -21,6 +21,10 @@ const SERVER_NONCE_TEXT: &str = "AgAAAAAAAAAAAAAAAAAAAAAAAAAAAAAAAAAAAAAAAAA=";
 const PROOF: &str = "MIHdNcfet0LbDJOcfcN6eFJrJahL13kbab8XbO3ku+k=";
 const SIGNATURE: &str = "50uHbJV+ANf1NSOfnBbK910b8IC4PmQ5G06TO7VnXz8=";
 
+/// The same of a client that could bind a channel, whose GS2 header is `y,,`.
+const UNBOUND_PROOF: &str = "SJ1/Pm0x+vAkhmfEkR72IPuVMVkUt0BF477aSDSc3vM=";
+const UNBOUND_SIGNATURE: &str = "mZx4E2gu+jcdDC0u/pNy5NPrR0Zh6PMH8UcHTIgvIxU=";
+
 const REFUSED: Standing = Standing::Closed(ConnectionError::RefusedAuth);
 
 fn nonce(first: u8) -> [u8; 32] {
@@ -130,6 +134,37 @@ fn each_body_of_a_login() {
     assert_eq!(last.body, body(OUTCOME, &[&[0x50, 0], &binary(&format!("v={SIGNATURE}"))]));
     assert_eq!(client.on_frame(&last.body), Ok(Answered { body: Vec::new(), standing: Standing::LoggedIn }));
     assert_eq!((server.standing(), server.user().as_deref()), (Standing::LoggedIn, Some("user")));
+}
+
+#[test]
+fn a_client_that_could_bind_a_channel() {
+    let client_first = binary(&format!("y,,n=user,r={CLIENT_NONCE_TEXT}"));
+    let init = body(INIT, &[&symbol("SCRAM-SHA-256"), &client_first, NULL]);
+    let both = format!("r={CLIENT_NONCE_TEXT}{SERVER_NONCE_TEXT}");
+    let response = body(RESPONSE, &[&binary(&format!("c=eSws,{both},p={UNBOUND_PROOF}"))]);
+
+    let mut plain = server(ScramVersion::Sha256, Offers::scram());
+    assert_eq!(plain.on_frame(&init), Ok(Answered { body: outcome(1), standing: REFUSED }));
+
+    let credential = SingleScramCredential::with_record("user", record(ScramVersion::Sha256));
+    let mut server = ServerSteps::new(ScramAuthenticator::new(credential).accepts_unbound(), Offers::scram());
+    let challenge = server.on_frame_with(&init, &nonce(2)).unwrap();
+    assert_eq!(challenge.body, body(CHALLENGE, &[&binary(&format!("{both},s={SALT_TEXT},i=4096"))]));
+    let last = server.on_frame(&response).unwrap();
+    assert_eq!(last.body, body(OUTCOME, &[&[0x50, 0], &binary(&format!("v={UNBOUND_SIGNATURE}"))]));
+    assert_eq!((server.standing(), server.user().as_deref()), (Standing::LoggedIn, Some("user")));
+}
+
+#[test]
+fn prepared_passwords() {
+    let password = saslprep("pe\u{301}ncil", Unassigned::Refused).unwrap();
+    let record = ScramRecord::from_prepared_password(ScramVersion::Sha256, &password, &SALT, 4096).unwrap();
+    let credential = SingleScramCredential::with_record("user", record);
+    let server = || ServerSteps::new(ScramAuthenticator::new(credential.clone()), Offers::scram());
+    let client = ScramClient::with_prepared_password("user", password, ScramVersion::Sha256);
+    let (mut side, mut other) = (ClientSteps::new(client, None), server());
+    assert_eq!(joined(&mut side, &mut other), Ok(()));
+    assert_eq!((side.standing(), other.user().as_deref()), (Standing::LoggedIn, Some("user")));
 }
 
 #[test]

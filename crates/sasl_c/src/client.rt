@@ -312,17 +312,11 @@ impl Login<'_> {
         ensures room { IfErr result (λ status. status ≢ RoomTooSmall) }
     {
         match self.secret {
-            3 => Ok(Machine::with_prepared_password(
-                username,
-                self.password(alloc)?,
-                version,
-            )),
+            3 => Ok(Machine::with_prepared_password(username, self.password(alloc)?, version)),
             4 => {
                 let password = self.password(alloc)?;
                 let keys = self.keys(alloc)?;
-                Ok(Machine::with_prepared_password_and_keys(
-                    username, password, keys,
-                ))
+                Ok(Machine::with_prepared_password_and_keys(username, password, keys))
             }
             _ => Err(Status::NoSuchSecret),
         }

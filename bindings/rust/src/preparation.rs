@@ -1,0 +1,43 @@
+//! What texts are prepared to (RFC 4013), as passwords past ASCII are.
+
+use crate::calls::filled;
+use crate::{sys, SaslprepError};
+
+/// Whether code points may stand in a text that Unicode 3.2 does not assign.
+#[derive(Clone, Copy, Debug, PartialEq, Eq)]
+pub enum Unassigned {
+    /// They may, as in a query: a text that is only compared with stored ones.
+    Allowed,
+
+    /// They may not, as in a stored text.
+    Refused,
+}
+
+impl Unassigned {
+    /// The number of the library.
+    fn number(self) -> u32 {
+        match self {
+            Unassigned::Refused => 0,
+            Unassigned::Allowed => 1,
+        }
+    }
+}
+
+/// The text as SASLprep (RFC 4013) prepares it, as a password is before it is compared or hashed. Printable ASCII is
+/// prepared to itself, and any other ASCII is refused.
+///
+/// ```
+/// use fe2o3_sasl_proved::{saslprep, SaslprepError, Unassigned};
+///
+/// assert_eq!(saslprep("I\u{ad}X", Unassigned::Refused), Ok("IX".to_string()));
+/// assert_eq!(saslprep("\u{221}", Unassigned::Refused), Err(SaslprepError::UnassignedCodePoint));
+/// ```
+pub fn saslprep(text: &str, unassigned: Unassigned) -> Result<String, SaslprepError> {
+    let prepared = filled(text.len(), |out, len| {
+        // SAFETY: the text is a slice that lives through the call; the room and its length are borrowed for writing, and
+        // so overlap nothing.
+        unsafe { sys::fe2o3_saslprep(text.as_ptr(), text.len(), unassigned.number(), out.as_mut_ptr(), out.len(), len) }
+    })
+    .map_err(SaslprepError::of)?;
+    Ok(String::from_utf8(prepared).expect("a prepared text is UTF-8"))
+}
