@@ -168,13 +168,15 @@ as_sent : (login : Login) (before : Struct) (version : ScramVersion) (secret : S
 as_sent login before version secret nonce bare text answer spelled first held =
     let user = login.username.now in
     let whole = first ∙ ap (client_first_bare user) spelled in
-    carried (λ given. AnswersServerFirst version (client_of (base64_text before.nonce) secret (limits_of login)) given text
+    carried (λ given. AnswersServerFirst version (client_of (base64_text before.nonce) secret (limits_of login)) given
+        text
     answer) bare (client_first_bare user (base64_text before.nonce)) whole
     (carried (λ given. AnswersServerFirst version (client_of given secret (limits_of login)) bare text answer) nonce
     (base64_text before.nonce) spelled held)
 
 -- what it answers by a secret, and what it refuses
-pub answered_by : (login : Login) (before : Struct) (version : ScramVersion) (secret : Secret) (nonce bare text : List ℕ)
+pub answered_by : (login : Login) (before : Struct) (version : ScramVersion) (secret : Secret)
+    (nonce bare text : List ℕ)
     (answer : Answer) → IsVersion login.version version → IsSecret login secret → before.sent ≡ 1
     → nonce ≡ base64_text before.nonce → bare ≡ client_first_bare login.username.now nonce
     → AnswersServerFirst version

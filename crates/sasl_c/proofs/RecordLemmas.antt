@@ -27,7 +27,8 @@ other_password kept form given password shown version stored is same alike spell
     let other : ¬ MeetsRecord shown.version (in_form form given) shown.stored = λ meets.
     wrong (carried (λ v. MeetsRecord v (in_form form password) stored) shown.version version (sym same)
     (carried (λ kept. MeetsRecord shown.version (in_form form password) kept) shown.stored stored (sym alike)
-    (carried (λ text. MeetsRecord shown.version (in_form form text) shown.stored) given password (sym spelled) meets))) in
+    (carried (λ text. MeetsRecord shown.version (in_form form text) shown.stored) given password (sym spelled) meets)))
+        in
     λ _. inr (shown, is, inr (refl, rw (bytes_in_form form given) utf8, other))
 
 pub not_text : (kept : Struct) (form : PasswordForm) (given : List ℕ) (shown : VersionedRecord) → Shows kept shown

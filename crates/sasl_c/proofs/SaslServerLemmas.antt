@@ -5,6 +5,8 @@ use Rattle.std.specs.Str.{IsUtf8}
 use Rattle.std.proofs.lemmas.List.{length-take-le, length-take}
 use Rattle.fe2o3_scram.specs.declared.hmac.ScramVersion.{ScramVersion}
 use Rattle.fe2o3_scram.specs.declared.hmac.ScramVersion.TheVariants as versions
+use Rattle.fe2o3_scram.specs.declared.scram_messages.gs2_header.Gs2Header.{Gs2Header}
+use Rattle.fe2o3_scram.specs.declared.scram_messages.gs2_header.Gs2Header.TheVariants.{Unsupported, Unoffered}
 use Rattle.fe2o3_scram.specs.Credentials.{Record, Records, VersionedRecord, versioned}
 use Rattle.fe2o3_scram.specs.Readings.{IsFirst, NoneHolds}
 use Rattle.fe2o3_scram.specs.ScramServer.{ServerState, Initial, ServerFirstSent, open_challenge}
@@ -29,7 +31,7 @@ use Rattle.sasl_c.specs.declared.status.Status.TheVariants as statuses
 use Rattle.sasl_c.specs.Connection.{Keeps}
 use Rattle.sasl_c.specs.Records.{IsVersion, Shows, SpellsStruct}
 use Rattle.sasl_c.specs.SaslServer.{All, Code, Comes, HasNoWords, HasNoStruct, HasRecords, IsAll, IsNoHost, IsOf, IsServer, HasNone, ShowsBy, ShowsOpen, ShowsSide, ShowsStanding, ShowsState, ShowsUser, Stands, State, allowed_of, all_of, host_tests, one_where, open_in, server_of, side_in, state_names, state_of, sum_of, user_in}
-use Rattle.sasl_c.specs.Server.{HasLoggedIn, HasRoom, IsOpen}
+use Rattle.sasl_c.specs.Server.{HasLoggedIn, HasRoom, IsOpen, open_number}
 use Rattle.sasl_c.specs.Status.{version_number}
 use Rattle.sasl_c.proofs.StatusLemmas.{carried}
 
@@ -90,6 +92,10 @@ shows_none kept statuses.RefusedAuth shown wrong is = absurd wrong
 shows_none kept statuses.RefusedSys shown wrong is = absurd wrong
 shows_none kept statuses.RefusedSysPerm shown wrong is = absurd wrong
 shows_none kept statuses.RefusedSysTemp shown wrong is = absurd wrong
+shows_none kept statuses.UnassignedCodePoint shown wrong is = absurd wrong
+shows_none kept statuses.MixedDirections shown wrong is = absurd wrong
+shows_none kept statuses.ProhibitedCharacter shown wrong is = absurd wrong
+shows_none kept statuses.NoSuchChoice shown wrong is = absurd wrong
 
 -- a number is that of one version
 one_number : (version other : ScramVersion) → version_number version ≡ version_number other → version ≡ other
@@ -204,7 +210,8 @@ no_words host version choice status known sum (is, inr (name, wrong)) = inl (inr
 pub no_offer : (host : Host) (version : ScramVersion) (choice : Choice) (scram : ScramStruct) (all : All)
     (names : List (List ℕ)) (server : State) → IsVersion host.version version → sum_of choice ≡ host.mechanisms
     → names ≡ allowed_of version choice → server ≡ record { inner = all; allowed = names }
-    → IsAll host version choice.unbound scram all → IsUtf8 host.username.now → IsUtf8 host.peer.now → state_names server ≡ []
+    → IsAll host version choice.unbound scram all → IsUtf8 host.username.now → IsUtf8 host.peer.now
+        → state_names server ≡ []
     → IsNoHost host statuses.NoSuchMechanism
 unfolding IsNoHost
 no_offer host version choice scram all names server known sum named is (records, state, asked, has, stands, same)
@@ -264,12 +271,17 @@ pub shows_challenge : (scram : ScramStruct) (standing : Standing) (opened : Opti
 shows_challenge scram standing opened user challenge wants some is =
     stands_so scram standing Wanting opened (Some challenge) user user wants some refl is
 
+-- no number of an open challenge is 0
+never_zero : (header : Gs2Header) → 0 ≡ open_number header → ⊥
+never_zero Unsupported same = omega (arith, same)
+never_zero Unoffered same = omega (arith, same)
+
 pub shows_no_challenge : (scram : ScramStruct) (standing : Standing) (opened : Option Challenge)
     (user : Option (List ℕ)) → standing ≡ Wanting → opened ≡ None → scram.stands ≡ 0
     → ShowsStanding scram standing opened user
 shows_no_challenge scram standing opened user wants none fresh =
     stands_so scram standing Wanting opened None user user wants none refl
-    (λ challenge is. let one : ◌≡◌ {A = ℕ} 0 1 = sym fresh ∙ is.0 in absurd (omega (arith, one)))
+    (λ challenge is. never_zero challenge.header (sym fresh ∙ is.0))
 
 pub no_challenge_room : (standing : Standing) (opened : Option Challenge) (user : Option (List ℕ))
     (challenge : Challenge) → standing ≡ Wanting → opened ≡ Some challenge → ¬ HasRoom challenge

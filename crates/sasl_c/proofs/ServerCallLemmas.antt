@@ -154,7 +154,8 @@ module _ (host : Host) (version : ScramVersion) (choice : Choice) (records : Rec
   Then reply next = Ends reply ⊎ ((challenge : Challenge) × (next ≡ one (ServerFirstSent challenge) (Some First)))
 
   opened : (state : ServerState) (asked : Option Part) (all : All) (acceptor : Acceptor) (next : State)
-      (reply : SaslFrame) → Ends reply ⊎ Opens (record { version = version; records = records; unbound = choice.unbound }) acceptor
+      (reply : SaslFrame) → Ends reply ⊎ Opens (record { version = version; records = records; unbound = choice.unbound
+          }) acceptor
       → all ≡ record { first = acceptor; second = (one state asked).inner.second; asked = Some First }
       → next ≡ record (one state asked) { inner = all } → Then reply next
   opened state asked all acceptor next reply (inl ends) is same = inl ends
@@ -519,7 +520,8 @@ module _ (host : Host) (bytes nonce : List ℕ) (before : Struct) (kept : SetDow
       (behind_limit host before taken_side (side_in next) bytes nonce taken sent is wants held))
 
   pub short_answer : (after : Struct) (taken : ℕ) (sent : List ℕ)
-      → (next : ServerNegotiation Code) × Follows taken sent next × ShowsBy state_of Shown after next → length sent ≤ 520
+      → (next : ServerNegotiation Code) × Follows taken sent next × ShowsBy state_of Shown after next
+          → length sent ≤ 520
   short_answer after taken sent (next, held, shows) =
       behind_short host before taken_side (side_in next) bytes nonce taken sent is wants held
 

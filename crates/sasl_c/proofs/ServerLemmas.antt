@@ -1,6 +1,6 @@
 -- What a server answers to a client-first message, by the struct of its user's record.
 use Rattle.std.proofs.Common.{Bool, arith, refl, sym, ap, inl, inr, ◌∙◌, ◌≡◌, ◌≢◌, ◌≤◌, ℕ, List, length, take}
-use Rattle.std.specs.Prelude.{Some, None, Ok, Err, codes}
+use Rattle.std.specs.Prelude.{Option, Result, Some, None, Ok, Err, codes}
 use Rattle.std.proofs.lemmas.List.{length-append}
 use Rattle.fe2o3_scram.specs.declared.scram_messages.error.ServerScramErrorKind.{ServerScramErrorKind}
 use Rattle.fe2o3_scram.specs.declared.scram_messages.error.ServerScramErrorKind.TheVariants.{IllegalAuthenticatorState, OutOfMemory as NoMemory}
@@ -36,14 +36,25 @@ unread unbound kept nonce text why status held gives other =
     inl (why, gives, held (λ same. other (gives ∙ ap server_status same)))
 
 pub not_shown : (unbound : Bool) (kept : Kept) (nonce text : List ℕ) (first : ClientFirst) (status : Status)
-    → ReadsClientFirst unbound text (Ok first) → SpellsStruct kept (Err status) → NotChallenged unbound kept nonce text status
+    → ReadsClientFirst unbound text (Ok first) → SpellsStruct kept (Err status)
+        → NotChallenged unbound kept nonce text status
 unfolding NotChallenged
 not_shown unbound kept nonce text first status reads wrong = inr (inl (first, reads, wrong))
 
-pub no_room : (unbound : Bool) (kept : Kept) (nonce text : List ℕ) (challenge : Challenge) → Challenged unbound kept nonce text challenge
+pub no_room : (unbound : Bool) (kept : Kept) (nonce text : List ℕ) (challenge : Challenge)
+    → Challenged unbound kept nonce text challenge
     → ¬ HasRoom challenge → NotChallenged unbound kept nonce text statuses.TooLong
 unfolding NotChallenged
 no_room unbound kept nonce text challenge held wide = inr (inr (refl, (challenge, held, wide)))
+
+-- a server that takes whom another takes answers what that one answers
+pub challenges_so : (state next : ServerState) (store : Store) (own unbound : Bool) (nonce text : List ℕ)
+    (answer : Result (Option (List ℕ)) ServerScramErrorKind) → own ≡ unbound
+    → ChallengesFrom state (serving own store) nonce text answer next
+    → ChallengesFrom state (serving unbound store) nonce text answer next
+challenges_so state next store own unbound nonce text answer same held =
+    carried (λ (option : Bool). ChallengesFrom state (serving option store) nonce text answer next) own unbound same
+        held
 
 -- the machine's answers
 pub challenged : (unbound : Bool) (kept : Kept) (nonce text user message : List ℕ) (shown : VersionedRecord)
@@ -74,7 +85,8 @@ never_unknown unbound kept nonce text user shown store state next first status r
 
 pub failed : (unbound : Bool) (kept : Kept) (nonce text : List ℕ) (store : Store) (state next : ServerState)
     (why : ServerScramErrorKind) (status : Status)
-    → (why ≢ NoMemory → ChallengesFrom state (serving unbound store) nonce text (Err why) next) → status ≡ server_status why
+    → (why ≢ NoMemory → ChallengesFrom state (serving unbound store) nonce text (Err why) next)
+        → status ≡ server_status why
     → status ≢ statuses.OutOfMemory → NotChallenged unbound kept nonce text status
 failed unbound kept nonce text store state next why status held gives other =
     unread unbound kept nonce text why status (λ told. (held told).0) gives other
@@ -101,7 +113,8 @@ found user shown = ap (λ test. cond test (Some shown.stored) None) ((bytes_eq-D
 
 pub concluded : (kept : Kept) (before : Struct) (text message : List ℕ) (challenge : Challenge)
     (shown : VersionedRecord) → IsOpen before challenge → Shows kept shown
-    → AnswersClientFinal (server_of shown.version challenge.header challenge.bare challenge.first challenge.nonce shown.stored) text
+    → AnswersClientFinal (server_of shown.version challenge.header challenge.bare challenge.first challenge.nonce
+        shown.stored) text
     (Ok message)
     → Concluded kept before text message challenge.user × (length message ≤ 90)
 unfolding Concluded
@@ -113,7 +126,8 @@ concluded kept before text message challenge shown is shows held = (
 pub refuses : (kept : Kept) (before : Struct) (text : List ℕ) (challenge : Challenge) (shown : VersionedRecord)
     (why : ServerScramErrorKind) (status : Status) → IsOpen before challenge → Shows kept shown
     → (why ≢ NoMemory → AnswersClientFinal
-    (server_of shown.version challenge.header challenge.bare challenge.first challenge.nonce shown.stored) text (Err why))
+    (server_of shown.version challenge.header challenge.bare challenge.first challenge.nonce shown.stored) text
+        (Err why))
     → status ≡ server_status why → status ≢ statuses.OutOfMemory → Concludes kept text before before (Err status)
 unfolding Concludes
 refuses kept before text challenge shown why status is shows held gives other =

@@ -30,7 +30,8 @@ use Rattle.sasl_c.proofs.StatusLemmas.{carried}
 -- a message that is refused names nobody
 pub refused : (text : List ℕ) (why : ServerScramErrorKind) (first : ClientFirst) → ReadsClientFirst true text (Err why)
     → ReadsClientFirst true text (Ok first) → ⊥
-refused text why first wrong reads = let same = one_client_first true text (Err why) (Ok first) wrong reads in absurd (cc)
+refused text why first wrong reads = let same = one_client_first true text (Err why) (Ok first) wrong reads in absurd
+    (cc)
 
 pub ruleset scram_user = (refused)
 

@@ -200,7 +200,8 @@ abbrev pub ShowsUser : ScramStruct → Option (List ℕ) → Type 0
 ShowsUser scram None = scram.stands ≡ 0
 ShowsUser scram (Some user) = HasLoggedIn scram user
 
--- the struct of SCRAM shows how far a login is that stands so: the challenge that is open, who has logged in, or nothing
+-- the struct of SCRAM shows how far a login is that stands so: the challenge that is open, who has logged in, or
+-- nothing
 -- once it is closed
 abbrev pub ShowsStanding : ScramStruct → Standing → Option Challenge → Option (List ℕ) → Type 0
 ShowsStanding scram Wanting opened user = ShowsOpen scram opened
@@ -283,7 +284,8 @@ Receives host bytes nonce before after taken (Err status) = NotReceived host byt
 
 -- ---- whom a frame names
 
--- an init names this user: in a client-first message behind either GS2 header (RFC 5802, section 7), or in a message of PLAIN that is taken (RFC
+-- an init names this user: in a client-first message behind either GS2 header
+-- (RFC 5802, section 7), or in a message of PLAIN that is taken (RFC
 -- 4616, section 2)
 abbrev pub InitNames : List ℕ → List ℕ → List ℕ → Type 0
 InitNames mechanism text name =

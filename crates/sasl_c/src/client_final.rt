@@ -44,7 +44,8 @@ fn answered_by(
     meter: &mut Meter,
 ) -> Result<ClientAnswer, Status>
     requires { meter.old ≤ 2 ^ 63 }
-    ensures ok { IfOk result (λ answer. IsVersion login.now.version version → IsSecret login.now (secret_of secret.entry)
+    ensures ok { IfOk result (λ answer. IsVersion login.now.version version → IsSecret login.now
+        (secret_of secret.entry)
         → client.now.sent ≡ 1 → IsAnswer login.now client.now server_first.now (answer_values answer)) }
     ensures err { IfErr result (λ status. status ≢ StatusOutOfMemory → IsVersion login.now.version version
         → IsSecret login.now (secret_of secret.entry) → client.now.sent ≡ 1

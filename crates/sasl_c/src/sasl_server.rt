@@ -306,7 +306,8 @@ fn shown(
 ) -> Option<ScramServer>
     ensures { MatchOption result
         ((scram : ScramStruct) → ¬ ShowsStanding scram standing (option_map challenge_kept challenge.entry)
-        (option_map (λ user. user.now) user.entry)) (λ scram. ShowsStanding scram standing (option_map challenge_kept challenge.entry)
+        (option_map (λ user. user.now) user.entry)) (λ scram. ShowsStanding scram standing
+            (option_map challenge_kept challenge.entry)
         (option_map (λ user. user.now) user.entry)) }
 {
     match standing {

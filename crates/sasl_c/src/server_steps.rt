@@ -115,7 +115,8 @@ fn stepped<A: Shows + Drop>(
     requires { meter.old ≤ 2 ^ 63 }
     ensures ok { IfOk result (λ made. IsStepped A.state A.machine A.shows (A.state acceptor)
         (record { body = body.now; nonce = nonce.now }) made.next made.standing made.sent.items) }
-    ensures err { IfErr result (λ status. status ≢ StatusOutOfMemory → NotStepped A.state A.machine A.shows (A.state acceptor)
+    ensures err { IfErr result (λ status. status ≢ StatusOutOfMemory → NotStepped A.state A.machine A.shows
+        (A.state acceptor)
         (record { body = body.now; nonce = nonce.now }) status) }
     ensures room { IfErr result (λ status. status ≢ RoomTooSmall) }
 {

@@ -212,11 +212,14 @@ impl Sides {
         output: &mut O,
     ) -> Result<(), Stop> {
         let replies = scram_server_run(alloc, login.credentials, &self.server.events)?;
-        let mut accepts = false;
+        let (mut user, mut accepts) = ("", false);
         for (given, reply) in self.server.given.iter().zip(&replies) {
             let answer = Answer::of_server(reply)?;
             accepts |= answer.is_ok;
-            print_server(given, &answer, output).map_err(Stop::of_output)?;
+            if matches!(reply, Ok(ServerReply::Challenge { .. })) {
+                user = given.user.as_str();
+            }
+            print_server(given, user, &answer, output).map_err(Stop::of_output)?;
         }
         if !accepts {
             writeln!(output, "audit: the server accepts nobody").map_err(Stop::of_output)?;
@@ -315,9 +318,15 @@ fn print_client<O: Write>(given: &Given, answer: &Answer<'_>, output: &mut O) ->
     Ok(())
 }
 
-/// Prints whether the server answered otherwise than the one that is made anew, and whether it accepts a user.
-fn print_server<O: Write>(given: &Given, answer: &Answer<'_>, output: &mut O) -> Written<()> {
-    let (line, user) = (given.line, given.user.as_str());
+/// Prints whether the server answered otherwise than the one that is made anew, and whether it accepts the user whom
+/// it challenged last.
+fn print_server<O: Write>(
+    given: &Given,
+    user: &str,
+    answer: &Answer<'_>,
+    output: &mut O,
+) -> Written<()> {
+    let line = given.line;
     if !answer.is_that_of(given) {
         writeln!(
             output,

@@ -48,4 +48,6 @@ mod set_down_servers;
 #[cfg(test)]
 mod short_logins;
 #[cfg(test)]
+mod unbound;
+#[cfg(test)]
 mod values;

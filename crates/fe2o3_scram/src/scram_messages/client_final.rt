@@ -188,7 +188,8 @@ impl ScramVersion {
         requires serves { Serves (secret_of secret) (server_first_values first) }
         requires meter { meter.old ≤ 2 ^ 63 }
         ensures keys { result ≡ keys_for self.now (secret_of secret.entry) (server_first_values first.entry) }
-        ensures counted { meter.new + 2 ≡ meter.old + hmac_count (secret_of secret.entry) (server_first_values first.entry) }
+        ensures counted { meter.new + 2 ≡ meter.old + hmac_count (secret_of secret.entry)
+            (server_first_values first.entry) }
     {
         match secret {
             ClientSecret::Password(password) | ClientSecret::Prepared(password) => {

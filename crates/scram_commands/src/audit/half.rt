@@ -1,7 +1,8 @@
 //! The bodies of one side: those that it was given, and what it answered.
 
-ghost use Rattle.std.specs.Prelude.{◌≢◌, ℕ, List, length, IfOk, MatchOption};
-ghost use Rattle.fe2o3_scram.specs.Texts.{IsBase64};
+ghost use Rattle.std.specs.Prelude.{◌≡◌, ◌≢◌, ℕ, List, length, Ok, IfOk, MatchOption};
+ghost use Rattle.base64.specs.Engines.{standard};
+ghost use Rattle.base64.specs.GeneralPurpose.{decode_of};
 
 use crate::explain::Heard;
 use crate::stop::Stop;
@@ -202,13 +203,21 @@ impl Half {
 /// The 32 bytes that a nonce is the base64 of, or none where it is not that of so many.
 fn bytes_of(alloc: Global, nonce: &str) -> Result<Option<[u8; 32]>, AllocError>
     ensures { IfOk result (λ found. MatchOption found
-        ((bytes : List ℕ) → IsBase64 nonce.now bytes → length bytes ≢ 32) (λ bytes. IsBase64 nonce.now bytes)) }
+        ((bytes : List ℕ) → decode_of standard nonce.now ≡ Ok bytes → length bytes ≢ 32)
+        (λ bytes. decode_of standard nonce.now ≡ Ok bytes)) }
 {
     match STANDARD.decode(alloc, nonce.as_bytes()) {
-        Ok(bytes) => Ok(<[u8; 32]>::try_from(bytes.as_slice()).ok()),
+        Ok(bytes) => Ok(array_of(&bytes)),
+        Err(DecodeAllocError::DecodeError(_)) => Ok(None),
         Err(DecodeAllocError::OutOfMemory) => Err(AllocError),
-        Err(_) => Ok(None),
     }
+}
+
+/// These bytes, where they are 32.
+fn array_of(bytes: &[u8]) -> Option<[u8; 32]>
+    ensures { MatchOption result (length bytes.now ≢ 32) (λ array. array ≡ bytes.now) }
+{
+    <[u8; 32]>::try_from(bytes).ok()
 }
 
 /// Whether a server sends it (AMQP 1.0, part 5, section 5.3.2).

@@ -298,7 +298,8 @@ module _ (more : List (List ℕ)) (too : AllByRecursion Plain more) (proof : Lis
       (record { without = joined (binds both ++ more); proof = proof })
   has_final bytes = (bytes, (plain_last.0, refl))
 
-  pub reads_final : (server : Server) → Unsupported ≡ server.header → server.nonce ≡ both → IsBytes proof → length proof ≡ digest_len server.version
+  pub reads_final : (server : Server) → Unsupported ≡ server.header → server.nonce ≡ both → IsBytes proof
+      → length proof ≡ digest_len server.version
       → Meets server (record { without = joined (binds both ++ more); proof = proof })
       → ReadsClientFinal server (final_text more proof) (Ok
       (record { without = joined (binds both ++ more); proof = proof }))

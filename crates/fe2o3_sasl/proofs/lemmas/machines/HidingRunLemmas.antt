@@ -85,7 +85,8 @@ module _ (provider : Provider) (nobody : Nobody) (names : List (List ℕ)) where
 
   -- the names hold that of a text that is read
   abbrev HoldsText : List ℕ → Type 0
-  HoldsText text = (client : ClientFirst) → ReadsClientFirst provider.unbound text (Ok client) → Contains names client.user
+  HoldsText text = (client : ClientFirst) → ReadsClientFirst provider.unbound text (Ok client)
+      → Contains names client.user
 
   -- and that of an open challenge
   abbrev HoldsOpen : ServerState → Type 0
@@ -137,7 +138,8 @@ module _ (provider : Provider) (nobody : Nobody) (names : List (List ℕ)) where
   final_holds (ServerFirstSent challenge) next text (Ok (Some message)) opened (stored, known, reads, same) =
       subst HoldsOpen (sym same) tt
   final_holds (ServerFirstSent challenge) next text (Ok None) opened is = absurd is
-  final_holds (ServerFirstSent challenge) next text (Err fault) opened (refuses, same) = subst HoldsOpen (sym same) opened
+  final_holds (ServerFirstSent challenge) next text (Err fault) opened (refuses, same) = subst HoldsOpen
+      (sym same) opened
   final_holds Initial next text (Ok answer) opened is = absurd is
   final_holds Initial next text (Err fault) opened (is, same) = subst HoldsOpen (sym same) opened
   final_holds (ServerFinalSent user) next text (Ok answer) opened is = absurd is
@@ -150,7 +152,8 @@ module _ (provider : Provider) (nobody : Nobody) (names : List (List ℕ)) where
   state_behind (ScramAcceptor provider state) = state
   state_behind acceptor = Initial
 
-  one_state : (provider : Provider) (state other : ServerState) → ScramAcceptor provider state ≡ ScramAcceptor provider other
+  one_state : (provider : Provider) (state other : ServerState)
+      → ScramAcceptor provider state ≡ ScramAcceptor provider other
       → state ≡ other
   one_state provider state other same = ap state_behind same
 

@@ -243,7 +243,8 @@ response_step provider c event text says moved next reply (Err fault) known from
   where
     unfit : (p : Accepted) → FitsAsResponse provider (λ d. Some c ≡ Some d) (frames.Response text) p
         → ((stored : Record) × (record_at provider.records c.client.user ≡ Some stored)
-        × ReadsClientFinal (server_of provider.version c.client.header c.client.bare (first_message c) (full_nonce c) stored) text
+        × ReadsClientFinal (server_of provider.version c.client.header c.client.bare (first_message c)
+            (full_nonce c) stored) text
         (Err fault))
         ⊎ ((record_at provider.records c.client.user ≡ None) × (fault ≡ AuthenticationFailed)) → ⊥
     unfit p fits (inl x) =
@@ -251,7 +252,8 @@ response_step provider c event text says moved next reply (Err fault) known from
         let same : c ≡ p.challenge = same_Some c p.challenge fits.0 in
         let refused : ReadsClientFinal (server_at provider p.challenge) text (Err fault) =
         subst (λ (d : Challenging). ReadsClientFinal (server_at provider d) text (Err fault)) same
-        (subst (λ (r : Record). ReadsClientFinal (server_of provider.version c.client.header c.client.bare (first_message c)
+        (subst (λ (r : Record). ReadsClientFinal (server_of provider.version c.client.header c.client.bare
+            (first_message c)
         (full_nonce c) r) text (Err fault)) stored x.2) in
         let e = one_client_final (server_at provider p.challenge) text (Err fault) (Ok p.final) refused fits.1 in
         cc

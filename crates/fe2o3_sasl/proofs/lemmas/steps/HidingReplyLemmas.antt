@@ -63,7 +63,8 @@ module _ (server : HidingServer) (nonce mechanism text : List ℕ) (hostname : O
     -- that is refused, where memory is not wanting
     pub hiding_refused : {X V E : Type 0} (Allocates : List ℕ → Type 0) (sent : X → SaslFrame)
         (view : V → Option (List ℕ)) (kind : ServerScramErrorKind) (result : Result X E)
-        → ((name : List ℕ) → NamedIn server.provider.unbound text name → Gives OutOfMemory (Allocates name) view (Err kind)
+        → ((name : List ℕ) → NamedIn server.provider.unbound text name → Gives OutOfMemory (Allocates name) view
+            (Err kind)
         (λ answer. ChallengesFrom server.state (hiding_name server name) nonce text answer after.state))
         → IfOk result (λ frame. (kind ≢ OutOfMemory) × (sent frame ≡ ends_with outcomes.Auth))
         → IfOk result (λ frame. hiding_machine server nonce init (sent frame) after)
@@ -87,9 +88,11 @@ module _ (server : HidingServer) (nonce mechanism text : List ℕ) (hostname : O
         → ((name : List ℕ) → NamedIn server.provider.unbound text name
         → ChallengesFrom server.state (hiding_name server name) nonce text (Ok answer) after.state)
         → ReachesLookUp server mechanism text
-    answer_reads None from = let is = from (some_name server.provider.unbound text).0 (some_name server.provider.unbound text).1 in (is.0.0, is_name, is.0.1)
+    answer_reads None from = let is = from (some_name server.provider.unbound text).0
+        (some_name server.provider.unbound text).1 in (is.0.0, is_name, is.0.1)
     answer_reads (Some message) from =
-        let is = from (some_name server.provider.unbound text).0 (some_name server.provider.unbound text).1 in (is.1.0, is_name, is.1.2)
+        let is = from (some_name server.provider.unbound text).0 (some_name server.provider.unbound text).1 in
+            (is.1.0, is_name, is.1.2)
 
     -- what it costs
     pub answer_takes : (answer : Option (List ℕ)) (before most n : ℕ)
@@ -100,12 +103,14 @@ module _ (server : HidingServer) (nonce mechanism text : List ℕ) (hostname : O
     answer_takes answer before most n from costs (inr takes) = absurd (takes.0 (answer_reads answer from))
 
     refused_most : (A : Type 0) (kind : ServerScramErrorKind) (before most n : ℕ)
-        → HidingCosts {A = A} server.provider.unbound text (Err kind) before most → hiding_hmacs server init n → most ≤ before + n
+        → HidingCosts {A = A} server.provider.unbound text (Err kind) before most → hiding_hmacs server init n
+            → most ≤ before + n
     refused_most A OutOfMemory before most n costs (inl takes) =
         let three = takes.1 in let within = costs.1 in omega (within, three, arith)
     refused_most A OutOfMemory before most n costs (inr takes) = go (some_client_first server.provider.unbound text)
       where
-        go : (answer : Result ClientFirst ServerScramErrorKind) × ReadsClientFirst server.provider.unbound text answer → most ≤ before + n
+        go : (answer : Result ClientFirst ServerScramErrorKind) × ReadsClientFirst server.provider.unbound text answer
+            → most ≤ before + n
         go (Ok client, reads) = absurd (takes.0 (client, is_name, reads))
         go (Err fault, refuses) = let none = costs.2 fault refuses in omega (none, arith)
     refused_most A kind before most n costs takes = let none : most ≡ before = costs in omega (none, arith)
@@ -125,16 +130,19 @@ module _ (server : HidingServer) (nonce mechanism text : List ℕ) (hostname : O
     )
 
     pub refusal_most : (A : Type 0) (kind : ServerScramErrorKind) (before most : ℕ)
-        → HidingCosts {A = A} server.provider.unbound text (Err kind) before most → CostsAtMost hiding_hmacs server init before most
+        → HidingCosts {A = A} server.provider.unbound text (Err kind) before most
+            → CostsAtMost hiding_hmacs server init before most
     refusal_most A kind before most costs = (
       rises A kind before most costs,
       λ n takes. refused_most A kind before most n costs takes,
     )
 
     -- and exactly, where memory is not wanting
-    unread : (kind : ServerScramErrorKind) (n : ℕ) → ReadsClientFirst server.provider.unbound text (Err kind) → hiding_hmacs server init n
+    unread : (kind : ServerScramErrorKind) (n : ℕ) → ReadsClientFirst server.provider.unbound text (Err kind)
+        → hiding_hmacs server init n
         → n ≡ 0
-    unread kind n refuses (inl takes) = absurd (read_or_refused server.provider.unbound text takes.0.0 kind takes.0.2 refuses)
+    unread kind n refuses (inl takes) = absurd (read_or_refused server.provider.unbound text takes.0.0 kind takes.0.2
+        refuses)
     unread kind n refuses (inr takes) = takes.1
 
     same_meter : (A : Type 0) (kind : ServerScramErrorKind) (before most : ℕ) → kind ≢ OutOfMemory
@@ -144,7 +152,8 @@ module _ (server : HidingServer) (nonce mechanism text : List ℕ) (hostname : O
 
     pub refusal_takes : {X E : Type 0} (A V : Type 0) (Allocates : List ℕ → Type 0) (sends : X → Type 0)
         (view : V → Option (List ℕ)) (kind : ServerScramErrorKind) (sent : Result X E) (before most : ℕ)
-        → ((name : List ℕ) → NamedIn server.provider.unbound text name → Gives OutOfMemory (Allocates name) view (Err kind)
+        → ((name : List ℕ) → NamedIn server.provider.unbound text name → Gives OutOfMemory (Allocates name) view
+            (Err kind)
         (λ answer. ChallengesFrom server.state (hiding_name server name) nonce text answer after.state))
         → HidingCosts {A = A} server.provider.unbound text (Err kind) before most
         → IfOk sent (λ frame. (kind ≢ OutOfMemory) × sends frame)

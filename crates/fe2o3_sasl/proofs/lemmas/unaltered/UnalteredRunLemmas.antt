@@ -119,7 +119,8 @@ module _ (sides : Sides) (password salt : List ℕ) (count : ℕ) (run : Unalter
   has_started : step.HasStarted sides password salt count run.offer run.init histories login holds fits
   has_started = ((client_event 0, run.offered), (run.init.body, starts.0))
 
-  has_challenge : step.HasChallenge sides password salt count run.offer run.init histories login holds fits run.challenge
+  has_challenge : step.HasChallenge sides password salt count run.offer run.init histories login holds fits
+      run.challenge
   has_challenge = (client_event 1, challenges.1)
 
   answers : (slice_get sides.client_replies 1 ≡ Some (Answered run.response.body))
@@ -229,7 +230,8 @@ module _ (sides : Sides) (password salt : List ℕ) (count : ℕ) (run : Unalter
     },
     refl,
     refl,
-    (plain_in exchange (sound_exchange sides password salt count run.offer.nonce run.init.nonce login holds), refl, refl, refl),
+    (plain_in exchange (sound_exchange sides password salt count run.offer.nonce run.init.nonce login holds), refl,
+        refl, refl),
   )
 
   audit : Audits sides (agreed_findings run salt count)

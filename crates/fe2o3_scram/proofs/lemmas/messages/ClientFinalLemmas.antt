@@ -103,7 +103,8 @@ one_proof text final other has too =
 
 -- the tests of the text, in their order
 
-pub not_utf8 : (header : Gs2Header) (nonce text : List ℕ) → ¬ IsUtf8 text → ReadsFinalText header nonce text (Err Utf8Error)
+pub not_utf8 : (header : Gs2Header) (nonce text : List ℕ) → ¬ IsUtf8 text → ReadsFinalText header nonce text
+    (Err Utf8Error)
 unfolding ReadsFinalText
 not_utf8 header nonce text fails = inl (fails, refl)
 
@@ -126,7 +127,8 @@ module _ (header : Gs2Header) (nonce text : List ℕ) (utf8 : IsUtf8 text) where
   )
 
   pub spelling_refused : (fault : ServerScramErrorKind) → NoneHolds (binding_tests header text)
-      → NoneHolds (nonce_tests nonce text) → IsFirst (spelling_tests text) fault → ReadsFinalText header nonce text (Err fault)
+      → NoneHolds (nonce_tests nonce text) → IsFirst (spelling_tests text) fault → ReadsFinalText header nonce text
+          (Err fault)
   unfolding ReadsFinalText
   spelling_refused fault binding tested first = inr (
     λ fails. fails utf8,
@@ -135,7 +137,8 @@ module _ (header : Gs2Header) (nonce text : List ℕ) (utf8 : IsUtf8 text) where
   )
 
   pub text_read : (final : ClientFinal) → NoneHolds (binding_tests header text) → NoneHolds (nonce_tests nonce text)
-      → NoneHolds (spelling_tests text) → NamesClientFinal header nonce text final → ReadsFinalText header nonce text (Ok final)
+      → NoneHolds (spelling_tests text) → NamesClientFinal header nonce text final → ReadsFinalText header nonce text
+          (Ok final)
   unfolding ReadsFinalText
   text_read final binding tested spelling names = (
     (
@@ -148,7 +151,8 @@ module _ (header : Gs2Header) (nonce text : List ℕ) (utf8 : IsUtf8 text) where
 
   -- what is read of the proof is what is read of the text, where the tests before it have passed
   pub text_answered : {A : Type 0} (view : A → ClientFinal) (result : Result A ServerScramErrorKind)
-      → NoneHolds (binding_tests header text) → NoneHolds (nonce_tests nonce text) → HasBinding text (header_text header)
+      → NoneHolds (binding_tests header text) → NoneHolds (nonce_tests nonce text) → HasBinding text
+          (header_text header)
       → Part text 1 (codes "r=" ++ nonce) → IfOk result (λ _. NoneHolds (spelling_tests text))
       → IfOk result (λ final. HasProof text (view final))
       → IfErr result (λ kind. kind ≡ OutOfMemory
@@ -164,7 +168,8 @@ module _ (header : Gs2Header) (nonce text : List ℕ) (utf8 : IsUtf8 text) where
 
 -- the texts of a message that was read
 
-pub names_final_text : (header : Gs2Header) (nonce text : List ℕ) (final : ClientFinal) → ReadsFinalText header nonce text (Ok final)
+pub names_final_text : (header : Gs2Header) (nonce text : List ℕ) (final : ClientFinal)
+    → ReadsFinalText header nonce text (Ok final)
     → NamesClientFinal header nonce text final
 unfolding ReadsFinalText
 names_final_text header nonce text final reads = reads.1
@@ -177,7 +182,8 @@ one_final_text header nonce text answer other reads too =
     (λ final another names them. one_proof text final another names.proof them.proof) answer other reads too
 
 -- who reads a message came to its proof
-proof_reached : (header : Gs2Header) (nonce text : List ℕ) (final : ClientFinal) → ReadsFinalText header nonce text (Ok final)
+proof_reached : (header : Gs2Header) (nonce text : List ℕ) (final : ClientFinal) → ReadsFinalText header nonce text
+    (Ok final)
     → ReachesBase64 header nonce text
 unfolding ReadsFinalText
 proof_reached header nonce text final reads =
@@ -192,7 +198,8 @@ proof_reached header nonce text final reads =
     )
 
 -- no test of the text has the fault of a proof
-not_the_proof : (header : Gs2Header) (nonce text : List ℕ) → ¬ ReadsFinalText header nonce text (Err AuthenticationFailed)
+not_the_proof : (header : Gs2Header) (nonce text : List ℕ) → ¬ ReadsFinalText header nonce text
+    (Err AuthenticationFailed)
 unfolding ReadsFinalText
 not_the_proof header nonce text = not_first (final_text_tests header nonce text) AuthenticationFailed (
   λ wrong. absurd (cc),
@@ -213,7 +220,8 @@ pub text_costs_nothing : (A : Type 0) (server : Server) (text : List ℕ) (fault
     → (fault ≢ OutOfMemory → ReadsFinalText server.header server.nonce text (Err fault))
     → FinalCosts {A = A} server text (Err fault) count count
 text_costs_nothing A server text AuthenticationFailed count refused =
-    absurd (not_the_proof server.header server.nonce text (refused (λ same. let wrong : AuthenticationFailed ≡ OutOfMemory = same in
+    absurd (not_the_proof server.header server.nonce text (refused
+        (λ same. let wrong : AuthenticationFailed ≡ OutOfMemory = same in
     absurd (cc))))
 text_costs_nothing A server text OutOfMemory count refused = (omega arith, omega arith, λ _ _. refl)
 text_costs_nothing A server text fault count refused = refl

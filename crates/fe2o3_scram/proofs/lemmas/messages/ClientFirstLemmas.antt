@@ -45,13 +45,15 @@ no_header unbound text utf8 none = inr (λ fails. fails utf8, inl (none, refl))
 
 module _ (unbound : Bool) (header : Gs2Header) (text bare : List ℕ) (utf8 : IsUtf8 text)
     (takes : TakesHeader unbound header) (is : text ≡ header_text header ++ bare) where
-  pub no_name : ((rest : List ℕ) → ¬ Part bare 0 (codes "n=" ++ rest)) → ReadsClientFirst unbound text (Err CannotParseUsername)
+  pub no_name : ((rest : List ℕ) → ¬ Part bare 0 (codes "n=" ++ rest)) → ReadsClientFirst unbound text
+      (Err CannotParseUsername)
   unfolding ReadsClientFirst
   no_name none = inr (
     λ fails. fails utf8,
     inr (
       λ absent. absent header takes (bare, is),
-      inl (λ user has. none (escaped user) (part_of_bare unbound header text bare (codes "n=" ++ escaped user) 0 is has), refl),
+      inl (λ user has. none (escaped user) (part_of_bare unbound header text bare
+          (codes "n=" ++ escaped user) 0 is has), refl),
     ),
   )
 
@@ -76,7 +78,8 @@ module _ (unbound : Bool) (header : Gs2Header) (text bare : List ℕ) (utf8 : Is
   user_part spelling user part spells = subst (λ (spelt : List ℕ). Part bare 0 (codes "n=" ++ spelt)) (sym spells) part
 
   pub no_nonce : (spelling user : List ℕ) → Part bare 0 (codes "n=" ++ spelling) → escaped user ≡ spelling
-      → ((rest : List ℕ) → ¬ Part bare 1 (codes "r=" ++ rest)) → ReadsClientFirst unbound text (Err CannotParseClientNonce)
+      → ((rest : List ℕ) → ¬ Part bare 1 (codes "r=" ++ rest)) → ReadsClientFirst unbound text
+          (Err CannotParseClientNonce)
   unfolding ReadsClientFirst
   no_nonce spelling user part spells none =
       inr (
@@ -100,7 +103,8 @@ module _ (unbound : Bool) (header : Gs2Header) (text bare : List ℕ) (utf8 : Is
           λ fails. fails utf8,
           (
             λ absent. absent header takes (bare, is),
-            (λ nobody. nobody user (header, bare, takes, is, part), (λ none. none nonce (header, bare, takes, is, has), tt)),
+            (λ nobody. nobody user (header, bare, takes, is, part),
+                (λ none. none nonce (header, bare, takes, is, has), tt)),
           ),
         ),
         record { header = takes; bare = is; user = part; nonce = has },

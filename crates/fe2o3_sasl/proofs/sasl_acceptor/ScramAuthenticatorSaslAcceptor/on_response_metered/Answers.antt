@@ -17,7 +17,8 @@ returns-in-Ok-clause-ok g c =
     (served_by m.meaning c.compute_server_final_message_metered.new.self) (state_in c.args.self.now)
     (state_in c.compute_server_final_message_metered.new.self) nonce _
     (Ok (option_map (λ message. message.items) c.in-Ok.answer)) (sent_frame c.conclusion.result)
-    (λ i. serving (c.compute_server_final_message_metered.ensures.unbound i) (m.meaning (c.compute_server_final_message_metered.ensures.provider i))) answers c.conclusion.ensures
+    (λ i. serving (c.compute_server_final_message_metered.ensures.unbound i)
+        (m.meaning (c.compute_server_final_message_metered.ensures.provider i))) answers c.conclusion.ensures
 
 pub returns-clause-ok : goal.returns-clause-ok
 returns-clause-ok g c =
@@ -27,7 +28,8 @@ returns-clause-ok g c =
     (served_by m.meaning c.args.self.now) (served_by m.meaning c.compute_server_final_message_metered.new.self)
     (state_in c.args.self.now) (state_in c.compute_server_final_message_metered.new.self) _ c.in-Err.kind
     c.refusal.result
-    (λ i. serving (c.compute_server_final_message_metered.ensures.unbound i) (m.meaning (c.compute_server_final_message_metered.ensures.provider i))) answers c.refusal.ensures.auth
+    (λ i. serving (c.compute_server_final_message_metered.ensures.unbound i)
+        (m.meaning (c.compute_server_final_message_metered.ensures.provider i))) answers c.refusal.ensures.auth
 
 pub returns-clause-memory : goal.returns-clause-memory
 returns-clause-memory g c =

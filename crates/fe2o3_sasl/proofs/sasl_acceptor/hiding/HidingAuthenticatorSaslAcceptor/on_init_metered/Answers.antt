@@ -16,7 +16,8 @@ returns-in-Ok-clause-ok g c =
     rw c.in-Some.is (hiding_answered (hiding_server m.meaning c.args.self.now) c.args.nonce.now c.args.init.mechanism
     c.in-Some.client_first.0.items (option_map string_bytes c.args.init.hostname)
     (hiding_server m.meaning c.compute_server_first_message_metered.new.self)
-    (λ i. serving (c.compute_server_first_message_metered.ensures.unbound i) (m.meaning (c.compute_server_first_message_metered.ensures.provider i)))
+    (λ i. serving (c.compute_server_first_message_metered.ensures.unbound i)
+        (m.meaning (c.compute_server_first_message_metered.ensures.provider i)))
     c.compute_server_first_message_metered.ensures.nobody (search rules)
     (Ok ((option_map (λ (message : Vec ℕ Global). message.items)) c.in-Ok.answer)) (sent_frame c.challenge.result)
     answers c.challenge.ensures)
@@ -28,7 +29,8 @@ returns-clause-ok g c =
     rw c.in-Some.is (hiding_refused (hiding_server m.meaning c.args.self.now) c.args.nonce.now c.args.init.mechanism
     c.in-Some.client_first.0.items (option_map string_bytes c.args.init.hostname)
     (hiding_server m.meaning c.compute_server_first_message_metered.new.self)
-    (λ i. serving (c.compute_server_first_message_metered.ensures.unbound i) (m.meaning (c.compute_server_first_message_metered.ensures.provider i)))
+    (λ i. serving (c.compute_server_first_message_metered.ensures.unbound i)
+        (m.meaning (c.compute_server_first_message_metered.ensures.provider i)))
     c.compute_server_first_message_metered.ensures.nobody (search rules)
     (λ name. ReachesChallenge (hiding_name (hiding_server m.meaning c.args.self.now) name)
     c.in-Some.client_first.0.items)
@@ -42,7 +44,8 @@ returns-clause-memory g c =
     rw c.in-Some.is (hiding_wants (hiding_server m.meaning c.args.self.now) c.args.nonce.now c.args.init.mechanism
     c.in-Some.client_first.0.items (option_map string_bytes c.args.init.hostname)
     (hiding_server m.meaning c.compute_server_first_message_metered.new.self)
-    (λ i. serving (c.compute_server_first_message_metered.ensures.unbound i) (m.meaning (c.compute_server_first_message_metered.ensures.provider i)))
+    (λ i. serving (c.compute_server_first_message_metered.ensures.unbound i)
+        (m.meaning (c.compute_server_first_message_metered.ensures.provider i)))
     c.compute_server_first_message_metered.ensures.nobody (search rules)
     (option_map (λ (message : Vec ℕ Global). message.items)) c.in-Err.kind c.refusal.result answers
     c.refusal.ensures.memory)
@@ -54,7 +57,8 @@ returns-in-Ok-clause-cost g c =
     rw c.in-Some.is (answered_most (hiding_server m.meaning c.args.self.now) c.args.nonce.now c.args.init.mechanism
     c.in-Some.client_first.0.items (option_map string_bytes c.args.init.hostname)
     (hiding_server m.meaning c.compute_server_first_message_metered.new.self)
-    (λ i. serving (c.compute_server_first_message_metered.ensures.unbound i) (m.meaning (c.compute_server_first_message_metered.ensures.provider i)))
+    (λ i. serving (c.compute_server_first_message_metered.ensures.unbound i)
+        (m.meaning (c.compute_server_first_message_metered.ensures.provider i)))
     c.compute_server_first_message_metered.ensures.nobody (search rules)
     ((option_map (λ (message : Vec ℕ Global). message.items)) c.in-Ok.answer) c.args.meter.now _ answers
     c.in-Ok.ensures.cost)
@@ -66,10 +70,12 @@ returns-clause-cost g c =
     rw c.in-Some.is (refusal_most (hiding_server m.meaning c.args.self.now) c.args.nonce.now c.args.init.mechanism
     c.in-Some.client_first.0.items (option_map string_bytes c.args.init.hostname)
     (hiding_server m.meaning c.compute_server_first_message_metered.new.self)
-    (λ i. serving (c.compute_server_first_message_metered.ensures.unbound i) (m.meaning (c.compute_server_first_message_metered.ensures.provider i)))
+    (λ i. serving (c.compute_server_first_message_metered.ensures.unbound i)
+        (m.meaning (c.compute_server_first_message_metered.ensures.provider i)))
     c.compute_server_first_message_metered.ensures.nobody (search rules)
     (Option (Vec ℕ Global)) c.in-Err.kind c.args.meter.now _
-    (subst (λ (text : List ℕ). HidingCosts {A = Option (Vec ℕ Global)} c.args.self.now.unbound text (Err c.in-Err.kind) c.args.meter.now
+    (subst (λ (text : List ℕ). HidingCosts {A = Option (Vec ℕ Global)} c.args.self.now.unbound text
+        (Err c.in-Err.kind) c.args.meter.now
     c.compute_server_first_message_metered.new.meter) c.deref.ensures.value c.in-Err.ensures.cost))
 
 pub returns-in-Ok-clause-exactly : goal.returns-in-Ok-clause-exactly
@@ -80,7 +86,8 @@ returns-in-Ok-clause-exactly g c =
     c.args.init.mechanism
     c.in-Some.client_first.0.items (option_map string_bytes c.args.init.hostname)
     (hiding_server m.meaning c.compute_server_first_message_metered.new.self)
-    (λ i. serving (c.compute_server_first_message_metered.ensures.unbound i) (m.meaning (c.compute_server_first_message_metered.ensures.provider i)))
+    (λ i. serving (c.compute_server_first_message_metered.ensures.unbound i)
+        (m.meaning (c.compute_server_first_message_metered.ensures.provider i)))
     c.compute_server_first_message_metered.ensures.nobody (search rules)
     ((option_map (λ (message : Vec ℕ Global). message.items)) c.in-Ok.answer) c.args.meter.now _ n answers
     c.in-Ok.ensures.cost takes)
@@ -92,14 +99,16 @@ returns-clause-exactly g c =
     rw c.in-Some.is (refusal_takes (hiding_server m.meaning c.args.self.now) c.args.nonce.now c.args.init.mechanism
     c.in-Some.client_first.0.items (option_map string_bytes c.args.init.hostname)
     (hiding_server m.meaning c.compute_server_first_message_metered.new.self)
-    (λ i. serving (c.compute_server_first_message_metered.ensures.unbound i) (m.meaning (c.compute_server_first_message_metered.ensures.provider i)))
+    (λ i. serving (c.compute_server_first_message_metered.ensures.unbound i)
+        (m.meaning (c.compute_server_first_message_metered.ensures.provider i)))
     c.compute_server_first_message_metered.ensures.nobody (search rules)
     (Option (Vec ℕ Global)) (Option (Vec ℕ Global))
     (λ name. ReachesChallenge (hiding_name (hiding_server m.meaning c.args.self.now) name)
     c.in-Some.client_first.0.items)
     (λ frame. sent_frame frame ≡ ends_with Auth) (option_map (λ (message : Vec ℕ Global). message.items))
     c.in-Err.kind c.refusal.result c.args.meter.now _ answers
-    (subst (λ (text : List ℕ). HidingCosts {A = Option (Vec ℕ Global)} c.args.self.now.unbound text (Err c.in-Err.kind) c.args.meter.now
+    (subst (λ (text : List ℕ). HidingCosts {A = Option (Vec ℕ Global)} c.args.self.now.unbound text
+        (Err c.in-Err.kind) c.args.meter.now
     c.compute_server_first_message_metered.new.meter) c.deref.ensures.value c.in-Err.ensures.cost)
     c.refusal.ensures.auth)
 

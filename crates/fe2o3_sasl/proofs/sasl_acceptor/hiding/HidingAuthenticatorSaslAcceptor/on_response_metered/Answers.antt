@@ -15,7 +15,8 @@ returns-in-Ok-clause-ok g c =
     let answers = rw c.deref.ensures.value at c.in-Ok.ensures.answer in
     λ nonce. final_answered (hiding_server m.meaning c.args.self.now)
     (hiding_server m.meaning c.compute_server_final_message_metered.new.self) c.args.response.response.0.items
-    (λ i. serving (c.compute_server_final_message_metered.ensures.unbound i) (m.meaning (c.compute_server_final_message_metered.ensures.provider i)))
+    (λ i. serving (c.compute_server_final_message_metered.ensures.unbound i)
+        (m.meaning (c.compute_server_final_message_metered.ensures.provider i)))
     c.compute_server_final_message_metered.ensures.nobody nonce
     (Ok ((option_map (λ (message : Vec ℕ Global). message.items)) c.in-Ok.answer)) (sent_frame c.conclusion.result)
     answers c.conclusion.ensures
@@ -26,7 +27,8 @@ returns-clause-ok g c =
     let answers = rw c.deref.ensures.value at c.in-Err.ensures.answer in
     final_refused (hiding_server m.meaning c.args.self.now)
     (hiding_server m.meaning c.compute_server_final_message_metered.new.self) c.args.response.response.0.items
-    (λ i. serving (c.compute_server_final_message_metered.ensures.unbound i) (m.meaning (c.compute_server_final_message_metered.ensures.provider i)))
+    (λ i. serving (c.compute_server_final_message_metered.ensures.unbound i)
+        (m.meaning (c.compute_server_final_message_metered.ensures.provider i)))
     c.compute_server_final_message_metered.ensures.nobody (λ name. ReachesBase64In c.args.self.now.state
     (hiding_name (hiding_server m.meaning c.args.self.now) name) c.args.response.response.0.items)
     sent_frame (option_map (λ (message : Vec ℕ Global). message.items)) c.in-Err.kind c.refusal.result answers
@@ -38,7 +40,8 @@ returns-clause-memory g c =
     let answers = rw c.deref.ensures.value at c.in-Err.ensures.answer in
     final_wants (hiding_server m.meaning c.args.self.now)
     (hiding_server m.meaning c.compute_server_final_message_metered.new.self) c.args.response.response.0.items
-    (λ i. serving (c.compute_server_final_message_metered.ensures.unbound i) (m.meaning (c.compute_server_final_message_metered.ensures.provider i)))
+    (λ i. serving (c.compute_server_final_message_metered.ensures.unbound i)
+        (m.meaning (c.compute_server_final_message_metered.ensures.provider i)))
     c.compute_server_final_message_metered.ensures.nobody
     (option_map (λ (message : Vec ℕ Global). message.items)) c.in-Err.kind c.refusal.result answers
     c.refusal.ensures.memory
@@ -49,7 +52,8 @@ returns-in-Ok-clause-cost g c =
     let answers = rw c.deref.ensures.value at c.in-Ok.ensures.answer in
     final_costs (hiding_server m.meaning c.args.self.now)
     (hiding_server m.meaning c.compute_server_final_message_metered.new.self) c.args.response.response.0.items
-    (λ i. serving (c.compute_server_final_message_metered.ensures.unbound i) (m.meaning (c.compute_server_final_message_metered.ensures.provider i)))
+    (λ i. serving (c.compute_server_final_message_metered.ensures.unbound i)
+        (m.meaning (c.compute_server_final_message_metered.ensures.provider i)))
     c.compute_server_final_message_metered.ensures.nobody (λ name. ReachesBase64In c.args.self.now.state
     (hiding_name (hiding_server m.meaning c.args.self.now) name) c.args.response.response.0.items)
     (option_map (λ (message : Vec ℕ Global). message.items)) (Ok c.in-Ok.answer) c.args.meter.now _ answers
@@ -61,7 +65,8 @@ returns-clause-cost g c =
     let answers = rw c.deref.ensures.value at c.in-Err.ensures.answer in
     final_costs (hiding_server m.meaning c.args.self.now)
     (hiding_server m.meaning c.compute_server_final_message_metered.new.self) c.args.response.response.0.items
-    (λ i. serving (c.compute_server_final_message_metered.ensures.unbound i) (m.meaning (c.compute_server_final_message_metered.ensures.provider i)))
+    (λ i. serving (c.compute_server_final_message_metered.ensures.unbound i)
+        (m.meaning (c.compute_server_final_message_metered.ensures.provider i)))
     c.compute_server_final_message_metered.ensures.nobody (λ name. ReachesBase64In c.args.self.now.state
     (hiding_name (hiding_server m.meaning c.args.self.now) name) c.args.response.response.0.items)
     (option_map (λ (message : Vec ℕ Global). message.items)) (Err c.in-Err.kind) c.args.meter.now _ answers
@@ -73,7 +78,8 @@ returns-in-Ok-clause-exactly g c =
     let answers = rw c.deref.ensures.value at c.in-Ok.ensures.answer in
     final_answer_costs (hiding_server m.meaning c.args.self.now)
     (hiding_server m.meaning c.compute_server_final_message_metered.new.self) c.args.response.response.0.items
-    (λ i. serving (c.compute_server_final_message_metered.ensures.unbound i) (m.meaning (c.compute_server_final_message_metered.ensures.provider i)))
+    (λ i. serving (c.compute_server_final_message_metered.ensures.unbound i)
+        (m.meaning (c.compute_server_final_message_metered.ensures.provider i)))
     c.compute_server_final_message_metered.ensures.nobody {E = ⊤} (λ name. ReachesBase64In c.args.self.now.state
     (hiding_name (hiding_server m.meaning c.args.self.now) name) c.args.response.response.0.items)
     (option_map (λ (message : Vec ℕ Global). message.items)) c.in-Ok.answer (Ok c.conclusion.result) c.args.meter.now
@@ -86,7 +92,8 @@ returns-clause-exactly g c =
     let answers = rw c.deref.ensures.value at c.in-Err.ensures.answer in
     final_refusal_costs (hiding_server m.meaning c.args.self.now)
     (hiding_server m.meaning c.compute_server_final_message_metered.new.self) c.args.response.response.0.items
-    (λ i. serving (c.compute_server_final_message_metered.ensures.unbound i) (m.meaning (c.compute_server_final_message_metered.ensures.provider i)))
+    (λ i. serving (c.compute_server_final_message_metered.ensures.unbound i)
+        (m.meaning (c.compute_server_final_message_metered.ensures.provider i)))
     c.compute_server_final_message_metered.ensures.nobody (λ name. ReachesBase64In c.args.self.now.state
     (hiding_name (hiding_server m.meaning c.args.self.now) name) c.args.response.response.0.items)
     (λ frame. sent_frame frame ≡ ends_with Auth) (option_map (λ (message : Vec ℕ Global). message.items))
