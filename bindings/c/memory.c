@@ -219,11 +219,11 @@ int main(void)
     tried("record_of_nobody", make_up);
     tried("line", spell_line);
     tried("lines_find", find);
-    tried("keys_make", make_keys);
     tried("saslprep", prepare);
     tried("record_make_prepared", make_prepared);
     tried("record_verify_prepared", verify_prepared);
     tried("keys_make_prepared", make_prepared_keys);
+    tried("keys_make", make_keys);
     tried("client_first", first);
     tried("server_user", user);
     tried("server_first_unbound", challenge_unbound);

@@ -21,6 +21,12 @@ A server:
 
 where `record_of` answers `Record.of_nobody(..)` for a name that it does not know.
 
+A password past ASCII is prepared on both sides, before it is kept and before it is handed in:
+
+    password = saslprep("pe\\u0301ncil")
+    record = Record.make_prepared(SHA_256, password)
+    client = Client(SHA_256, "user", prepared_password=password)
+
 The client's side of a connection of AMQP 1.0, before its first frame of AMQP:
 
     side = ClientConnection(client, hostname="broker.example")   # or ClientConnection.plain("user", "pencil")

@@ -169,7 +169,7 @@ as_sent login before version secret nonce bare text answer spelled first held =
     let user = login.username.now in
     let whole = first ∙ ap (client_first_bare user) spelled in
     carried (λ given. AnswersServerFirst version (client_of (base64_text before.nonce) secret (limits_of login)) given
-        text
+    text
     answer) bare (client_first_bare user (base64_text before.nonce)) whole
     (carried (λ given. AnswersServerFirst version (client_of given secret (limits_of login)) bare text answer) nonce
     (base64_text before.nonce) spelled held)

@@ -28,7 +28,7 @@ other_password kept form given password shown version stored is same alike spell
     wrong (carried (λ v. MeetsRecord v (in_form form password) stored) shown.version version (sym same)
     (carried (λ kept. MeetsRecord shown.version (in_form form password) kept) shown.stored stored (sym alike)
     (carried (λ text. MeetsRecord shown.version (in_form form text) shown.stored) given password (sym spelled) meets)))
-        in
+    in
     λ _. inr (shown, is, inr (refl, rw (bytes_in_form form given) utf8, other))
 
 pub not_text : (kept : Struct) (form : PasswordForm) (given : List ℕ) (shown : VersionedRecord) → Shows kept shown

@@ -1,26 +1,21 @@
 -- What structs show of a server of a connection, and of which server they are (AMQP 1.0, part 5, section 5.3.2).
-use Rattle.std.proofs.Common.{rules, arith, refl, sym, ap, inl, inr, ◌∙◌, ◌≡◌, ◌≢◌, ◌≤◌, ◌<◌, ◌⊎◌, ◌∷◌, ℕ, List, [], length}
+use Rattle.std.proofs.Common.{arith, refl, sym, ap, inl, inr, ◌∙◌, ◌≡◌, ◌≢◌, ◌≤◌, ◌<◌, ◌∷◌, ℕ, List, [], length}
 use Rattle.std.specs.Prelude.{Bool, true, false, MatchOption, Option, Some, None, Err, take}
 use Rattle.std.specs.Str.{IsUtf8}
-use Rattle.std.proofs.lemmas.List.{length-take-le, length-take}
+use Rattle.std.proofs.lemmas.List.{length-take}
 use Rattle.fe2o3_scram.specs.declared.hmac.ScramVersion.{ScramVersion}
 use Rattle.fe2o3_scram.specs.declared.hmac.ScramVersion.TheVariants as versions
 use Rattle.fe2o3_scram.specs.declared.scram_messages.gs2_header.Gs2Header.{Gs2Header}
 use Rattle.fe2o3_scram.specs.declared.scram_messages.gs2_header.Gs2Header.TheVariants.{Unsupported, Unoffered}
-use Rattle.fe2o3_scram.specs.Credentials.{Record, Records, VersionedRecord, versioned}
-use Rattle.fe2o3_scram.specs.Readings.{IsFirst, NoneHolds}
-use Rattle.fe2o3_scram.specs.ScramServer.{ServerState, Initial, ServerFirstSent, open_challenge}
+use Rattle.fe2o3_scram.specs.Credentials.{Records, VersionedRecord, versioned}
+use Rattle.fe2o3_scram.specs.ScramServer.{ServerState, open_challenge}
 use Rattle.fe2o3_scram.specs.ServerFirst.{Challenge}
 use Rattle.fe2o3_sasl.specs.declared.one_of.Part.{Part}
-use Rattle.fe2o3_sasl.specs.declared.one_of.Part.TheVariants.{First}
 use Rattle.fe2o3_sasl_negotiation.specs.declared.server.ServerNegotiation.{ServerNegotiation}
-use Rattle.fe2o3_sasl_negotiation.specs.declared.set_down.SetDown.{SetDown}
 use Rattle.fe2o3_sasl_negotiation.specs.declared.standing.ClosedBecause.{ClosedBecause}
 use Rattle.fe2o3_sasl_negotiation.specs.declared.standing.Standing.{Standing}
 use Rattle.fe2o3_sasl_negotiation.specs.declared.standing.Standing.TheVariants.{Wanting, LoggedIn, Closed}
 use Rattle.fe2o3_sasl_negotiation.specs.Negotiations.{Side}
-use Rattle.fe2o3_sasl_negotiation.specs.SetDown.{side_of}
-use Rattle.sasl_c.specs.declared.connection.Connection.{Connection}
 use Rattle.sasl_c.specs.declared.records.ScramRecord.{ScramRecord as Kept}
 use Rattle.sasl_c.specs.declared.sasl_server.Choice.{Choice}
 use Rattle.sasl_c.specs.declared.sasl_server.SaslHost.{SaslHost as Host}
@@ -28,9 +23,8 @@ use Rattle.sasl_c.specs.declared.sasl_server.SaslServer.{SaslServer as Struct}
 use Rattle.sasl_c.specs.declared.server.ScramServer.{ScramServer as ScramStruct}
 use Rattle.sasl_c.specs.declared.status.Status.{Status}
 use Rattle.sasl_c.specs.declared.status.Status.TheVariants as statuses
-use Rattle.sasl_c.specs.Connection.{Keeps}
 use Rattle.sasl_c.specs.Records.{IsVersion, Shows, SpellsStruct}
-use Rattle.sasl_c.specs.SaslServer.{All, Code, Comes, HasNoWords, HasNoStruct, HasRecords, IsAll, IsNoHost, IsOf, IsServer, HasNone, ShowsBy, ShowsOpen, ShowsSide, ShowsStanding, ShowsState, ShowsUser, Stands, State, allowed_of, all_of, host_tests, one_where, open_in, server_of, side_in, state_names, state_of, sum_of, user_in}
+use Rattle.sasl_c.specs.SaslServer.{All, Code, Comes, HasNoWords, HasNoStruct, HasRecords, IsAll, IsNoHost, IsOf, IsServer, HasNone, ShowsBy, ShowsOpen, ShowsSide, ShowsStanding, ShowsState, Stands, State, allowed_of, one_where, open_in, server_of, side_in, state_names, state_of, sum_of, user_in}
 use Rattle.sasl_c.specs.Server.{HasLoggedIn, HasRoom, IsOpen, open_number}
 use Rattle.sasl_c.specs.Status.{version_number}
 use Rattle.sasl_c.proofs.StatusLemmas.{carried}
@@ -211,7 +205,7 @@ pub no_offer : (host : Host) (version : ScramVersion) (choice : Choice) (scram :
     (names : List (List ℕ)) (server : State) → IsVersion host.version version → sum_of choice ≡ host.mechanisms
     → names ≡ allowed_of version choice → server ≡ record { inner = all; allowed = names }
     → IsAll host version choice.unbound scram all → IsUtf8 host.username.now → IsUtf8 host.peer.now
-        → state_names server ≡ []
+    → state_names server ≡ []
     → IsNoHost host statuses.NoSuchMechanism
 unfolding IsNoHost
 no_offer host version choice scram all names server known sum named is (records, state, asked, has, stands, same)

@@ -1,5 +1,5 @@
 -- What a call makes of a server's side of a connection (AMQP 1.0, part 5, section 5.3.2).
-use Rattle.std.proofs.Common.{rules, arith, refl, sym, ap, inl, inr, ◌∙◌, ◌≡◌, ◌≢◌, ◌≤◌, ◌<◌, ◌⊎◌, ◌++◌, ℕ, List, [], length}
+use Rattle.std.proofs.Common.{arith, refl, sym, ap, inl, inr, ◌∙◌, ◌≡◌, ◌≢◌, ◌≤◌, ◌⊎◌, ◌++◌, ℕ, List, [], length}
 use Rattle.std.specs.Prelude.{Bool, true, false, Option, Some, None, Result, Ok, Err, drop}
 use Rattle.std.proofs.lemmas.List.{length-append}
 use Rattle.fe2o3_sasl_wire.specs.declared.amqp_types.SaslCode.{SaslCode}
@@ -19,23 +19,23 @@ use Rattle.fe2o3_sasl.specs.declared.one_of.Part.TheVariants.{First, Second}
 use Rattle.fe2o3_sasl.specs.Bodies.{carried as sent_or_not}
 use Rattle.fe2o3_sasl.specs.Events.{Given, ServerSays, Challenged, Concluded, Failed}
 use Rattle.fe2o3_sasl.specs.ExternalAcceptor.{External, external_machine}
-use Rattle.fe2o3_sasl.specs.OffersOnly.{Offering, OfferingReplies, is_passed_on}
-use Rattle.fe2o3_sasl.specs.OneOf.{Parts, PartReplies, part_for}
+use Rattle.fe2o3_sasl.specs.OffersOnly.{OfferingReplies, is_passed_on}
+use Rattle.fe2o3_sasl.specs.OneOf.{PartReplies, part_for}
 use Rattle.fe2o3_sasl.specs.PlainAuthenticator.{PlainServer, plain_machine}
 use Rattle.fe2o3_sasl.specs.Runs.{AcceptorGives, server_says}
 use Rattle.fe2o3_sasl.specs.SaslAcceptor.{Acceptor, ScramAcceptor, AnonymousAcceptor, acceptor_machine, acceptor_names, ends_with, server_frame}
 use Rattle.fe2o3_sasl_negotiation.specs.declared.server.ServerNegotiation.{ServerNegotiation}
 use Rattle.fe2o3_sasl_negotiation.specs.declared.set_down.SetDown.{SetDown}
 use Rattle.fe2o3_sasl_negotiation.specs.declared.standing.ClosedBecause.{ClosedBecause}
-use Rattle.fe2o3_sasl_negotiation.specs.declared.standing.ClosedBecause.TheVariants.{FrameSize, OtherHeader, ReplyTooLarge}
+use Rattle.fe2o3_sasl_negotiation.specs.declared.standing.ClosedBecause.TheVariants.{OtherHeader, ReplyTooLarge}
 use Rattle.fe2o3_sasl_negotiation.specs.declared.standing.Due.{Due}
 use Rattle.fe2o3_sasl_negotiation.specs.declared.standing.Due.TheVariants.{Header, Frame}
 use Rattle.fe2o3_sasl_negotiation.specs.declared.standing.Standing.{Standing}
-use Rattle.fe2o3_sasl_negotiation.specs.declared.standing.Standing.TheVariants.{Wanting, LoggedIn, Closed}
+use Rattle.fe2o3_sasl_negotiation.specs.declared.standing.Standing.TheVariants.{Wanting, LoggedIn}
 use Rattle.fe2o3_sasl_negotiation.specs.declared.standing.Turn.{Turn}
 use Rattle.fe2o3_sasl_negotiation.specs.declared.standing.Turn.TheVariants as turns
 use Rattle.fe2o3_sasl_negotiation.specs.Framing.{IsPart, framed, sasl_header}
-use Rattle.fe2o3_sasl_negotiation.specs.Negotiations.{Side, Answer, IsInTurn, Sends, ReceivesAt, closes}
+use Rattle.fe2o3_sasl_negotiation.specs.Negotiations.{Side, Answer, Sends, ReceivesAt, closes}
 use Rattle.fe2o3_sasl_negotiation.specs.ServerNegotiation.{Offers, Says, ServerAnswers, ServerReceives, behind_header, offer_body}
 use Rattle.fe2o3_sasl_negotiation.specs.SetDown.{IsKept, side_of}
 use Rattle.fe2o3_sasl_negotiation.proofs.lemmas.UnitLemmas.{length-framed}
@@ -154,8 +154,11 @@ module _ (host : Host) (version : ScramVersion) (choice : Choice) (records : Rec
   Then reply next = Ends reply ⊎ ((challenge : Challenge) × (next ≡ one (ServerFirstSent challenge) (Some First)))
 
   opened : (state : ServerState) (asked : Option Part) (all : All) (acceptor : Acceptor) (next : State)
-      (reply : SaslFrame) → Ends reply ⊎ Opens (record { version = version; records = records; unbound = choice.unbound
-          }) acceptor
+      (reply : SaslFrame) → Ends reply ⊎ Opens (record {
+        version = version;
+        records = records;
+        unbound = choice.unbound;
+      }) acceptor
       → all ≡ record { first = acceptor; second = (one state asked).inner.second; asked = Some First }
       → next ≡ record (one state asked) { inner = all } → Then reply next
   opened state asked all acceptor next reply (inl ends) is same = inl ends
@@ -521,7 +524,7 @@ module _ (host : Host) (bytes nonce : List ℕ) (before : Struct) (kept : SetDow
 
   pub short_answer : (after : Struct) (taken : ℕ) (sent : List ℕ)
       → (next : ServerNegotiation Code) × Follows taken sent next × ShowsBy state_of Shown after next
-          → length sent ≤ 520
+      → length sent ≤ 520
   short_answer after taken sent (next, held, shows) =
       behind_short host before taken_side (side_in next) bytes nonce taken sent is wants held
 

@@ -37,7 +37,7 @@ unread unbound kept nonce text why status held gives other =
 
 pub not_shown : (unbound : Bool) (kept : Kept) (nonce text : List ℕ) (first : ClientFirst) (status : Status)
     → ReadsClientFirst unbound text (Ok first) → SpellsStruct kept (Err status)
-        → NotChallenged unbound kept nonce text status
+    → NotChallenged unbound kept nonce text status
 unfolding NotChallenged
 not_shown unbound kept nonce text first status reads wrong = inr (inl (first, reads, wrong))
 
@@ -54,7 +54,7 @@ pub challenges_so : (state next : ServerState) (store : Store) (own unbound : Bo
     → ChallengesFrom state (serving unbound store) nonce text answer next
 challenges_so state next store own unbound nonce text answer same held =
     carried (λ (option : Bool). ChallengesFrom state (serving option store) nonce text answer next) own unbound same
-        held
+    held
 
 -- the machine's answers
 pub challenged : (unbound : Bool) (kept : Kept) (nonce text user message : List ℕ) (shown : VersionedRecord)
@@ -86,7 +86,7 @@ never_unknown unbound kept nonce text user shown store state next first status r
 pub failed : (unbound : Bool) (kept : Kept) (nonce text : List ℕ) (store : Store) (state next : ServerState)
     (why : ServerScramErrorKind) (status : Status)
     → (why ≢ NoMemory → ChallengesFrom state (serving unbound store) nonce text (Err why) next)
-        → status ≡ server_status why
+    → status ≡ server_status why
     → status ≢ statuses.OutOfMemory → NotChallenged unbound kept nonce text status
 failed unbound kept nonce text store state next why status held gives other =
     unread unbound kept nonce text why status (λ told. (held told).0) gives other
@@ -114,7 +114,7 @@ found user shown = ap (λ test. cond test (Some shown.stored) None) ((bytes_eq-D
 pub concluded : (kept : Kept) (before : Struct) (text message : List ℕ) (challenge : Challenge)
     (shown : VersionedRecord) → IsOpen before challenge → Shows kept shown
     → AnswersClientFinal (server_of shown.version challenge.header challenge.bare challenge.first challenge.nonce
-        shown.stored) text
+    shown.stored) text
     (Ok message)
     → Concluded kept before text message challenge.user × (length message ≤ 90)
 unfolding Concluded
@@ -127,7 +127,7 @@ pub refuses : (kept : Kept) (before : Struct) (text : List ℕ) (challenge : Cha
     (why : ServerScramErrorKind) (status : Status) → IsOpen before challenge → Shows kept shown
     → (why ≢ NoMemory → AnswersClientFinal
     (server_of shown.version challenge.header challenge.bare challenge.first challenge.nonce shown.stored) text
-        (Err why))
+    (Err why))
     → status ≡ server_status why → status ≢ statuses.OutOfMemory → Concludes kept text before before (Err status)
 unfolding Concludes
 refuses kept before text challenge shown why status is shows held gives other =

@@ -1,6 +1,6 @@
 -- Whom a frame names that comes to a server (RFC 5802, section 7; RFC 4616, section 2).
-use Rattle.std.proofs.Common.{true, rules, arith, refl, sym, ap, inl, inr, ◌∙◌, ◌≡◌, ◌≢◌, ◌≤◌, ◌⊎◌, ℕ, List, length}
-use Rattle.std.specs.Prelude.{Option, Some, None, Ok, Err, codes}
+use Rattle.std.proofs.Common.{true, arith, refl, sym, ap, inl, inr, ◌∙◌, ◌≡◌, ◌≢◌, ℕ, List, length}
+use Rattle.std.specs.Prelude.{Ok, Err, codes}
 use Rattle.fe2o3_sasl_wire.specs.declared.sasl_frames.error.Error.{Error}
 use Rattle.fe2o3_sasl_wire.specs.SaslFrames.{SaslFrame, ReadsBody}
 use Rattle.fe2o3_scram.specs.declared.hmac.ScramVersion.{ScramVersion}

@@ -1,7 +1,7 @@
 -- What a step over the body of a frame comes to, of a client and of a server that stand in structs (AMQP 1.0, part 5,
 -- section 5.3.2).
-use Rattle.std.proofs.Common.{arith, refl, sym, ap, inl, inr, ◌≡◌, ◌≤◌, ◌⊎◌, ℕ, List, [], length}
-use Rattle.std.specs.Prelude.{Option, Some, None, Ok}
+use Rattle.std.proofs.Common.{arith, refl, sym, ap, inl, inr, ◌≡◌, ◌≤◌, ℕ, List, length}
+use Rattle.std.specs.Prelude.{Option}
 use Rattle.fe2o3_sasl_wire.specs.declared.amqp_types.SaslCode.{SaslCode}
 use Rattle.fe2o3_sasl_wire.specs.declared.amqp_types.SaslCode.TheVariants as outcomes
 use Rattle.fe2o3_sasl.specs.declared.sasl_profile.error.ProfileError.{ProfileError}

@@ -12,13 +12,10 @@ use Rattle.fe2o3_scram.specs.Hmac.{mechanism_name}
 use Rattle.fe2o3_scram.specs.Readings.{IsFirst, NoneHolds}
 use Rattle.fe2o3_scram.specs.ScramServer.{ServerState, Initial, ServerFirstSent, open_challenge, served_by, state_in}
 use Rattle.fe2o3_scram.specs.ServerFirst.{Challenge}
-use Rattle.fe2o3_sasl.specs.declared.external_acceptor.ExternalAcceptor.{ExternalAcceptor}
 use Rattle.fe2o3_sasl.specs.declared.offers_only.OffersOnly.{OffersOnly}
 use Rattle.fe2o3_sasl.specs.declared.one_of.OneOf.{OneOf}
 use Rattle.fe2o3_sasl.specs.declared.one_of.Part.{Part}
 use Rattle.fe2o3_sasl.specs.declared.one_of.Part.TheVariants.{First}
-use Rattle.fe2o3_sasl.specs.declared.plain_authenticator.PlainAuthenticator.{PlainAuthenticator}
-use Rattle.fe2o3_sasl.specs.declared.sasl_acceptor.SaslAnonymousMechanism.{SaslAnonymousMechanism}
 use Rattle.fe2o3_sasl.specs.Bodies.{SpellsBody}
 use Rattle.fe2o3_sasl.specs.ExternalAcceptor.{External, external_machine, external_of, external_user}
 use Rattle.fe2o3_sasl.specs.OffersOnly.{Offering, offering_machine, offering_names, offering_of}
@@ -34,6 +31,7 @@ use Rattle.fe2o3_sasl_negotiation.specs.declared.standing.Turn.TheVariants as tu
 use Rattle.fe2o3_sasl_negotiation.specs.Negotiations.{Completes, Side}
 use Rattle.fe2o3_sasl_negotiation.specs.ServerNegotiation.{ServerReceives}
 use Rattle.fe2o3_sasl_negotiation.specs.Sides.{acceptor_in, server_side}
+use Rattle.sasl_c.specs.declared.others.Others.{Others as OthersCode}
 use Rattle.sasl_c.specs.declared.sasl_server.Choice.{Choice}
 use Rattle.sasl_c.specs.declared.sasl_server.SaslHost.{SaslHost as Host}
 use Rattle.sasl_c.specs.declared.sasl_server.SaslServer.{SaslServer as Struct}
@@ -97,10 +95,12 @@ abbrev pub state_machine : State → List ℕ → SaslFrame → SaslFrame → St
 state_machine state nonce frame reply next = offering_machine all_names all_machine state nonce frame reply next
 
 -- who has logged in: whom the mechanism of the last init names
+abbrev pub other_user : Others → Option (List ℕ)
+other_user others = let last = others.second in part_names others.asked others.first.user
+    (part_names last.asked None (external_user last.second))
+
 abbrev pub user_in : State → Option (List ℕ)
-user_in state = let all = state.inner in let others = all.second in let last = others.second in
-    part_names all.asked (acceptor_user all.first) (part_names others.asked others.first.user
-    (part_names last.asked None (external_user last.second)))
+user_in state = let all = state.inner in part_names all.asked (acceptor_user all.first) (other_user all.second)
 
 -- the challenge of SCRAM that is open
 abbrev pub open_of : Acceptor → Option Challenge
@@ -144,16 +144,20 @@ HasRecords host version records =
     × (records ≡ (host.username.now, stored) ∷ []))
     ⊎ (((stored : Record) → ¬ Shows host.record.now (versioned version stored)) × (records ≡ []))
 
+-- PLAIN over a store, ANONYMOUS and EXTERNAL, which lets in this name, before any init
+abbrev pub others_of : Store → ℕ → List ℕ → Others
+others_of store count peer = record {
+  first = record { provider = store; count = count; user = None };
+  second = record { first = AnonymousAcceptor; second = record { user = peer; accepted = false }; asked = None };
+  asked = None;
+}
+
 -- all four mechanisms over a store, SCRAM in this state, and the one that the last init went to; SCRAM takes a client
--- that could bind a channel on wish, EXTERNAL lets in this name
+-- that could bind a channel on wish
 abbrev pub all_of : Bool → Store → ℕ → List ℕ → ServerState → Option Part → All
 all_of unbound store count peer state asked = record {
   first = ScramAcceptor (serving unbound store) state;
-  second = record {
-    first = record { provider = store; count = count; user = None };
-    second = record { first = AnonymousAcceptor; second = record { user = peer; accepted = false }; asked = None };
-    asked = None;
-  };
+  second = others_of store count peer;
   asked = asked;
 }
 
@@ -343,18 +347,20 @@ Names server bytes (Err status) = NotNamed server bytes status
 
 -- the acceptor's type
 abbrev pub Code : Type 0
-Code = OffersOnly (OneOf (ScramAuthenticator Store) (OneOf (PlainAuthenticator Store)
-    (OneOf SaslAnonymousMechanism ExternalAcceptor)))
+Code = OffersOnly (OneOf (ScramAuthenticator Store) OthersCode)
 
 -- the acceptor of SCRAM that a value is
 abbrev pub scram_state : ScramAuthenticator Store → Acceptor
 scram_state machine = ScramAcceptor (served_by (λ (store : Store). store) machine) (state_in machine)
 
+-- those beside it
+abbrev pub other_state : OthersCode → Others
+other_state others = parts_of (plain_server (λ store. store)) (parts_of (λ _. AnonymousAcceptor) external_of)
+    others.joined
+
 -- the four that a value is
-abbrev pub all_in : OneOf (ScramAuthenticator Store) (OneOf (PlainAuthenticator Store)
-    (OneOf SaslAnonymousMechanism ExternalAcceptor)) → All
-all_in all = parts_of scram_state (parts_of (plain_server (λ store. store))
-    (parts_of (λ _. AnonymousAcceptor) external_of)) all
+abbrev pub all_in : OneOf (ScramAuthenticator Store) OthersCode → All
+all_in all = parts_of scram_state other_state all
 
 -- its state
 abbrev pub state_of : Code → State

@@ -1,6 +1,6 @@
 //! A SCRAM client, which stands in a struct between its calls.
 
-ghost use Rattle.std.specs.Prelude.{◌≡◌, ◌≢◌, ◌<◌, length, IfOk, IfErr, MatchOption, Option, Some, List, ℕ, option_map};
+ghost use Rattle.std.specs.Prelude.{◌≡◌, ◌≢◌, ◌<◌, length, IfOk, IfErr, MatchOption, Option, Some, List, ℕ, Ok, option_map};
 ghost use Rattle.std.specs.Str.{IsUtf8};
 ghost use Rattle.std.specs.String.{string_bytes};
 ghost use Rattle.fe2o3_scram.specs.ScramClient.{ClientFinalSent, Initial};
@@ -15,7 +15,7 @@ ghost use Rattle.sasl_c.specs.declared.status.Status.TheVariants.{OutOfMemory as
 use crate::arrays::{head, padded, put};
 use crate::keys::ClientKeys;
 use crate::status::{Status, number, text, version_of};
-use base64::engine::general_purpose::STANDARD;
+use bytes::Bytes;
 use fe2o3_scram::{
     ClientAnswer, IterationLimits, ScramClient as Machine, ScramClientKeys, ScramErrorKind,
     ScramVersion,
@@ -189,20 +189,43 @@ impl ScramClient {
         ensures err { IfErr result (λ status. status ≢ StatusOutOfMemory → IsNoLogin login.now status) }
         ensures room { IfErr result (λ status. status ≢ RoomTooSmall) }
     {
-        let mut machine = login.client(alloc)?;
         match self.sent {
-            1 => {
-                machine.compute_client_first_message(alloc, &self.nonce)?;
-                Ok(machine)
-            }
-            2 => match head(&self.signature, self.signature_len) {
-                Some(signature) => {
-                    let keys = shown(alloc, &self.keys)?;
-                    Ok(machine.waiting_for(signature.to_vec(alloc)?, keys))
-                }
-                None => Ok(machine),
-            },
-            _ => Ok(machine),
+            1 => self.behind_first(alloc, login),
+            2 => self.behind_final(alloc, login),
+            _ => login.client(alloc),
+        }
+    }
+
+    /// The client that has sent its client-first message.
+    fn behind_first(&self, alloc: Global, login: &Login<'_>) -> Result<Machine, Status>
+        ensures ok { IfOk result (λ side. self.now.sent ≡ 1 → IsSide login.now self.now side) }
+        ensures err { IfErr result (λ status. status ≢ StatusOutOfMemory → IsNoLogin login.now status) }
+        ensures room { IfErr result (λ status. status ≢ RoomTooSmall) }
+    {
+        let mut machine = match login.client(alloc) {
+            Ok(machine) => machine,
+            Err(status) => return Err(status),
+        };
+        match machine.compute_client_first_message(alloc, &self.nonce) {
+            Ok(_) => Ok(machine),
+            Err(_) => Err(Status::OutOfMemory),
+        }
+    }
+
+    /// The client that waits for the signature, where it has room.
+    fn behind_final(&self, alloc: Global, login: &Login<'_>) -> Result<Machine, Status>
+        ensures ok { IfOk result (λ side. self.now.sent ≡ 2 → IsSide login.now self.now side) }
+        ensures err { IfErr result (λ status. status ≢ StatusOutOfMemory → IsNoLogin login.now status) }
+        ensures room { IfErr result (λ status. status ≢ RoomTooSmall) }
+    {
+        let Some(signature) = head(&self.signature, self.signature_len) else {
+            return login.client(alloc);
+        };
+        let signature = signature.to_vec(alloc)?;
+        let keys = shown(alloc, &self.keys)?;
+        match login.client(alloc) {
+            Ok(machine) => Ok(machine.waiting_for(signature, keys)),
+            Err(status) => Err(status),
         }
     }
 }
@@ -343,6 +366,22 @@ impl Login<'_> {
     }
 }
 
+/// The client-first message.
+fn first_message(alloc: Global, login: &Login<'_>, nonce: &[u8; 32]) -> Result<Bytes, Status>
+    ensures ok { IfOk result (λ message. Starts login.now nonce.now (Ok message)) }
+    ensures err { IfErr result (λ status. status ≢ StatusOutOfMemory → IsNoLogin login.now status) }
+    ensures room { IfErr result (λ status. status ≢ RoomTooSmall) }
+{
+    let mut machine = match login.client(alloc) {
+        Ok(machine) => machine,
+        Err(status) => return Err(status),
+    };
+    match machine.compute_client_first_message(alloc, nonce) {
+        Ok(message) => Ok(message),
+        Err(_) => Err(Status::OutOfMemory),
+    }
+}
+
 /// Writes the client-first message.
 fn first(
     alloc: Global,
@@ -356,11 +395,10 @@ fn first(
         (record { bytes = out.new; len = len.new }) result }
     ensures moved { Started login.now nonce.now client.old client.new result }
 {
-    let mut machine = match login.client(alloc) {
-        Ok(machine) => machine,
+    let message = match first_message(alloc, login, nonce) {
+        Ok(message) => message,
         Err(status) => return Err(status),
     };
-    let message = machine.compute_client_first_message(alloc, nonce)?;
     put(message.as_slice(), out, len)?;
     *client = ScramClient::started(nonce);
     Ok(())

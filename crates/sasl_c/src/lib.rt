@@ -18,6 +18,7 @@ mod connection;
 mod frames;
 mod keys;
 mod lines;
+mod others;
 mod passwords;
 mod preparation;
 mod records;

@@ -107,7 +107,7 @@ fn find(
             Ok(())
         }
         Err(none) => {
-            if none.why != Status::OutOfMemory {
+            if !matches!(none.why, Status::OutOfMemory) {
                 *line = none.line;
             }
             Err(none.why)

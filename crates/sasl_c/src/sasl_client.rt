@@ -4,8 +4,10 @@ ghost use Rattle.std.specs.Prelude.{◌≡◌, ◌≢◌, ◌≤◌, ◌^◌, Li
 ghost use Rattle.fe2o3_sasl.specs.Profiles.{PlainProfile};
 ghost use Rattle.fe2o3_sasl.specs.SaslProfile.{profile_of};
 ghost use Rattle.fe2o3_sasl_negotiation.specs.declared.standing.Standing.TheVariants.{Wanting};
+ghost use Rattle.fe2o3_sasl_negotiation.specs.ClientNegotiation.{ClientReceives};
 ghost use Rattle.fe2o3_sasl_negotiation.specs.Sides.{client_side, hostname_in};
 ghost use Rattle.sasl_c.specs.SaslClient.{Comes, HasNoWords, IsClient, IsHostname, IsNoClient, HasNoHostname, IsNoProfile, IsProfile, Opens, Receives};
+ghost use Rattle.sasl_c.specs.declared.sasl_client.SaslClient.{SaslClient as Structs};
 ghost use Rattle.sasl_c.specs.declared.sasl_client.SaslLogin.{SaslLogin as LoginStruct};
 ghost use Rattle.sasl_c.specs.Status.{Answers, Fills, FillsWithin};
 ghost use Rattle.sasl_c.specs.declared.status.Status.TheVariants.{NotUtf8, OutOfMemory as StatusOutOfMemory, RoomTooSmall};
@@ -171,6 +173,36 @@ struct Made {
     next: SaslClient,
 }
 
+/// What a side makes of bytes, and the structs that it is then. That it has none is answered by `NotKept`, and happens to
+/// no side that structs are.
+fn taken(
+    alloc: Global,
+    side: &mut ClientNegotiation,
+    bytes: &[u8],
+    nonce: &[u8; 32],
+    meter: &mut Meter,
+) -> Result<Made, Status>
+    requires { meter.old ≤ 2 ^ 63 }
+    ensures ok { IfOk result (λ made. (login : LoginStruct) (before : Structs) → IsClient login before (client_side side.old)
+        → (client_side side.old).standing ≡ Wanting → ClientReceives (hostname_in side.old) (client_side side.old) bytes.now
+        nonce.now made.taken made.sent.items (client_side side.new) × IsClient login made.next (client_side side.new)
+        × (length made.sent.items ≤ 512)) }
+    ensures err { IfErr result (λ status. status ≢ StatusOutOfMemory → (login : LoginStruct) (before : Structs)
+        → IsClient login before (client_side side.old) → (client_side side.old).standing ≢ Wanting) }
+    ensures room { IfErr result (λ status. status ≢ RoomTooSmall) }
+{
+    let mut sent = BytesMut::new(alloc);
+    let received = side.receive(alloc, bytes, nonce, meter, &mut sent)?;
+    let Some(next) = SaslClient::of(side) else {
+        return Err(Status::NotKept);
+    };
+    Ok(Made {
+        taken: received.taken,
+        sent,
+        next,
+    })
+}
+
 /// What a client makes of bytes.
 fn received(
     alloc: Global,
@@ -191,16 +223,7 @@ fn received(
         Ok(side) => side,
         Err(status) => return Err(status),
     };
-    let mut sent = BytesMut::new(alloc);
-    let received = side.receive(alloc, bytes, nonce, meter, &mut sent)?;
-    let Some(next) = SaslClient::of(&side) else {
-        return Err(Status::NotKept);
-    };
-    Ok(Made {
-        taken: received.taken,
-        sent,
-        next,
-    })
+    taken(alloc, &mut side, bytes, nonce, meter)
 }
 
 /// The most bytes that a client sends at once.

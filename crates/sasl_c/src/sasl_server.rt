@@ -16,15 +16,12 @@ ghost use Rattle.sasl_c.specs.declared.status.Status.TheVariants.{OutOfMemory as
 
 use crate::arrays::put;
 use crate::connection::Connection;
+use crate::others::Others;
 use crate::records::ScramRecord;
 use crate::server::{ScramServer, server_over};
 use crate::status::{Status, number, text, version_of};
 use bytes::BytesMut;
-use fe2o3_sasl::plain_authenticator::plain_user;
-use fe2o3_sasl::{
-    ExternalAcceptor, NamesUser, OfferError, OffersOnly, OneOf, Part, PlainAuthenticator,
-    SaslAnonymousMechanism, ScramCredentials,
-};
+use fe2o3_sasl::{NamesUser, OfferError, OffersOnly, OneOf, Part, ScramCredentials};
 use fe2o3_sasl_negotiation::{ServerNegotiation, SetDown, Standing, TakeUpError};
 use fe2o3_scram::{Meter, OpenChallenge, ScramAuthenticator, ScramVersion};
 use std::alloc::Global;
@@ -71,10 +68,7 @@ pub struct SaslServer {
 pub type Scram = ScramAuthenticator<ScramCredentials>;
 
 /// All four mechanisms.
-pub type All = OneOf<
-    Scram,
-    OneOf<PlainAuthenticator<ScramCredentials>, OneOf<SaslAnonymousMechanism, ExternalAcceptor>>,
->;
+pub type All = OneOf<Scram, Others>;
 
 /// Those that are offered.
 pub type Acceptor = OffersOnly<All>;
@@ -158,9 +152,7 @@ fn joined(
     ensures { provider_in scram ≡ store → all_in result
         ≡ all_of (unbound_in scram) store iterations (string_bytes peer) (state_in scram) asked }
 {
-    let last = OneOf::new(SaslAnonymousMechanism::new(), ExternalAcceptor::new(peer));
-    let others = OneOf::new(PlainAuthenticator::new(store, iterations), last);
-    OneOf::with_asked(scram, others, asked)
+    OneOf::with_asked(scram, Others::new(store, iterations, peer), asked)
 }
 
 /// The server of SCRAM that a struct is, over a store, and what was asked last. `OutOfMemory` is the only refusal.
@@ -307,7 +299,7 @@ fn shown(
     ensures { MatchOption result
         ((scram : ScramStruct) → ¬ ShowsStanding scram standing (option_map challenge_kept challenge.entry)
         (option_map (λ user. user.now) user.entry)) (λ scram. ShowsStanding scram standing
-            (option_map challenge_kept challenge.entry)
+        (option_map challenge_kept challenge.entry)
         (option_map (λ user. user.now) user.entry)) }
 {
     match standing {

@@ -25,10 +25,10 @@ use fe2o3_scram::Meter;
 use std::alloc::Global;
 
 /// The body with which an acceptor offers its mechanisms.
-fn offer_of<A: SaslAcceptor>(alloc: Global, acceptor: &A) -> Result<BytesMut, Status>
-    ensures ok { IfOk result (λ body. offer_body (A.names (A.state acceptor.now)) ≡ Some body.items) }
+fn offer_of<A: SaslAcceptor + Drop>(alloc: Global, acceptor: A) -> Result<BytesMut, Status>
+    ensures ok { IfOk result (λ body. offer_body (A.names (A.state acceptor)) ≡ Some body.items) }
     ensures err { IfErr result (λ status. status ≢ StatusOutOfMemory
-        → (status ≡ FrameTooLarge) × (offer_body (A.names (A.state acceptor.now)) ≡ None)) }
+        → (status ≡ FrameTooLarge) × (offer_body (A.names (A.state acceptor)) ≡ None)) }
     ensures room { IfErr result (λ status. status ≢ RoomTooSmall) }
 {
     let mechanisms = acceptor.sasl_mechanisms(alloc)?;
@@ -50,7 +50,7 @@ fn offered(alloc: Global, host: &SaslHost<'_>) -> Result<BytesMut, Status>
         Ok(acceptor) => acceptor,
         Err(status) => return Err(status),
     };
-    match offer_of(alloc, &acceptor) {
+    match offer_of(alloc, acceptor) {
         Ok(body) => Ok(body),
         Err(status) => Err(status),
     }

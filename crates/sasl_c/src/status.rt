@@ -11,7 +11,7 @@ use fe2o3_scram::{RecordTextError, ScramErrorKind, ScramVersion, ServerScramErro
 use std::alloc::AllocError;
 
 /// Why a call is not done.
-#[derive(Clone, Copy, Debug, PartialEq, Eq)]
+#[derive(Clone, Copy)]
 pub enum Status {
     /// There was no memory. Nothing has changed, and the call can be made again.
     OutOfMemory,

@@ -212,14 +212,14 @@ impl Sides {
         output: &mut O,
     ) -> Result<(), Stop> {
         let replies = scram_server_run(alloc, login.credentials, &self.server.events)?;
-        let (mut user, mut accepts) = ("", false);
+        let (mut challenged, mut accepts) = (None, false);
         for (given, reply) in self.server.given.iter().zip(&replies) {
             let answer = Answer::of_server(reply)?;
             accepts |= answer.is_ok;
             if matches!(reply, Ok(ServerReply::Challenge { .. })) {
-                user = given.user.as_str();
+                challenged = Some(given);
             }
-            print_server(given, user, &answer, output).map_err(Stop::of_output)?;
+            print_server(given, challenged, &answer, output).map_err(Stop::of_output)?;
         }
         if !accepts {
             writeln!(output, "audit: the server accepts nobody").map_err(Stop::of_output)?;
@@ -318,11 +318,11 @@ fn print_client<O: Write>(given: &Given, answer: &Answer<'_>, output: &mut O) ->
     Ok(())
 }
 
-/// Prints whether the server answered otherwise than the one that is made anew, and whether it accepts the user whom
-/// it challenged last.
+/// Prints whether the server answered otherwise than the one that is made anew, and whether it accepts the user of the
+/// last body that it challenged.
 fn print_server<O: Write>(
     given: &Given,
-    user: &str,
+    challenged: Option<&Given>,
     answer: &Answer<'_>,
     output: &mut O,
 ) -> Written<()> {
@@ -333,7 +333,8 @@ fn print_server<O: Write>(
             "audit: line {line}: the server does not answer as by these records"
         )?;
     }
-    if answer.is_ok {
+    if let (true, Some(challenged)) = (answer.is_ok, challenged) {
+        let user = challenged.user.as_str();
         writeln!(
             output,
             "audit: line {line}: the server accepts the user {user:?}"

@@ -64,7 +64,7 @@ impl<C: ScramCredentialProvider> ScramAuthenticator<C> {
     ) -> Result<Self, OutOfMemory>
         ensures { IfOk result (λ server. (provider_in server ≡ provider_in self)
             × (unbound_in server ≡ unbound_in self) × (state_in server ≡ ServerFirstSent
-                (challenge_kept challenge.now))) }
+            (challenge_kept challenge.now))) }
     {
         Ok(Self {
             credentials: self.credentials,

@@ -1,10 +1,8 @@
-use Rattle.std.proofs.Common.{◌≡◌, Option, None, sym, ◌∙◌, ap, subst}
-use Rattle.std.specs.List.{AllByRecursion}
-use Rattle.std.specs.Prelude.{MatchOption, option_map}
+use Rattle.std.proofs.Common.{sym, ◌∙◌, ap}
+use Rattle.std.specs.Prelude.{option_map}
 use Rattle.fe2o3_scram.specs.ClientSecret.{secret_of}
-use Rattle.fe2o3_sasl.specs.ClientPolicy.{CanTake, IsFirstTaken, by_strength}
+use Rattle.fe2o3_sasl.specs.ClientPolicy.{IsFirstTaken, by_strength}
 use Rattle.fe2o3_sasl.specs.SaslProfile.{profile_of}
-use Rattle.fe2o3_sasl.specs.declared.client_policy.Mechanism.{Mechanism}
 use Rattle.fe2o3_sasl.proofs.lemmas.machines.PolicyLemmas.{some_taken}
 use Rattle.fe2o3_sasl.proofs.client_policy.best_profile.Goals as goal
 

@@ -1,5 +1,5 @@
 -- The worked examples of clients.
-use Rattle.std.proofs.Common.{◌≡◌, ◌<◌, ℕ, suc, true, List, [], ◌∷◌, ◌++◌, length, Err, Ok, refl, sym, ◌∙◌, ap, subst, arith, codes, inl, inr}
+use Rattle.std.proofs.Common.{◌≡◌, ℕ, suc, true, List, [], ◌∷◌, ◌++◌, length, Err, Ok, refl, sym, ◌∙◌, ap, subst, arith, codes, inl, inr}
 use Rattle.std.specs.Prelude.{Some, slice_get}
 use Rattle.fe2o3_sasl_wire.specs.declared.amqp_types.SaslCode.TheVariants as outcomes
 use Rattle.fe2o3_sasl_wire.specs.declared.sasl_frames.error.Error.TheVariants as faults
@@ -10,7 +10,7 @@ use Rattle.fe2o3_sasl_wire.specs.SaslFrames as frames
 use Rattle.fe2o3_scram.specs.ClientFinal.{Answer}
 use Rattle.fe2o3_scram.specs.ServerFirst.{ReadsServerFirst}
 use Rattle.fe2o3_scram.specs.ServerFinal.{ReadsServerFinal}
-use Rattle.fe2o3_scram.specs.Texts.{base64_text, joined}
+use Rattle.fe2o3_scram.specs.Texts.{joined}
 use Rattle.fe2o3_scram.specs.declared.scram_messages.error.ScramErrorKind.{ScramErrorKind}
 use Rattle.fe2o3_scram.specs.declared.scram_messages.error.ScramErrorKind.TheVariants.{IterationCountTooSmall, OtherKeys as NamesOtherKeys}
 use Rattle.fe2o3_sasl.specs.Bodies.{SpellsBody, carried}
@@ -21,7 +21,7 @@ use Rattle.fe2o3_sasl.specs.TwoSides.{client_message, proof_at}
 use Rattle.fe2o3_sasl.specs.examples.ClientExamples.{FloorsRefuse, HostnamesAreSent, KeysLogIn, OtherKeysLogInLater, asks, is_served, logs_in, made, names_host, other_salt, starts, with_floor, with_hostname, with_keys}
 use Rattle.fe2o3_sasl.specs.examples.Examples.{binds, body_of, both, client_bytes, client_nonce, event_of, login, names, offers, salt, salted, sends_ok, sends_response, server_nonce, unaltered, verifier}
 use Rattle.fe2o3_scram.proofs.lemmas.messages.ServerFirstLemmas.{count_refused, one_has_salt, secret_refused, values_read}
-use Rattle.fe2o3_sasl.proofs.lemmas.examples.ExampleBodyLemmas.{bodied, challenge_bodied, init_texts, mechanisms_sent, mechanisms_texts, ok_sent, short_joined, short_names, short_salted, short_variable, spells_body}
+use Rattle.fe2o3_sasl.proofs.lemmas.examples.ExampleBodyLemmas.{bodied, challenge_bodied, mechanisms_sent, mechanisms_texts, ok_sent, short_joined, short_names, short_salted, short_variable, spells_body}
 use Rattle.fe2o3_sasl.proofs.lemmas.examples.ExampleLemmas.{is_unaltered, short_both}
 use Rattle.fe2o3_sasl.proofs.lemmas.examples.ExampleLoginLemmas.{answer_said, client_history, start_said}
 use Rattle.fe2o3_sasl.proofs.lemmas.examples.ExampleReadingLemmas.{count_passes, count_small, names_salted, nonce_passes, plain_both, plain_salted, reads_values, salt_bytes, salt_passes, signature_read}

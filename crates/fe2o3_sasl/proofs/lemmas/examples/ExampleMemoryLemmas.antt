@@ -1,5 +1,5 @@
 -- Worked examples of frames at which no memory is asked for.
-use Rattle.std.proofs.Common.{◌≡◌, ℕ, true≢false, Option, Some, None, List, [], ◌∷◌, sym, ◌∙◌, subst, arith, inl, inr, Ok}
+use Rattle.std.proofs.Common.{◌≡◌, ℕ, true≢false, Option, None, List, [], ◌∷◌, sym, ◌∙◌, subst, arith, inl, inr, Ok}
 use Rattle.std.specs.List.{Contains}
 use Rattle.std.specs.Str.{IsUtf8, is_utf8, chars}
 use Rattle.std.proofs.lemmas.Str.{is_utf8-from_IsUtf8}

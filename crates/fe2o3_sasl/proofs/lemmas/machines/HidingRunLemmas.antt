@@ -1,11 +1,11 @@
 -- A run of a hiding acceptor is a run of a SCRAM acceptor over the provider with made-up records.
-use Rattle.std.proofs.Common.{◌≡◌, ◌≢◌, ◌<◌, ℕ, zero, suc, Bool, true, false, cond, List, [], ◌∷◌, ◌++◌, length, map, Option, None, Some, Result, Ok, Err, refl, sym, ap, ◌∙◌, subst, inl, inr, arith, codes}
-use Rattle.std.proofs.lemmas.Bool.{cond-false, cond-true}
+use Rattle.std.proofs.Common.{◌≡◌, ℕ, zero, suc, Bool, true, false, cond, List, [], ◌∷◌, ◌++◌, map, Option, None, Some, Result, Ok, Err, refl, sym, ap, ◌∙◌, subst, inl, inr, arith}
+use Rattle.std.proofs.lemmas.Bool.{cond-true}
 use Rattle.std.proofs.lemmas.Cmp.{nat_list_eq_equiv}
 use Rattle.std.proofs.lemmas.Slice.Eq.{bytes_eq-Decides}
 use Rattle.std.specs.Cmp.Lexicographic.{pointwise}
 use Rattle.std.specs.List.{AllByRecursion, Contains}
-use Rattle.std.specs.Prelude.{nat_eq, slice_index_or}
+use Rattle.std.specs.Prelude.{nat_eq}
 use Rattle.fe2o3_sasl_wire.specs.declared.sasl_frames.error.Error.{Error}
 use Rattle.fe2o3_sasl_wire.specs.declared.sasl_frames.error.Error.TheVariants as faults
 use Rattle.fe2o3_sasl_wire.specs.SaslFrames as frames
@@ -15,12 +15,12 @@ use Rattle.fe2o3_scram.specs.ClientFinal.{ReadsClientFinal, recovered_key}
 use Rattle.fe2o3_scram.specs.ClientFirst.{ClientFirst, ReadsClientFirst}
 use Rattle.fe2o3_scram.specs.Credentials.{Record, Records, Provider, record_at}
 use Rattle.fe2o3_scram.specs.HidingServer.{HidingServer, NamedBy, NamedIn}
-use Rattle.fe2o3_scram.specs.Hmac.{digest, hmac_of}
+use Rattle.fe2o3_scram.specs.Hmac.{digest}
 use Rattle.fe2o3_scram.specs.Nobody.{Nobody, nobody_record, with_nobody}
 use Rattle.fe2o3_scram.specs.ScramServer.{ServerState, Initial, ServerFirstSent, ServerFinalSent, ChallengesFrom, ConcludesFrom}
 use Rattle.fe2o3_scram.specs.ServerFirst.{Challenge}
 use Rattle.fe2o3_scram.proofs.lemmas.providers.HidingLemmas.{record_at-behind}
-use Rattle.fe2o3_sasl.specs.Bodies.{SpellsBody, carried}
+use Rattle.fe2o3_sasl.specs.Bodies.{SpellsBody}
 use Rattle.fe2o3_sasl.specs.Events.{Given, ServerSays, Failed}
 use Rattle.fe2o3_sasl.specs.HidingAcceptor.{NamedAt, hiding_machine}
 use Rattle.fe2o3_sasl.specs.HidingLaws.{HoldsName, HiddenRunsAreRuns, HiddenRunsAreHistories, NobodyIsMet, hiding}

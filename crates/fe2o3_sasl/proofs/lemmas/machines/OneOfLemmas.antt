@@ -1,6 +1,5 @@
 -- What a server of two acceptors does, and one that offers only some names, is what an acceptor in it does.
-use Rattle.std.proofs.Common.{◌≡◌, ℕ, suc, Bool, true, false, Option, Some, None, List, [], ◌∷◌, length, refl, sym, ap, ◌∙◌, subst, inl, inr, Result, Ok, Err}
-use Rattle.std.specs.Prelude.{not}
+use Rattle.std.proofs.Common.{◌≡◌, ℕ, suc, Option, Some, None, List, [], ◌∷◌, refl, sym, ap, ◌∙◌, subst, inl, inr, Result, Ok, Err}
 use Rattle.std.specs.List.{AllByRecursion}
 use Rattle.fe2o3_sasl_wire.specs.declared.amqp_types.SaslCode.TheVariants as outcomes
 use Rattle.fe2o3_sasl_wire.specs.declared.sasl_frames.error.Error.{Error}
@@ -11,7 +10,7 @@ use Rattle.fe2o3_sasl.specs.Bodies.{SpellsBody, carried}
 use Rattle.fe2o3_sasl.specs.Events.{Given, ServerSays, Failed}
 use Rattle.fe2o3_sasl.specs.OneOf.{Parts, PartReplies, part_for, one_of_machine}
 use Rattle.fe2o3_sasl.specs.OneOfLaws.{those, to_first, to_second, to_neither, IsRefusal, Splits, OneOfRunsAreSplit}
-use Rattle.fe2o3_sasl.specs.Runs.{Runs, AcceptorSteps, AcceptorAnswers, AcceptorGives, Sends, server_says}
+use Rattle.fe2o3_sasl.specs.Runs.{Runs, AcceptorSteps, AcceptorAnswers, AcceptorGives, server_says}
 use Rattle.fe2o3_sasl.specs.SaslAcceptor.{ends_with}
 use Rattle.fe2o3_sasl.specs.declared.one_of.Part.{Part}
 use Rattle.fe2o3_sasl.specs.declared.one_of.Part.TheVariants.{First, Second}

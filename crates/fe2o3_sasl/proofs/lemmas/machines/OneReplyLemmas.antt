@@ -156,7 +156,7 @@ one_acceptor_reply (ScramAcceptor provider state) nonce (frames.Init mechanism (
     let again : ServerTurn = (too.1.0, too.1.1) in
     turn_taken provider (λ message. frames.Challenge message) turn again reply other next last
     (one_made (ReadsClientFirst provider.unbound text) (first_turn state provider nonce) turn again
-        (one_client_first provider.unbound text)
+    (one_client_first provider.unbound text)
     (challenge_made state provider nonce text is.1.0 is.1.1 is.1.2)
     (challenge_made state provider nonce text too.1.0 too.1.1 too.1.2))
     is.1.3 is.1.4 too.1.3 too.1.4

@@ -1,5 +1,5 @@
 -- Which mechanism a policy has a client take.
-use Rattle.std.proofs.Common.{◌≡◌, ◌≢◌, ◌<◌, ◌+◌, ℕ, zero, suc, Bool, true, false, Option, Some, None, List, [], ◌∷◌, length, take, get_or, refl, sym, ◌∙◌, ap, subst, arith}
+use Rattle.std.proofs.Common.{◌≡◌, ◌≢◌, ◌<◌, ◌+◌, ℕ, zero, suc, true, false, Option, Some, None, List, [], ◌∷◌, length, take, get_or, refl, sym, ◌∙◌, ap, subst, arith}
 use Rattle.std.proofs.lemmas.List.{take_more}
 use Rattle.std.specs.List.{AllByRecursion}
 use Rattle.std.specs.Prelude.{is_some, option_map, slice_get}
@@ -9,7 +9,7 @@ use Rattle.fe2o3_scram.specs.ClientSecret.{Secret}
 use Rattle.fe2o3_scram.specs.declared.client_secret.IterationLimits.{IterationLimits}
 use Rattle.fe2o3_scram.specs.ScramClient.{ClientSide, with_limits}
 use Rattle.fe2o3_sasl.specs.ClientPolicy.{CanTake, IsFirstTaken, fresh_client, keys_for, scram_by}
-use Rattle.fe2o3_sasl.specs.Profiles.{Profile, ScramProfile}
+use Rattle.fe2o3_sasl.specs.Profiles.{ScramProfile}
 use Rattle.fe2o3_sasl.specs.declared.client_policy.ClientPolicy.{ClientPolicy}
 use Rattle.fe2o3_sasl.specs.declared.client_policy.Mechanism.{Mechanism}
 use Rattle.fe2o3_sasl.proofs.lemmas.lists.EachLemmas.{each_append}

@@ -1,10 +1,8 @@
 -- What runs cost: the sum over their bodies bounds it.
 use Rattle.std.proofs.Common.{◌≡◌, ℕ, ◌+◌, ◌≤◌, Option, Some, None, List, [], ◌∷◌, refl, sym, ap, ◌∙◌, subst, inl, inr, Result, Ok, Err, arith}
 use Rattle.std.specs.Prelude.{MatchOption, IsUtf8}
-use Rattle.fe2o3_sasl_wire.specs.declared.amqp_types.SaslCode.{SaslCode}
 use Rattle.fe2o3_sasl_wire.specs.declared.amqp_types.SaslCode.TheVariants as outcomes
 use Rattle.fe2o3_sasl_wire.specs.declared.sasl_frames.error.Error.{Error}
-use Rattle.fe2o3_sasl_wire.specs.declared.sasl_frames.error.Error.TheVariants as faults
 use Rattle.fe2o3_sasl_wire.specs.SaslFrames as frames
 use Rattle.fe2o3_sasl_wire.specs.SaslFrames.{SaslFrame, canonical}
 use Rattle.fe2o3_scram.specs.declared.scram_messages.error.ServerScramErrorKind.{ServerScramErrorKind}
@@ -19,10 +17,10 @@ use Rattle.fe2o3_scram.specs.ScramServer as server_states
 use Rattle.fe2o3_scram.specs.ScramServer.{ServerState, FinalCostsFrom, server_against}
 use Rattle.fe2o3_scram.specs.ServerFinal.{FinalCosts}
 use Rattle.fe2o3_scram.proofs.lemmas.texts.DecisionLemmas.{Decided, utf8_or}
-use Rattle.fe2o3_sasl.specs.Bodies.{SpellsBody, carried}
+use Rattle.fe2o3_sasl.specs.Bodies.{carried}
 use Rattle.fe2o3_sasl.specs.CostLaws.{MeteredAcceptorSteps, MeteredProfileSteps, server_most, client_most, SumsUp, ServerRunsCost, ClientRunsCost, reply_of}
-use Rattle.fe2o3_sasl.specs.Costs.{acceptor_hmacs, CostsAtMost, AcceptorCostsOf, ProfileCosts, ProfileCostsOf}
-use Rattle.fe2o3_sasl.specs.Events.{Given, ServerSays, ClientSays, ClientFault, Refused, Frame}
+use Rattle.fe2o3_sasl.specs.Costs.{acceptor_hmacs, AcceptorCostsOf, ProfileCostsOf}
+use Rattle.fe2o3_sasl.specs.Events.{Given, ClientSays, ClientFault}
 use Rattle.fe2o3_sasl.specs.Profiles.{Profile, ScramProfile, profile_machine}
 use Rattle.fe2o3_sasl.specs.Runs.{Runs, ProfileGives, Replies}
 use Rattle.fe2o3_sasl.specs.SaslAcceptor.{Acceptor, ScramAcceptor}

@@ -244,7 +244,7 @@ response_step provider c event text says moved next reply (Err fault) known from
     unfit : (p : Accepted) → FitsAsResponse provider (λ d. Some c ≡ Some d) (frames.Response text) p
         → ((stored : Record) × (record_at provider.records c.client.user ≡ Some stored)
         × ReadsClientFinal (server_of provider.version c.client.header c.client.bare (first_message c)
-            (full_nonce c) stored) text
+        (full_nonce c) stored) text
         (Err fault))
         ⊎ ((record_at provider.records c.client.user ≡ None) × (fault ≡ AuthenticationFailed)) → ⊥
     unfit p fits (inl x) =
@@ -253,7 +253,7 @@ response_step provider c event text says moved next reply (Err fault) known from
         let refused : ReadsClientFinal (server_at provider p.challenge) text (Err fault) =
         subst (λ (d : Challenging). ReadsClientFinal (server_at provider d) text (Err fault)) same
         (subst (λ (r : Record). ReadsClientFinal (server_of provider.version c.client.header c.client.bare
-            (first_message c)
+        (first_message c)
         (full_nonce c) r) text (Err fault)) stored x.2) in
         let e = one_client_final (server_at provider p.challenge) text (Err fault) (Ok p.final) refused fits.1 in
         cc

@@ -1,5 +1,5 @@
 -- What answers and steps cost, from what a meter shows.
-use Rattle.std.proofs.Common.{◌≡◌, ℕ, ◌+◌, ◌≤◌, List, refl, true, false, Result, Ok, Err, arith}
+use Rattle.std.proofs.Common.{◌≡◌, ℕ, List, refl, true, false, Result, Ok, Err, arith}
 use Rattle.std.specs.Prelude.{IsOk}
 use Rattle.std.specs.Str.{IsUtf8}
 use Rattle.fe2o3_sasl_wire.specs.declared.sasl_frames.error.Error.{Error}

@@ -1,5 +1,5 @@
 -- What the machine of a hiding acceptor replies and costs, from what a hiding server answers.
-use Rattle.std.proofs.Common.{◌≡◌, ◌≢◌, ◌≤◌, ◌+◌, ℕ, Option, None, Some, List, [], ap, refl, inl, inr, Result, Ok, Err, arith}
+use Rattle.std.proofs.Common.{◌≡◌, ◌≢◌, ◌≤◌, ◌+◌, ℕ, Option, None, Some, List, refl, inl, inr, Result, Ok, Err, arith}
 use Rattle.std.specs.Prelude.{IfOk, IfErr, OnOk}
 use Rattle.fe2o3_sasl_wire.specs.declared.amqp_types.SaslCode.TheVariants as outcomes
 use Rattle.fe2o3_sasl_wire.specs.SaslFrames as frames
@@ -10,7 +10,7 @@ use Rattle.fe2o3_scram.specs.ClientFirst.{ClientFirst, ReadsClientFirst}
 use Rattle.fe2o3_scram.specs.HidingServer.{HidingServer, HidingCosts, NamedBy, NamedIn, hiding_name}
 use Rattle.fe2o3_scram.specs.Hmac.{mechanism_name}
 use Rattle.fe2o3_scram.specs.Readings.{Gives}
-use Rattle.fe2o3_scram.specs.ScramServer.{ServerState, ChallengesFrom, ConcludesFrom, FinalCostsFrom, ReachesBase64In}
+use Rattle.fe2o3_scram.specs.ScramServer.{ChallengesFrom, ConcludesFrom, FinalCostsFrom, ReachesBase64In}
 use Rattle.fe2o3_scram.specs.ServerFirst.{ReachesChallenge}
 use Rattle.fe2o3_scram.proofs.lemmas.messages.HidingServerLemmas.{read_or_refused, some_name, some_user}
 use Rattle.fe2o3_scram.proofs.lemmas.messages.SomeReadingLemmas.{some_client_first}
@@ -18,7 +18,7 @@ use Rattle.fe2o3_sasl.specs.Costs.{CostsAtMost, acceptor_hmacs}
 use Rattle.fe2o3_sasl.specs.HidingAcceptor.{ReachesLookUp, hiding_allocates, hiding_hmacs, hiding_machine, with_name}
 use Rattle.fe2o3_sasl.specs.SaslAcceptor.{ends_with, server_frame}
 use Rattle.fe2o3_sasl.proofs.lemmas.machines.ResponseCostLemmas.{response_costs, answer_costs, refusal_costs}
-use Rattle.fe2o3_sasl.proofs.lemmas.steps.AcceptorReplyLemmas.{init_answered, init_refused, init_wants, response_answered, response_refused, response_wants}
+use Rattle.fe2o3_sasl.proofs.lemmas.steps.AcceptorReplyLemmas.{init_answered, response_answered}
 
 -- the acceptor of the same provider in another state
 moved : (server after : HidingServer) → after.provider ≡ server.provider → after.nobody ≡ server.nobody
@@ -64,7 +64,7 @@ module _ (server : HidingServer) (nonce mechanism text : List ℕ) (hostname : O
     pub hiding_refused : {X V E : Type 0} (Allocates : List ℕ → Type 0) (sent : X → SaslFrame)
         (view : V → Option (List ℕ)) (kind : ServerScramErrorKind) (result : Result X E)
         → ((name : List ℕ) → NamedIn server.provider.unbound text name → Gives OutOfMemory (Allocates name) view
-            (Err kind)
+        (Err kind)
         (λ answer. ChallengesFrom server.state (hiding_name server name) nonce text answer after.state))
         → IfOk result (λ frame. (kind ≢ OutOfMemory) × (sent frame ≡ ends_with outcomes.Auth))
         → IfOk result (λ frame. hiding_machine server nonce init (sent frame) after)
@@ -92,7 +92,7 @@ module _ (server : HidingServer) (nonce mechanism text : List ℕ) (hostname : O
         (some_name server.provider.unbound text).1 in (is.0.0, is_name, is.0.1)
     answer_reads (Some message) from =
         let is = from (some_name server.provider.unbound text).0 (some_name server.provider.unbound text).1 in
-            (is.1.0, is_name, is.1.2)
+        (is.1.0, is_name, is.1.2)
 
     -- what it costs
     pub answer_takes : (answer : Option (List ℕ)) (before most n : ℕ)
@@ -104,7 +104,7 @@ module _ (server : HidingServer) (nonce mechanism text : List ℕ) (hostname : O
 
     refused_most : (A : Type 0) (kind : ServerScramErrorKind) (before most n : ℕ)
         → HidingCosts {A = A} server.provider.unbound text (Err kind) before most → hiding_hmacs server init n
-            → most ≤ before + n
+        → most ≤ before + n
     refused_most A OutOfMemory before most n costs (inl takes) =
         let three = takes.1 in let within = costs.1 in omega (within, three, arith)
     refused_most A OutOfMemory before most n costs (inr takes) = go (some_client_first server.provider.unbound text)
@@ -131,7 +131,7 @@ module _ (server : HidingServer) (nonce mechanism text : List ℕ) (hostname : O
 
     pub refusal_most : (A : Type 0) (kind : ServerScramErrorKind) (before most : ℕ)
         → HidingCosts {A = A} server.provider.unbound text (Err kind) before most
-            → CostsAtMost hiding_hmacs server init before most
+        → CostsAtMost hiding_hmacs server init before most
     refusal_most A kind before most costs = (
       rises A kind before most costs,
       λ n takes. refused_most A kind before most n costs takes,
@@ -153,7 +153,7 @@ module _ (server : HidingServer) (nonce mechanism text : List ℕ) (hostname : O
     pub refusal_takes : {X E : Type 0} (A V : Type 0) (Allocates : List ℕ → Type 0) (sends : X → Type 0)
         (view : V → Option (List ℕ)) (kind : ServerScramErrorKind) (sent : Result X E) (before most : ℕ)
         → ((name : List ℕ) → NamedIn server.provider.unbound text name → Gives OutOfMemory (Allocates name) view
-            (Err kind)
+        (Err kind)
         (λ answer. ChallengesFrom server.state (hiding_name server name) nonce text answer after.state))
         → HidingCosts {A = A} server.provider.unbound text (Err kind) before most
         → IfOk sent (λ frame. (kind ≢ OutOfMemory) × sends frame)

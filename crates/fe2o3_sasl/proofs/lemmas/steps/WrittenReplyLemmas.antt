@@ -1,5 +1,5 @@
 -- What a profile replies in a body, from what it answers and what was written.
-use Rattle.std.proofs.Common.{◌≡◌, ℕ, true, Option, Some, List, refl, sym, ap, ◌∙◌, subst, inl, inr, Ok, Err}
+use Rattle.std.proofs.Common.{◌≡◌, ℕ, Option, Some, List, refl, sym, ap, ◌∙◌, subst, inl, inr, Ok, Err}
 use Rattle.std.specs.List.{Contains}
 use Rattle.fe2o3_sasl_wire.specs.declared.amqp_types.SaslCode.{SaslCode}
 use Rattle.fe2o3_sasl_wire.specs.declared.amqp_types.SaslCode.TheVariants as outcomes
@@ -9,7 +9,7 @@ use Rattle.fe2o3_sasl_wire.specs.SaslFrames as frames
 use Rattle.fe2o3_sasl_wire.specs.SaslFrames.{SaslFrame, canonical}
 use Rattle.fe2o3_sasl.specs.Events.{ClientFault, NotImplemented, Scram, OtherKeys, Frame, OutOfMemory, Started, Answered, Reported, Refused}
 use Rattle.fe2o3_sasl.specs.Runs.{ProfileReplies, Sends}
-use Rattle.fe2o3_sasl.specs.Profiles.{Profile, ScramProfile, PlainProfile, AnonymousProfile, ExternalProfile, profile_name, initial_response, after_init, profile_machine, FrameAllocates, StepAllocates, IsStarted, ProfileAnswers}
+use Rattle.fe2o3_sasl.specs.Profiles.{Profile, ScramProfile, profile_name, initial_response, after_init, profile_machine, FrameAllocates, StepAllocates, IsStarted, ProfileAnswers}
 use Rattle.fe2o3_scram.specs.ScramClient as client_states
 use Rattle.fe2o3_scram.specs.ScramClient.{ClientState, ReachesSaltIn}
 use Rattle.fe2o3_sasl.specs.ProfileFaults.{client_fault}

@@ -1,5 +1,5 @@
 -- A step over a body, in the cases of what the body spells.
-use Rattle.std.proofs.Common.{◌≡◌, ℕ, false, Option, List, refl, inl, inr, Ok, Err}
+use Rattle.std.proofs.Common.{ℕ, Option, List, refl, inl, inr, Ok, Err}
 use Rattle.std.specs.List.{Contains}
 use Rattle.fe2o3_sasl_wire.specs.declared.sasl_frames.error.Error.{Error}
 use Rattle.fe2o3_sasl_wire.specs.declared.sasl_frames.error.Error.TheVariants as faults
@@ -9,7 +9,7 @@ use Rattle.fe2o3_sasl_wire.specs.SaslFrames.{SaslFrame, ReadsBody}
 use Rattle.fe2o3_sasl_wire.proofs.lemmas.frames.LawLemmas.{spelled_mechanisms_are_ascii}
 use Rattle.fe2o3_sasl.specs.Events.{Given, ServerSays, Failed, NotImplemented, Frame, ClientSays, Refused}
 use Rattle.fe2o3_sasl.specs.Runs.{AcceptorAnswers, AcceptorGives, AcceptorSteps, ProfileReplies, ProfileSteps}
-use Rattle.fe2o3_sasl.specs.Profiles.{Profile, ScramProfile, PlainProfile, AnonymousProfile, ExternalProfile, profile_name}
+use Rattle.fe2o3_sasl.specs.Profiles.{Profile, profile_name}
 use Rattle.fe2o3_sasl.specs.private.Writing.{IsRequest}
 
 -- ---- acceptors

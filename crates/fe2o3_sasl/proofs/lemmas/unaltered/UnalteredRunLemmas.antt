@@ -230,8 +230,12 @@ module _ (sides : Sides) (password salt : List ℕ) (count : ℕ) (run : Unalter
     },
     refl,
     refl,
-    (plain_in exchange (sound_exchange sides password salt count run.offer.nonce run.init.nonce login holds), refl,
-        refl, refl),
+    (
+      plain_in exchange (sound_exchange sides password salt count run.offer.nonce run.init.nonce login holds),
+      refl,
+      refl,
+      refl,
+    ),
   )
 
   audit : Audits sides (agreed_findings run salt count)

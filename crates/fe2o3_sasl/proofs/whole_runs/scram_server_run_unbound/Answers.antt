@@ -15,7 +15,7 @@ returns-clause-history g c =
     let made = c.server_over-authenticator.ensures.served ∙ ap (serving c.args.accepts_unbound) kept in
     let begun = c.server_over-authenticator.ensures.state in
     if_ok_map _ _ c.run_acceptor.result (λ replies run. server_run_is_history
-        (serving c.args.accepts_unbound (m.meaning c.args.credentials.now)) _ _
+    (serving c.args.accepts_unbound (m.meaning c.args.credentials.now)) _ _
     (map given c.args.events.now) (map server_answer replies.items) (λ i. ScramAcceptor (made i) (begun i)) run)
     c.run_acceptor.ensures.replies
 
@@ -23,12 +23,12 @@ pub returns-clause-exactly : goal.returns-clause-exactly
 returns-clause-exactly g c =
     let m = g.C.ScramCredentialProvider in
     if_ok_map _ _ c.run_acceptor.result (λ replies history. answers_ok_exactly
-        (serving c.args.accepts_unbound (m.meaning c.args.credentials.now))
+    (serving c.args.accepts_unbound (m.meaning c.args.credentials.now))
     (map given c.args.events.now) (map server_answer replies.items) history) (returns-clause-history g c)
 
 pub returns-clause-unaltered : goal.returns-clause-unaltered
 returns-clause-unaltered g c =
     let m = g.C.ScramCredentialProvider in
     if_ok_map _ _ c.run_acceptor.result (λ replies history. servers_log_in
-        (serving c.args.accepts_unbound (m.meaning c.args.credentials.now))
+    (serving c.args.accepts_unbound (m.meaning c.args.credentials.now))
     (map given c.args.events.now) (map server_answer replies.items) history) (returns-clause-history g c)

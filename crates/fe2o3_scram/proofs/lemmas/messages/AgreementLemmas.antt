@@ -44,7 +44,7 @@ pub record ClientHas (own text : List ℕ) (first : ServerFirst) : Type 0 where
 client_parts : (name own text : List ℕ) (first : ServerFirst) → (has : ClientHas own text first)
     → (more : List (List ℕ)) × Parts text ((codes "r=" ++ first.nonce) ∷ (codes "s=" ++ base64_text first.salt)
     ∷ (codes "i=" ++ has.names.count.0) ∷ more) × Parts (auth_message (client_first_bare name own) text
-        (without_proof first.nonce))
+    (without_proof first.nonce))
     (((codes "n=" ++ escaped name) ∷ (codes "r=" ++ own) ∷ [])
     ++ (((codes "r=" ++ first.nonce) ∷ (codes "s=" ++ base64_text first.salt)
     ∷ (codes "i=" ++ has.names.count.0) ∷ more)
@@ -106,7 +106,7 @@ pub record ServerHas (version : ScramVersion) (client : ClientFirst) (its : List
   pub first : NamesClientFirst unbound init client
   pub names : let challenge = challenge_of client its stored in
       NamesAcceptedFinal (server_of version challenge.header challenge.bare challenge.first challenge.nonce stored)
-          response final
+      response final
 
 -- its parts: two and more of the client-first message, three of its challenge, two and more of the response
 record ServerParts (client : ClientFirst) (its : List ℕ) (stored : Record) (without : List ℕ) : Type 0 where
@@ -360,7 +360,7 @@ concluded provider waiting done challenge client nonce response last stored is s
     let at = subst (λ (state : ServerState). ConcludesFrom state provider response (Ok (Some last)) done)
     (is ∙ ap ServerFirstSent same) from in
     subst (λ (kept : Record). AnswersClientFinal (server_against provider own kept) response (Ok last))
-        (same_Some at.0 stored (sym at.1 ∙ known)) at.2
+    (same_Some at.0 stored (sym at.1 ∙ known)) at.2
 
 pub believed_texts_agree : BelievedTextsAgree
 believed_texts_agree side provider own text last its init response verifier believed accepted part =

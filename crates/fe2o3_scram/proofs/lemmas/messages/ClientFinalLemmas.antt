@@ -128,7 +128,7 @@ module _ (header : Gs2Header) (nonce text : List ℕ) (utf8 : IsUtf8 text) where
 
   pub spelling_refused : (fault : ServerScramErrorKind) → NoneHolds (binding_tests header text)
       → NoneHolds (nonce_tests nonce text) → IsFirst (spelling_tests text) fault → ReadsFinalText header nonce text
-          (Err fault)
+      (Err fault)
   unfolding ReadsFinalText
   spelling_refused fault binding tested first = inr (
     λ fails. fails utf8,
@@ -138,7 +138,7 @@ module _ (header : Gs2Header) (nonce text : List ℕ) (utf8 : IsUtf8 text) where
 
   pub text_read : (final : ClientFinal) → NoneHolds (binding_tests header text) → NoneHolds (nonce_tests nonce text)
       → NoneHolds (spelling_tests text) → NamesClientFinal header nonce text final → ReadsFinalText header nonce text
-          (Ok final)
+      (Ok final)
   unfolding ReadsFinalText
   text_read final binding tested spelling names = (
     (
@@ -152,7 +152,7 @@ module _ (header : Gs2Header) (nonce text : List ℕ) (utf8 : IsUtf8 text) where
   -- what is read of the proof is what is read of the text, where the tests before it have passed
   pub text_answered : {A : Type 0} (view : A → ClientFinal) (result : Result A ServerScramErrorKind)
       → NoneHolds (binding_tests header text) → NoneHolds (nonce_tests nonce text) → HasBinding text
-          (header_text header)
+      (header_text header)
       → Part text 1 (codes "r=" ++ nonce) → IfOk result (λ _. NoneHolds (spelling_tests text))
       → IfOk result (λ final. HasProof text (view final))
       → IfErr result (λ kind. kind ≡ OutOfMemory
@@ -221,7 +221,7 @@ pub text_costs_nothing : (A : Type 0) (server : Server) (text : List ℕ) (fault
     → FinalCosts {A = A} server text (Err fault) count count
 text_costs_nothing A server text AuthenticationFailed count refused =
     absurd (not_the_proof server.header server.nonce text (refused
-        (λ same. let wrong : AuthenticationFailed ≡ OutOfMemory = same in
+    (λ same. let wrong : AuthenticationFailed ≡ OutOfMemory = same in
     absurd (cc))))
 text_costs_nothing A server text OutOfMemory count refused = (omega arith, omega arith, λ _ _. refl)
 text_costs_nothing A server text fault count refused = refl

@@ -1,5 +1,5 @@
 -- The reading of a client-first message.
-use Rattle.std.proofs.Common.{◌≡◌, Bool, T, arith, ap, get_or, ◌≢◌, ◌⊎◌, ℕ, List, ◌++◌, Result, Ok, Err, refl, sym, ◌∙◌, subst, codes, inl, inr}
+use Rattle.std.proofs.Common.{◌≡◌, Bool, arith, ap, get_or, ◌≢◌, ◌⊎◌, ℕ, List, ◌++◌, Result, Ok, Err, refl, sym, ◌∙◌, subst, codes, inl, inr}
 use Rattle.std.specs.Str.{IsUtf8}
 use Rattle.fe2o3_scram.specs.declared.scram_messages.error.ServerScramErrorKind.{ServerScramErrorKind}
 use Rattle.fe2o3_scram.specs.declared.scram_messages.error.ServerScramErrorKind.TheVariants.{Utf8Error, CannotParseGs2Header, CannotParseUsername, CannotParseClientNonce}
@@ -52,8 +52,11 @@ module _ (unbound : Bool) (header : Gs2Header) (text bare : List ℕ) (utf8 : Is
     λ fails. fails utf8,
     inr (
       λ absent. absent header takes (bare, is),
-      inl (λ user has. none (escaped user) (part_of_bare unbound header text bare
-          (codes "n=" ++ escaped user) 0 is has), refl),
+      inl (
+        λ user has. none (escaped user) (part_of_bare unbound header text bare
+            (codes "n=" ++ escaped user) 0 is has),
+        refl,
+      ),
     ),
   )
 
@@ -79,7 +82,7 @@ module _ (unbound : Bool) (header : Gs2Header) (text bare : List ℕ) (utf8 : Is
 
   pub no_nonce : (spelling user : List ℕ) → Part bare 0 (codes "n=" ++ spelling) → escaped user ≡ spelling
       → ((rest : List ℕ) → ¬ Part bare 1 (codes "r=" ++ rest)) → ReadsClientFirst unbound text
-          (Err CannotParseClientNonce)
+      (Err CannotParseClientNonce)
   unfolding ReadsClientFirst
   no_nonce spelling user part spells none =
       inr (
@@ -103,8 +106,10 @@ module _ (unbound : Bool) (header : Gs2Header) (text bare : List ℕ) (utf8 : Is
           λ fails. fails utf8,
           (
             λ absent. absent header takes (bare, is),
-            (λ nobody. nobody user (header, bare, takes, is, part),
-                (λ none. none nonce (header, bare, takes, is, has), tt)),
+            (
+              λ nobody. nobody user (header, bare, takes, is, part),
+              (λ none. none nonce (header, bare, takes, is, has), tt),
+            ),
           ),
         ),
         record { header = takes; bare = is; user = part; nonce = has },

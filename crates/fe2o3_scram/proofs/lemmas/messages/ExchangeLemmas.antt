@@ -187,7 +187,7 @@ opened version (Both own keys) password salt count nonce opens = go (fit keys fi
 abbrev made_in : Exchange → Answer
 made_in x =
     answer_by (keys_of x.version x.password x.salt x.count) (bare_in x) (first_in x)
-        (without_proof_behind x.header (nonce_in x))
+    (without_proof_behind x.header (nonce_in x))
 
 pub answered : (x : Exchange) → IsSound x → answer_in x ≡ made_in x
 answered x sound =

@@ -64,7 +64,7 @@ keeps_first provider nobody state next nonce text client None reads answers =
 keeps_first provider nobody state next nonce text client (Some message) reads answers =
     let other = answers.1 in
     let user = ap (λ (c : ClientFirst). c.user) (one_client_first_value provider.unbound text other.0 client other.2
-        reads) in
+    reads) in
     let kept : KeepsMadeUp (ServerFirstSent answers.0) (Some (record {
       version = nobody.version;
       records = (client.user, nobody_record nobody client.user) ∷ [];
@@ -102,7 +102,7 @@ read_or_refused unbound text client fault reads refuses =
 
 pub wants_costs : (A : Type 0) (unbound : Bool) (text : List ℕ) (client : ClientFirst) (before after : ℕ)
     → ReadsClientFirst unbound text (Ok client) → after ≡ before + 3 → HidingCosts {A = A} unbound text
-        (Err OutOfMemory) before after
+    (Err OutOfMemory) before after
 wants_costs A unbound text client before after reads counted = (
   omega (counted, arith),
   omega (counted, arith),

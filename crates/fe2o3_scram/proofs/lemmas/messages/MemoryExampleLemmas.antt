@@ -1,12 +1,11 @@
 -- Texts to which want of memory is no answer.
-use Rattle.std.proofs.Common.{◌≡◌, Bool, ◌≢◌, ◌⊎◌, ℕ, List, [], ◌∷◌, ◌++◌, length, get_or, refl, sym, ◌∙◌, ap, subst, arith, codes, inl, inr}
+use Rattle.std.proofs.Common.{◌≡◌, Bool, ◌≢◌, ◌⊎◌, ℕ, List, [], ◌∷◌, ◌++◌, length, get_or, refl, ◌∙◌, ap, subst, arith, codes, inl, inr}
 use Rattle.std.proofs.lemmas.List.{append_cancel_left}
 use Rattle.fe2o3_scram.specs.declared.hmac.ScramVersion.{ScramVersion}
 use Rattle.fe2o3_scram.specs.declared.hmac.ScramVersion.TheVariants.{Sha1, Sha256, Sha512}
 use Rattle.fe2o3_scram.specs.ClientFinal.{HasBinding, ReachesBinding, ReachesProof, client_final_of, without_proof}
-use Rattle.fe2o3_scram.specs.declared.scram_messages.gs2_header.Gs2Header.{Gs2Header}
 use Rattle.fe2o3_scram.specs.declared.scram_messages.gs2_header.Gs2Header.TheVariants.{Unsupported}
-use Rattle.fe2o3_scram.specs.ClientFirst.{HasEscapes, header_text}
+use Rattle.fe2o3_scram.specs.ClientFirst.{HasEscapes}
 use Rattle.fe2o3_scram.specs.Escape.{NoEquals}
 use Rattle.fe2o3_scram.specs.Hmac.{mechanism_name}
 use Rattle.fe2o3_scram.specs.MemoryExamples.{AnsweredClientsTakeNone, CommasTakeNone, ErrorsTakeNone, OtherNoncesTakeNone, UnboundTextsTakeNone, UnknownMechanismsTakeNone, UnknownUsersTakeNone}

@@ -1,5 +1,5 @@
 -- Each of the four messages has an answer.
-use Rattle.std.proofs.Common.{◌≡◌, Bool, true, false, T, ◌⊎◌, ℕ, ◌<◌, List, [], ◌∷◌, ◌++◌, length, Result, Ok, Err, refl, sym, ◌∙◌, subst, inl, inr, codes}
+use Rattle.std.proofs.Common.{◌≡◌, Bool, true, false, ◌⊎◌, ℕ, ◌<◌, List, [], ◌∷◌, ◌++◌, length, Result, Ok, Err, refl, subst, inl, inr, codes}
 use Rattle.fe2o3_scram.specs.declared.scram_messages.error.ScramErrorKind.{ScramErrorKind}
 use Rattle.fe2o3_scram.specs.declared.scram_messages.error.ScramErrorKind.TheVariants.{ServerSignatureMismatch}
 use Rattle.fe2o3_scram.specs.declared.scram_messages.error.ServerScramErrorKind.{ServerScramErrorKind}
@@ -25,7 +25,7 @@ use Rattle.fe2o3_scram.proofs.lemmas.messages.ClientFirstLemmas.{one_header}
 use Rattle.fe2o3_scram.proofs.lemmas.messages.ClientFinalLemmas.{no_proof, has_proof, proof_part, unread_proof}
 use Rattle.fe2o3_scram.proofs.lemmas.messages.ServerFirstLemmas.{one_has_count, no_count}
 use Rattle.fe2o3_scram.proofs.lemmas.texts.CutLemmas.{last_part_or}
-use Rattle.fe2o3_scram.proofs.lemmas.texts.DecisionLemmas.{Decided, Found, held, found_one, not_or, none_or, some_or, both_or, found_with, less_or, same_number_or, same_or, bytes_or, utf8_or, printable_or, rest_or, begins_or, part_or, part_is_or, attribute_or, attribute_text_or, base64_or, count_or, name_or}
+use Rattle.fe2o3_scram.proofs.lemmas.texts.DecisionLemmas.{Decided, Found, held, found_one, not_or, none_or, some_or, both_or, found_with, less_or, same_number_or, same_or, bytes_or, utf8_or, printable_or, rest_or, part_or, part_is_or, attribute_or, attribute_text_or, base64_or, count_or, name_or}
 
 -- ---- lists of tests
 

@@ -19,7 +19,7 @@ pub returns-in_err-put-clause-text : goal.returns-in_err-put-clause-text
 returns-in_err-put-clause-text c =
     let held = rw c.in-Ok.ensures.cases.0 at c.in_ok-answer.ensures.ok in
     let room = answer_has_room c.args.login.now c.args.client.now c.args.server_first.now
-        c.in_ok-answer.answer.message.items
+    c.in_ok-answer.answer.message.items
     c.in_ok-answer.answer.signature.items c.in_ok-answer.answer.keys held in
     absurd (omega (arith, c.if-out-suffices.false, room, c.in_err-put.ensures.err.1, ap length c.deref.ensures.value))
 
@@ -27,7 +27,7 @@ pub returns-in_err-put-clause-first : goal.returns-in_err-put-clause-first
 returns-in_err-put-clause-first c =
     let held = rw c.in-Ok.ensures.cases.0 at c.in_ok-answer.ensures.ok in
     let room = answer_has_room c.args.login.now c.args.client.now c.args.server_first.now
-        c.in_ok-answer.answer.message.items
+    c.in_ok-answer.answer.message.items
     c.in_ok-answer.answer.signature.items c.in_ok-answer.answer.keys held in
     absurd (omega (arith, c.if-out-suffices.false, room, c.in_err-put.ensures.err.1, ap length c.deref.ensures.value))
 
@@ -35,6 +35,6 @@ pub returns-clause-text : goal.returns-clause-text
 returns-clause-text c =
     let held = rw c.in-Ok.ensures.cases.0 at c.in_ok-answer.ensures.ok in
     let done = responds c.args.login.now c.args.client.now c.in-Some.waiting c.args.server_first.now
-        c.in_ok-answer.answer.message.items
+    c.in_ok-answer.answer.message.items
     c.in_ok-answer.answer.signature.items c.in_ok-answer.answer.keys held c.in-Some.ensures in
     (c.in_ok-answer.answer.message.items, done, search rules, search rules, search rules)

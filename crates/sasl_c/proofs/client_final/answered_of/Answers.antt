@@ -22,7 +22,7 @@ pub returns-in-Err-keys-2-clause-err : goal.returns-in-Err-keys-2-clause-err
 returns-in-Err-keys-2-clause-err c = λ other none is sent.
     unanswered c.args.login.now c.args.client.now c.args.server_first.now c.args.version c.in-Err-keys-2.status is none
     (neither_keys c.args.login.now c.in-Err-keys-2.status c.in-2.is c.in-Ok-text.ensures.1
-        (c.in-Err-keys-2.ensures.err other))
+    (c.in-Err-keys-2.ensures.err other))
 
 pub returns-in-Ok-keys-clause-ok : goal.returns-in-Ok-keys-clause-ok
 returns-in-Ok-keys-clause-ok c = mapped_ok _ _ c.answered_by-in-1.result c.answered_by-in-1.ensures.ok

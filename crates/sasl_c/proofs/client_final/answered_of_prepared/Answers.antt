@@ -18,7 +18,7 @@ pub returns-in-Err-keys-clause-err : goal.returns-in-Err-keys-clause-err
 returns-in-Err-keys-clause-err c = λ other none is sent.
     unanswered c.args.login.now c.args.client.now c.args.server_first.now c.args.version c.in-Err-keys.status is none
     (prepared_no_keys c.args.login.now c.in-Err-keys.status c.in-4.is c.in-Ok-text.ensures.1
-        (c.in-Err-keys.ensures.err other))
+    (c.in-Err-keys.ensures.err other))
 
 pub returns-in_default-clause-err : goal.returns-in_default-clause-err
 returns-in_default-clause-err c = λ other none is sent.

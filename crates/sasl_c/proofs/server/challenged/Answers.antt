@@ -13,7 +13,7 @@ returns-in-Err-clause-err c = search (rules, unread)
 pub returns-in-Err-read-clause-err : goal.returns-in-Err-read-clause-err
 returns-in-Err-read-clause-err c = λ other.
     not_shown c.args.accepts_unbound c.args.kept.now c.args.nonce.now c.args.client_first.now
-        (client_first_values c.in-Ok.first)
+    (client_first_values c.in-Ok.first)
     c.in-Err-read.status c.in-Ok.ensures.answer (c.in-Err-read.ensures.err other)
 
 pub returns-in-Ok-Some-clause-ok : goal.returns-in-Ok-Some-clause-ok

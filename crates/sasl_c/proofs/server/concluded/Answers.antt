@@ -10,14 +10,14 @@ returns-in_default-clause-err c = search (rules, not_open)
 pub returns-in-Err-clause-err : goal.returns-in-Err-clause-err
 returns-in-Err-clause-err c = λ _.
     keeps_none c.args.kept.now c.args.server.now c.args.client_final.now
-        (challenge_kept c.in-Some.challenge) c.in-Err.status
+    (challenge_kept c.in-Some.challenge) c.in-Err.status
     c.in-Some.ensures c.in-Err.ensures.err
 
 pub returns-in-Ok-compute_server_final_message_behind-clause-ok :
     goal.returns-in-Ok-compute_server_final_message_behind-clause-ok
 returns-in-Ok-compute_server_final_message_behind-clause-ok c =
     let all = concluded c.args.kept.now c.args.server.now c.args.client_final.now
-        c.in-Ok-compute_server_final_message_behind.message.items
+    c.in-Ok-compute_server_final_message_behind.message.items
     (challenge_kept c.in-Some.challenge) (versioned c.in-Ok.shown.0 (kept c.in-Ok.shown.1)) c.in-Some.ensures
     c.in-Ok.ensures.ok c.in-Ok-compute_server_final_message_behind.ensures.answer in
     (c.in-Some.challenge.username.now, all.0)
@@ -26,7 +26,7 @@ pub returns-in-Ok-compute_server_final_message_behind-clause-fits :
     goal.returns-in-Ok-compute_server_final_message_behind-clause-fits
 returns-in-Ok-compute_server_final_message_behind-clause-fits c =
     let all = concluded c.args.kept.now c.args.server.now c.args.client_final.now
-        c.in-Ok-compute_server_final_message_behind.message.items
+    c.in-Ok-compute_server_final_message_behind.message.items
     (challenge_kept c.in-Some.challenge) (versioned c.in-Ok.shown.0 (kept c.in-Ok.shown.1)) c.in-Some.ensures
     c.in-Ok.ensures.ok c.in-Ok-compute_server_final_message_behind.ensures.answer in
     all.1
@@ -35,6 +35,6 @@ pub returns-in-Err-compute_server_final_message_behind-clause-err :
     goal.returns-in-Err-compute_server_final_message_behind-clause-err
 returns-in-Err-compute_server_final_message_behind-clause-err c =
     refuses c.args.kept.now c.args.server.now c.args.client_final.now (challenge_kept c.in-Some.challenge)
-        (versioned c.in-Ok.shown.0 (kept c.in-Ok.shown.1))
+    (versioned c.in-Ok.shown.0 (kept c.in-Ok.shown.1))
     c.in-Err-compute_server_final_message_behind.why c.from.result c.in-Some.ensures c.in-Ok.ensures.ok
     c.in-Err-compute_server_final_message_behind.ensures.answer.1 c.from.ensures

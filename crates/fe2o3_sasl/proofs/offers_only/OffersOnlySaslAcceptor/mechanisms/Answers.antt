@@ -1,4 +1,4 @@
-use Rattle.std.proofs.Common.{rules, List, ℕ}
+use Rattle.std.proofs.Common.{rules}
 use Rattle.std.proofs.lemmas.Fn.{filter_same}
 use Rattle.fe2o3_sasl.specs.OneOf.{has_name}
 use Rattle.fe2o3_sasl.specs.OffersOnly.{offering_of}

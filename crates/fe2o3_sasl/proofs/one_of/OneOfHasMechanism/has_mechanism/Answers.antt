@@ -1,4 +1,4 @@
-use Rattle.std.proofs.Common.{sym, ◌∙◌, arith}
+use Rattle.std.proofs.Common.{arith}
 use Rattle.fe2o3_sasl.proofs.lemmas.machines.NameLemmas.{has_name-both}
 use Rattle.fe2o3_sasl.proofs.one_of.OneOfHasMechanism.has_mechanism.Goals as goal
 

@@ -1,7 +1,7 @@
 use Rattle.std.proofs.Common.{rules, List, ℕ}
 use Rattle.std.proofs.lemmas.Fn.{filter_same}
 use Rattle.std.specs.Prelude.{not}
-use Rattle.fe2o3_sasl.specs.OneOf.{has_name, both_names}
+use Rattle.fe2o3_sasl.specs.OneOf.{has_name}
 use Rattle.fe2o3_sasl.proofs.one_of.OneOfSaslAcceptor.mechanisms.Goals as goal
 
 pub returns : goal.returns

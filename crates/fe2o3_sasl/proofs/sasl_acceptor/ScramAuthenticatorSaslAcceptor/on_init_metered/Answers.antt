@@ -1,4 +1,4 @@
-use Rattle.std.proofs.Common.{rules, ap, Ok, ℕ}
+use Rattle.std.proofs.Common.{rules, Ok, ℕ}
 use Rattle.std.specs.Prelude.{option_map, string_bytes, Vec}
 use Rattle.std.specs.declared.alloc.Global.{Global}
 use Rattle.fe2o3_scram.specs.Credentials.{serving}
@@ -17,7 +17,7 @@ returns-in-Ok-clause-ok g c =
     c.in-Some.client_first.0.items (option_map string_bytes c.args.init.hostname)
     (Ok (option_map (λ message. message.items) c.in-Ok.answer)) (sent_frame c.challenge.result)
     (λ i. serving (c.compute_server_first_message.ensures.unbound i)
-        (m.meaning (c.compute_server_first_message.ensures.provider i))) (search rules) answers
+    (m.meaning (c.compute_server_first_message.ensures.provider i))) (search rules) answers
     c.challenge.ensures)
 
 pub returns-clause-ok : goal.returns-clause-ok
@@ -29,7 +29,7 @@ returns-clause-ok g c =
     (state_in c.args.self.now) (state_in c.compute_server_first_message.new.self) c.args.nonce.now
     c.args.init.mechanism c.in-Some.client_first.0.items (option_map string_bytes c.args.init.hostname)
     c.in-Err.kind c.refusal.result (λ i. serving (c.compute_server_first_message.ensures.unbound i)
-        (m.meaning (c.compute_server_first_message.ensures.provider i)))
+    (m.meaning (c.compute_server_first_message.ensures.provider i)))
     (search rules) answers c.refusal.ensures.auth)
 
 pub returns-clause-memory : goal.returns-clause-memory

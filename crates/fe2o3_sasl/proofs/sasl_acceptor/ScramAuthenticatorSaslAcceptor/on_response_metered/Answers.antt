@@ -1,4 +1,4 @@
-use Rattle.std.proofs.Common.{◌≡◌, ap, Ok, Err, ℕ}
+use Rattle.std.proofs.Common.{◌≡◌, Ok, Err, ℕ}
 use Rattle.std.specs.Prelude.{⊤, option_map, Vec}
 use Rattle.std.specs.declared.alloc.Global.{Global}
 use Rattle.fe2o3_scram.specs.Credentials.{serving}
@@ -18,7 +18,7 @@ returns-in-Ok-clause-ok g c =
     (state_in c.compute_server_final_message_metered.new.self) nonce _
     (Ok (option_map (λ message. message.items) c.in-Ok.answer)) (sent_frame c.conclusion.result)
     (λ i. serving (c.compute_server_final_message_metered.ensures.unbound i)
-        (m.meaning (c.compute_server_final_message_metered.ensures.provider i))) answers c.conclusion.ensures
+    (m.meaning (c.compute_server_final_message_metered.ensures.provider i))) answers c.conclusion.ensures
 
 pub returns-clause-ok : goal.returns-clause-ok
 returns-clause-ok g c =
@@ -29,7 +29,7 @@ returns-clause-ok g c =
     (state_in c.args.self.now) (state_in c.compute_server_final_message_metered.new.self) _ c.in-Err.kind
     c.refusal.result
     (λ i. serving (c.compute_server_final_message_metered.ensures.unbound i)
-        (m.meaning (c.compute_server_final_message_metered.ensures.provider i))) answers c.refusal.ensures.auth
+    (m.meaning (c.compute_server_final_message_metered.ensures.provider i))) answers c.refusal.ensures.auth
 
 pub returns-clause-memory : goal.returns-clause-memory
 returns-clause-memory g c =

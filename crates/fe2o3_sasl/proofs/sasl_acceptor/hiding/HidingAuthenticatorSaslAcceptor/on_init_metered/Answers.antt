@@ -1,5 +1,5 @@
-use Rattle.std.proofs.Common.{◌≡◌, rules, ap, subst, Ok, Err, ℕ, List, Option}
-use Rattle.std.specs.Prelude.{⊤, option_map, string_bytes, Vec}
+use Rattle.std.proofs.Common.{◌≡◌, rules, subst, Ok, Err, ℕ, List, Option}
+use Rattle.std.specs.Prelude.{option_map, string_bytes, Vec}
 use Rattle.std.specs.declared.alloc.Global.{Global}
 use Rattle.fe2o3_scram.specs.Credentials.{serving}
 use Rattle.fe2o3_scram.specs.HidingServer.{HidingCosts, hiding_name, hiding_server}
@@ -17,7 +17,7 @@ returns-in-Ok-clause-ok g c =
     c.in-Some.client_first.0.items (option_map string_bytes c.args.init.hostname)
     (hiding_server m.meaning c.compute_server_first_message_metered.new.self)
     (λ i. serving (c.compute_server_first_message_metered.ensures.unbound i)
-        (m.meaning (c.compute_server_first_message_metered.ensures.provider i)))
+    (m.meaning (c.compute_server_first_message_metered.ensures.provider i)))
     c.compute_server_first_message_metered.ensures.nobody (search rules)
     (Ok ((option_map (λ (message : Vec ℕ Global). message.items)) c.in-Ok.answer)) (sent_frame c.challenge.result)
     answers c.challenge.ensures)
@@ -30,7 +30,7 @@ returns-clause-ok g c =
     c.in-Some.client_first.0.items (option_map string_bytes c.args.init.hostname)
     (hiding_server m.meaning c.compute_server_first_message_metered.new.self)
     (λ i. serving (c.compute_server_first_message_metered.ensures.unbound i)
-        (m.meaning (c.compute_server_first_message_metered.ensures.provider i)))
+    (m.meaning (c.compute_server_first_message_metered.ensures.provider i)))
     c.compute_server_first_message_metered.ensures.nobody (search rules)
     (λ name. ReachesChallenge (hiding_name (hiding_server m.meaning c.args.self.now) name)
     c.in-Some.client_first.0.items)
@@ -45,7 +45,7 @@ returns-clause-memory g c =
     c.in-Some.client_first.0.items (option_map string_bytes c.args.init.hostname)
     (hiding_server m.meaning c.compute_server_first_message_metered.new.self)
     (λ i. serving (c.compute_server_first_message_metered.ensures.unbound i)
-        (m.meaning (c.compute_server_first_message_metered.ensures.provider i)))
+    (m.meaning (c.compute_server_first_message_metered.ensures.provider i)))
     c.compute_server_first_message_metered.ensures.nobody (search rules)
     (option_map (λ (message : Vec ℕ Global). message.items)) c.in-Err.kind c.refusal.result answers
     c.refusal.ensures.memory)
@@ -58,7 +58,7 @@ returns-in-Ok-clause-cost g c =
     c.in-Some.client_first.0.items (option_map string_bytes c.args.init.hostname)
     (hiding_server m.meaning c.compute_server_first_message_metered.new.self)
     (λ i. serving (c.compute_server_first_message_metered.ensures.unbound i)
-        (m.meaning (c.compute_server_first_message_metered.ensures.provider i)))
+    (m.meaning (c.compute_server_first_message_metered.ensures.provider i)))
     c.compute_server_first_message_metered.ensures.nobody (search rules)
     ((option_map (λ (message : Vec ℕ Global). message.items)) c.in-Ok.answer) c.args.meter.now _ answers
     c.in-Ok.ensures.cost)
@@ -71,11 +71,11 @@ returns-clause-cost g c =
     c.in-Some.client_first.0.items (option_map string_bytes c.args.init.hostname)
     (hiding_server m.meaning c.compute_server_first_message_metered.new.self)
     (λ i. serving (c.compute_server_first_message_metered.ensures.unbound i)
-        (m.meaning (c.compute_server_first_message_metered.ensures.provider i)))
+    (m.meaning (c.compute_server_first_message_metered.ensures.provider i)))
     c.compute_server_first_message_metered.ensures.nobody (search rules)
     (Option (Vec ℕ Global)) c.in-Err.kind c.args.meter.now _
     (subst (λ (text : List ℕ). HidingCosts {A = Option (Vec ℕ Global)} c.args.self.now.unbound text
-        (Err c.in-Err.kind) c.args.meter.now
+    (Err c.in-Err.kind) c.args.meter.now
     c.compute_server_first_message_metered.new.meter) c.deref.ensures.value c.in-Err.ensures.cost))
 
 pub returns-in-Ok-clause-exactly : goal.returns-in-Ok-clause-exactly
@@ -87,7 +87,7 @@ returns-in-Ok-clause-exactly g c =
     c.in-Some.client_first.0.items (option_map string_bytes c.args.init.hostname)
     (hiding_server m.meaning c.compute_server_first_message_metered.new.self)
     (λ i. serving (c.compute_server_first_message_metered.ensures.unbound i)
-        (m.meaning (c.compute_server_first_message_metered.ensures.provider i)))
+    (m.meaning (c.compute_server_first_message_metered.ensures.provider i)))
     c.compute_server_first_message_metered.ensures.nobody (search rules)
     ((option_map (λ (message : Vec ℕ Global). message.items)) c.in-Ok.answer) c.args.meter.now _ n answers
     c.in-Ok.ensures.cost takes)
@@ -100,7 +100,7 @@ returns-clause-exactly g c =
     c.in-Some.client_first.0.items (option_map string_bytes c.args.init.hostname)
     (hiding_server m.meaning c.compute_server_first_message_metered.new.self)
     (λ i. serving (c.compute_server_first_message_metered.ensures.unbound i)
-        (m.meaning (c.compute_server_first_message_metered.ensures.provider i)))
+    (m.meaning (c.compute_server_first_message_metered.ensures.provider i)))
     c.compute_server_first_message_metered.ensures.nobody (search rules)
     (Option (Vec ℕ Global)) (Option (Vec ℕ Global))
     (λ name. ReachesChallenge (hiding_name (hiding_server m.meaning c.args.self.now) name)
@@ -108,7 +108,7 @@ returns-clause-exactly g c =
     (λ frame. sent_frame frame ≡ ends_with Auth) (option_map (λ (message : Vec ℕ Global). message.items))
     c.in-Err.kind c.refusal.result c.args.meter.now _ answers
     (subst (λ (text : List ℕ). HidingCosts {A = Option (Vec ℕ Global)} c.args.self.now.unbound text
-        (Err c.in-Err.kind) c.args.meter.now
+    (Err c.in-Err.kind) c.args.meter.now
     c.compute_server_first_message_metered.new.meter) c.deref.ensures.value c.in-Err.ensures.cost)
     c.refusal.ensures.auth)
 

@@ -1,4 +1,4 @@
-use Rattle.std.proofs.Common.{◌≡◌, ap, Ok, Err, ℕ, Option}
+use Rattle.std.proofs.Common.{◌≡◌, Ok, Err, ℕ}
 use Rattle.std.specs.Prelude.{⊤, option_map, Vec}
 use Rattle.std.specs.declared.alloc.Global.{Global}
 use Rattle.fe2o3_scram.specs.Credentials.{serving}
@@ -16,7 +16,7 @@ returns-in-Ok-clause-ok g c =
     λ nonce. final_answered (hiding_server m.meaning c.args.self.now)
     (hiding_server m.meaning c.compute_server_final_message_metered.new.self) c.args.response.response.0.items
     (λ i. serving (c.compute_server_final_message_metered.ensures.unbound i)
-        (m.meaning (c.compute_server_final_message_metered.ensures.provider i)))
+    (m.meaning (c.compute_server_final_message_metered.ensures.provider i)))
     c.compute_server_final_message_metered.ensures.nobody nonce
     (Ok ((option_map (λ (message : Vec ℕ Global). message.items)) c.in-Ok.answer)) (sent_frame c.conclusion.result)
     answers c.conclusion.ensures
@@ -28,7 +28,7 @@ returns-clause-ok g c =
     final_refused (hiding_server m.meaning c.args.self.now)
     (hiding_server m.meaning c.compute_server_final_message_metered.new.self) c.args.response.response.0.items
     (λ i. serving (c.compute_server_final_message_metered.ensures.unbound i)
-        (m.meaning (c.compute_server_final_message_metered.ensures.provider i)))
+    (m.meaning (c.compute_server_final_message_metered.ensures.provider i)))
     c.compute_server_final_message_metered.ensures.nobody (λ name. ReachesBase64In c.args.self.now.state
     (hiding_name (hiding_server m.meaning c.args.self.now) name) c.args.response.response.0.items)
     sent_frame (option_map (λ (message : Vec ℕ Global). message.items)) c.in-Err.kind c.refusal.result answers
@@ -41,7 +41,7 @@ returns-clause-memory g c =
     final_wants (hiding_server m.meaning c.args.self.now)
     (hiding_server m.meaning c.compute_server_final_message_metered.new.self) c.args.response.response.0.items
     (λ i. serving (c.compute_server_final_message_metered.ensures.unbound i)
-        (m.meaning (c.compute_server_final_message_metered.ensures.provider i)))
+    (m.meaning (c.compute_server_final_message_metered.ensures.provider i)))
     c.compute_server_final_message_metered.ensures.nobody
     (option_map (λ (message : Vec ℕ Global). message.items)) c.in-Err.kind c.refusal.result answers
     c.refusal.ensures.memory
@@ -53,7 +53,7 @@ returns-in-Ok-clause-cost g c =
     final_costs (hiding_server m.meaning c.args.self.now)
     (hiding_server m.meaning c.compute_server_final_message_metered.new.self) c.args.response.response.0.items
     (λ i. serving (c.compute_server_final_message_metered.ensures.unbound i)
-        (m.meaning (c.compute_server_final_message_metered.ensures.provider i)))
+    (m.meaning (c.compute_server_final_message_metered.ensures.provider i)))
     c.compute_server_final_message_metered.ensures.nobody (λ name. ReachesBase64In c.args.self.now.state
     (hiding_name (hiding_server m.meaning c.args.self.now) name) c.args.response.response.0.items)
     (option_map (λ (message : Vec ℕ Global). message.items)) (Ok c.in-Ok.answer) c.args.meter.now _ answers
@@ -66,7 +66,7 @@ returns-clause-cost g c =
     final_costs (hiding_server m.meaning c.args.self.now)
     (hiding_server m.meaning c.compute_server_final_message_metered.new.self) c.args.response.response.0.items
     (λ i. serving (c.compute_server_final_message_metered.ensures.unbound i)
-        (m.meaning (c.compute_server_final_message_metered.ensures.provider i)))
+    (m.meaning (c.compute_server_final_message_metered.ensures.provider i)))
     c.compute_server_final_message_metered.ensures.nobody (λ name. ReachesBase64In c.args.self.now.state
     (hiding_name (hiding_server m.meaning c.args.self.now) name) c.args.response.response.0.items)
     (option_map (λ (message : Vec ℕ Global). message.items)) (Err c.in-Err.kind) c.args.meter.now _ answers
@@ -79,7 +79,7 @@ returns-in-Ok-clause-exactly g c =
     final_answer_costs (hiding_server m.meaning c.args.self.now)
     (hiding_server m.meaning c.compute_server_final_message_metered.new.self) c.args.response.response.0.items
     (λ i. serving (c.compute_server_final_message_metered.ensures.unbound i)
-        (m.meaning (c.compute_server_final_message_metered.ensures.provider i)))
+    (m.meaning (c.compute_server_final_message_metered.ensures.provider i)))
     c.compute_server_final_message_metered.ensures.nobody {E = ⊤} (λ name. ReachesBase64In c.args.self.now.state
     (hiding_name (hiding_server m.meaning c.args.self.now) name) c.args.response.response.0.items)
     (option_map (λ (message : Vec ℕ Global). message.items)) c.in-Ok.answer (Ok c.conclusion.result) c.args.meter.now
@@ -93,7 +93,7 @@ returns-clause-exactly g c =
     final_refusal_costs (hiding_server m.meaning c.args.self.now)
     (hiding_server m.meaning c.compute_server_final_message_metered.new.self) c.args.response.response.0.items
     (λ i. serving (c.compute_server_final_message_metered.ensures.unbound i)
-        (m.meaning (c.compute_server_final_message_metered.ensures.provider i)))
+    (m.meaning (c.compute_server_final_message_metered.ensures.provider i)))
     c.compute_server_final_message_metered.ensures.nobody (λ name. ReachesBase64In c.args.self.now.state
     (hiding_name (hiding_server m.meaning c.args.self.now) name) c.args.response.response.0.items)
     (λ frame. sent_frame frame ≡ ends_with Auth) (option_map (λ (message : Vec ℕ Global). message.items))

@@ -38,7 +38,7 @@ pub returns : goal.returns
 returns c =
     let same = c.in-Ok.ensures.cases.0 in
     text_answered c.args.header c.args.client_server_nonce.now c.args.text.now c.in-Ok.ensures.cases.1
-        client_final_values
+    client_final_values
     c.read_proof.result (rw same at c.in_ok-test_binding.ensures.tested) (rw same at c.in_ok-test_nonce.ensures.tested)
     (rw same at c.in_ok-test_binding.ensures.bound) (rw same at c.in_ok-test_nonce.ensures.same)
     (rw same at c.read_proof.ensures.tested) (rw same at c.read_proof.ensures.named)

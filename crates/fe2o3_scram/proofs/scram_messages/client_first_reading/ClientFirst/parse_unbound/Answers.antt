@@ -7,8 +7,11 @@ use Rattle.fe2o3_scram.proofs.lemmas.messages.ClientFirstLemmas.{not_utf8, no_he
 use Rattle.fe2o3_scram.proofs.scram_messages.client_first_reading.ClientFirst.parse_unbound.Goals as goal
 
 pub returns-in_default-clause-answer : goal.returns-in_default-clause-answer
-returns-in_default-clause-answer c = (search rules, λ _. not_utf8 c.args.accepts_unbound c.args.text.now
-    c.in_default.ensures.cases.0)
+returns-in_default-clause-answer c = (
+  search rules,
+  λ _. not_utf8 c.args.accepts_unbound c.args.text.now
+      c.in_default.ensures.cases.0,
+)
 
 pub returns-in_default-cut_header-clause-answer : goal.returns-in_default-cut_header-clause-answer
 returns-in_default-cut_header-clause-answer c = (
@@ -22,7 +25,7 @@ returns-in_default-attribute-clause-answer c = (
   search rules,
   λ _. no_name c.args.accepts_unbound c.in-Some.header c.args.text.now c.in-Some.client_first_message_bare.now
       c.in-Ok.ensures.cases.1 c.in-Some.ensures.0 (sym c.in-Ok.ensures.cases.0 ∙ c.in-Some.ensures.1)
-          c.in_default-attribute.ensures,
+      c.in_default-attribute.ensures,
 )
 
 pub returns-in-Err-Invalid-clause-answer : goal.returns-in-Err-Invalid-clause-answer
@@ -30,7 +33,7 @@ returns-in-Err-Invalid-clause-answer c = (
   search rules,
   λ _. bad_name c.args.accepts_unbound c.in-Some.header c.args.text.now c.in-Some.client_first_message_bare.now
       c.in-Ok.ensures.cases.1 c.in-Some.ensures.0 (sym c.in-Ok.ensures.cases.0 ∙ c.in-Some.ensures.1)
-          c.in-Some-attribute.escaped.now c.in-Some-attribute.ensures
+      c.in-Some-attribute.escaped.now c.in-Some-attribute.ensures
       (invalid_name c.in-Err-Invalid.field-0 _ _ c.in-Err-Invalid.field-0-is c.in-Err-Invalid.ensures.err),
 )
 
@@ -39,7 +42,7 @@ returns-in_default-attribute-2-clause-answer c = (
   search rules,
   λ _. no_nonce c.args.accepts_unbound c.in-Some.header c.args.text.now c.in-Some.client_first_message_bare.now
       c.in-Ok.ensures.cases.1 c.in-Some.ensures.0 (sym c.in-Ok.ensures.cases.0 ∙ c.in-Some.ensures.1)
-          c.in-Some-attribute.escaped.now
+      c.in-Some-attribute.escaped.now
       (cow_str_bytes c.in-Ok-unescape_username.username)
       c.in-Some-attribute.ensures c.in-Ok-unescape_username.ensures.ok c.in_default-attribute-2.ensures,
 )
@@ -48,7 +51,7 @@ pub returns-clause-answer : goal.returns-clause-answer
 returns-clause-answer c =
     named c.args.accepts_unbound c.in-Some.header c.args.text.now c.in-Some.client_first_message_bare.now
     c.in-Ok.ensures.cases.1 c.in-Some.ensures.0 (sym c.in-Ok.ensures.cases.0 ∙ c.in-Some.ensures.1)
-        c.in-Some-attribute.escaped.now
+    c.in-Some-attribute.escaped.now
     (cow_str_bytes c.in-Ok-unescape_username.username)
     c.in-Some-attribute-2.client_nonce.now c.in-Some-attribute.ensures c.in-Ok-unescape_username.ensures.ok
     c.in-Some-attribute-2.ensures

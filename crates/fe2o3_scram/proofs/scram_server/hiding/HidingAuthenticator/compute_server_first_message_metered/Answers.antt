@@ -109,7 +109,7 @@ invariant_of-self g c =
     let kept : (provider_in c.compute_server_first_message.new.self).made_up
     ≡ Some (record { version = nobody.version; records = (user, nobody_record nobody user) ∷ [] }) = search rules in
     keeps_made_up c.self.inside.authenticator.accepts_unbound
-        (g.C.ScramCredentialProvider.meaning c.self.inside.authenticator.credentials.credentials) nobody
+    (g.C.ScramCredentialProvider.meaning c.self.inside.authenticator.credentials.credentials) nobody
     c.replace-before.new.dest _
     (state_in c.self.inside.authenticator) (state_in c.compute_server_first_message.new.self) c.args.nonce.now
     c.args.client_first_message.now (client_first_values c.in_ok-client_first.client_first) _
@@ -131,7 +131,7 @@ invariant_of-self-in-Ok-2 g c =
     let kept : (provider_in c.compute_server_first_message.new.self).made_up
     ≡ Some (record { version = nobody.version; records = (user, nobody_record nobody user) ∷ [] }) = search rules in
     keeps_made_up c.self.inside.authenticator.accepts_unbound
-        (g.C.ScramCredentialProvider.meaning c.self.inside.authenticator.credentials.credentials) nobody
+    (g.C.ScramCredentialProvider.meaning c.self.inside.authenticator.credentials.credentials) nobody
     c.replace-before.new.dest _
     (state_in c.self.inside.authenticator) (state_in c.compute_server_first_message.new.self) c.args.nonce.now
     c.args.client_first_message.now (client_first_values c.in_ok-client_first.client_first) _

@@ -1,0 +1,17 @@
+use Rattle.fe2o3_sasl_negotiation.specs.Sides.{client_side, hostname_in}
+use Rattle.sasl_c.proofs.SaslClientLemmas.{behind_all}
+use Rattle.sasl_c.proofs.sasl_client.taken.Goals as goal
+
+pub returns-in_default-clause-err : goal.returns-in_default-clause-err
+returns-in_default-clause-err c = λ _ login before is wanting.
+    let all = behind_all login before (hostname_in c.args.side.now) (client_side c.args.side.now)
+    (client_side c.receive.new.self) c.args.bytes.now c.args.nonce.now c.new-sent.result.items c.receive.new.out.items
+    c.in_ok-received.received.taken is wanting c.new-sent.ensures.items c.in_ok-received.ensures.ok in
+    absurd (c.in_default.ensures login all.1 all.2 all.3)
+
+pub returns-clause-ok : goal.returns-clause-ok
+returns-clause-ok c = λ login before is wanting.
+    let all = behind_all login before (hostname_in c.args.side.now) (client_side c.args.side.now)
+    (client_side c.receive.new.self) c.args.bytes.now c.args.nonce.now c.new-sent.result.items c.receive.new.out.items
+    c.in_ok-received.received.taken is wanting c.new-sent.ensures.items c.in_ok-received.ensures.ok in
+    (all.0, c.in-Some.ensures login all.1 all.2 all.3, all.4)
