@@ -21,8 +21,12 @@ class Cell:
     login: Optional[Callable[[Side], Ending]] = None
     ends: Ending = Ending("", None)
     reason: str = ""
-    #: Of which user the bytes of a login can be kept as stored vectors, where they can.
+    #: Of which user the bytes of a login can be kept as stored vectors, where they can; the password is as our side has
+    #: it.
     kept: Optional[User] = None
+    #: The word of our side in the rows of such vectors, where it is not `client` or `server`: `prepared` for a client
+    #: with a prepared password, `unbound` for a server that takes `y,,`, `records` for one that has a record alone.
+    kept_as: str = ""
     #: Whether the logins are made at once, since the peer lets each wait.
     at_once: bool = False
 

@@ -1,12 +1,12 @@
 /* A login by libsasl2 over standard input and output, a message a line, as lines.c has it:
  *
- *     cyrus client PLUGINS MECHANISM USER PASSWORD [may | must]
+ *     cyrus client PLUGINS MECHANISM USER PASSWORD [may | choose | must]
  *     cyrus server PLUGINS MECHANISM SASLDB COUNT
  *     cyrus version
  *
  * PLUGINS is a folder of plugins, and SASLDB a file of users in the realm localhost. With a last word the client has a
- * binding of its channel, made up, which it may use, or must. The status is 0 where the login is done; standard error
- * says why it is not. */
+ * binding of its channel, made up, which it may use, or must; with `choose` it may, and has another mechanism to choose
+ * from. The status is 0 where the login is done; standard error says why it is not. */
 #define _POSIX_C_SOURCE 200112L
 #include <sasl/sasl.h>
 #include <sasl/saslutil.h>
@@ -117,14 +117,16 @@ static int run_client(const char *binds)
     const sasl_channel_binding_t binding = {"tls-unique", strcmp(binds, "must") == 0, 4, (const unsigned char *)"made"};
     sasl_conn_t *connection = NULL;
     const char *out = NULL, *mechanism = NULL;
+    char offered[64];
     unsigned len = 0;
     int status = sasl_client_init(of_client);
+    snprintf(offered, sizeof offered, "%s%s", words[3], strcmp(binds, "choose") == 0 ? " SCRAM-SHA-0" : "");
     if (status == SASL_OK)
         status = sasl_client_new("amqp", "localhost", NULL, NULL, of_client, SASL_SUCCESS_DATA, &connection);
     if (status == SASL_OK && *binds != '\0')
         status = sasl_setprop(connection, SASL_CHANNEL_BINDING, &binding);
     if (status == SASL_OK)
-        status = sasl_client_start(connection, words[3], NULL, &out, &len, &mechanism);
+        status = sasl_client_start(connection, offered, NULL, &out, &len, &mechanism);
     if (status == SASL_CONTINUE)
         printf("%s\n", mechanism);
     while (status == SASL_CONTINUE && say(out, len) && hear())

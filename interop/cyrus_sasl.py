@@ -9,12 +9,13 @@ from pathlib import Path
 from typing import Iterator, Optional
 
 from cells import Cell, Peer, none
-from sides import COMMA, PATIENCE, SCRAM, USER, Client, Ending, Side, User, marred
+from sides import COMMA, HARD, PAST, PATIENCE, SCRAM, SOFT, USER, Client, Ending, Side, User, marred
 
 PLUGINS = [Path("/usr/lib/x86_64-linux-gnu/sasl2"), Path("/usr/lib/aarch64-linux-gnu/sasl2"), Path("/usr/lib/sasl2")]
 #: The highest count that its client answers.
 MOST = 65_536
-PAST = User("user", "p\u00e4ss")
+#: Users whose passwords are past ASCII, each of a name of its own.
+PAST_USER, SOFT_USER = PAST._replace(name="past"), SOFT._replace(name="soft")
 
 
 def make_user(file: Path, user: User, records: bool = False, realm: str = "localhost") -> None:
@@ -45,7 +46,7 @@ class CyrusSasl(Peer):
 
     def start(self, folder: Path) -> None:
         self.passwords, self.records = folder / "passwords", folder / "records"
-        for user in (USER, COMMA):
+        for user in (USER, COMMA, PAST_USER, SOFT_USER):
             make_user(self.passwords, user)
         make_user(self.records, USER, records=True)
 
@@ -65,13 +66,15 @@ class CyrusSasl(Peer):
 
         return login
 
-    def serve(self, mechanism: str, user: User, known: User = USER, binds: str = "", mar=None):
+    def serve(
+        self, mechanism: str, user: User, known: User = USER, binds: str = "", mar=None, unbound: bool = False
+    ):
         """A login of a client of libsasl2 to our server, which knows one user."""
         words = ["client", mechanism, user.name, user.password, *([binds] if binds else [])]
 
         def login(side: Side) -> Ending:
             records = {known.name: side.record(mechanism, known)}
-            return side.serve(mechanism, records, lambda channel: self.run(channel, *words), mar)
+            return side.serve(mechanism, records, lambda channel: self.run(channel, *words), mar, unbound)
 
         return login
 
@@ -86,8 +89,11 @@ class CyrusSasl(Peer):
         done, refused = Ending("logged in: Done", True), Ending("not logged in: the other side ended", False)
         of = Client(mechanism)
 
-        def cell(what: str, login, ends: Ending, kept: Optional[User] = None) -> Cell:
-            return Cell("client", mechanism, what, login, ends, kept=kept)
+        def cell(what: str, login, ends: Ending, kept: Optional[User] = None, kept_as: str = "") -> Cell:
+            return Cell("client", mechanism, what, login, ends, kept=kept, kept_as=kept_as)
+
+        def prepared(user: User) -> Client:
+            return of._replace(user=user._replace(prepared=True))
 
         yield cell("a login", self.log_in(of), done)
         yield cell("a name with `,` and `=`", self.log_in(of._replace(user=COMMA)), done,
@@ -110,14 +116,18 @@ class CyrusSasl(Peer):
         yield cell("kept keys, where it has the password", self.log_in(again), Ending(other, False))
         yield cell("its signature, altered on the way", self.log_in(of, mar=marred),
                    Ending("not logged in: Client: Server signature mismatch", False))
-        yield cell("password past ASCII", self.log_in(of._replace(user=PAST)),
+        yield cell("password past ASCII, as it is typed", self.log_in(of._replace(user=PAST_USER)),
                    Ending("not logged in: Client: Error normalizing password", False))
+        yield cell("password past ASCII, prepared", self.log_in(prepared(PAST_USER)), done,
+                   PAST_USER if mechanism == "SCRAM-SHA-512" else None, "prepared")
+        yield cell("password with a soft hyphen, which it does not prepare", self.log_in(prepared(SOFT_USER)), refused)
 
     def our_servers(self, mechanism: str) -> Iterator[Cell]:
         done, refused = Ending("logged in: user", True), Ending("not logged in: Server: Authentication failed", False)
+        no_header = Ending("not logged in: Server: Cannot parse GS2-header", False)
 
-        def cell(what: str, login, ends: Ending, kept: Optional[User] = None) -> Cell:
-            return Cell("server", mechanism, what, login, ends, kept=kept)
+        def cell(what: str, login, ends: Ending, kept: Optional[User] = None, kept_as: str = "") -> Cell:
+            return Cell("server", mechanism, what, login, ends, kept=kept, kept_as=kept_as)
 
         yield cell("a login", self.serve(mechanism, USER), done)
         yield cell("a name with `,` and `=`", self.serve(mechanism, COMMA, COMMA), Ending("logged in: a,b=c", True),
@@ -131,7 +141,21 @@ class CyrusSasl(Peer):
                        Ending("not logged in: the other side ended", False))
         yield cell("our signature, altered on the way", self.serve(mechanism, USER, mar=marred),
                    Ending("logged in: user", False))
+        yield cell("password past ASCII, prepared", self.serve(mechanism, PAST, PAST._replace(prepared=True)), done,
+                   PAST if mechanism == "SCRAM-SHA-512" else None, "records")
+        yield cell("password with a soft hyphen, which it does not prepare",
+                   self.serve(mechanism, SOFT, SOFT._replace(prepared=True)), refused)
+        yield from self.bindings(mechanism, cell, done, no_header)
+
+    def bindings(self, mechanism: str, cell, done: Ending, no_header: Ending) -> Iterator[Cell]:
+        """Clients that have a binding of their channel, at our server, which has none."""
         yield cell("it may bind its channel, and sends `n,,`", self.serve(mechanism, USER, binds="may"), done)
+        yield cell("it may bind its channel and chooses, and sends `y,,`",
+                   self.serve(mechanism, USER, binds="choose", unbound=True), done,
+                   USER if mechanism == "SCRAM-SHA-512" else None, "unbound")
+        yield cell("it may bind its channel and chooses, and sends `y,,`, which is not taken",
+                   self.serve(mechanism, USER, binds="choose"), no_header)
         yield cell("it has to bind its channel, and sends `p=..,,`", self.serve(mechanism, USER, binds="must"),
-                   Ending("not logged in: Server: Cannot parse GS2-header", False),
-                   USER if mechanism == "SCRAM-SHA-256" else None)
+                   no_header, USER if mechanism == "SCRAM-SHA-256" else None)
+        yield cell("it has to bind its channel, where `y,,` is taken",
+                   self.serve(mechanism, USER, binds="must", unbound=True), no_header)

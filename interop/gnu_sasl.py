@@ -10,7 +10,7 @@ import subprocess
 from typing import Iterator, Optional
 
 from cells import Cell, Peer, none
-from sides import COMMA, PATIENCE, SALT, USER, Client, Ending, Side, User, marred
+from sides import COMMA, HARD, PAST, PATIENCE, SALT, SOFT, USER, Client, Ending, Side, User, marred
 
 MECHANISMS = ("SCRAM-SHA-1", "SCRAM-SHA-256")
 FORGED = "not logged in: Client: Server signature mismatch"
@@ -81,10 +81,12 @@ class GnuSasl(Peer):
     def our_clients(self, mechanism: str) -> Iterator[Cell]:
         kept = COMMA if mechanism == "SCRAM-SHA-256" else None
         done, of = Ending("logged in: Done", True), Client(mechanism)
-        past = User("user", "p\u00e4ss")
 
-        def cell(what: str, login, ends: Ending, kept: Optional[User] = None) -> Cell:
-            return Cell("client", mechanism, what, login, ends, kept=kept)
+        def cell(what: str, login, ends: Ending, kept: Optional[User] = None, kept_as: str = "") -> Cell:
+            return Cell("client", mechanism, what, login, ends, kept=kept, kept_as=kept_as)
+
+        def prepared(user: User) -> Client:
+            return of._replace(user=user._replace(prepared=True))
 
         yield cell("a login", server(of, "pencil"), done)
         yield cell("a name with `,` and `=`", server(of._replace(user=COMMA), COMMA.password), done, kept)
@@ -99,24 +101,33 @@ class GnuSasl(Peer):
                    Ending("logged in: Done; logged in by keys: Done", True))
         yield cell("its signature, altered on the way", server(of, "pencil", mar=marred), Ending(FORGED, False))
         refused = "not logged in: Client: Error normalizing password"
-        yield cell("password past ASCII", server(of._replace(user=past), past.password), Ending(refused, False))
+        yield cell("password past ASCII, as it is typed", server(of._replace(user=PAST), PAST.password),
+                   Ending(refused, False))
+        yield cell("password past ASCII, prepared", server(prepared(PAST), PAST.password), done, PAST, "prepared")
+        yield cell("password with a soft hyphen, prepared", server(prepared(SOFT), HARD.password), done, HARD,
+                   "prepared")
+        yield cell("password with a soft hyphen, which it prepares", server(of._replace(user=HARD), SOFT.password),
+                   done)
 
     def our_servers(self, mechanism: str) -> Iterator[Cell]:
         kept = COMMA if mechanism == "SCRAM-SHA-256" else None
         refused = Ending("not logged in: Server: Authentication failed", False)
-        past = User("user", "p\u00e4ss")
+        done = Ending("logged in: user", True)
 
-        def cell(what: str, login, ends: Ending, kept: Optional[User] = None) -> Cell:
-            return Cell("server", mechanism, what, login, ends, kept=kept)
+        def cell(what: str, login, ends: Ending, kept: Optional[User] = None, kept_as: str = "") -> Cell:
+            return Cell("server", mechanism, what, login, ends, kept=kept, kept_as=kept_as)
 
-        yield cell("a login", client(mechanism, USER, USER), Ending("logged in: user", True))
+        yield cell("a login", client(mechanism, USER, USER), done)
         yield cell("a name with `,` and `=`", client(mechanism, COMMA, COMMA), Ending("logged in: a,b=c", True), kept)
         yield cell("wrong password", client(mechanism, User("user", "pencils"), USER), refused)
         yield cell("unknown user", client(mechanism, User("nobody", "pencil"), USER), refused)
         for count in (1, 100_000):
             known = USER._replace(count=count)
-            yield cell(f"count {count:,}", client(mechanism, USER, known), Ending("logged in: user", True))
+            yield cell(f"count {count:,}", client(mechanism, USER, known), done)
         yield cell("our signature, altered on the way", client(mechanism, USER, USER, mar=marred),
                    Ending("logged in: user", False))
-        yield cell("password past ASCII, of its own record", client(mechanism, past, past, made_by_gsasl),
-                   Ending("logged in: user", True))
+        yield cell("password past ASCII, of its own record", client(mechanism, PAST, PAST, made_by_gsasl), done)
+        yield cell("password past ASCII, prepared", client(mechanism, PAST, PAST._replace(prepared=True)), done, PAST,
+                   "records")
+        yield cell("password with a soft hyphen, prepared", client(mechanism, HARD, SOFT._replace(prepared=True)), done)
+        yield cell("password with a soft hyphen, which it prepares", client(mechanism, SOFT, HARD), done, HARD)

@@ -2,14 +2,16 @@
  * the name of the mechanism and an empty challenge first, the client's side the name, and behind a login each an empty
  * line, the client first.
  *
- *     lines client PORT MECHANISM USER LEAST MOST [again]
- *     lines server USERS MECHANISM LOGINS
- *     lines record MECHANISM SALT COUNT
- *     lines verify RECORD
+ *     lines client PORT MECHANISM USER LEAST MOST [prepared] [again]
+ *     lines server USERS MECHANISM LOGINS [unbound]
+ *     lines record MECHANISM SALT COUNT [prepared]
+ *     lines verify RECORD [prepared]
  *
  * LEAST and MOST bound the iteration count, SALT is in base64, and USERS is a file of users' lines. All but the server
- * take the password from the first line of standard input. With `again` a second login goes by the keys that the first
- * one handed out, without the password. The server prints its port; each login has a line that says how it ended. */
+ * take the password from the first line of standard input; with `prepared` it is what SASLprep prepares that to, for a
+ * record without code points that Unicode 3.2 does not assign. With `again` a second login goes by the keys that the
+ * first one handed out, without the password. With `unbound` the server takes the GS2 header `y,,` too. The server
+ * prints its port; each login has a line that says how it ended. */
 #define _POSIX_C_SOURCE 200112L
 #include "fe2o3_sasl.h"
 
@@ -168,26 +170,40 @@ static uint32_t connected(int channel, const struct fe2o3_login *login, struct f
     return status;
 }
 
-static int run_client(char **words, int again, char *password)
+/* The password as it is typed, or what it is prepared to. */
+static uint32_t read_password(const char *typed, int prepared, uint32_t unassigned, struct text *password)
+{
+    password->len = strlen(typed);
+    memcpy(password->bytes, typed, password->len);
+    if (!prepared)
+        return FE2O3_DONE;
+    return fe2o3_saslprep(
+        (const uint8_t *)typed, strlen(typed), unassigned, password->bytes, sizeof password->bytes, &password->len);
+}
+
+static int run_client(char **words, int prepared, int again, const char *typed)
 {
     struct fe2o3_client_keys keys = {0};
     struct fe2o3_scram_client client = {0};
     struct fe2o3_login login = {0};
-    uint32_t status;
+    struct text password;
+    uint32_t status = read_password(typed, prepared, FE2O3_UNASSIGNED_ALLOWED, &password);
+    login.secret = prepared ? FE2O3_BY_PREPARED : FE2O3_BY_PASSWORD;
     login.version = version_of(words[1]);
     login.least_iterations = (uint32_t)strtoul(words[3], NULL, 10);
     login.most_iterations = (uint32_t)strtoul(words[4], NULL, 10);
     login.username = (const uint8_t *)words[2];
     login.username_len = strlen(words[2]);
-    login.password = (const uint8_t *)password;
-    login.password_len = strlen(password);
+    login.password = password.bytes;
+    login.password_len = password.len;
     login.keys = &keys;
-    status = connected(loopback(words[0], 0), &login, &client);
+    if (status == FE2O3_DONE)
+        status = connected(loopback(words[0], 0), &login, &client);
     told(status == FE2O3_DONE ? "logged in" : "not logged in", status);
     if (status != FE2O3_DONE || !again)
         return status != FE2O3_DONE;
     status = fe2o3_scram_client_keys(&client, &keys);
-    login.secret = 1;
+    login.secret = FE2O3_BY_KEYS;
     login.password_len = 0;
     if (status == FE2O3_DONE)
         status = connected(loopback(words[0], 0), &login, &client);
@@ -197,6 +213,7 @@ static int run_client(char **words, int again, char *password)
 
 static uint8_t users[65536], secret[32];
 static size_t users_len;
+static int takes_unbound;
 
 /* The record of a name: that of its line, or one that is made up, so that nobody learns which names there are. */
 static void fetch(const struct text *name, uint32_t version, struct fe2o3_scram_record *record)
@@ -221,7 +238,7 @@ static uint32_t serve(FILE *in, FILE *out, const char *mechanism, struct fe2o3_s
     if (status != FE2O3_DONE)
         return status;
     fetch(&name, version_of(mechanism), &record);
-    status = fe2o3_scram_server_first(
+    status = (takes_unbound ? fe2o3_scram_server_first_unbound : fe2o3_scram_server_first)(
         &record, server, nonce, message.bytes, message.len, answer.bytes, sizeof answer.bytes, &answer.len);
     if (status != FE2O3_DONE)
         return status;
@@ -277,14 +294,17 @@ static int run_server(char **words)
     return 0;
 }
 
-static int run_record(char **words, const char *password)
+static int run_record(char **words, int prepared, const char *typed)
 {
     struct fe2o3_scram_record record = {0};
-    struct text salt, out;
-    uint32_t count = (uint32_t)strtoul(words[2], NULL, 10), status = FE2O3_RECORD_BASE64_DECODE_ERROR;
-    if (read_base64(words[1], &salt))
-        status = fe2o3_scram_record_make(version_of(words[0]), (const uint8_t *)password, strlen(password), salt.bytes,
-            salt.len, count, &record);
+    struct text salt, password, out;
+    uint32_t count = (uint32_t)strtoul(words[2], NULL, 10);
+    uint32_t status = read_password(typed, prepared, FE2O3_UNASSIGNED_REFUSED, &password);
+    if (!read_base64(words[1], &salt))
+        status = FE2O3_RECORD_BASE64_DECODE_ERROR;
+    if (status == FE2O3_DONE)
+        status = (prepared ? fe2o3_scram_record_make_prepared : fe2o3_scram_record_make)(
+            version_of(words[0]), password.bytes, password.len, salt.bytes, salt.len, count, &record);
     if (status == FE2O3_DONE)
         status = fe2o3_scram_record_text(&record, out.bytes, sizeof out.bytes, &out.len);
     if (status == FE2O3_DONE)
@@ -294,12 +314,16 @@ static int run_record(char **words, const char *password)
     return status != FE2O3_DONE;
 }
 
-static int run_verify(const char *text, const char *password)
+static int run_verify(const char *text, int prepared, const char *typed)
 {
     struct fe2o3_scram_record record = {0};
-    uint32_t status = fe2o3_scram_record_parse((const uint8_t *)text, strlen(text), &record);
+    struct text password;
+    uint32_t status = read_password(typed, prepared, FE2O3_UNASSIGNED_ALLOWED, &password);
     if (status == FE2O3_DONE)
-        status = fe2o3_scram_record_verify(&record, (const uint8_t *)password, strlen(password));
+        status = fe2o3_scram_record_parse((const uint8_t *)text, strlen(text), &record);
+    if (status == FE2O3_DONE)
+        status = (prepared ? fe2o3_scram_record_verify_prepared : fe2o3_scram_record_verify)(
+            &record, password.bytes, password.len);
     told(status == FE2O3_DONE ? "verified" : "not verified", status);
     return status != FE2O3_DONE;
 }
@@ -307,17 +331,22 @@ static int run_verify(const char *text, const char *password)
 int main(int count, char **words)
 {
     char password[1024] = "";
-    const char *what = count > 1 ? words[1] : "";
+    const char *what = count > 1 ? words[1] : "", *last = words[count - 1];
+    int again = strcmp(what, "client") == 0 && strcmp(last, "again") == 0, prepared;
+    count -= again;
+    prepared = strcmp(words[count - 1], "prepared") == 0;
+    takes_unbound = strcmp(last, "unbound") == 0;
+    count -= prepared + takes_unbound;
     signal(SIGPIPE, SIG_IGN);
     if (strcmp(what, "server") == 0 && count == 5 && version_of(words[3]) != 0)
         return run_server(words + 2);
     if (!read_line(stdin, password, sizeof password))
         return 2;
-    if (strcmp(what, "client") == 0 && count >= 7 && version_of(words[3]) != 0)
-        return run_client(words + 2, count == 8, password);
+    if (strcmp(what, "client") == 0 && count == 7 && version_of(words[3]) != 0)
+        return run_client(words + 2, prepared, again, password);
     if (strcmp(what, "record") == 0 && count == 5)
-        return run_record(words + 2, password);
+        return run_record(words + 2, prepared, password);
     if (strcmp(what, "verify") == 0 && count == 3)
-        return run_verify(words[2], password);
+        return run_verify(words[2], prepared, password);
     return 2;
 }

@@ -17,8 +17,8 @@ from typing import Iterator, Optional
 
 from cells import Cell, Peer, certificate, none
 from sides import (
-    COMMA, PATIENCE, USER, Client, Ending, Side, User, dialled, ended_after, free_port, listening, marred,
-    unprivileged,
+    COMMA, HARD, PAST, PATIENCE, SOFT, USER, Client, Ending, Side, User, dialled, ended_after, free_port, listening,
+    marred, prepared, unprivileged,
 )
 
 MECHANISM = "SCRAM-SHA-256"
@@ -27,7 +27,6 @@ SASL, SASL_CONTINUE, SASL_FINAL, OK = 10, 11, 12, 0
 FORGED = "not logged in: Client: Server signature mismatch"
 #: The header of a client that could bind its channel, to a server that seems not to; and of one that could not.
 BINDS_NOT, CANNOT_BIND = b"y,,", b"n,,"
-PAST = User("user", "p\u00e4ss")
 
 
 class Ended(Exception):
@@ -256,7 +255,9 @@ class PostgreSql(Peer):
 
         return login
 
-    def serve(self, user: User, known: User, tls: bytes = b"", of_server: bool = False, mar=None):
+    def serve(
+        self, user: User, known: User, tls: bytes = b"", of_server: bool = False, mar=None, unbound: bool = False
+    ):
         """A login of `psql` to our server, which knows one user: under no name, since libpq sends none in SCRAM.
         Under TLS, where there is a header that it is to send there."""
         context = ssl.SSLContext(ssl.PROTOCOL_TLS_SERVER)
@@ -265,7 +266,7 @@ class PostgreSql(Peer):
         def login(side: Side) -> Ending:
             record = self.made(known) if of_server else side.record(MECHANISM, known)
             words = (user, context if tls else None, tls or CANNOT_BIND)
-            return side.serve(MECHANISM, {"": record}, lambda channel: from_psql(channel, *words), mar)
+            return side.serve(MECHANISM, {"": record}, lambda channel: from_psql(channel, *words), mar, unbound)
 
         return login
 
@@ -274,20 +275,27 @@ class PostgreSql(Peer):
         self.role(user.name, user.password)
         return self.sql(f"select rolpassword from pg_authid where rolname = '{user.name}'")
 
-    def read(self, typed: str):
-        """A record of the server's, and a password that is typed."""
-        return lambda side: Ending(side.said(["verify", self.made(USER)], typed), None)
+    def read(self, user: User, typed: User):
+        """A record that the server made for a user, and a password that is typed."""
+        return lambda side: Ending(side.said(["verify", self.made(user), *prepared(typed)], typed.password), None)
 
-    def written(self, side: Side) -> Ending:
-        """A record of ours, which the server is given."""
-        record = side.record(MECHANISM, USER)
-        self.role(USER.name, record)
-        with ended_after(psql(self.port, USER.name, USER.password)) as client:
-            return Ending(record.partition(":")[0], client.wait(PATIENCE) == 0)
+    def written(self, known: User, typed: User):
+        """A record of ours, which the server is given, and a login of `psql`."""
+
+        def login(side: Side) -> Ending:
+            record = side.record(MECHANISM, known)
+            self.role(known.name, record)
+            with ended_after(psql(self.port, typed.name, typed.password)) as client:
+                return Ending(record.partition(":")[0], client.wait(PATIENCE) == 0)
+
+        return login
 
     def cells(self) -> Iterator[Cell]:
         yield from self.our_clients()
+        yield from self.prepared_at_server()
         yield from self.our_servers()
+        yield from self.prepared_at_ours()
+        yield from self.records()
         for ours in ("client", "server"):
             yield none(ours, "SCRAM-SHA-1, SCRAM-SHA-512", "a login", "it has SCRAM-SHA-256 alone")
             yield none(ours, "PLAIN, ANONYMOUS, EXTERNAL", "a login", "it has none of them by SASL")
@@ -313,14 +321,26 @@ class PostgreSql(Peer):
         yield cell("kept keys", self.log_in(of._replace(again=True), "pencil"),
                    Ending("logged in: Done; logged in by keys: Done", True))
         yield cell("its signature, altered on the way", self.log_in(of, "pencil", mar=marred), Ending(FORGED, False))
-        yield cell("password past ASCII", self.log_in(of._replace(user=PAST), PAST.password),
+        yield cell("password past ASCII, as it is typed", self.log_in(of._replace(user=PAST), PAST.password),
                    Ending("not logged in: Client: Error normalizing password", False))
+
+    def prepared_at_server(self) -> Iterator[Cell]:
+        """Logins of our client by passwords that are prepared, here or there."""
+
+        def cell(what: str, user: User, password: str, kept: Optional[User]) -> Cell:
+            login = self.log_in(Client(MECHANISM, user), password)
+            return Cell("client", MECHANISM, what, login, Ending("logged in: Done", True), kept=kept,
+                        kept_as="prepared" if user.prepared else "")
+
+        yield cell("password past ASCII, prepared", PAST._replace(prepared=True), PAST.password, PAST)
+        yield cell("password with a soft hyphen, prepared", SOFT._replace(prepared=True), HARD.password, HARD)
+        yield cell("password with a soft hyphen, which it prepares", HARD, SOFT.password, None)
 
     def our_servers(self) -> Iterator[Cell]:
         done, refused = Ending("logged in:", True), Ending("not logged in: Server: Authentication failed", False)
 
-        def cell(what: str, login, ends: Ending, kept: Optional[User] = None) -> Cell:
-            return Cell("server", MECHANISM, what, login, ends, kept=kept)
+        def cell(what: str, login, ends: Ending, kept: Optional[User] = None, kept_as: str = "") -> Cell:
+            return Cell("server", MECHANISM, what, login, ends, kept=kept, kept_as=kept_as)
 
         yield cell("a login", self.serve(USER, USER), done)
         yield none("server", MECHANISM, "a name with `,` and `=`", "libpq sends no name in SCRAM")
@@ -329,12 +349,41 @@ class PostgreSql(Peer):
         for count in (1, 100_000):
             yield cell(f"count {count:,}", self.serve(USER, USER._replace(count=count)), done)
         yield cell("our signature, altered on the way", self.serve(USER, USER, mar=marred), Ending("logged in:", False))
-        yield cell("password past ASCII, of its own record", self.serve(PAST, PAST, of_server=True), done)
         yield cell("under TLS, where it sends `n,,`", self.serve(USER, USER, tls=CANNOT_BIND), done)
-        yield cell("under TLS, where it sends `y,,`", self.serve(USER, USER, tls=BINDS_NOT),
+        yield cell("under TLS, where it sends `y,,`", self.serve(USER, USER, tls=BINDS_NOT, unbound=True), done,
+                   User("", USER.password), "unbound")
+        yield cell("under TLS, where it sends `y,,`, which is not taken", self.serve(USER, USER, tls=BINDS_NOT),
                    Ending("not logged in: Server: Cannot parse GS2-header", False), User("", USER.password))
-        yield cell("`rolpassword` read, the password", self.read(USER.password), Ending("verified: Done", None))
-        yield cell("`rolpassword` read, another password", self.read("pencils"),
-                   Ending("not verified: The password is not that of the record", None))
-        yield cell("`rolpassword` written, and a login of `psql`", self.written,
-                   Ending(f"{MECHANISM}$4096", True))
+        yield cell("`n,,`, where `y,,` is taken", self.serve(USER, USER, unbound=True), done)
+
+    def prepared_at_ours(self) -> Iterator[Cell]:
+        """Logins at our server by passwords that are prepared, here or there."""
+
+        def cell(what: str, login, kept: Optional[User] = None, kept_as: str = "") -> Cell:
+            return Cell("server", MECHANISM, what, login, Ending("logged in:", True), kept=kept, kept_as=kept_as)
+
+        yield cell("password past ASCII, of its own record", self.serve(PAST, PAST, of_server=True))
+        yield cell("password past ASCII, prepared", self.serve(PAST, PAST._replace(prepared=True)),
+                   User("", PAST.password), "records")
+        yield cell("password with a soft hyphen, prepared", self.serve(HARD, SOFT._replace(prepared=True)))
+        yield cell("password with a soft hyphen, which it prepares", self.serve(SOFT, HARD), User("", HARD.password))
+
+    def records(self) -> Iterator[Cell]:
+        """The texts of records, both ways."""
+        verified, written = Ending("verified: Done", None), Ending(f"{MECHANISM}$4096", True)
+        other = Ending("not verified: The password is not that of the record", None)
+
+        def cell(what: str, login, ends: Ending) -> Cell:
+            return Cell("server", MECHANISM, what, login, ends)
+
+        yield cell("`rolpassword` read, the password", self.read(USER, USER), verified)
+        yield cell("`rolpassword` read, another password", self.read(USER, User("user", "pencils")), other)
+        yield cell("`rolpassword` read, past ASCII, prepared", self.read(PAST, PAST._replace(prepared=True)), verified)
+        yield cell("`rolpassword` read, past ASCII, as it is typed", self.read(PAST, PAST), other)
+        yield cell("`rolpassword` read, a soft hyphen, prepared", self.read(SOFT, SOFT._replace(prepared=True)),
+                   verified)
+        yield cell("`rolpassword` written, and a login of `psql`", self.written(USER, USER), written)
+        yield cell("`rolpassword` written, past ASCII, prepared, and a login of `psql`",
+                   self.written(PAST._replace(prepared=True), PAST), written)
+        yield cell("`rolpassword` written, a soft hyphen, prepared, and a login of `psql`",
+                   self.written(SOFT._replace(prepared=True), SOFT), written)

@@ -4,6 +4,8 @@ whose frames are made here around real messages, and of one over frames as in pe
 from __future__ import annotations
 
 import base64
+import hashlib
+import hmac
 import re
 import sys
 from pathlib import Path
@@ -42,26 +44,35 @@ def nonce_of(message: bytes, behind: int = 0) -> str:
     return base64.b64decode(nonce).hex()
 
 
-def client_run(mechanism: str, user: User, tap: Tap) -> list[str]:
+def record_word(mechanism: str, user: User) -> str:
+    """The record of a user's password as it stands (RFC 5802, section 3), by Python."""
+    name = mechanism.removeprefix("SCRAM-").replace("-", "").lower()
+    salted = hashlib.pbkdf2_hmac(name, user.password.encode(), SALT, user.count)
+    client, server = (hmac.digest(salted, words, name) for words in (b"Client Key", b"Server Key"))
+    stored = hashlib.new(name, client).digest()
+    return f"{hexed(user.name.encode())}:{SALT.hex()}:{user.count}:{stored.hex()}:{server.hex()}"
+
+
+def client_run(side: str, mechanism: str, user: User, tap: Tap) -> list[str]:
     """A run of our client."""
     first, last = messages(tap, "client")[:2]
     challenge, *finals = messages(tap, "server")
     offer = mechanisms_frame(mechanism)[4:].hex()
     init = body(INIT, short(0xA3, mechanism.encode()), data(first))
-    rows = [f"client {mechanism} {hexed(user.name.encode())} {hexed(user.password.encode())}",
+    rows = [f"{side} {mechanism} {hexed(user.name.encode())} {hexed(user.password.encode())}",
             f"{nonce_of(first)} {offer} => Init {init}",
             f"{ZEROS} {body(CHALLENGE, data(challenge))} => Response {body(RESPONSE, data(last))}"]
     outcome = body(OUTCOME, b"\x50\0", data(finals[0]))
     return [*rows, f"{ZEROS} {outcome} => Outcome:Ok {outcome}"]
 
 
-def server_run(mechanism: str, user: User, tap: Tap) -> list[str]:
+def server_run(side: str, mechanism: str, user: User, tap: Tap) -> list[str]:
     """A run of our server: a login, or one whose first message is refused."""
     first, *lasts = messages(tap, "client")
     answers = messages(tap, "server")
-    words = (user.name.encode(), user.password.encode(), SALT)
+    words = " ".join(map(hexed, (user.name.encode(), user.password.encode(), SALT)))
     init = body(INIT, short(0xA3, mechanism.encode()), data(first))
-    rows = [f"server {mechanism} {' '.join(map(hexed, words))}"]
+    rows = [f"{side} {mechanism} {record_word(mechanism, user) if side == 'records' else words}"]
     if not answers:
         return [*rows, f"{ZEROS} {init} => Outcome:Auth {body(OUTCOME, REFUSED)}"]
     theirs = next(part for part in first.split(b",") if part.startswith(b"r="))

@@ -87,7 +87,7 @@ def recorded(cell: Cell, peer: Peer, side: Side) -> str:
         rows = record.stream(cell.ours, cell.mechanism, cell.kept, tap)
     else:
         run = record.client_run if cell.ours == "client" else record.server_run
-        rows = run(cell.mechanism, cell.kept, tap)
+        rows = run(cell.kept_as or cell.ours, cell.mechanism, cell.kept, tap)
     return "\n".join(["", head, *rows, ""])
 
 

@@ -30,15 +30,20 @@ class Ending(NamedTuple):
 
 
 class User(NamedTuple):
-    """A user of a server of ours."""
+    """A user of a server of ours, whose password is prepared for it or not."""
 
     name: str
     password: str
     count: int = 4096
+    prepared: bool = False
 
 
 USER = User("user", "pencil")
 COMMA = User("a,b=c", "pen,cil=")
+#: A password past ASCII, which is prepared to itself.
+PAST = User("user", "p\u00e4ssw\u00f6rd")
+#: The first example of RFC 4013, section 3: the soft hyphen is prepared to nothing.
+SOFT, HARD = User("user", "I\u00adX"), User("user", "IX")
 
 
 class Client(NamedTuple):
@@ -51,8 +56,13 @@ class Client(NamedTuple):
     again: bool = False
 
     def words(self, port: int) -> list[str]:
-        again = ["again"] if self.again else []
-        return ["client", str(port), self.mechanism, self.user.name, str(self.least), str(self.most), *again]
+        more = prepared(self.user) + (["again"] if self.again else [])
+        return ["client", str(port), self.mechanism, self.user.name, str(self.least), str(self.most), *more]
+
+
+def prepared(user: User) -> list[str]:
+    """The word for a password that is prepared."""
+    return ["prepared"] if user.prepared else []
 
 
 @contextlib.contextmanager
@@ -170,7 +180,8 @@ class Side:
         """The text of a user's record, by our library."""
         if (mechanism, user) not in self.made:
             salt = base64.b64encode(SALT).decode()
-            self.made[mechanism, user] = self.said(["record", mechanism, salt, str(user.count)], user.password)
+            words = ["record", mechanism, salt, str(user.count), *prepared(user)]
+            self.made[mechanism, user] = self.said(words, user.password)
         return self.made[mechanism, user]
 
     def users(self, records: dict[str, str]) -> Path:
@@ -209,10 +220,12 @@ class Side:
                 return Ending("; ".join(told), seen)
 
     def serve(
-        self, mechanism: str, records: dict[str, str], peer: Callable[[socket.socket], Optional[bool]], mar=None
+        self, mechanism: str, records: dict[str, str], peer: Callable[[socket.socket], Optional[bool]], mar=None,
+        unbound: bool = False,
     ) -> Ending:
-        """A login at our server over lines. The peer is called with its end of the connection."""
-        words = [self.lines, "server", str(self.users(records)), mechanism, "1"]
+        """A login at our server over lines, which takes `y,,` where it is `unbound`. The peer is called with its end of
+        the connection."""
+        words = [self.lines, "server", str(self.users(records)), mechanism, "1", *(["unbound"] if unbound else [])]
         with ended_after(subprocess.Popen(words, stdout=subprocess.PIPE, text=True)) as program:
             with dialled(self.tapped(int(program.stdout.readline()), mar)) as channel:
                 seen = peer(channel)

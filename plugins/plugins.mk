@@ -8,7 +8,7 @@
 #                       python3-qpid-proton, slapd and ldap-utils; it tells what is missing. PROTON is a folder with a
 #                       library of Proton that was built with Cyrus SASL, which Debian's own is not
 SASL_PLUGINS ?= $(shell pkg-config --variable=libdir libsasl2)/sasl2
-PLUGIN = plugins/cyrus/fe2o3_scram.c
+PLUGIN = plugins/cyrus/fe2o3_scram.c plugins/cyrus/prompts.c
 PLUGIN_TEST = plugins/cyrus/test_fe2o3_scram.c
 PLUGIN_LINK = -fPIC -fvisibility=hidden -shared -Wl,-z,defs -Wl,-z,now -Wl,--exclude-libs,ALL
 PLUGINS = $(foreach kind,plain sanitized,build/plugins/$(kind)/libfe2o3_scram.so)
@@ -20,11 +20,11 @@ plugin: build/plugins/plain/libfe2o3_scram.so
 build/plugins/plain/%: PLUGIN_FLAGS = -O2
 build/plugins/sanitized/%: PLUGIN_FLAGS = $(SANITIZERS)
 
-$(PLUGINS): $(PLUGIN) $(HEADER) build/libfe2o3_sasl.a
+$(PLUGINS): $(PLUGIN) plugins/cyrus/prompts.h $(HEADER) build/libfe2o3_sasl.a
 	@mkdir -p $(@D)
 	$(CC) -std=c99 $(WARNINGS) $(PLUGIN_FLAGS) $(PLUGIN_LINK) -Ibindings/c -o $@ $(PLUGIN) build/libfe2o3_sasl.a $(LDLIBS)
 
-build/plugins/plain/test build/plugins/sanitized/test: $(PLUGIN_TEST)
+build/plugins/plain/test build/plugins/sanitized/test: $(PLUGIN_TEST) plugins/cyrus/test_rows.h
 	@mkdir -p $(@D)
 	$(CC) -std=c99 $(WARNINGS) $(PLUGIN_FLAGS) -o $@ $< -lsasl2
 

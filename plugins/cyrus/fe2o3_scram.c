@@ -2,6 +2,7 @@
  * crates/sasl_c. README.md says how it is installed, and where it differs from the plugin of Cyrus SASL. */
 #define _DEFAULT_SOURCE
 #include "fe2o3_sasl.h"
+#include "prompts.h"
 
 #include <sasl/sasl.h>
 #include <sasl/saslplug.h>
@@ -43,7 +44,7 @@ enum due { FIRST, SECOND, THIRD, ENDED };
 struct exchange {
     const struct mechanism *mechanism;
     enum due due;
-    int asked;
+    int asked, prepares;
     struct fe2o3_scram_client client;
     struct fe2o3_scram_server server;
     struct fe2o3_scram_record record;
@@ -60,7 +61,8 @@ static int code_of(uint32_t status)
     switch (status) {
     case FE2O3_OUT_OF_MEMORY: return SASL_NOMEM;
     case FE2O3_ROOM_TOO_SMALL: case FE2O3_TOO_LONG: return SASL_BUFOVER;
-    case FE2O3_NOT_PRINTABLE: return SASL_NOVERIFY;
+    case FE2O3_NOT_PRINTABLE: case FE2O3_PROHIBITED_CHARACTER: case FE2O3_MIXED_DIRECTIONS: return SASL_NOVERIFY;
+    case FE2O3_UNASSIGNED_CODE_POINT: return SASL_NOVERIFY;
     case FE2O3_NOT_UTF8: case FE2O3_CLIENT_NORMALIZE_ERROR: return SASL_BADPARAM;
     case FE2O3_CLIENT_SERVER_SIGNATURE_MISMATCH: return SASL_BADSERV;
     case FE2O3_SERVER_AUTHENTICATION_FAILED: return SASL_BADAUTH;
@@ -80,6 +82,30 @@ static int told(const struct exchange *one, const sasl_utils_t *utils, uint32_t 
     struct fe2o3_text text = FE2O3_TEXT_INIT;
     fe2o3_status_text(status == FE2O3_CLIENT_NORMALIZE_ERROR ? FE2O3_NOT_PRINTABLE : status, &text);
     return status == FE2O3_DONE ? SASL_OK : refused(one, utils, code_of(status), (const char *)text.bytes);
+}
+
+/* Whether an option is on, by the words that libsasl2 takes for that. */
+static int is_on(const struct exchange *one, const sasl_utils_t *utils, const char *option)
+{
+    const char *text = NULL;
+    utils->getopt(utils->getopt_context, one->mechanism->name, option, &text, NULL);
+    return text && (*text == '1' || *text == 'y' || *text == 't' || strncmp(text, "on", 2) == 0);
+}
+
+/* Puts what a password is prepared to (RFC 4013) in its place, where scram_saslprep says so. */
+static int prepare(struct exchange *one, const sasl_utils_t *utils, const char **password, size_t *len,
+    uint32_t unassigned)
+{
+    const char *text = *password;
+    uint32_t status;
+    one->prepares = is_on(one, utils, "scram_saslprep");
+    if (!one->prepares)
+        return SASL_OK;
+    *password = one->password;
+    status = fe2o3_saslprep(BYTES(text, *len), unassigned, (uint8_t *)one->password, sizeof one->password, len);
+    if (status == FE2O3_ROOM_TOO_SMALL)
+        return refused(one, utils, SASL_BUFOVER, "the password is too long");
+    return told(one, utils, status);
 }
 
 static int begin(const void *mechanism, const sasl_utils_t *utils, void **context)
@@ -109,77 +135,15 @@ static int complete(sasl_out_params_t *result)
     return SASL_OK;
 }
 
-/* The client. What the application is asked, and its answer. */
-struct question {
-    unsigned long id;
-    const char *prompt, *text;
-    unsigned len;
-};
-
-static int answered(struct question *one, const char *text, unsigned long len)
-{
-    one->text = text;
-    one->len = text ? (unsigned)len : 0;
-    return text || one->id == SASL_CB_USER ? SASL_OK : SASL_BADPARAM;
-}
-
-/* Takes the answer to a prompt, or else that of a callback. */
-static int ask(const sasl_utils_t *utils, const sasl_interact_t *prompts, struct question *one)
-{
-    sasl_callback_ft callback = NULL;
-    sasl_secret_t *word = NULL;
-    const char *text = NULL;
-    void *context = NULL;
-    int code;
-    for (; prompts && prompts->id != SASL_CB_LIST_END; prompts++)
-        if (prompts->id == one->id)
-            return answered(one, prompts->result, prompts->len);
-    code = utils->getcallback(utils->conn, one->id, &callback, &context);
-    if (code != SASL_OK)
-        return code == SASL_FAIL && one->id == SASL_CB_USER ? SASL_OK : code;
-    if (one->id == SASL_CB_PASS)
-        code = ((sasl_getsecret_t *)(void (*)(void))callback)(utils->conn, context, SASL_CB_PASS, &word);
-    else
-        code = ((sasl_getsimple_t *)(void (*)(void))callback)(context, (int)one->id, &text, NULL);
-    if (code != SASL_OK)
-        return code;
-    return word ? answered(one, (const char *)word->data, word->len) : answered(one, text, text ? strlen(text) : 0);
-}
-
-/* Asks everything. Prompts that are still to be answered take the place of those that were. */
-static int ask_all(const sasl_utils_t *utils, sasl_interact_t **prompts, struct question asked[3])
-{
-    sasl_interact_t open[4] = {{.id = SASL_CB_LIST_END}};
-    unsigned count = 0;
-    int code = SASL_OK;
-    for (int i = 0; code == SASL_OK && i < 3; i++) {
-        code = ask(utils, prompts ? *prompts : NULL, &asked[i]);
-        if (code == SASL_INTERACT && prompts) {
-            open[count++] = (sasl_interact_t){.id = asked[i].id, .prompt = asked[i].prompt};
-            code = SASL_OK;
-        }
-    }
-    if (prompts && *prompts) {
-        utils->free(*prompts);
-        *prompts = NULL;
-    }
-    if (code != SASL_OK || count == 0)
-        return code;
-    *prompts = utils->malloc(sizeof open);
-    if (*prompts)
-        memcpy(*prompts, open, sizeof open);
-    return *prompts ? SASL_INTERACT : SASL_NOMEM;
-}
-
-/* Learns who logs in, and keeps the password until it is used. */
+/* The client. Learns who logs in, and keeps the password until it is used. */
 static int identify(struct exchange *one, sasl_client_params_t *params, sasl_interact_t **prompts,
     sasl_out_params_t *result)
 {
     const sasl_utils_t *utils = params->utils;
-    struct question asked[3] = {{SASL_CB_AUTHNAME, "Please enter your authentication name", NULL, 0},
+    struct question asked[QUESTIONS] = {{SASL_CB_AUTHNAME, "Please enter your authentication name", NULL, 0},
         {SASL_CB_USER, "Please enter your authorization name", NULL, 0},
         {SASL_CB_PASS, "Please enter your password", NULL, 0}};
-    const struct question *name = &asked[0], *user = &asked[1], *word = &asked[2];
+    struct question *name = &asked[0], *user = &asked[1], *word = &asked[2];
     int code = ask_all(utils, prompts, asked);
     if (code != SASL_OK)
         return code;
@@ -187,11 +151,14 @@ static int identify(struct exchange *one, sasl_client_params_t *params, sasl_int
         return refused(one, utils, SASL_BADPARAM, "the name of the user is empty, or has a zero byte");
     if (user->len > 0 && (user->len != name->len || memcmp(user->text, name->text, name->len) != 0))
         return refused(one, utils, SASL_NOAUTHZ, "an authorization identity is not supported");
+    code = prepare(one, utils, &word->text, &word->len, FE2O3_UNASSIGNED_ALLOWED);
+    if (code != SASL_OK)
+        return code == SASL_NOVERIFY ? SASL_BADPARAM : code;
     if (word->len > sizeof one->password)
         return refused(one, utils, SASL_BUFOVER, "the password is too long");
-    memcpy(one->password, word->text, word->len);
+    memmove(one->password, word->text, word->len);
     one->password_len = word->len;
-    return params->canon_user(utils->conn, name->text, name->len, SASL_CU_AUTHID | SASL_CU_AUTHZID, result);
+    return params->canon_user(utils->conn, name->text, (unsigned)name->len, SASL_CU_AUTHID | SASL_CU_AUTHZID, result);
 }
 
 /* Writes the message that is due, or believes the server. */
@@ -199,7 +166,8 @@ static int client_answer(struct exchange *one, enum due due, const sasl_utils_t 
     const char *in, unsigned in_len)
 {
     static const struct fe2o3_client_keys no_keys;
-    const struct fe2o3_login login = {one->mechanism->version, 0, LEAST_ITERATIONS, MOST_ITERATIONS,
+    const struct fe2o3_login login = {one->mechanism->version,
+        one->prepares ? FE2O3_BY_PREPARED : FE2O3_BY_PASSWORD, LEAST_ITERATIONS, MOST_ITERATIONS,
         BYTES(who->authid, who->alen), BYTES(one->password, one->password_len), &no_keys};
     uint8_t nonce[32];
     switch (due) {
@@ -279,14 +247,19 @@ static int from_password(struct exchange *one, const sasl_utils_t *utils, const 
 {
     uint32_t version = one->mechanism->version, count = iterations(utils, one->mechanism->name), status;
     uint8_t salt[SALT_LEN];
-    if (*password == 0)
+    size_t len = strlen(password);
+    int code = prepare(one, utils, &password, &len, FE2O3_UNASSIGNED_REFUSED);
+    if (code != SASL_OK)
+        return code == SASL_BADPARAM ? SASL_NOVERIFY : code;
+    if (len == 0)
         return refused(one, utils, SASL_NOVERIFY, "the password of the user is empty");
     status = fe2o3_scram_record_of_nobody(
         version, secret, sizeof secret, BYTES(who->authid, who->alen), SALT_LEN, count, &one->record);
     memcpy(salt, one->record.salt, SALT_LEN);
     if (status == FE2O3_DONE)
-        status = fe2o3_scram_record_make(
-            version, BYTES(password, strlen(password)), salt, SALT_LEN, count, &one->record);
+        status = (one->prepares ? fe2o3_scram_record_make_prepared : fe2o3_scram_record_make)(
+            version, BYTES(password, len), salt, SALT_LEN, count, &one->record);
+    utils->erasebuffer(one->password, sizeof one->password);
     return told(one, utils, status == FE2O3_NOT_UTF8 ? FE2O3_NOT_PRINTABLE : status);
 }
 
@@ -317,13 +290,13 @@ static int look_up(struct exchange *one, sasl_server_params_t *params, const cha
     return refused(one, utils, params->transition ? SASL_TRANS : stored ? SASL_NOVERIFY : SASL_NOUSER, "no secret");
 }
 
-/* Why a client-first message is refused that does not begin with "n,,". */
+/* Why a client-first message is refused that begins neither with "n,," nor with a "y,," that is taken. */
 static const char *why_header(const char *in, unsigned in_len)
 {
+    if (in_len >= 4 && (memcmp(in, "n,a=", 4) == 0 || memcmp(in, "y,a=", 4) == 0))
+        return "an authorization identity is not supported";
     if (in_len >= 2 && (memcmp(in, "p=", 2) == 0 || memcmp(in, "y,", 2) == 0))
         return "channel binding is not supported";
-    if (in_len >= 4 && memcmp(in, "n,a=", 4) == 0)
-        return "an authorization identity is not supported";
     return "the message does not begin with n,,";
 }
 
@@ -334,8 +307,8 @@ static int server_first(struct exchange *one, sasl_server_params_t *params, cons
     uint8_t name[sizeof one->server.user + 1], nonce[32];
     size_t len = 0;
     uint32_t status = fe2o3_scram_server_user(BYTES(in, in_len), name, sizeof name - 1, &len);
-    int code;
-    if (status == FE2O3_SERVER_CANNOT_PARSE_GS2_HEADER)
+    int unbound = is_on(one, utils, "scram_unbound"), code;
+    if (status == FE2O3_SERVER_CANNOT_PARSE_GS2_HEADER || (!unbound && in_len > 0 && *in == 'y'))
         return refused(one, utils, SASL_BADPROT, why_header(in, in_len));
     if (status != FE2O3_DONE)
         return told(one, utils, status);
@@ -347,7 +320,9 @@ static int server_first(struct exchange *one, sasl_server_params_t *params, cons
         code = refused(one, utils, SASL_FAIL, "there are no random bytes");
     if (code != SASL_OK)
         return code;
-    return told(one, utils, fe2o3_scram_server_first(&one->record, &one->server, nonce, BYTES(in, in_len), ROOM(one)));
+    status = (unbound ? fe2o3_scram_server_first_unbound : fe2o3_scram_server_first)(
+        &one->record, &one->server, nonce, BYTES(in, in_len), ROOM(one));
+    return told(one, utils, status);
 }
 
 static int server_step(void *context, sasl_server_params_t *params, const char *in, unsigned in_len,

@@ -26,6 +26,8 @@ MECHANISMS = ("SCRAM-SHA-1", "SCRAM-SHA-256", "SCRAM-SHA-512")
 USERS = {"user": "pencil", "a,b=c": "pen,cil="}
 STRANGERS = (("user", "pencils"), ("a,b=c", "pencil"), ("nobody", "pencil"))
 RECORDED = "pen of lead"
+# (with scram_saslprep a server of ours prepares it, and their client has it as it is; ours has no word for the option)
+PAST = {"past": "p\u00e4ssw\u00f6rd"}
 LOGGED_IN, REFUSED = "logged in", "refused"
 TIMES = 10
 SECONDS = 60
@@ -103,14 +105,14 @@ class Sides:
         """What the sanitizers have found."""
         return "".join(file.read_text() for file in self.at.glob("report*"))
 
-    def users(self, application, file):
+    def users(self, application, file, options=""):
         """Writes the users into a database of Cyrus SASL, and a configuration for a program of this name.
 
         Cyrus SASL's own plugin writes a record for each mechanism, of a user who has no password there.
         """
-        lines = f"auxprop_plugin: sasldb\nsasldb_path: {file}\nlog_level: 1\n"
+        lines = f"auxprop_plugin: sasldb\nsasldb_path: {file}\nlog_level: 1\n{options}"
         (self.configuration / f"{application}.conf").write_text(lines)
-        for name, password in USERS.items():
+        for name, password in {**USERS, **PAST}.items():
             self.user(file, name, password, "ours")
         for mechanism in MECHANISMS if self.has_theirs else ():
             making = f"{lines}mech_list: {mechanism}\nscram_secret_generate: yes\n"
@@ -130,7 +132,7 @@ class Sample:
 
     def __init__(self, sides):
         self.sides, self.has_records = sides, sides.has_theirs
-        sides.users("sample", sides.at / "sample.db")
+        sides.users("sample", sides.at / "sample.db", "scram_saslprep: yes\n")
 
     @staticmethod
     def missing(sides):
@@ -308,6 +310,8 @@ class OpenLdap:
 def cell(one, client, server, mechanism):
     """How many of how many logins succeed, how many of those of strangers are refused, and what else there was."""
     users, strangers, counts, others = dict(USERS), list(STRANGERS), [], []
+    if client == "theirs" and isinstance(one, Sample):
+        users.update(PAST)
     if one.has_records:
         users[recorded(mechanism)] = RECORDED
         strangers.append((recorded(mechanism), "pencil"))

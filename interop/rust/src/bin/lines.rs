@@ -1,6 +1,6 @@
 //! The program of `../lines.c`, by the crate for Rust: the same words, the same lines.
 
-use fe2o3_sasl_proved::{ScramClient, ScramRecord, ScramVersion};
+use fe2o3_sasl_proved::{saslprep, ScramClient, ScramRecord, ScramVersion, Unassigned};
 use interop::{from_base64, password, to_base64, told, version_of, Failure, Users};
 use std::io::{BufRead, BufReader, Write};
 use std::net::{TcpListener, TcpStream};
@@ -44,15 +44,24 @@ fn log_in(port: u16, client: &mut ScramClient) -> Result<(), Failure> {
     lines.say(b"")
 }
 
-fn run_client(words: &[&str]) -> Result<i32, Failure> {
+fn client_of(user: &str, version: ScramVersion, prepared: bool) -> Result<ScramClient, Failure> {
+    let password = password()?;
+    Ok(match prepared {
+        true => ScramClient::with_prepared_password(user, saslprep(&password, Unassigned::Allowed)?, version),
+        false => ScramClient::new(user, password, version),
+    })
+}
+
+fn run_client(words: &[&str], options: &[&str]) -> Result<i32, Failure> {
     let (port, user) = (words[0].parse()?, words[2]);
     let (least, most) = (words[3].parse()?, words[4].parse()?);
-    let mut client = ScramClient::new(user, password()?, version_of(words[1]).ok_or("no such mechanism")?)
+    let version = version_of(words[1]).ok_or("no such mechanism")?;
+    let mut client = client_of(user, version, options.contains(&"prepared"))?
         .with_least_iterations(least)
         .with_iteration_limit(most);
     let ended = log_in(port, &mut client);
     let status = told("logged in", &ended);
-    if ended.is_err() || words.get(5).is_none() {
+    if ended.is_err() || !options.contains(&"again") {
         return Ok(status);
     }
     let again = match client.keys() {
@@ -62,8 +71,11 @@ fn run_client(words: &[&str]) -> Result<i32, Failure> {
     Ok(told("logged in by keys", &again))
 }
 
-fn serve(channel: TcpStream, users: Users, mechanism: &str) -> Result<String, Failure> {
+fn serve(channel: TcpStream, users: Users, mechanism: &str, unbound: bool) -> Result<String, Failure> {
     let mut server = users.authenticator();
+    if unbound {
+        server = server.accepts_unbound();
+    }
     let mut lines = Lines { channel: BufReader::new(channel) };
     if lines.line()? != mechanism {
         return Err(ENDED.into());
@@ -79,13 +91,14 @@ fn serve(channel: TcpStream, users: Users, mechanism: &str) -> Result<String, Fa
     server.user().ok_or_else(|| "no name".into())
 }
 
-fn run_server(words: &[&str]) -> Result<i32, Failure> {
+fn run_server(words: &[&str], options: &[&str]) -> Result<i32, Failure> {
+    let unbound = options.contains(&"unbound");
     let version = version_of(words[1]).ok_or("no such mechanism")?;
     let listener = TcpListener::bind(("127.0.0.1", 0))?;
     println!("{}", listener.local_addr()?.port());
     for _ in 0..words[2].parse()? {
         let (channel, _) = listener.accept()?;
-        match serve(channel, Users::read(words[0], version)?, words[1]) {
+        match serve(channel, Users::read(words[0], version)?, words[1], unbound) {
             Ok(name) => println!("logged in: {name}"),
             Err(why) => println!("not logged in: {why}"),
         }
@@ -93,23 +106,38 @@ fn run_server(words: &[&str]) -> Result<i32, Failure> {
     Ok(0)
 }
 
-fn record_of(version: ScramVersion, salt: &str, count: &str) -> Result<ScramRecord, Failure> {
+fn record_of(version: ScramVersion, salt: &str, count: &str, prepared: bool) -> Result<ScramRecord, Failure> {
+    let (password, count) = (password()?, count.parse()?);
     let salt = from_base64(salt).ok_or("no base64")?;
-    Ok(ScramRecord::from_password(version, &password()?, &salt, count.parse()?)?)
+    if prepared {
+        let password = saslprep(&password, Unassigned::Refused)?;
+        return Ok(ScramRecord::from_prepared_password(version, &password, &salt, count)?);
+    }
+    Ok(ScramRecord::from_password(version, &password, &salt, count)?)
 }
 
-fn run_record(words: &[&str]) -> Result<i32, Failure> {
-    match record_of(version_of(words[0]).ok_or("no such mechanism")?, words[1], words[2]) {
+fn run_record(words: &[&str], options: &[&str]) -> Result<i32, Failure> {
+    let version = version_of(words[0]).ok_or("no such mechanism")?;
+    match record_of(version, words[1], words[2], options.contains(&"prepared")) {
         Ok(record) => println!("{record}"),
         Err(why) => println!("no record: {why}"),
     }
     Ok(0)
 }
 
-fn run_verify(words: &[&str]) -> Result<i32, Failure> {
+fn is_of(record: &ScramRecord, password: &str, prepared: bool) -> bool {
+    match prepared {
+        true => {
+            saslprep(password, Unassigned::Allowed).is_ok_and(|prepared| record.verify_prepared_password(&prepared))
+        }
+        false => record.verify_password(password),
+    }
+}
+
+fn run_verify(words: &[&str], options: &[&str]) -> Result<i32, Failure> {
     let password = password()?;
     let ended: Result<(), Failure> = match ScramRecord::parse(words[0]) {
-        Ok(record) if record.verify_password(&password) => Ok(()),
+        Ok(record) if is_of(&record, &password, options.contains(&"prepared")) => Ok(()),
         Ok(_) => Err("The password is not that of the record".into()),
         Err(why) => Err(why.into()),
     };
@@ -119,11 +147,14 @@ fn run_verify(words: &[&str]) -> Result<i32, Failure> {
 fn main() -> Result<(), Failure> {
     let words: Vec<String> = std::env::args().skip(1).collect();
     let words: Vec<&str> = words.iter().map(String::as_str).collect();
+    let is_option = |word: &&str| ["prepared", "again", "unbound"].contains(word);
+    let count = words.len() - words.iter().rev().take_while(|word| is_option(word)).count();
+    let (words, options) = words.split_at(count);
     let status = match (words.first().copied(), words.len()) {
-        (Some("client"), 6 | 7) => run_client(&words[1..])?,
-        (Some("server"), 4) => run_server(&words[1..])?,
-        (Some("record"), 4) => run_record(&words[1..])?,
-        (Some("verify"), 2) => run_verify(&words[1..])?,
+        (Some("client"), 6) => run_client(&words[1..], options)?,
+        (Some("server"), 4) => run_server(&words[1..], options)?,
+        (Some("record"), 4) => run_record(&words[1..], options)?,
+        (Some("verify"), 2) => run_verify(&words[1..], options)?,
         _ => 2,
     };
     std::process::exit(status)
