@@ -1,6 +1,7 @@
 -- When `scram explain --audit` ends with status 0, over the findings of `fe2o3_sasl`. No public clause cites this file.
 use Rattle.std.specs.Prelude.{◌≡◌, Bool, true, false, ◌&&◌, List, map}
 use Rattle.std.specs.List.{list_all, list_any}
+use Rattle.fe2o3_scram.specs.Credentials.{serving}
 use Rattle.fe2o3_sasl.specs.Audit.{AuditsEvents, finding_of}
 use Rattle.fe2o3_sasl.specs.Runs.{given, login_of}
 use Rattle.fe2o3_sasl.specs.declared.audit.Finding.{Finding}
@@ -37,7 +38,7 @@ is_whole findings = list_all means_one findings && list_any believes findings
 abbrev pub Finds : Sides → Login → List Finding → Type 0
 Finds sides login findings =
     AuditsEvents (login_of login.version login.user.now login.password.now login.limit)
-    (map given sides.client.events.items) login.credentials.now (map given sides.server.events.items)
+    (map given sides.client.events.items) (serving false login.credentials.now) (map given sides.server.events.items)
     (map finding_of findings)
 
 -- what is found is whole
