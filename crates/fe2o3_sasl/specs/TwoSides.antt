@@ -81,7 +81,7 @@ pub record Shows (sides : Sides) (k n : ℕ) (answer : Answering) (accepted : Ac
   pub ok : OkAt sides n accepted
   pub one : proof_at sides.login answer ≡ accepted.final.proof
 
--- the text has so many parts
+-- the text has so many parts, as commas cut it (RFC 5802, section 7)
 abbrev pub HasParts : List ℕ → ℕ → Type 0
 HasParts text n = (parts : List (List ℕ)) × Parts text parts × (length parts ≡ n)
 
@@ -90,7 +90,7 @@ abbrev pub IsPlainInit : Accepted → Type 0
 IsPlainInit accepted = HasParts accepted.challenge.client.bare 2
 
 -- both sides mean one login: one version of keys, user name and client nonce and, where the init was plain, one full
--- nonce, salt and count, and one GS2 header where the challenge that was answered had exactly three parts
+-- nonce, salt and count, and where the challenge that was answered had exactly three parts one GS2 header, `n,,`
 pub record Agree (login : Login) (provider : Provider) (answer : Answering) (accepted : Accepted) : Type 0 where
   pub version : (keys_at login answer).version ≡ provider.version
   pub header : IsPlainInit accepted → HasParts answer.text 3 → Unsupported ≡ accepted.challenge.client.header

@@ -1,5 +1,4 @@
-//! The client's side of a negotiation: what it answers to the frames of a server (AMQP 1.0, part 5,
-//! section 5.3.2).
+//! The client's side of a negotiation: what it answers to the frames of a server (AMQP 1.0, part 5, section 5.3.2).
 
 ghost use Rattle.std.specs.Prelude.{◌≡◌, ◌≢◌, ◌↔◌, ◌≤◌, ◌^◌, ◌++◌, ◌∷◌, Option, Some, None, false, ℕ, List, IfOk, IfErr, OnOk, OnErr, MatchOption, IsTrue, IsAscii, option_map, string_bytes};
 ghost use Rattle.std.specs.List.{Contains};
@@ -227,9 +226,8 @@ impl SaslProfile {
         symbol_of(alloc, self.name())
     }
 
-    /// What the init says first: nothing for ANONYMOUS and EXTERNAL, the message of PLAIN, and for
-    /// SCRAM the client-first message of a fresh start, with a nonce of 32 bytes. A refusal leaves
-    /// the profile as it was.
+    /// What the init says first: nothing for ANONYMOUS and EXTERNAL, the message of PLAIN, and for SCRAM the
+    /// client-first message of a fresh start, with a nonce of 32 bytes. A refusal leaves the profile as it was.
     pub fn initial_response(
         &mut self,
         alloc: Global,
@@ -257,10 +255,10 @@ impl SaslProfile {
         }
     }
 
-    /// Answers a frame of the server: mechanisms with the profile's name by an init with this
-    /// hostname, a challenge by a response, an outcome by itself. NotImplemented for mechanisms
-    /// without the name, for a challenge to a profile other than SCRAM, and for an init or a
-    /// response; else what SCRAM refuses. A refusal leaves the profile as it was.
+    /// Answers a frame of the server: mechanisms with the profile's name by an init with this hostname, a challenge
+    /// by a response, an outcome by itself. NotImplemented for mechanisms without the name, for a challenge to a
+    /// profile other than SCRAM, and for an init or a response; else what SCRAM refuses. A refusal leaves the profile
+    /// as it was.
     pub fn on_frame(
         &mut self,
         alloc: Global,
@@ -275,9 +273,8 @@ impl SaslProfile {
         self.on_frame_metered(alloc, frame, hostname, nonce, &mut Meter::new())
     }
 
-    /// As `on_frame`. The meter, of at most 2^63, counts the HMAC values: of SCRAM's answer to a challenge
-    /// two by keys, by the password four and those of the iteration count, and none for a refusal; none
-    /// for any other frame.
+    /// As `on_frame`. The meter, of at most 2^63, counts the HMAC values: of SCRAM's answer to a challenge two by
+    /// keys, by the password four and those of the iteration count, and none for a refusal; none for any other frame.
     pub fn on_frame_metered(
         &mut self,
         alloc: Global,
@@ -411,8 +408,7 @@ impl SaslProfile {
         }
     }
 
-    /// Why an outcome is refused before its data are copied: SCRAM reads them, and they are not due, or not
-    /// UTF-8.
+    /// Why an outcome is refused before its data are copied: SCRAM reads them, and they are not due, or not UTF-8.
     pub(crate) fn outcome_refusal_unread(
         &self,
         code: SaslCode,

@@ -68,7 +68,7 @@ abbrev pub server_message : {provider : Provider} {nonce init response : List �
     → ServerKnows provider nonce init response → List ℕ
 server_message server = auth_message server.client.bare (challenge_known server).first server.final.without
 
--- the text has so many parts
+-- the text has so many parts, as commas cut it (RFC 5802, section 7)
 abbrev pub InParts : ℕ → List ℕ → Type 0
 InParts n text = (parts : List (List ℕ)) × Parts text parts × (length parts ≡ n)
 
@@ -77,8 +77,8 @@ abbrev pub IsPlain : List ℕ → Type 0
 IsPlain bare = InParts 2 bare
 
 -- both sides mean one login: one version of keys, user name and client nonce and, where the client-first message was
--- plain, one nonce of both sides, salt and count, and one GS2 header where the server-first message as the client has
--- it had exactly three parts
+-- plain, one nonce of both sides, salt and count, and where the server-first message as the client has it had exactly
+-- three parts one GS2 header, which is `n,,`, as this client sends it
 pub record Agree {side : ClientSide} {provider : Provider} {own text its init response : List ℕ}
     (client : ClientKnows side own text) (server : ServerKnows provider its init response) : Type 0 where
   pub version : (keys_known client).version ≡ provider.version

@@ -19,7 +19,8 @@ use fe2o3_sasl_wire::{FrameView, view_frame};
 use fe2o3_scram::{ClientFirst, ScramVersion, ServerScramErrorKind};
 use std::alloc::Global;
 
-/// The user whom a client-first message names, behind either GS2 header, or `None` where it is none. `OutOfMemory` is the only refusal.
+/// The user whom a client-first message names, behind either GS2 header, or `None` where it is none. `OutOfMemory` is
+/// the only refusal.
 #[tactic(auto, using(crate::proofs::ServerUserLemmas::scram_user))]
 fn scram_user(alloc: Global, text: &[u8]) -> Result<Option<Vec<u8>>, Status>
     ensures ok { IfOk result (λ user. MatchOption user
