@@ -1,23 +1,29 @@
 //! Sides of a connection where memory is wanting: no refusal moves a side, takes a byte or sends one.
 
-use crate::acceptors::Server;
+use crate::calls::{Answer, Call, right, stand, want};
+use crate::scram_servers::Server;
 use crate::users::stored;
 use bytes::BytesMut;
+use fe2o3_sasl::OutOfMemory;
 use fe2o3_sasl::hmac::Meter;
 use fe2o3_sasl::sasl_profile::{SaslProfile, SaslScramSha256};
 use fe2o3_sasl::scram_server::ScramAuthenticator;
-use fe2o3_sasl_negotiation::{ClientNegotiation, ServerNegotiation, Standing};
+use fe2o3_sasl_negotiation::{ClientNegotiation, Received, ServerNegotiation, Standing};
 use help_bodies::bodies::*;
 use help_bodies::replies::bytes_of;
-use help_memory::{Answer, Call, right, stand};
 use std::alloc::Global;
 use std::test::Fail;
 
 /// The header of SASL.
 pub const HEADER: &str = "414d515003010000";
 
+/// Which side is given bytes.
+enum Side {
+    Server,
+    Client,
+}
+
 /// A side that was given these bytes, headers and frames, is given more of them, sends this and stands so.
-#[derive(Debug)]
 struct Row {
     before: &'static [&'static str],
     given: &'static str,
@@ -25,20 +31,19 @@ struct Row {
     standing: Standing,
 }
 
-/// A server's side of a row.
-#[derive(Debug, Clone, Copy)]
-struct OfServer<'a>(&'a Row);
-
-/// A client's side of a row.
-#[derive(Debug, Clone, Copy)]
-struct OfClient<'a>(&'a Row);
-
-/// A side, what it is given, and what it has to send.
+/// Both sides of a connection.
 #[derive(Drop)]
-struct Connection<N> {
+struct Sides {
+    server: Box<ServerNegotiation<Server>>,
+    client: Box<ClientNegotiation>,
+}
+
+/// What a side is given, what it has to send, and the sides.
+#[derive(Drop)]
+struct Connection {
     given: Vec<u8>,
     sends: Vec<u8>,
-    side: Box<N>,
+    sides: Sides,
 }
 
 /// The bytes of a header, or of the frame of a body.
@@ -63,101 +68,65 @@ pub fn units_of(alloc: Global, units: &[&str]) -> Result<Vec<u8>, Fail> {
     Ok(bytes)
 }
 
-/// What a call answered that was given so many bytes: right where it took them all, stands so and sent this.
-fn answer_of(
-    received: Result<fe2o3_sasl_negotiation::Received, fe2o3_sasl::OutOfMemory>,
-    given: &[u8],
-    standing: Standing,
-    sent: &[u8],
-    sends: &[u8],
-) -> Answer {
-    match received {
-        Ok(it) => right(it.taken == given.len() && it.standing == standing && sent == sends),
-        Err(_) if sent.is_empty() => Answer::WantOfMemory,
-        Err(_) => Answer::Wrong,
-    }
-}
-
-/// Gives a server's side the units before.
-fn serve(alloc: Global, side: &mut ServerNegotiation<Server>, units: &[&str]) -> Result<(), Fail> {
-    let mut output = BytesMut::new(alloc);
-    for digits in units {
-        let unit = unit_of(alloc, digits)?;
-        side.receive(alloc, &unit, &[2; 32], &mut Meter::new(), &mut output)?;
-    }
-    Ok(())
-}
-
-/// Gives a client's side the units before.
-fn log_in(alloc: Global, side: &mut ClientNegotiation, units: &[&str]) -> Result<(), Fail> {
-    let mut output = BytesMut::new(alloc);
-    for digits in units {
-        let unit = unit_of(alloc, digits)?;
-        side.receive(alloc, &unit, &[1; 32], &mut Meter::new(), &mut output)?;
-    }
-    Ok(())
-}
-
-/// A client of the user.
-fn profile(alloc: Global) -> Result<SaslProfile, Fail> {
+/// A side of a server with the user, and one of the user.
+fn both_sides(alloc: Global) -> Result<Sides, Fail> {
+    let server = ServerNegotiation::new(alloc, ScramAuthenticator::new(stored(alloc)?));
+    let server = Box::new(alloc, server)?;
     let username = USER.to_string(alloc)?;
-    let password = PASSWORD.to_string(alloc)?;
-    Ok(SaslProfile::from(SaslScramSha256::new(username, password)))
+    let scram = SaslScramSha256::new(username, PASSWORD.to_string(alloc)?);
+    let client = ClientNegotiation::new(alloc, SaslProfile::from(scram), None);
+    let client = Box::new(alloc, client)?;
+    Ok(Sides { server, client })
 }
 
-impl Call for OfServer<'_> {
-    type Subject = Connection<ServerNegotiation<Server>>;
-
-    fn subject(&self, alloc: Global) -> Result<Self::Subject, Fail> {
-        let (given, sends) = (
-            unit_of(alloc, self.0.given)?,
-            units_of(alloc, self.0.sends)?,
-        );
-        let acceptor = ScramAuthenticator::new(stored(alloc)?);
-        let mut side = Box::new(alloc, ServerNegotiation::new(alloc, acceptor))?;
-        serve(alloc, &mut side, self.0.before)?;
-        Ok(Connection { given, sends, side })
-    }
-
-    fn answer(&self, alloc: Global, subject: &mut Self::Subject) -> Answer {
-        let mut output = BytesMut::new(alloc);
-        let (given, side) = (subject.given.as_slice(), &mut *subject.side);
-        let received = side.receive(alloc, given, &[2; 32], &mut Meter::new(), &mut output);
-        answer_of(
-            received,
-            &subject.given,
-            self.0.standing,
-            output.as_slice(),
-            &subject.sends,
-        )
+impl Sides {
+    /// Gives the side these bytes.
+    fn receive(
+        &mut self,
+        alloc: Global,
+        side: &Side,
+        given: &[u8],
+        output: &mut BytesMut,
+    ) -> Result<Received, OutOfMemory> {
+        let meter = &mut Meter::new();
+        match side {
+            Side::Server => self.server.receive(alloc, given, &[2; 32], meter, output),
+            Side::Client => self.client.receive(alloc, given, &[1; 32], meter, output),
+        }
     }
 }
 
-impl Call for OfClient<'_> {
-    type Subject = Connection<ClientNegotiation>;
+impl Call for Side {
+    type Row = Row;
 
-    fn subject(&self, alloc: Global) -> Result<Self::Subject, Fail> {
-        let (given, sends) = (
-            unit_of(alloc, self.0.given)?,
-            units_of(alloc, self.0.sends)?,
-        );
-        let side = ClientNegotiation::new(alloc, profile(alloc)?, None);
-        let mut side = Box::new(alloc, side)?;
-        log_in(alloc, &mut side, self.0.before)?;
-        Ok(Connection { given, sends, side })
+    type Subject = Connection;
+
+    fn subject(&self, alloc: Global, row: &Row) -> Result<Connection, Fail> {
+        let given = unit_of(alloc, row.given)?;
+        let sends = units_of(alloc, row.sends)?;
+        let mut output = BytesMut::new(alloc);
+        let mut sides = both_sides(alloc)?;
+        for digits in row.before {
+            sides.receive(alloc, self, &unit_of(alloc, digits)?, &mut output)?;
+        }
+        Ok(Connection {
+            given,
+            sends,
+            sides,
+        })
     }
 
-    fn answer(&self, alloc: Global, subject: &mut Self::Subject) -> Answer {
+    fn answer(&self, alloc: Global, row: &Row, connection: &mut Connection) -> Answer {
+        let (given, sends) = (connection.given.as_slice(), connection.sends.as_slice());
         let mut output = BytesMut::new(alloc);
-        let (given, side) = (subject.given.as_slice(), &mut *subject.side);
-        let received = side.receive(alloc, given, &[1; 32], &mut Meter::new(), &mut output);
-        answer_of(
-            received,
-            &subject.given,
-            self.0.standing,
-            output.as_slice(),
-            &subject.sends,
-        )
+        match connection.sides.receive(alloc, self, given, &mut output) {
+            Ok(it) => right(
+                it.taken == given.len()
+                    && it.standing == row.standing
+                    && output.as_slice() == sends,
+            ),
+            Err(_) => want(output.is_empty()),
+        }
     }
 }
 
@@ -206,17 +175,7 @@ static CLIENTS: [Row; 3] = [
 ];
 
 #[test]
-fn a_server_side_wants_memory(rt: HostRuntime) -> Result<(), Fail> {
-    for row in &SERVERS {
-        stand(rt.alloc(), &[OfServer(row)])?;
-    }
-    Ok(())
-}
-
-#[test]
-fn a_client_side_wants_memory(rt: HostRuntime) -> Result<(), Fail> {
-    for row in &CLIENTS {
-        stand(rt.alloc(), &[OfClient(row)])?;
-    }
-    Ok(())
+fn both_sides_want_memory(rt: HostRuntime) -> Result<(), Fail> {
+    stand(rt.alloc(), &[Side::Server], &SERVERS)?;
+    stand(rt.alloc(), &[Side::Client], &CLIENTS)
 }

@@ -1,66 +1,53 @@
 //! Events from hexadecimal texts, where memory is wanting.
 
+use crate::calls::{Answer, Call, right, stand, take_none, want};
 use fe2o3_sasl::runs::{Event, EventError};
 use help_bodies::bodies::INIT;
 use help_bodies::replies::bytes_of;
-use help_memory::{Answer, Call, right, stand, take_none, told};
 use std::alloc::Global;
 use std::test::Fail;
 
 /// Digits of a nonce.
 const NONCE: &str = "000102030405060708090a0b0c0d0e0f101112131415161718191a1b1c1d1e1f";
 
-/// A body in hexadecimal digits.
-#[derive(Debug)]
-struct Body(&'static str);
-
-/// Whether the event has the body.
-fn is_spelled(alloc: Global, digits: &str, wanted: &[u8]) -> Result<bool, EventError> {
-    let event = Event::from_hex(alloc, NONCE, digits)?;
-    Ok(event.body.as_slice() == wanted && event.nonce[31] == 0x1f)
+/// Whether texts spell an event.
+enum Spell {
+    Right,
+    Wrong,
 }
 
-impl Call for Body {
+impl Call for Spell {
+    /// The digits of a nonce and of a body.
+    type Row = (&'static str, &'static str);
+
+    /// The body where they spell one.
     type Subject = Vec<u8>;
 
-    fn subject(&self, alloc: Global) -> Result<Vec<u8>, Fail> {
-        bytes_of(alloc, self.0)
+    fn subject(&self, alloc: Global, row: &Self::Row) -> Result<Vec<u8>, Fail> {
+        match self {
+            Spell::Right => bytes_of(alloc, row.1),
+            Spell::Wrong => Ok(Vec::new(alloc)),
+        }
     }
 
-    fn answer(&self, alloc: Global, wanted: &mut Vec<u8>) -> Answer {
-        told(is_spelled(alloc, self.0, wanted), EventError::OutOfMemory)
+    fn answer(&self, alloc: Global, row: &Self::Row, wanted: &mut Vec<u8>) -> Answer {
+        match (Event::from_hex(alloc, row.0, row.1), self) {
+            (Ok(event), Spell::Right) => right(event.body == *wanted && event.nonce[31] == 0x1f),
+            (Err(fault), Spell::Right) => want(fault == EventError::OutOfMemory),
+            (Err(fault), Spell::Wrong) => right(fault == EventError::Invalid),
+            (Ok(_), Spell::Wrong) => Answer::Wrong,
+        }
     }
 }
+
+/// Texts that spell an event.
+static SPELLED: [(&str, &str); 2] = [(NONCE, "00"), (NONCE, INIT)];
+
+/// Texts that spell none.
+static SPOILT: [(&str, &str); 4] = [(NONCE, "0"), (NONCE, "0x"), (NONCE, "00 0"), ("", "00")];
 
 #[test]
-fn bodies_want_memory(rt: HostRuntime) -> Result<(), Fail> {
-    stand(rt.alloc(), &[Body("00"), Body(INIT)])
-}
-
-/// Texts of a nonce and of a body that spell no event.
-#[derive(Debug, Clone, Copy)]
-struct Spoilt(&'static str, &'static str);
-
-impl Call for Spoilt {
-    type Subject = ();
-
-    fn subject(&self, _alloc: Global) -> Result<(), Fail> {
-        Ok(())
-    }
-
-    fn answer(&self, alloc: Global, _subject: &mut ()) -> Answer {
-        let refused = Event::from_hex(alloc, self.0, self.1).err();
-        right(refused == Some(EventError::Invalid))
-    }
-}
-
-#[test]
-fn texts_that_spell_nothing_are_invalid_without_memory(rt: HostRuntime) -> Result<(), Fail> {
-    let spoilt = [
-        Spoilt(NONCE, "0"),
-        Spoilt(NONCE, "0x"),
-        Spoilt(NONCE, "00 0"),
-        Spoilt("", "00"),
-    ];
-    take_none(rt.alloc(), &spoilt)
+fn texts_of_events_want_memory_where_they_spell_one(rt: HostRuntime) -> Result<(), Fail> {
+    stand(rt.alloc(), &[Spell::Right], &SPELLED)?;
+    take_none(rt.alloc(), &[Spell::Wrong], &SPOILT)
 }

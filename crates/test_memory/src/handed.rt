@@ -1,87 +1,84 @@
-//! What a profile or an acceptor is given, what it has to answer, and what shows its state.
+//! What a profile or an acceptor is given, and what it has to answer.
 
-use fe2o3_sasl::runs::Event;
-use fe2o3_sasl_wire::Frame;
-use help_bodies::replies::{bytes_of, event, events, frame, two_frames};
+use crate::calls::{Answer, right, want};
+use fe2o3_sasl::OutOfMemory;
+use fe2o3_sasl::runs::{ClientReply, Event, ServerReply};
+use fe2o3_sasl::sasl_profile::ProfileError;
+use fe2o3_sasl_wire::{Error, Frame};
+use help_bodies::replies::{bytes_of, events, frame, is_client_reply, is_server_reply, two_frames};
 use std::alloc::Global;
 use std::test::Fail;
 
-/// The body that is given, as the one event of a run and as a frame for each of two calls.
-#[derive(Drop)]
-pub struct Given {
-    /// The event of the body.
-    pub events: Vec<Event>,
-
-    /// The frame of the body, twice.
-    pub frames: Vec<Frame>,
-}
-
-/// The reply that is wanted.
-#[derive(Drop)]
-pub struct Wanted {
-    /// Its body.
-    pub body: Vec<u8>,
-
-    /// Its frame.
-    pub frame: Box<Frame>,
-}
-
-/// A body that shows a state by the body of the reply to it.
-#[derive(Drop)]
-pub struct Shows {
-    /// The event of the body.
-    pub event: Event,
-
-    /// The body of the reply.
-    pub reply: Vec<u8>,
-}
-
-/// What is given, what is wanted, and what shows the state.
+/// Bodies that are given and those of the replies.
 #[derive(Drop)]
 pub struct Handed {
-    /// What is given.
-    pub given: Given,
+    /// The events of the bodies.
+    pub events: Vec<Event>,
 
-    /// What is wanted.
-    pub wanted: Wanted,
+    /// The frame of the first body, for each of two calls.
+    pub frames: Vec<Frame>,
 
-    /// What shows the state.
-    pub shows: Shows,
+    /// The bodies of the replies.
+    pub replies: Vec<Vec<u8>>,
+
+    /// The frame of the last reply.
+    pub last: Box<Frame>,
 }
 
-fn given_of(alloc: Global, nonce: u8, digits: &str) -> Result<Given, Fail> {
-    Ok(Given {
-        events: events(alloc, nonce, &[digits])?,
-        frames: two_frames(alloc, digits)?,
-    })
-}
-
-fn wanted_of(alloc: Global, digits: &str) -> Result<Wanted, Fail> {
-    Ok(Wanted {
-        body: bytes_of(alloc, digits)?,
-        frame: Box::new(alloc, frame(alloc, digits)?)?,
-    })
-}
-
-fn shows_of(alloc: Global, nonce: u8, body: &str, reply: &str) -> Result<Shows, Fail> {
-    Ok(Shows {
-        event: event(alloc, nonce, body)?,
-        reply: bytes_of(alloc, reply)?,
-    })
-}
-
-/// What is handed to a side with nonces of this byte: a body, the body of the reply, and the body that
-/// shows the state by that of the reply to it.
+/// What is handed to a side with nonces of this byte.
 pub fn handed_of(
     alloc: Global,
     nonce: u8,
-    given_body: &str,
-    reply: &str,
-    shown_by: (&str, &str),
+    given: &[&str],
+    replies: &[&str],
 ) -> Result<Handed, Fail> {
+    let mut bodies = Vec::with_capacity(alloc, replies.len())?;
+    for digits in replies {
+        bodies.push(bytes_of(alloc, digits)?)?;
+    }
+    let first = given.first().ok_or("a body")?;
+    let last = replies.last().ok_or("a reply")?;
     Ok(Handed {
-        given: given_of(alloc, nonce, given_body)?,
-        wanted: wanted_of(alloc, reply)?,
-        shows: shows_of(alloc, nonce, shown_by.0, shown_by.1)?,
+        events: events(alloc, nonce, given)?,
+        frames: two_frames(alloc, first)?,
+        replies: bodies,
+        last: Box::new(alloc, frame(alloc, last)?)?,
     })
+}
+
+/// The answer of a server's run: right where all replies are, and want of memory where the first that is
+/// not, or the list of them, is.
+pub fn server_ran(
+    run: Result<Vec<Result<ServerReply, Error>>, OutOfMemory>,
+    handed: &Handed,
+) -> Answer {
+    let Ok(replies) = run else {
+        return Answer::WantOfMemory;
+    };
+    for (reply, body) in replies.iter().zip(&handed.replies) {
+        match reply {
+            Ok(reply) if is_server_reply(reply, body) => {}
+            Ok(_) => return Answer::Wrong,
+            Err(fault) => return want(*fault == Error::OutOfMemory),
+        }
+    }
+    right(replies.len() == handed.replies.len())
+}
+
+/// The same of a client's.
+pub fn client_ran(
+    run: Result<Vec<Result<ClientReply, ProfileError>>, OutOfMemory>,
+    handed: &Handed,
+) -> Answer {
+    let Ok(replies) = run else {
+        return Answer::WantOfMemory;
+    };
+    for (reply, body) in replies.iter().zip(&handed.replies) {
+        match reply {
+            Ok(reply) if is_client_reply(reply, body, &handed.last) => {}
+            Ok(_) => return Answer::Wrong,
+            Err(fault) => return want(*fault == ProfileError::OutOfMemory),
+        }
+    }
+    right(replies.len() == handed.replies.len())
 }

@@ -1,12 +1,16 @@
-//! Tests of every call of the four libraries while there is too little memory: those that can want it, and
-//! those that take none. Expected values come from the standards, from worked examples, from other programs,
-//! and from Python's `hmac` and `hashlib`.
+//! Tests of every call of the libraries while there is too little memory: those that can want it, and those
+//! that take none; and the texts of the faults of SASLprep. Expected values come from the standards, from
+//! worked examples, from other programs, and from Python's `hmac` and `hashlib`.
 #![tactic(auto)]
 
 #[cfg(test)]
 mod acceptors;
 #[cfg(test)]
 mod audits;
+#[cfg(test)]
+mod blocks;
+#[cfg(test)]
+mod calls;
 #[cfg(test)]
 mod connections;
 #[cfg(test)]
@@ -18,19 +22,15 @@ mod handed;
 #[cfg(test)]
 mod profiles;
 #[cfg(test)]
-mod profiles_free;
+mod saslprep_texts;
 #[cfg(test)]
-mod refusing;
+mod scram_clients;
 #[cfg(test)]
-mod runs;
+mod scram_expected;
 #[cfg(test)]
 mod scram_free;
 #[cfg(test)]
 mod scram_hashes;
-#[cfg(test)]
-mod scram_kept_keys;
-#[cfg(test)]
-mod scram_machines;
 #[cfg(test)]
 mod scram_messages;
 #[cfg(test)]
@@ -38,18 +38,18 @@ mod scram_mixed;
 #[cfg(test)]
 mod scram_records;
 #[cfg(test)]
+mod scram_servers;
+#[cfg(test)]
 mod scram_values;
 #[cfg(test)]
 mod set_down;
 #[cfg(test)]
 mod users;
 #[cfg(test)]
+mod wire;
+#[cfg(test)]
 mod wire_bodies;
 #[cfg(test)]
-mod wire_frames;
-#[cfg(test)]
 mod wire_free;
-#[cfg(test)]
-mod wire_types;
 #[cfg(test)]
 mod wrong_bodies;

@@ -1,6 +1,7 @@
 //! Calls that take no memory give their answers while each request for it is refused.
 
-use crate::scram_machines::is_early;
+use crate::calls::{Answer, Call, Expected, right, take_none};
+use crate::scram_expected::has_record;
 use crate::scram_values::*;
 use crate::users::{record, stored, two_names, two_of};
 use fe2o3_scram::client_keys::ScramClientKeys;
@@ -11,42 +12,31 @@ use fe2o3_scram::credentials::{
 use fe2o3_scram::hmac::{Meter, ScramVersion};
 use fe2o3_scram::scram_client::ScramClient;
 use fe2o3_scram::scram_messages::{
-    ClientFinal, ClientFirst, ScramErrorKind, ServerFirst, ServerScramErrorKind, UnescapeError,
+    ClientFirst, ScramErrorKind, ServerScramErrorKind, UnescapeError,
 };
 use fe2o3_scram::scram_server::ScramAuthenticator;
 use fe2o3_scram::{KeyError, OutOfMemory, saslprep, unescape_username};
-use help_memory::{Answer, Call, right, take_none};
 use std::alloc::Global;
 use std::test::Fail;
 
 const VERSION: ScramVersion = ScramVersion::Sha256;
 
-/// A call of values that are there without memory.
-#[derive(Debug, Clone, Copy)]
+/// Calls of values that are there without memory.
 enum Free {
-    Version,
-    Password,
-    Meter,
+    Words,
     Keys,
-    MadeProof,
-    MetProof,
-    RecoveredKey,
+    Proof,
     Signature,
-    PlainName,
-    PlainClientFirst,
-    FaultsOfMemory,
-    FaultsOfRecords,
+    Names,
+    Faults,
 }
 
-fn has_its_name() -> bool {
-    let copy: Result<_, _> = VERSION.clone();
+fn words_are_told() -> bool {
     VERSION.mechanism() == "SCRAM-SHA-256"
         && ScramVersion::from_mechanism("SCRAM-SHA-256") == Some(VERSION)
-        && copy.ok() == Some(VERSION)
-}
-
-fn is_tested(password: &str) -> bool {
-    saslprep(password).ok() == Some(password) && saslprep("p\u{e9}ncil").is_err()
+        && VERSION.clone().ok() == Some(VERSION)
+        && saslprep(PASSWORD).ok() == Some(PASSWORD)
+        && saslprep("p\u{e9}ncil").is_err()
 }
 
 fn keys_are_made() -> bool {
@@ -58,190 +48,83 @@ fn keys_are_made() -> bool {
         && meter.count() == 2
 }
 
+/// The proof is made and met, and the ClientKey recovered from it.
 fn proof_is_made() -> bool {
-    let mut meter = Meter::new();
-    let key = VERSION.client_key(&SALTED_PASSWORD, &mut meter);
-    let text = AUTH_MESSAGE.as_bytes();
-    match VERSION.compute_client_proof(key.as_slice(), text, &mut meter) {
-        Ok(proof) => proof.as_slice() == PROOF.as_slice(),
-        Err(_) => false,
-    }
-}
-
-fn proof_is_met() -> bool {
-    let mut meter = Meter::new();
-    let text = AUTH_MESSAGE.as_bytes();
-    let met = VERSION.verify_client_proof(&STORED_KEY, &PROOF, text, &mut meter);
-    met.ok() == Some(true)
-}
-
-fn key_is_recovered() -> bool {
-    let mut meter = Meter::new();
-    let text = AUTH_MESSAGE.as_bytes();
-    match VERSION.recovered_client_key(&STORED_KEY, &PROOF, text, &mut meter) {
-        Ok(key) => VERSION.stored_key(key.as_slice()).as_slice() == STORED_KEY.as_slice(),
-        Err(_) => false,
-    }
+    let (text, mut meter) = (AUTH_MESSAGE.as_bytes(), Meter::new());
+    let Ok(proof) = VERSION.compute_client_proof(&CLIENT_KEY, text, &mut meter) else {
+        return false;
+    };
+    let Ok(key) = VERSION.recovered_client_key(&STORED_KEY, &PROOF, text, &mut meter) else {
+        return false;
+    };
+    proof.as_slice() == PROOF.as_slice()
+        && key.as_slice() == CLIENT_KEY.as_slice()
+        && VERSION
+            .verify_client_proof(&STORED_KEY, &PROOF, text, &mut meter)
+            .ok()
+            == Some(true)
 }
 
 fn signature_is_made() -> bool {
-    let mut meter = Meter::new();
-    let text = AUTH_MESSAGE.as_bytes();
+    let (text, mut meter) = (AUTH_MESSAGE.as_bytes(), Meter::new());
     let signature = VERSION.compute_server_signature(&SERVER_KEY, text, &mut meter);
     signature.as_slice() == SIGNATURE.as_slice()
 }
 
-fn name_is_borrowed(alloc: Global) -> bool {
-    match unescape_username(alloc, "user") {
-        Ok(name) => name.as_str() == "user",
-        Err(_) => false,
+/// Names without an escape are borrowed.
+fn names_are_borrowed(alloc: Global) -> bool {
+    match (
+        unescape_username(alloc, "user"),
+        ClientFirst::parse(alloc, b"n,,n=user,r=a"),
+    ) {
+        (Ok(name), Ok(read)) => {
+            name.as_str() == "user" && read.username.as_str() == "user" && read.client_nonce == "a"
+        }
+        _ => false,
     }
 }
 
-fn client_first_is_read(alloc: Global) -> bool {
-    match ClientFirst::parse(alloc, b"n,,n=user,r=a") {
-        Ok(read) => read.username.as_str() == "user" && read.client_nonce == "a",
-        Err(_) => false,
-    }
-}
-
+/// Want of memory is `OutOfMemory` of each fault itself.
 fn are_out_of_memory() -> bool {
     KeyError::from(OutOfMemory) == KeyError::OutOfMemory
         && UnescapeError::from(OutOfMemory) == UnescapeError::OutOfMemory
         && ScramErrorKind::from(OutOfMemory) == ScramErrorKind::OutOfMemory
         && ServerScramErrorKind::from(OutOfMemory) == ServerScramErrorKind::OutOfMemory
-}
-
-fn are_out_of_memory_of_records() -> bool {
-    RecordError::from(OutOfMemory) == RecordError::OutOfMemory
+        && RecordError::from(OutOfMemory) == RecordError::OutOfMemory
         && RecordTextError::from(OutOfMemory) == RecordTextError::OutOfMemory
 }
 
 impl Call for Free {
+    type Row = ();
+
     type Subject = ();
 
-    fn subject(&self, _alloc: Global) -> Result<(), Fail> {
+    fn subject(&self, _alloc: Global, _row: &()) -> Result<(), Fail> {
         Ok(())
     }
 
-    fn answer(&self, alloc: Global, _subject: &mut ()) -> Answer {
+    fn answer(&self, alloc: Global, _row: &(), _subject: &mut ()) -> Answer {
         right(match self {
-            Free::Version => has_its_name(),
-            Free::Password => is_tested(PASSWORD),
-            Free::Meter => Meter::new().count() == 0,
+            Free::Words => words_are_told(),
             Free::Keys => keys_are_made(),
-            Free::MadeProof => proof_is_made(),
-            Free::MetProof => proof_is_met(),
-            Free::RecoveredKey => key_is_recovered(),
+            Free::Proof => proof_is_made(),
             Free::Signature => signature_is_made(),
-            Free::PlainName => name_is_borrowed(alloc),
-            Free::PlainClientFirst => client_first_is_read(alloc),
-            Free::FaultsOfMemory => are_out_of_memory(),
-            Free::FaultsOfRecords => are_out_of_memory_of_records(),
+            Free::Names => names_are_borrowed(alloc),
+            Free::Faults => are_out_of_memory(),
         })
     }
 }
 
-static FREE: [Free; 12] = [
-    Free::Version,
-    Free::Password,
-    Free::Meter,
+static FREE: [Free; 6] = [
+    Free::Words,
     Free::Keys,
-    Free::MadeProof,
-    Free::MetProof,
-    Free::RecoveredKey,
+    Free::Proof,
     Free::Signature,
-    Free::PlainName,
-    Free::PlainClientFirst,
-    Free::FaultsOfMemory,
-    Free::FaultsOfRecords,
+    Free::Names,
+    Free::Faults,
 ];
-
-#[test]
-fn values_take_no_memory(rt: HostRuntime) -> Result<(), Fail> {
-    take_none(rt.alloc(), &FREE)
-}
-
-/// A message that is refused before memory is asked for.
-#[derive(Debug, Clone, Copy)]
-enum Refused {
-    /// A server-first message, to a client whose nonce is `nonce`.
-    ServerFirst(&'static str, ScramErrorKind),
-
-    /// A client-first message.
-    ClientFirst(&'static [u8], ServerScramErrorKind),
-
-    /// A client-final message, to a server whose challenge had the nonce `nonce`.
-    ClientFinal(&'static [u8], ServerScramErrorKind),
-
-    /// A server-final message.
-    ServerFinal(&'static [u8], ScramErrorKind),
-}
-
-impl Call for Refused {
-    type Subject = ();
-
-    fn subject(&self, _alloc: Global) -> Result<(), Fail> {
-        Ok(())
-    }
-
-    fn answer(&self, alloc: Global, _subject: &mut ()) -> Answer {
-        right(match self {
-            Refused::ServerFirst(text, fault) => {
-                ServerFirst::parse(alloc, "nonce", PASSWORD, 1, text).err() == Some(*fault)
-            }
-            Refused::ClientFirst(text, fault) => {
-                ClientFirst::parse(alloc, text).err() == Some(*fault)
-            }
-            Refused::ClientFinal(text, fault) => {
-                ClientFinal::parse(alloc, b"nonce", text).err() == Some(*fault)
-            }
-            Refused::ServerFinal(text, fault) => {
-                VERSION.validate_server_final(alloc, text, &SIGNATURE).err() == Some(*fault)
-            }
-        })
-    }
-}
-
-static REFUSED: [Refused; 17] = [
-    Refused::ServerFirst("r=a,s=b", ScramErrorKind::InsufficientParts),
-    Refused::ServerFirst("m=a,r=b,s=c", ScramErrorKind::ExtensionNotSupported),
-    Refused::ServerFirst("s=AA==,r=nonce,i=1", ScramErrorKind::NonceNotFound),
-    Refused::ServerFirst("r=xnonce,s=AA==,i=1", ScramErrorKind::ClientNonceMismatch),
-    Refused::ServerFirst("r=nonce,i=1,s=A", ScramErrorKind::SaltNotFound),
-    Refused::ClientFirst(b"\xff", ServerScramErrorKind::Utf8Error),
-    Refused::ClientFirst(b"y,,n=user,r=a", ServerScramErrorKind::CannotParseGs2Header),
-    Refused::ClientFirst(b"n,,m=user,r=a", ServerScramErrorKind::CannotParseUsername),
-    Refused::ClientFirst(b"n,,n=user", ServerScramErrorKind::CannotParseClientNonce),
-    Refused::ClientFinal(b"\xff", ServerScramErrorKind::Utf8Error),
-    Refused::ClientFinal(
-        b"C=biws,r=x,p=",
-        ServerScramErrorKind::CannotParseClientFinalMessage,
-    ),
-    Refused::ClientFinal(
-        b"c=biws,p=",
-        ServerScramErrorKind::CannotParseClientFinalMessage,
-    ),
-    Refused::ClientFinal(
-        b"c=biws,r=noncex,p=",
-        ServerScramErrorKind::IncorrectClientFinalNonce,
-    ),
-    Refused::ClientFinal(
-        b"c=biws,r=nonce,x=y",
-        ServerScramErrorKind::ProofNotFoundInClientFinal,
-    ),
-    Refused::ServerFinal(b"v=\xff", ScramErrorKind::Utf8Error),
-    Refused::ServerFinal(b"", ScramErrorKind::ServerSignatureMismatch),
-    Refused::ServerFinal(b"e=invalid-proof", ScramErrorKind::ServerSignatureMismatch),
-];
-
-#[test]
-fn refusals_before_memory_take_none(rt: HostRuntime) -> Result<(), Fail> {
-    take_none(rt.alloc(), &REFUSED)
-}
 
 /// A call that makes something of what it is handed, or asks it.
-#[derive(Debug, Clone, Copy)]
 enum Making {
     Client,
     ClientWithKeys,
@@ -264,110 +147,85 @@ struct Parts {
 
 /// The record's server key, stored key and salt.
 fn keys(alloc: Global) -> Result<Vec<Vec<u8>>, Fail> {
-    let mut keys = Vec::new(alloc);
-    keys.push(SERVER_KEY.to_vec(alloc)?)?;
-    keys.push(STORED_KEY.to_vec(alloc)?)?;
-    keys.push(SALT.to_vec(alloc)?)?;
+    let mut keys = Vec::with_capacity(alloc, 3)?;
+    for key in &[SERVER_KEY, STORED_KEY, SALT] {
+        keys.push(key.to_vec(alloc)?)?;
+    }
     Ok(keys)
 }
 
-/// Whether the provider has the user's record, and no other.
-fn has_the_record<C: ScramCredentialProvider>(provider: &C) -> bool {
-    let Some(kept) = provider.get_stored_password(USER) else {
-        return false;
-    };
-    kept.stored_key == STORED_KEY.as_slice()
-        && kept.server_key == SERVER_KEY.as_slice()
-        && provider.get_stored_password("another").is_none()
-        && *provider.scram_version() == VERSION
-}
-
-fn client_is_made(alloc: Global, parts: &mut Parts) -> bool {
-    let Some((user, password)) = two_of(&mut parts.names) else {
-        return false;
-    };
-    let mut client = ScramClient::new(user, password, VERSION).with_iteration_limit(1);
-    is_early(alloc, &mut client) && client.version() == VERSION
-}
-
-/// The keys of a client, made of the salt.
-fn kept_keys(parts: &mut Parts) -> Option<ScramClientKeys> {
+/// The client of the call. One that is taken up waits for the stored key, in place of a signature.
+fn client_of(making: &Making, parts: &mut Parts) -> Option<ScramClient> {
+    let (user, password) = two_of(&mut parts.names)?;
     let salt = parts.keys.pop()?;
-    ScramClientKeys::from_parts(VERSION, salt, 1, &CLIENT_KEY, &SERVER_KEY).ok()
+    let keys = ScramClientKeys::from_parts(VERSION, salt, 1, &CLIENT_KEY, &SERVER_KEY).ok()?;
+    let signature = parts.keys.pop()?;
+    Some(match making {
+        Making::ClientWithKeys => ScramClient::with_keys(user, keys).with_least_iterations(1),
+        Making::ClientWithBoth => ScramClient::with_password_and_keys(user, password, keys)
+            .with_least_iterations(1)
+            .with_iteration_limit(1),
+        Making::ClientTakenUp => {
+            ScramClient::new(user, password, VERSION).waiting_for(signature, Some(keys))
+        }
+        _ => ScramClient::new(user, password, VERSION).with_iteration_limit(1),
+    })
 }
 
-fn client_with_keys_is_made(alloc: Global, parts: &mut Parts) -> bool {
-    let (Some(user), Some(keys)) = (parts.names.pop(), kept_keys(parts)) else {
-        return false;
-    };
-    let mut client = ScramClient::with_keys(user, keys).with_least_iterations(1);
-    is_early(alloc, &mut client) && client.version() == VERSION && client.keys().is_none()
-}
-
-fn client_with_both_is_made(alloc: Global, parts: &mut Parts) -> bool {
-    let (Some((user, password)), Some(keys)) = (two_of(&mut parts.names), kept_keys(parts)) else {
-        return false;
-    };
-    let client = ScramClient::with_password_and_keys(user, password, keys);
-    let mut client = client.with_least_iterations(1).with_iteration_limit(1);
-    is_early(alloc, &mut client) && client.version() == VERSION && client.nonce().is_none()
+/// Whether the client has sent nothing, so that a server-first message comes too early.
+fn is_fresh(alloc: Global, client: &mut ScramClient) -> bool {
+    let refused = client
+        .compute_client_final_message(alloc, SERVER_FIRST)
+        .err();
+    refused == Some(ScramErrorKind::IllegalClientState)
+        && client.version() == VERSION
+        && client.nonce().is_none()
+        && client.keys().is_none()
 }
 
 /// Whether the client waits for the stored key, in place of a signature.
-fn client_is_taken_up(parts: &mut Parts) -> bool {
-    let (Some((user, password)), Some(keys), Some(signature)) = (
-        two_of(&mut parts.names),
-        kept_keys(parts),
-        parts.keys.pop(),
-    ) else {
-        return false;
-    };
-    let client = ScramClient::new(user, password, VERSION).waiting_for(signature, Some(keys));
+fn is_taken_up(client: &ScramClient) -> bool {
     client.server_signature() == Some(STORED_KEY.as_slice())
         && client.answer_keys().is_some()
         && client.nonce().is_none()
         && client.keys().is_none()
 }
 
-/// A record of the three keys.
-fn record_of(parts: &mut Parts) -> Option<ScramRecord> {
-    let salt = parts.keys.pop()?;
-    let stored_key = parts.keys.pop()?;
-    let server_key = parts.keys.pop()?;
-    Some(ScramRecord::from_parts(VERSION, salt, 1, stored_key, server_key))
-}
-
-/// Whether the record has its version and what is kept of the password.
-fn is_the_record(record: &ScramRecord) -> bool {
-    let kept = record.as_stored_password();
-    *record.scram_version() == VERSION
-        && kept.salt == SALT.as_slice()
-        && kept.stored_key == STORED_KEY.as_slice()
-        && kept.server_key == SERVER_KEY.as_slice()
-}
-
-fn record_is_made(parts: &mut Parts) -> bool {
-    match record_of(parts) {
-        Some(record) => is_the_record(&record),
-        None => false,
+fn client_is_made(alloc: Global, making: &Making, parts: &mut Parts) -> bool {
+    match (client_of(making, parts), making) {
+        (Some(client), Making::ClientTakenUp) => is_taken_up(&client),
+        (Some(mut client), _) => is_fresh(alloc, &mut client),
+        (None, _) => false,
     }
 }
 
+fn record_is_made(parts: &mut Parts) -> Option<bool> {
+    let (salt, stored_key) = (parts.keys.pop()?, parts.keys.pop()?);
+    let server_key = parts.keys.pop()?;
+    let record = ScramRecord::from_parts(VERSION, salt, 1, stored_key, server_key);
+    Some(record.is_right() && *record.scram_version() == VERSION)
+}
+
+/// Whether the provider has the user's record, and no other.
+fn has_the_record<C: ScramCredentialProvider>(provider: &C) -> bool {
+    has_record(provider, USER)
+        && provider.get_stored_password("another").is_none()
+        && *provider.scram_version() == VERSION
+}
+
 fn credential_is_made(parts: &mut Parts) -> bool {
-    let (Some(user), Some(record)) = (parts.names.pop(), parts.record.take()) else {
-        return false;
-    };
-    has_the_record(&StoredScramCredential::new(user, record))
+    match (parts.names.pop(), parts.record.take()) {
+        (Some(user), Some(record)) => has_the_record(&StoredScramCredential::new(user, record)),
+        _ => false,
+    }
 }
 
 fn server_is_made(alloc: Global, parts: &mut Parts) -> bool {
     let Some(stored) = parts.provider.take() else {
         return false;
     };
-    let mut server = ScramAuthenticator::new(stored);
-    let early = server
-        .compute_server_final_message(alloc, CLIENT_FINAL.as_bytes())
-        .err();
+    let (mut server, text) = (ScramAuthenticator::new(stored), CLIENT_FINAL.as_bytes());
+    let early = server.compute_server_final_message(alloc, text).err();
     early == Some(ServerScramErrorKind::IllegalAuthenticatorState)
         && has_the_record(server.credentials())
 }
@@ -378,9 +236,11 @@ fn store_is_made(alloc: Global) -> bool {
 }
 
 impl Call for Making {
+    type Row = ();
+
     type Subject = Parts;
 
-    fn subject(&self, alloc: Global) -> Result<Parts, Fail> {
+    fn subject(&self, alloc: Global, _row: &()) -> Result<Parts, Fail> {
         Ok(Parts {
             names: two_names(alloc)?,
             keys: keys(alloc)?,
@@ -389,16 +249,13 @@ impl Call for Making {
         })
     }
 
-    fn answer(&self, alloc: Global, parts: &mut Parts) -> Answer {
+    fn answer(&self, alloc: Global, _row: &(), parts: &mut Parts) -> Answer {
         right(match self {
-            Making::Client => client_is_made(alloc, parts),
-            Making::ClientWithKeys => client_with_keys_is_made(alloc, parts),
-            Making::ClientWithBoth => client_with_both_is_made(alloc, parts),
-            Making::ClientTakenUp => client_is_taken_up(parts),
-            Making::Record => record_is_made(parts),
+            Making::Record => record_is_made(parts) == Some(true),
             Making::Stored => credential_is_made(parts),
             Making::Many => store_is_made(alloc),
             Making::Server => server_is_made(alloc, parts),
+            _ => client_is_made(alloc, self, parts),
         })
     }
 }
@@ -415,6 +272,7 @@ static MAKINGS: [Making; 8] = [
 ];
 
 #[test]
-fn constructors_and_machines_that_refuse_take_no_memory(rt: HostRuntime) -> Result<(), Fail> {
-    take_none(rt.alloc(), &MAKINGS)
+fn values_and_constructors_take_no_memory(rt: HostRuntime) -> Result<(), Fail> {
+    take_none(rt.alloc(), &FREE, &[()])?;
+    take_none(rt.alloc(), &MAKINGS, &[()])
 }

@@ -56,12 +56,29 @@ pub const AUTH_MESSAGE: &str = "n=us=2Cer,r=AQEBAQEBAQEBAQEBAQEBAQEBAQEBAQEBAQEB
     c=biws,r=AQEBAQEBAQEBAQEBAQEBAQEBAQEBAQEBAQEBAQEBAQE=\
     AgICAgICAgICAgICAgICAgICAgICAgICAgICAgICAgI=";
 
+/// A name that is not the user's.
+pub const OTHER_USER: &str = "another user of the store";
+
 /// A store of two users with this record, as lines.
 pub const LINES: &str = "another user of the store \
     SCRAM-SHA-256$1:AwMDAwMDAwMDAwMDAwMDAwMDAwMDAwMDAwMDAwMDAwM=$\
     UirV+ZKbhd2i+RnnHd8L1j6l+PgDPvtgbiOHYSDYStY=:\
     TzbRIb5dtc1mmDGahhuirMlCV3F9VfmfEsSONnSG2mg=\n\
     us=2Cer SCRAM-SHA-256$1:AwMDAwMDAwMDAwMDAwMDAwMDAwMDAwMDAwMDAwMDAwM=$\
+    UirV+ZKbhd2i+RnnHd8L1j6l+PgDPvtgbiOHYSDYStY=:\
+    TzbRIb5dtc1mmDGahhuirMlCV3F9VfmfEsSONnSG2mg=\n";
+
+/// A store of four other users with this record.
+pub const FOUR_LINES: &str = "first SCRAM-SHA-256$1:AwMDAwMDAwMDAwMDAwMDAwMDAwMDAwMDAwMDAwMDAwM=$\
+    UirV+ZKbhd2i+RnnHd8L1j6l+PgDPvtgbiOHYSDYStY=:\
+    TzbRIb5dtc1mmDGahhuirMlCV3F9VfmfEsSONnSG2mg=\n\
+    second SCRAM-SHA-256$1:AwMDAwMDAwMDAwMDAwMDAwMDAwMDAwMDAwMDAwMDAwM=$\
+    UirV+ZKbhd2i+RnnHd8L1j6l+PgDPvtgbiOHYSDYStY=:\
+    TzbRIb5dtc1mmDGahhuirMlCV3F9VfmfEsSONnSG2mg=\n\
+    third SCRAM-SHA-256$1:AwMDAwMDAwMDAwMDAwMDAwMDAwMDAwMDAwMDAwMDAwM=$\
+    UirV+ZKbhd2i+RnnHd8L1j6l+PgDPvtgbiOHYSDYStY=:\
+    TzbRIb5dtc1mmDGahhuirMlCV3F9VfmfEsSONnSG2mg=\n\
+    fourth SCRAM-SHA-256$1:AwMDAwMDAwMDAwMDAwMDAwMDAwMDAwMDAwMDAwMDAwM=$\
     UirV+ZKbhd2i+RnnHd8L1j6l+PgDPvtgbiOHYSDYStY=:\
     TzbRIb5dtc1mmDGahhuirMlCV3F9VfmfEsSONnSG2mg=\n";
 

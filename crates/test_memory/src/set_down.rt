@@ -1,7 +1,7 @@
 //! A server's side of a connection that is set down behind each byte and taken up by another.
 
-use crate::acceptors::Server;
 use crate::connections::{HEADER, units_of};
+use crate::scram_servers::Server;
 use crate::users::stored;
 use bytes::BytesMut;
 use fe2o3_sasl::hmac::Meter;
@@ -45,67 +45,60 @@ fn each_byte_has_a_side_of_its_own(rt: HostRuntime) -> Result<(), Fail> {
     Ok(())
 }
 
-/// Whether values that no side keeps are refused.
-fn is_refused(alloc: Global, due: Due, limit: usize, held: &[u8]) -> Result<bool, Fail> {
-    let kept = SetDown {
+/// What a side keeps that wants more of what is due.
+fn kept(due: Due, limit: usize, held: &[u8]) -> SetDown<'_> {
+    SetDown {
         standing: Standing::Wanting,
         due,
         limit,
         held,
-    };
+    }
+}
+
+/// Whether values that no side keeps are refused.
+fn is_refused(alloc: Global, kept: &SetDown<'_>) -> Result<bool, Fail> {
     let acceptor = ScramAuthenticator::new(stored(alloc)?);
-    let side = ServerNegotiation::take_up(alloc, acceptor, &kept);
+    let side = ServerNegotiation::take_up(alloc, acceptor, kept);
     Ok(matches!(side, Err(TakeUpError::NotKept)))
 }
 
+const INIT_DUE: Due = Due::Frame(Turn::Init);
+
+/// What is due, the limit, what has come of it, and whether no side keeps that.
+static KEPT: [(Due, usize, &[u8], bool); 7] = [
+    (Due::Header, 512, &[0; 7], false),
+    (Due::Header, 512, &[0; 8], true),
+    (Due::Header, 513, &[], true),
+    (INIT_DUE, 512, &[0, 0, 0, 9, 2, 0, 0, 0], false),
+    (INIT_DUE, 512, &[0, 0, 0, 8, 2, 0, 0, 0], true),
+    (INIT_DUE, 512, &[0, 0, 0, 7], true),
+    (INIT_DUE, 16, &[0, 0, 0, 17], true),
+];
+
 #[test]
 fn no_side_keeps_a_whole_unit(rt: HostRuntime) -> Result<(), Fail> {
-    let init = Due::Frame(Turn::Init);
-    let rows: [(Due, usize, &[u8], bool); 7] = [
-        (Due::Header, 512, &[0; 7], false),
-        (Due::Header, 512, &[0; 8], true),
-        (Due::Header, 513, &[], true),
-        (init, 512, &[0, 0, 0, 9, 2, 0, 0, 0], false),
-        (init, 512, &[0, 0, 0, 8, 2, 0, 0, 0], true),
-        (init, 512, &[0, 0, 0, 7], true),
-        (init, 16, &[0, 0, 0, 17], true),
-    ];
-    for (at, (due, limit, held, wanted)) in rows.iter().enumerate() {
-        assert!(rt;
-            is_refused(rt.alloc(), *due, *limit, held)? == *wanted,
-            "{at}"
-        );
+    for (due, limit, held, wanted) in &KEPT {
+        let refused = is_refused(rt.alloc(), &kept(*due, *limit, held))?;
+        assert!(rt; refused == *wanted, "{held:?}");
     }
     Ok(())
 }
 
-/// Whether this is the body that the bytes up to `end` of an init complete, by the side to which as many have come.
-fn completes(alloc: Global, unit: &[u8], come: usize, end: usize, body: Option<&[u8]>) -> bool {
-    let (Some(held), Some(more)) = (unit.get(..come), unit.get(come..end)) else {
-        return false;
-    };
-    let kept = SetDown {
-        standing: Standing::Wanting,
-        due: Due::Frame(Turn::Init),
-        limit: 512,
-        held,
-    };
-    match kept.completed(alloc, more) {
-        Ok(Some(found)) => body == Some(found.as_slice()),
-        Ok(None) => body.is_none(),
-        Err(_) => false,
-    }
+/// The body that the bytes up to `end` of an init complete, by the side to which as many have come.
+fn completed(alloc: Global, unit: &[u8], come: usize, end: usize) -> Option<Vec<u8>> {
+    let (held, more) = (unit.get(..come)?, unit.get(come..end)?);
+    kept(INIT_DUE, 512, held).completed(alloc, more).ok()?
 }
 
 #[test]
 fn the_rest_of_a_unit_completes_its_body(rt: HostRuntime) -> Result<(), Fail> {
     let alloc = rt.alloc();
     let unit = units_of(alloc, &[INIT])?;
-    let (end, body) = (unit.len(), unit.get(4..));
+    let (end, short) = (unit.len(), unit.len().saturating_sub(1));
     for come in [0, 3, 4, 40] {
-        assert!(rt; completes(alloc, &unit, come, end, body), "{come}");
-        let short = end.saturating_sub(1);
-        assert!(rt; completes(alloc, &unit, come, short, None), "{come}");
+        let body = completed(alloc, &unit, come, end);
+        assert!(rt; body.as_deref() == unit.get(4..), "{come}");
+        assert!(rt; completed(alloc, &unit, come, short).is_none(), "{come}");
     }
     Ok(())
 }

@@ -1,4 +1,4 @@
-//! Frame bodies of the worked examples, as hexadecimal digits.
+//! Bodies of frames of the worked examples, as hexadecimal digits, and the header of SASL.
 
 /// An outcome of code ok whose data is the server-final message of a login.
 pub const OUTCOME: &str = "02010000005344c033025000a02e763d5833774d497a6167624a352b73786430\
@@ -15,3 +15,6 @@ pub const CHALLENGE_7: &str = "02010000005342c00401a00107";
 
 /// A response of the byte 7.
 pub const RESPONSE_7: &str = "02010000005343c00401a00107";
+
+/// The header of SASL.
+pub const SASL_BYTES: [u8; 8] = *b"AMQP\x03\x01\x00\x00";

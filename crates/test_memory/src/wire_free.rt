@@ -1,25 +1,20 @@
 //! Calls that take no memory give their answers while each request for it is refused.
 
+use crate::calls::{Answer, Call, right, take_none};
 use crate::wire_bodies::*;
 use bytes::{Bytes, BytesMut};
 use fe2o3_sasl_wire::{
     Error, FrameCodec, FrameView, NegotiationError, ProtocolHeader, ProtocolHeaderCodec,
     ProtocolId, SaslCode, Symbol, SymbolError, SymbolsView, view_frame,
 };
-use help_bodies::bodies::{INIT_ANONYMOUS_WITH_HOSTNAME, OUTCOME_OK};
 use help_bodies::replies::bytes_of;
-use help_memory::{Answer, Call, right, take_none};
 use std::alloc::{AllocError, Global};
 use std::test::Fail;
-
-/// The header of SASL.
-const SASL_BYTES: [u8; 8] = *b"AMQP\x03\x01\x00\x00";
 
 /// What is no header.
 const NO_HEADER: [u8; 8] = *b"AMQP\x01\x01\x00\x00";
 
-/// A call of headers, codes and symbols.
-#[derive(Debug, Clone, Copy)]
+/// A call of headers, codes, symbols and views.
 enum Free {
     Headers,
     HeaderOfBytes,
@@ -27,15 +22,15 @@ enum Free {
     ReadHeader,
     Copies,
     Codes,
-    NoSymbol,
-    Faults,
+    Symbols,
 }
 
-/// Bytes that are shared, and a buffer of seventeen.
+/// Bytes that are shared, a buffer of seventeen, and the body of a list of PLAIN and EXTERNAL.
 #[derive(Drop)]
 struct Headers {
     shared: Vec<Bytes>,
     buffer: BytesMut,
+    list: Vec<u8>,
 }
 
 fn headers_are_made() -> bool {
@@ -84,78 +79,13 @@ fn plain_values_are_copied() -> bool {
         && SaslCode::SysTemp == SaslCode::SysTemp.clone().unwrap()
 }
 
-fn codes_are_read() -> bool {
-    SaslCode::try_from(1) == Ok(SaslCode::Auth) && SaslCode::try_from(5) == Err(5)
-}
-
-fn is_no_symbol(alloc: Global) -> bool {
-    Symbol::new(alloc, "PLAIN\u{80}").err() == Some(SymbolError::NotAscii)
-}
-
-fn are_out_of_memory() -> bool {
-    Error::from(AllocError) == Error::OutOfMemory
+/// Codes are read, a text that is no symbol is refused, and want of memory is that of each fault.
+fn codes_are_read(alloc: Global) -> bool {
+    SaslCode::try_from(1) == Ok(SaslCode::Auth)
+        && SaslCode::try_from(5) == Err(5)
+        && Symbol::new(alloc, "PLAIN\u{80}").err() == Some(SymbolError::NotAscii)
+        && Error::from(AllocError) == Error::OutOfMemory
         && SymbolError::from(AllocError) == SymbolError::OutOfMemory
-}
-
-impl Call for Free {
-    type Subject = Headers;
-
-    fn subject(&self, alloc: Global) -> Result<Headers, Fail> {
-        let mut shared = Vec::new(alloc);
-        shared.push(Bytes::copy_from_slice(alloc, &SASL_BYTES)?)?;
-        let mut buffer = BytesMut::copy_from_slice(alloc, &SASL_BYTES)?;
-        buffer.extend_from_slice(&NO_HEADER)?;
-        buffer.extend_from_slice(b"x")?;
-        Ok(Headers { shared, buffer })
-    }
-
-    fn answer(&self, alloc: Global, headers: &mut Headers) -> Answer {
-        right(match self {
-            Free::Headers => headers_are_made(),
-            Free::HeaderOfBytes => header_is_of_its_bytes(headers.shared.pop()),
-            Free::NoHeader => no_header_is_handed_back(),
-            Free::ReadHeader => header_is_read(&mut headers.buffer),
-            Free::Copies => plain_values_are_copied(),
-            Free::Codes => codes_are_read(),
-            Free::NoSymbol => is_no_symbol(alloc),
-            Free::Faults => are_out_of_memory(),
-        })
-    }
-}
-
-static FREE: [Free; 8] = [
-    Free::Headers,
-    Free::HeaderOfBytes,
-    Free::NoHeader,
-    Free::ReadHeader,
-    Free::Copies,
-    Free::Codes,
-    Free::NoSymbol,
-    Free::Faults,
-];
-
-#[test]
-fn headers_and_codes_take_no_memory(rt: HostRuntime) -> Result<(), Fail> {
-    take_none(rt.alloc(), &FREE)
-}
-
-/// A body in hexadecimal digits, and what it shows.
-#[derive(Debug, Clone, Copy)]
-enum Shows {
-    /// These two mechanisms.
-    Mechanisms(&'static str, &'static str, &'static str),
-
-    /// An init of this mechanism, with this initial response and this hostname.
-    Init(&'static str, &'static str, Option<&'static [u8]>, Option<&'static str>),
-
-    /// A challenge of these bytes.
-    Challenge(&'static str, &'static [u8]),
-
-    /// A response of these bytes.
-    Response(&'static str, &'static [u8]),
-
-    /// An outcome of this code without data.
-    Outcome(&'static str, SaslCode),
 }
 
 /// Whether these are the two symbols, by every call.
@@ -172,121 +102,96 @@ fn are_both(symbols: &SymbolsView<'_>, first: &str, second: &str) -> bool {
         && !symbols.contains("none")
 }
 
-/// Whether the view is what is shown.
-fn is_shown(view: &FrameView<'_>, shows: &Shows) -> bool {
-    match (view, shows) {
-        (FrameView::Mechanisms(symbols), Shows::Mechanisms(_, first, second)) => {
-            are_both(symbols, first, second)
-        }
-        (
-            FrameView::Init {
-                mechanism,
-                initial_response,
-                hostname,
-            },
-            Shows::Init(_, name, response, host),
-        ) => *mechanism == *name && *initial_response == *response && *hostname == *host,
-        (FrameView::Challenge(bytes), Shows::Challenge(_, wanted)) => *bytes == *wanted,
-        (FrameView::Response(bytes), Shows::Response(_, wanted)) => *bytes == *wanted,
-        (
-            FrameView::Outcome {
-                code,
-                additional_data: None,
-            },
-            Shows::Outcome(_, wanted),
-        ) => *code == *wanted,
-        _ => false,
+fn symbols_are_viewed(list: &[u8]) -> bool {
+    match view_frame(list) {
+        Ok((view, len)) => match &view {
+            FrameView::Mechanisms(symbols) => {
+                len == list.len() && are_both(symbols, "PLAIN", "EXTERNAL")
+            }
+            _ => false,
+        },
+        Err(_) => false,
     }
 }
 
-impl Call for Shows {
-    type Subject = Vec<u8>;
+impl Call for Free {
+    type Row = ();
 
-    fn subject(&self, alloc: Global) -> Result<Vec<u8>, Fail> {
-        match self {
-            Shows::Mechanisms(digits, _, _) => bytes_of(alloc, digits),
-            Shows::Init(digits, _, _, _) => bytes_of(alloc, digits),
-            Shows::Challenge(digits, _) => bytes_of(alloc, digits),
-            Shows::Response(digits, _) => bytes_of(alloc, digits),
-            Shows::Outcome(digits, _) => bytes_of(alloc, digits),
-        }
+    type Subject = Headers;
+
+    fn subject(&self, alloc: Global, _row: &()) -> Result<Headers, Fail> {
+        let mut shared = Vec::new(alloc);
+        shared.push(Bytes::copy_from_slice(alloc, &SASL_BYTES)?)?;
+        Ok(Headers {
+            shared,
+            buffer: BytesMut::copy_from_slice(alloc, b"AMQP\x03\x01\x00\x00AMQP\x01\x01\x00\x00x")?,
+            list: bytes_of(alloc, MECHANISMS_TWO)?,
+        })
     }
 
-    fn answer(&self, _alloc: Global, body: &mut Vec<u8>) -> Answer {
-        right(match view_frame(body) {
-            Ok((view, len)) => len == body.len() && is_shown(&view, self),
-            Err(_) => false,
+    fn answer(&self, alloc: Global, _row: &(), headers: &mut Headers) -> Answer {
+        right(match self {
+            Free::Headers => headers_are_made(),
+            Free::HeaderOfBytes => header_is_of_its_bytes(headers.shared.pop()),
+            Free::NoHeader => no_header_is_handed_back(),
+            Free::ReadHeader => header_is_read(&mut headers.buffer),
+            Free::Copies => plain_values_are_copied(),
+            Free::Codes => codes_are_read(alloc),
+            Free::Symbols => symbols_are_viewed(&headers.list),
         })
     }
 }
 
-static SHOWN: [Shows; 6] = [
-    Shows::Mechanisms(MECHANISMS_TWO, "PLAIN", "EXTERNAL"),
-    Shows::Init(INIT_PLAIN, "PLAIN", Some(b"\0user\0example"), None),
-    Shows::Init(INIT_ANONYMOUS_WITH_HOSTNAME, "ANONYMOUS", None, Some("h")),
-    Shows::Challenge(CHALLENGE_7, &[7]),
-    Shows::Response(RESPONSE_7, &[7]),
-    Shows::Outcome(OUTCOME_OK, SaslCode::Ok),
+static FREE: [Free; 7] = [
+    Free::Headers,
+    Free::HeaderOfBytes,
+    Free::NoHeader,
+    Free::ReadHeader,
+    Free::Copies,
+    Free::Codes,
+    Free::Symbols,
+];
+
+/// A body that spells no frame is viewed and read.
+struct NoFrame;
+
+impl Call for NoFrame {
+    /// The body in hexadecimal digits, and the fault.
+    type Row = (&'static str, Error);
+
+    type Subject = BytesMut;
+
+    fn subject(&self, alloc: Global, row: &Self::Row) -> Result<BytesMut, Fail> {
+        Ok(BytesMut::copy_from_slice(alloc, &bytes_of(alloc, row.0)?)?)
+    }
+
+    fn answer(&self, alloc: Global, row: &Self::Row, buffer: &mut BytesMut) -> Answer {
+        let (fault, len) = (Some(row.1), buffer.len());
+        let viewed = view_frame(buffer.as_slice()).err();
+        let read = FrameCodec {}.decode(alloc, buffer).err();
+        right(viewed == fault && read == fault && buffer.len() == len)
+    }
+}
+
+/// Among them counts of 4,294,967,295 symbols, and a size of that many bytes.
+static NO_FRAMES: [(&str, Error); 6] = [
+    (
+        "02010000005340d00000000e00000001f000000005ffffffffa3",
+        Error::DecodeError,
+    ),
+    ("02010000005343d0ffffffffffffffff", Error::DecodeError),
+    ("", Error::DecodeError),
+    ("020100", Error::DecodeError),
+    ("0200000045", Error::NotImplemented),
+    ("02010000005343c00401a002", Error::DecodeError),
 ];
 
 #[test]
-fn views_frames_without_memory(rt: HostRuntime) -> Result<(), Fail> {
-    take_none(rt.alloc(), &SHOWN)
+fn headers_codes_and_views_take_no_memory(rt: HostRuntime) -> Result<(), Fail> {
+    take_none(rt.alloc(), &FREE, &[()])
 }
-
-/// A body in hexadecimal digits that spells no frame, and why.
-#[derive(Debug, Clone, Copy)]
-struct NoFrame {
-    digits: &'static str,
-    fault: Error,
-}
-
-impl Call for NoFrame {
-    type Subject = BytesMut;
-
-    fn subject(&self, alloc: Global) -> Result<BytesMut, Fail> {
-        let body = bytes_of(alloc, self.digits)?;
-        Ok(BytesMut::copy_from_slice(alloc, &body)?)
-    }
-
-    /// By the view and by the codec, which leaves its buffer.
-    fn answer(&self, alloc: Global, buffer: &mut BytesMut) -> Answer {
-        let len = buffer.len();
-        let viewed = view_frame(buffer.as_slice()).err();
-        let read = FrameCodec {}.decode(alloc, buffer).err();
-        right(viewed == Some(self.fault) && read == Some(self.fault) && buffer.len() == len)
-    }
-}
-
-static NO_FRAMES: [NoFrame; 6] = [
-    // Counts of 4,294,967,295 symbols, and a size of that many bytes.
-    NoFrame {
-        digits: "02010000005340d00000000e00000001f000000005ffffffffa3",
-        fault: Error::DecodeError,
-    },
-    NoFrame {
-        digits: "02010000005343d0ffffffffffffffff",
-        fault: Error::DecodeError,
-    },
-    NoFrame {
-        digits: "",
-        fault: Error::DecodeError,
-    },
-    NoFrame {
-        digits: "020100",
-        fault: Error::DecodeError,
-    },
-    NoFrame {
-        digits: "0200000045",
-        fault: Error::NotImplemented,
-    },
-    NoFrame {
-        digits: "02010000005343c00401a002",
-        fault: Error::DecodeError,
-    },
-];
 
 #[test]
 fn asks_for_no_memory_by_huge_counts(rt: HostRuntime) -> Result<(), Fail> {
-    take_none(rt.alloc(), &NO_FRAMES)
+    take_none(rt.alloc(), &[NoFrame], &NO_FRAMES)
 }

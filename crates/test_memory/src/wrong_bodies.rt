@@ -1,13 +1,13 @@
 //! Wrong bodies of the tests' own, each of which the tests of the other modules would report.
 
-use fe2o3_scram::OutOfMemory;
+use crate::blocks::TakenMemory;
+use crate::calls::{Answer, Call, Finding, found, right};
 use fe2o3_scram::hmac::ScramVersion;
-use help_memory::{Answer, Call, Finding, TakenMemory, found};
 use std::alloc::Global;
 use std::test::Fail;
 
 /// A body that counts its calls, and is wrong.
-#[derive(Debug, Clone, Copy)]
+#[derive(Debug)]
 enum WrongBody {
     /// It always answers want of memory.
     AlwaysWants,
@@ -25,57 +25,26 @@ enum WrongBody {
     Counts,
 }
 
-/// A digest is made, for which there has to be memory.
-fn takes_memory(alloc: Global) -> Result<bool, OutOfMemory> {
-    Ok(ScramVersion::Sha256.h(alloc, b"abc")?.len() == 32)
-}
-
-/// The count of calls that were not refused, which is one after the call.
-fn counted(alloc: Global, calls: &mut u8) -> Answer {
-    match takes_memory(alloc) {
-        Ok(_) => {
-            *calls = calls.saturating_add(1);
-            if *calls == 1 {
-                Answer::Right
-            } else {
-                Answer::Wrong
-            }
-        }
-        Err(_) => Answer::WantOfMemory,
-    }
-}
-
-/// The same, but a refused call counts too.
-fn counted_too_early(alloc: Global, calls: &mut u8) -> Answer {
-    let early = counted(alloc, calls);
-    if early == Answer::WantOfMemory {
-        *calls = calls.saturating_add(1);
-    }
-    early
-}
-
-/// Want of memory as another fault.
-fn hidden(answer: Answer) -> Answer {
-    match answer {
-        Answer::WantOfMemory => Answer::Wrong,
-        other => other,
-    }
-}
-
 impl Call for WrongBody {
+    type Row = ();
+
     type Subject = u8;
 
-    fn subject(&self, _alloc: Global) -> Result<u8, Fail> {
+    fn subject(&self, _alloc: Global, _row: &()) -> Result<u8, Fail> {
         Ok(0)
     }
 
-    fn answer(&self, alloc: Global, calls: &mut u8) -> Answer {
+    fn answer(&self, alloc: Global, _row: &(), calls: &mut u8) -> Answer {
+        let refused = ScramVersion::Sha256.h(alloc, b"abc").is_err();
+        if !refused || matches!(self, WrongBody::CountsRefusals) {
+            *calls = calls.saturating_add(1);
+        }
         match self {
             WrongBody::AlwaysWants => Answer::WantOfMemory,
             WrongBody::NeverWants => Answer::Right,
-            WrongBody::CountsRefusals => counted_too_early(alloc, calls),
-            WrongBody::HidesWant => hidden(counted(alloc, calls)),
-            WrongBody::Counts => counted(alloc, calls),
+            WrongBody::HidesWant if refused => Answer::Wrong,
+            _ if refused => Answer::WantOfMemory,
+            _ => right(*calls == 1),
         }
     }
 }
@@ -94,7 +63,10 @@ fn wrong_bodies_are_reported(rt: HostRuntime) -> Result<(), Fail> {
     let alloc = rt.alloc();
     let mut memory = TakenMemory::take(alloc)?;
     for (body, wanted) in &BODIES {
-        assert!(rt; found(alloc, &mut memory, body)? == *wanted, "{body:?}");
+        assert!(rt;
+            found(alloc, &mut memory, body, &())? == *wanted,
+            "{body:?}"
+        );
     }
     Ok(())
 }

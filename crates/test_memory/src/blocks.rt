@@ -19,63 +19,46 @@ pub struct TakenMemory {
     kept: Vec<u8>,
 }
 
-/// Takes blocks of ever smaller sizes, of these two and between them, until none is given.
-fn take_all(
-    alloc: Global,
-    blocks: &mut Vec<Vec<u8>>,
-    largest: usize,
-    smallest: usize,
-) -> Result<(), AllocError> {
-    let mut size = largest;
+/// Takes blocks of this size until none is given.
+fn take_each(alloc: Global, blocks: &mut Vec<Vec<u8>>, size: usize) -> Result<(), AllocError> {
     for _ in 0..200000 {
         match Vec::with_capacity(alloc, size) {
             Ok(block) => blocks.push(block)?,
-            Err(_) => {
-                if size <= smallest {
-                    break;
-                }
-                size = size / 2;
-            }
-        }
-    }
-    Ok(())
-}
-
-/// Takes the blocks that were given back and that the allocator keeps aside, each for requests of its
-/// own size alone.
-fn take_kept_aside(alloc: Global, blocks: &mut Vec<Vec<u8>>) -> Result<(), AllocError> {
-    for class in 1..70usize {
-        for _ in 0..1000 {
-            match Vec::with_capacity(alloc, class * 16 + 8) {
-                Ok(block) => blocks.push(block)?,
-                Err(_) => break,
-            }
+            Err(_) => break,
         }
     }
     Ok(())
 }
 
 impl TakenMemory {
-    /// Takes all memory but for plenty.
+    /// Takes all memory but for plenty, the largest blocks first.
     pub fn take(alloc: Global) -> Result<TakenMemory, AllocError> {
         let plenty: Vec<u8> = Vec::with_capacity(alloc, PLENTY)?;
         let near: Vec<Vec<u8>> = Vec::with_capacity(alloc, 100000)?;
         let mut far: Vec<Vec<u8>> = Vec::with_capacity(alloc, 100000)?;
-        take_all(alloc, &mut far, 1 << 46, PLENTY)?;
+        for shift in 0..23u32 {
+            take_each(alloc, &mut far, (1usize << 46) >> shift)?;
+        }
         drop(plenty);
+        let kept = Vec::new(alloc);
         Ok(TakenMemory {
             alloc,
             far,
             near,
-            kept: Vec::new(alloc),
+            kept,
         })
     }
 
-    /// Takes the rest too, but for about this many bytes.
+    /// Takes the rest too, but for about this many bytes; at last the blocks that were given back and
+    /// that the allocator keeps aside, each for requests of its own size alone.
     pub fn leave(&mut self, spare: usize) -> Result<(), AllocError> {
         self.kept = Vec::with_capacity(self.alloc, ROOM)?;
-        take_all(self.alloc, &mut self.near, PLENTY, 8)?;
-        take_kept_aside(self.alloc, &mut self.near)?;
+        for shift in 0..22u32 {
+            take_each(self.alloc, &mut self.near, PLENTY >> shift)?;
+        }
+        for class in 1..70usize {
+            take_each(self.alloc, &mut self.near, class * 16 + 8)?;
+        }
         self.kept = Vec::new(self.alloc);
         self.kept = Vec::with_capacity(self.alloc, ROOM.saturating_sub(spare))?;
         Ok(())

@@ -1,0 +1,272 @@
+//! Clients, by the password, by kept keys and by both, and the keys themselves, where memory is wanting:
+//! no refusal moves a client.
+
+use crate::calls::{Answer, Call, Expected, and, made, right, stand, told};
+use crate::scram_values::*;
+use bytes::Bytes;
+use fe2o3_scram::OutOfMemory;
+use fe2o3_scram::client_keys::ScramClientKeys;
+use fe2o3_scram::client_secret::{ClientSecret, IterationLimits};
+use fe2o3_scram::credentials::RecordError;
+use fe2o3_scram::hmac::{Meter, ScramVersion};
+use fe2o3_scram::scram_client::ScramClient;
+use fe2o3_scram::scram_messages::ScramErrorKind;
+use std::alloc::Global;
+use std::test::Fail;
+
+const VERSION: ScramVersion = ScramVersion::Sha256;
+
+/// By what a client proves who it is.
+#[derive(Clone, Copy)]
+enum Secret {
+    Password,
+    Keys,
+    Both,
+}
+
+/// What a client does.
+enum Does {
+    /// The first message.
+    Start,
+
+    /// The first message again, with another nonce.
+    StartAfresh,
+
+    /// The answer to the server-first message.
+    Respond,
+
+    /// The same with a meter.
+    RespondMetered,
+
+    /// The same of a copy.
+    RespondByCopy,
+
+    /// The server-final message is believed.
+    Believe,
+
+    /// The same of a copy.
+    BelieveByCopy,
+
+    /// A copy of a client that has believed the server, which has its keys.
+    CloneLast,
+
+    /// The answer to the server-first message without a client.
+    Answer,
+
+    /// The keys are made of the password.
+    MakeKeys,
+
+    /// The keys are copied.
+    CloneKeys,
+}
+
+/// The keys of the password.
+fn keys(alloc: Global) -> Result<ScramClientKeys, RecordError> {
+    ScramClientKeys::from_password(alloc, VERSION, PASSWORD, &SALT, 1, &mut Meter::new())
+}
+
+/// A client that has sent nothing.
+fn client(alloc: Global, by: Secret) -> Result<ScramClient, Fail> {
+    let username = USER.to_string(alloc)?;
+    let password = PASSWORD.to_string(alloc)?;
+    let keys = keys(alloc)?;
+    Ok(match by {
+        Secret::Password => ScramClient::new(username, password, VERSION),
+        Secret::Keys => ScramClient::with_keys(username, keys),
+        Secret::Both => ScramClient::with_password_and_keys(username, password, keys),
+    })
+}
+
+/// How many of the three calls of a login the client has made before.
+fn calls_before(does: &Does) -> u8 {
+    match does {
+        Does::Start | Does::Answer | Does::MakeKeys | Does::CloneKeys => 0,
+        Does::StartAfresh | Does::Respond | Does::RespondMetered | Does::RespondByCopy => 1,
+        Does::Believe | Does::BelieveByCopy => 2,
+        Does::CloneLast => 3,
+    }
+}
+
+/// Makes the first calls of a login.
+fn log_in(alloc: Global, client: &mut ScramClient, calls: u8) -> Result<(), Fail> {
+    if calls > 0 {
+        client.compute_client_first_message(alloc, &[1; 32])?;
+    }
+    if calls > 1 {
+        client.compute_client_final_message(alloc, SERVER_FIRST)?;
+    }
+    if calls > 2 {
+        client.validate_server_final(alloc, SERVER_FINAL.as_bytes())?;
+    }
+    Ok(())
+}
+
+/// Whether these are there, and right.
+fn are_kept(keys: Option<&ScramClientKeys>) -> bool {
+    match keys {
+        Some(keys) => keys.is_right(),
+        None => false,
+    }
+}
+
+/// Whether the client has made so many of the calls.
+fn has_made(client: &ScramClient, calls: u8) -> bool {
+    let signature = client.server_signature() == Some(SIGNATURE.as_slice());
+    (client.nonce() == Some(&[1; 32])) == (calls == 1)
+        && signature == (calls == 2)
+        && are_kept(client.answer_keys()) == (calls == 2)
+        && are_kept(client.keys()) == (calls == 3)
+}
+
+/// The answer of a call that made a client-first message, which has to be this one.
+fn started(message: Result<Bytes, OutOfMemory>, wanted: &str) -> Answer {
+    match message {
+        Ok(bytes) => right(bytes.as_slice() == wanted.as_bytes()),
+        Err(_) => Answer::WantOfMemory,
+    }
+}
+
+/// The answer to the server-first message, and its HMAC values.
+fn respond(alloc: Global, client: &mut ScramClient, by: Secret) -> Answer {
+    let mut meter = Meter::new();
+    let message = client.compute_client_final_message_metered(alloc, SERVER_FIRST, &mut meter);
+    and(
+        made(
+            message,
+            CLIENT_FINAL.as_bytes(),
+            ScramErrorKind::OutOfMemory,
+        ),
+        meter.count() == cost(by) && has_made(client, 2),
+    )
+}
+
+/// The HMAC values of an answer.
+fn cost(by: Secret) -> u64 {
+    match by {
+        Secret::Password => 5,
+        Secret::Keys | Secret::Both => 2,
+    }
+}
+
+/// The server-final message is believed.
+fn believe(alloc: Global, client: &mut ScramClient) -> Answer {
+    let believed = client.validate_server_final(alloc, SERVER_FINAL.as_bytes());
+    and(
+        told(believed, ScramErrorKind::OutOfMemory),
+        has_made(client, 3),
+    )
+}
+
+/// The answer by this secret without a client.
+fn answer_server_first(alloc: Global, by: Secret, keys: &ScramClientKeys) -> Answer {
+    let secret = match by {
+        Secret::Password => ClientSecret::Password(PASSWORD),
+        Secret::Keys => ClientSecret::Keys(keys),
+        Secret::Both => ClientSecret::Both {
+            password: PASSWORD,
+            keys,
+        },
+    };
+    let (bare, mut meter) = (CLIENT_FIRST_BARE.as_bytes(), Meter::new());
+    let limits = IterationLimits::none();
+    let answer = VERSION.answer_server_first(
+        alloc,
+        CLIENT_NONCE,
+        secret,
+        SERVER_FIRST,
+        bare,
+        limits,
+        &mut meter,
+    );
+    and(
+        told(answer, ScramErrorKind::OutOfMemory),
+        meter.count() == cost(by),
+    )
+}
+
+/// A client, and the keys of its password.
+#[derive(Drop)]
+struct AtClient {
+    keys: ScramClientKeys,
+    client: Box<ScramClient>,
+}
+
+/// What the copy does next, or has done.
+fn copy_goes_on(alloc: Global, client: &ScramClient, does: &Does, by: Secret) -> Answer {
+    match client.clone() {
+        Ok(mut copy) => match does {
+            Does::RespondByCopy => respond(alloc, &mut copy, by),
+            Does::BelieveByCopy => believe(alloc, &mut copy),
+            _ => right(has_made(&copy, 3)),
+        },
+        Err(_) => Answer::WantOfMemory,
+    }
+}
+
+impl Call for Does {
+    type Row = Secret;
+
+    type Subject = AtClient;
+
+    fn subject(&self, alloc: Global, by: &Secret) -> Result<AtClient, Fail> {
+        let keys = keys(alloc)?;
+        let mut client = Box::new(alloc, client(alloc, *by)?)?;
+        log_in(alloc, &mut client, calls_before(self))?;
+        Ok(AtClient { keys, client })
+    }
+
+    fn answer(&self, alloc: Global, by: &Secret, at: &mut AtClient) -> Answer {
+        let client = &mut *at.client;
+        match self {
+            Does::Start => {
+                let message = client.compute_client_first_message(alloc, &[1; 32]);
+                and(started(message, CLIENT_FIRST), has_made(client, 1))
+            }
+            Does::StartAfresh => {
+                let message = client.compute_client_first_message(alloc, &[2; 32]);
+                started(message, OTHER_CLIENT_FIRST)
+            }
+            Does::Respond => made(
+                client.compute_client_final_message(alloc, SERVER_FIRST),
+                CLIENT_FINAL.as_bytes(),
+                ScramErrorKind::OutOfMemory,
+            ),
+            Does::RespondMetered => respond(alloc, client, *by),
+            Does::Believe => believe(alloc, client),
+            Does::RespondByCopy | Does::BelieveByCopy | Does::CloneLast => {
+                copy_goes_on(alloc, client, self, *by)
+            }
+            Does::Answer => answer_server_first(alloc, *by, &at.keys),
+            Does::MakeKeys => told(keys(alloc), RecordError::OutOfMemory),
+            Does::CloneKeys => told(at.keys.clone(), OutOfMemory),
+        }
+    }
+
+    fn stays(&self, _alloc: Global, _by: &Secret, at: &mut AtClient) -> Answer {
+        right(has_made(&at.client, calls_before(self)))
+    }
+}
+
+/// What each client does.
+static DOES: [Does; 11] = [
+    Does::Start,
+    Does::StartAfresh,
+    Does::Respond,
+    Does::RespondMetered,
+    Does::RespondByCopy,
+    Does::Believe,
+    Does::BelieveByCopy,
+    Does::CloneLast,
+    Does::Answer,
+    Does::MakeKeys,
+    Does::CloneKeys,
+];
+
+#[test]
+fn clients_and_keys_want_memory(rt: HostRuntime) -> Result<(), Fail> {
+    stand(
+        rt.alloc(),
+        &DOES,
+        &[Secret::Password, Secret::Keys, Secret::Both],
+    )
+}

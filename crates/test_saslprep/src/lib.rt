@@ -1,8 +1,0 @@
-//! Tests of what no row of `saslprep_vectors` shows: SASLprep while there is too little memory, what is
-//! borrowed, and the texts of faults.
-#![tactic(auto)]
-
-#[cfg(test)]
-mod faults;
-#[cfg(test)]
-mod memory;
