@@ -15,7 +15,7 @@ use Rattle.fe2o3_scram.specs.ServerFinal.{AnswersClientFinal}
 use Rattle.fe2o3_scram.proofs.lemmas.hashes.DigestLemmas.{length-hmac_of}
 use Rattle.sasl_c.proofs.TextLemmas.{short, short_text}
 use Rattle.fe2o3_scram.specs.Credentials.{Store, VersionedRecord, record_at, serving}
-use Rattle.fe2o3_scram.specs.ScramServer.{ChallengesFrom, ServerState, ServerFirstSent}
+use Rattle.fe2o3_scram.specs.ScramServer.{ChallengesFrom, ServerState, ServerFirstSent, open_challenge}
 use Rattle.fe2o3_scram.specs.ServerFirst.{AnswersClientFirst, Challenge}
 use Rattle.fe2o3_scram.specs.Texts.{base64_text}
 use Rattle.sasl_c.specs.declared.records.ScramRecord.{ScramRecord as Kept}
@@ -23,7 +23,7 @@ use Rattle.sasl_c.specs.declared.status.Status.{Status}
 use Rattle.sasl_c.specs.declared.status.Status.TheVariants as statuses
 use Rattle.sasl_c.specs.Records.{Shows, SpellsStruct}
 use Rattle.sasl_c.specs.declared.server.ScramServer.{ScramServer as Struct}
-use Rattle.sasl_c.specs.Server.{Challenged, Concluded, Concludes, HasRoom, IsOpen, NotChallenged, one_user}
+use Rattle.sasl_c.specs.Server.{Challenged, Challenges, Concluded, Concludes, HasRoom, IsOpen, NotChallenged, one_user}
 use Rattle.sasl_c.proofs.StatusLemmas.{carried}
 use Rattle.sasl_c.specs.Status.{server_status}
 
@@ -46,6 +46,16 @@ pub no_room : (unbound : Bool) (kept : Kept) (nonce text : List ℕ) (challenge 
     → ¬ HasRoom challenge → NotChallenged unbound kept nonce text statuses.TooLong
 unfolding NotChallenged
 no_room unbound kept nonce text challenge held wide = inr (inr (refl, (challenge, held, wide)))
+
+-- the struct of the open challenge holds its message
+pub says_first : (unbound : Bool) (kept : Kept) (nonce text : List ℕ) (state : ServerState)
+    (challenge shown : Challenge) (server : Struct) → state ≡ ServerFirstSent challenge
+    → Challenged unbound kept nonce text challenge → Some shown ≡ open_challenge state → IsOpen server shown
+    → Challenges unbound kept nonce text (Ok (take server.first_len server.first)) × (server.first_len ≤ 1024)
+says_first unbound kept nonce text state challenge shown server stands held opened is =
+    let same : Some shown ≡ Some challenge = opened ∙ ap open_challenge stands in
+    let one : shown ≡ challenge = cc in
+    ((challenge, held, sym (ap (λ (c : Challenge). c.first) (sym one ∙ is.2))), is.1.3)
 
 -- a server that takes whom another takes answers what that one answers
 pub challenges_so : (state next : ServerState) (store : Store) (own unbound : Bool) (nonce text : List ℕ)

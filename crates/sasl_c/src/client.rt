@@ -1,6 +1,6 @@
 //! A SCRAM client, which stands in a struct between its calls.
 
-ghost use Rattle.std.specs.Prelude.{◌≡◌, ◌≢◌, ◌<◌, length, IfOk, IfErr, MatchOption, Option, Some, List, ℕ, Ok, option_map};
+ghost use Rattle.std.specs.Prelude.{◌≡◌, ◌≢◌, ◌<◌, ◌≤◌, length, IfOk, IfErr, MatchOption, Option, Some, List, ℕ, Ok, option_map};
 ghost use Rattle.std.specs.Str.{IsUtf8};
 ghost use Rattle.std.specs.String.{string_bytes};
 ghost use Rattle.fe2o3_scram.specs.ScramClient.{ClientFinalSent, Initial};
@@ -9,7 +9,7 @@ ghost use Rattle.sasl_c.specs.Records.{IsVersion};
 ghost use Rattle.fe2o3_scram.specs.ClientKeys.{ClientKeys as Keys};
 ghost use Rattle.sasl_c.specs.Client.{Believes, HandsOut, Holds, HoldsNone, IsLogin, IsNoLogin, IsNoSecret, IsSecret, IsReached, IsSide, IsState, Started, Starts, keys_tests, name_tests};
 ghost use Rattle.sasl_c.specs.Keys.{ShowsKeys};
-ghost use Rattle.sasl_c.specs.Status.{Answers, Fills, Makes};
+ghost use Rattle.sasl_c.specs.Status.{Answers, Fills, Makes, written};
 ghost use Rattle.sasl_c.specs.declared.status.Status.TheVariants.{OutOfMemory as StatusOutOfMemory, NotUtf8 as StatusNotUtf8, RoomTooSmall};
 
 use crate::arrays::{head, padded, put};
@@ -208,7 +208,10 @@ impl ScramClient {
         };
         match machine.compute_client_first_message(alloc, &self.nonce) {
             Ok(_) => Ok(machine),
-            Err(_) => Err(Status::OutOfMemory),
+            Err(_) => {
+                drop(machine);
+                Err(Status::OutOfMemory)
+            }
         }
     }
 
@@ -376,9 +379,35 @@ fn first_message(alloc: Global, login: &Login<'_>, nonce: &[u8; 32]) -> Result<B
         Ok(machine) => machine,
         Err(status) => return Err(status),
     };
-    match machine.compute_client_first_message(alloc, nonce) {
+    let message = machine.compute_client_first_message(alloc, nonce);
+    drop(machine);
+    match message {
         Ok(message) => Ok(message),
         Err(_) => Err(Status::OutOfMemory),
+    }
+}
+
+/// Writes a client-first message with this nonce, and the struct of the client that has sent it.
+fn begin(
+    client: &mut ScramClient,
+    nonce: &[u8; 32],
+    message: &[u8],
+    out: &mut [u8],
+    len: &mut usize,
+) -> Result<(), Status>
+    ensures len { len.new ≡ length message.now }
+    ensures ok { IfOk result (λ _. (length message.now ≤ length out.old) × (out.new ≡ written message.now out.old)) }
+    ensures sent { IfOk result (λ _. (client.new.sent ≡ 1) × (client.new.nonce ≡ nonce.now)) }
+    ensures err { IfErr result (λ status. (status ≡ RoomTooSmall) × (length out.old < length message.now)
+        × (out.new ≡ out.old)) }
+    ensures stays { IfErr result (λ _. client.new ≡ client.old) }
+{
+    match put(message, out, len) {
+        Ok(()) => {
+            *client = ScramClient::started(nonce);
+            Ok(())
+        }
+        Err(status) => Err(status),
     }
 }
 
@@ -399,9 +428,7 @@ fn first(
         Ok(message) => message,
         Err(status) => return Err(status),
     };
-    put(message.as_slice(), out, len)?;
-    *client = ScramClient::started(nonce);
-    Ok(())
+    begin(client, nonce, message.as_slice(), out, len)
 }
 
 /// Writes the client-first message, which starts an exchange afresh at any time. The nonce is 32 random bytes, fresh
@@ -437,8 +464,10 @@ fn verify(
         Err(status) => return Err(status),
     };
     if let Err(why) = machine.validate_server_final(alloc, server_final) {
+        drop(machine);
         return Err(Status::from(why));
     }
+    drop(machine);
     client.sent = 3;
     Ok(())
 }

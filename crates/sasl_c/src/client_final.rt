@@ -177,10 +177,11 @@ fn not_due(alloc: Global, login: &Login<'_>, client: &ScramClient) -> Status
         → NotAnswered login.now client.now text result }
     ensures room { result ≢ RoomTooSmall }
 {
-    let _client = match client.read(alloc, login) {
+    let client = match client.read(alloc, login) {
         Ok(client) => client,
         Err(status) => return status,
     };
+    drop(client);
     Status::Client(ScramErrorKind::IllegalClientState)
 }
 

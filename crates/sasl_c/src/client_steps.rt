@@ -13,7 +13,7 @@ use crate::client::ScramClient;
 use crate::connection::of_profile;
 use crate::sasl_client::{SaslLogin, scram_of};
 use crate::status::{Status, number};
-use crate::steps::{BODY_MOST, behind, number_of, sendable};
+use crate::steps::{behind, has_room, number_of, sendable};
 use fe2o3_sasl::{ClientReply, SaslProfile, profile_body_step};
 use fe2o3_sasl_negotiation::Standing;
 use fe2o3_scram::Meter;
@@ -115,7 +115,9 @@ fn answered(
         Err(status) => return Err(status),
     };
     let name = shown_name(&hostname);
-    stepped(alloc, &mut profile, name, body, nonce, meter)
+    let made = stepped(alloc, &mut profile, name, body, nonce, meter);
+    drop(profile);
+    made
 }
 
 /// Takes the body of a frame, and writes the body that is to be sent.
@@ -137,10 +139,7 @@ fn step(
     ensures stays { OnErr result ((client.new ≡ client.old) × (standing.new ≡ standing.old)) }
     ensures first { IfErr result (λ status. status ≡ RoomTooSmall → meter.new ≡ meter.old) }
 {
-    if out.len() < BODY_MOST {
-        *len = BODY_MOST;
-        return Err(Status::RoomTooSmall);
-    }
+    has_room(out, len)?;
     let made = match answered(alloc, login, client, body, nonce, meter) {
         Ok(made) => made,
         Err(status) => return Err(status),

@@ -80,13 +80,29 @@ fn found(
     let lines = text(lines)?;
     match MixedCredentials::parse_lines(alloc, lines) {
         Ok(users) => match chosen(&users, username, version) {
-            Ok(made) => Ok(made),
-            Err(status) => Err(NotFound::from(status)),
+            Ok(made) => {
+                drop(users);
+                Ok(made)
+            }
+            Err(status) => {
+                drop(users);
+                Err(NotFound::from(status))
+            }
         },
         Err(error) => Err(NotFound {
             why: of_line(error.kind),
             line: error.line,
         }),
+    }
+}
+
+/// Tells the line, unless there was no memory to find it.
+fn tell(none: NotFound, line: &mut usize)
+    ensures memory { none.why ≡ StatusOutOfMemory → line.new ≡ line.old }
+    ensures told { none.why ≢ StatusOutOfMemory → line.new ≡ none.line }
+{
+    if !matches!(none.why, Status::OutOfMemory) {
+        *line = none.line;
     }
 }
 
@@ -107,9 +123,7 @@ fn find(
             Ok(())
         }
         Err(none) => {
-            if !matches!(none.why, Status::OutOfMemory) {
-                *line = none.line;
-            }
+            tell(none, line);
             Err(none.why)
         }
     }
@@ -146,8 +160,13 @@ fn line_of(alloc: Global, username: &[u8], kept: &ScramRecord) -> Result<Vec<u8>
         Err(status) => return Err(status),
     };
     let mut users = MixedCredentials::new(alloc);
-    users.add(username, kept)?;
-    match users.to_lines(alloc) {
+    if let Err(error) = users.add(username, kept) {
+        drop(users);
+        return Err(Status::from(error));
+    }
+    let text = users.to_lines(alloc);
+    drop(users);
+    match text {
         Ok(text) => Ok(text),
         Err(WriteLinesError::UserNotWritable) => Err(Status::NotWritable),
         Err(WriteLinesError::OutOfMemory) => Err(Status::OutOfMemory),
@@ -166,8 +185,7 @@ fn write(
         (record { bytes = out.new; len = len.new }) result }
 {
     let line = line_of(alloc, username, kept)?;
-    put(&line, out, len)?;
-    Ok(())
+    put(&line, out, len)
 }
 
 /// Writes the line of a user and a record, with its line feed, as `fe2o3_scram_lines_find` reads it. `NOT_WRITABLE`

@@ -85,15 +85,13 @@ impl ScramRecord {
         ensures ok { IfOk result (λ shown. Shows self.now shown) }
         ensures err { IfErr result (λ status. status ≢ StatusOutOfMemory → SpellsStruct self.now (Err status)) }
     {
-        let version = version_of(self.version).ok_or(Status::NoSuchVersion)?;
-        let salt = head(&self.salt, self.salt_len).ok_or(Status::TooLong)?;
-        let len = digest_len(version);
+        let (version, stored) = self.lent()?;
         Ok(fe2o3_scram::ScramRecord::from_parts(
             version,
-            salt.to_vec(alloc)?,
-            self.iterations,
-            self.stored_key[..len].to_vec(alloc)?,
-            self.server_key[..len].to_vec(alloc)?,
+            stored.salt.to_vec(alloc)?,
+            stored.iterations,
+            stored.stored_key.to_vec(alloc)?,
+            stored.server_key.to_vec(alloc)?,
         ))
     }
 }
@@ -248,8 +246,7 @@ fn spell(alloc: Global, kept: &ScramRecord, out: &mut [u8], len: &mut usize) -> 
 {
     let kept = kept.read(alloc)?;
     let text = kept.to_text(alloc)?;
-    put(text.as_bytes(), out, len)?;
-    Ok(())
+    put(text.as_bytes(), out, len)
 }
 
 /// Writes the text of a record, as PostgreSQL reads it (RFC 5803, section 2): at most 384 bytes.
@@ -314,8 +311,13 @@ fn make_up(
     ensures { Makes (NoneHolds (nobody_tests version username.now made_salt_len))
         (MakesUp version secret.now username.now made_salt_len iterations) kept.old kept.new result }
 {
-    *kept = made_up(alloc, version, secret, username, made_salt_len, iterations)?;
-    Ok(())
+    match made_up(alloc, version, secret, username, made_salt_len, iterations) {
+        Ok(made) => {
+            *kept = made;
+            Ok(())
+        }
+        Err(status) => Err(status),
+    }
 }
 
 /// Makes up a record for a name that a server does not know, so that it can answer as to one that it knows: the login

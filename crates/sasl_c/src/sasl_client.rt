@@ -223,7 +223,9 @@ fn received(
         Ok(side) => side,
         Err(status) => return Err(status),
     };
-    taken(alloc, &mut side, bytes, nonce, meter)
+    let made = taken(alloc, &mut side, bytes, nonce, meter);
+    drop(side);
+    made
 }
 
 /// The most bytes that a client sends at once.

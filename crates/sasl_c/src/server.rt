@@ -1,6 +1,6 @@
 //! A SCRAM server, which stands in a struct between its calls.
 
-ghost use Rattle.std.specs.Prelude.{false, true, ◌≡◌, ◌≢◌, ◌<◌, ◌≤◌, ◌^◌, List, ℕ, length, Err, IfOk, IfErr, OnErr, MatchOption};
+ghost use Rattle.std.specs.Prelude.{false, true, ◌≡◌, ◌≢◌, ◌<◌, ◌≤◌, ◌^◌, List, ℕ, length, take, Ok, Err, IfOk, IfErr, OnErr, MatchOption};
 ghost use Rattle.fe2o3_scram.specs.ServerFirst.{Challenge};
 ghost use Rattle.fe2o3_scram.specs.ScramServer.{Initial, ServerFirstSent, challenge_kept, provider_in, state_in, unbound_in};
 ghost use Rattle.fe2o3_scram.specs.declared.scram_messages.gs2_header.Gs2Header.{Gs2Header as HeaderOf};
@@ -86,6 +86,15 @@ impl ScramServer {
             nonce: [0; 512],
             first: [0; 1024],
         })
+    }
+
+    /// Shows that the user of the challenge has logged in.
+    fn log_in(&mut self)
+        ensures stands { self.new.stands ≡ 2 }
+        ensures user_len { self.new.user_len ≡ self.old.user_len }
+        ensures user { self.new.user ≡ self.old.user }
+    {
+        self.stands = 2;
     }
 
     /// The struct of a server whose challenge is open, or `None` where a text of it has no room.
@@ -203,8 +212,44 @@ fn challenged(
     }
 }
 
-/// Writes the server-first message.
+/// The struct of a server whose challenge to a client-first message is open.
 #[tactic(auto, using(crate::proofs::ServerLemmas::no_room))]
+fn opened(
+    alloc: Global,
+    accepts_unbound: bool,
+    kept: &ScramRecord,
+    nonce: &[u8; 32],
+    client_first: &[u8],
+) -> Result<ScramServer, Status>
+    ensures ok { IfOk result (λ opened. (challenge : Challenge)
+        × Challenged accepts_unbound kept.now nonce.now client_first.now challenge × IsOpen opened challenge) }
+    ensures message { IfOk result (λ opened. Challenges accepts_unbound kept.now nonce.now client_first.now
+        (Ok (take opened.first_len opened.first)) × (opened.first_len ≤ 1024)) }
+    ensures err { IfErr result (λ status. status ≢ StatusOutOfMemory
+        → NotChallenged accepts_unbound kept.now nonce.now client_first.now status) }
+    ensures room { IfErr result (λ status. status ≢ RoomTooSmall) }
+{
+    let machine = match challenged(alloc, accepts_unbound, kept, nonce, client_first) {
+        Ok(machine) => machine,
+        Err(status) => return Err(status),
+    };
+    let Some(challenge) = machine.open_challenge() else {
+        drop(machine);
+        return Err(Status::TooLong);
+    };
+    match ScramServer::of(&challenge) {
+        Some(opened) => {
+            drop(machine);
+            Ok(opened)
+        }
+        None => {
+            drop(machine);
+            Err(Status::TooLong)
+        }
+    }
+}
+
+/// Writes the server-first message.
 fn first(
     alloc: Global,
     accepts_unbound: bool,
@@ -219,14 +264,8 @@ fn first(
         (record { bytes = out.old; len = len.old }) (record { bytes = out.new; len = len.new }) result }
     ensures moved { Opens accepts_unbound kept.now nonce.now client_first.now server.old server.new result }
 {
-    let machine = challenged(alloc, accepts_unbound, kept, nonce, client_first)?;
-    let Some(challenge) = machine.open_challenge() else {
-        return Err(Status::TooLong);
-    };
-    let Some(opened) = ScramServer::of(&challenge) else {
-        return Err(Status::TooLong);
-    };
-    put(challenge.server_first_message, out, len)?;
+    let opened = opened(alloc, accepts_unbound, kept, nonce, client_first)?;
+    put(&opened.first[..opened.first_len as usize], out, len)?;
     *server = opened;
     Ok(())
 }
@@ -281,8 +320,7 @@ fn user(alloc: Global, client_first: &[u8], out: &mut [u8], len: &mut usize) -> 
         Ok(first) => first,
         Err(why) => return Err(Status::from(why)),
     };
-    put(first.username.as_bytes(), out, len)?;
-    Ok(())
+    put(first.username.as_bytes(), out, len)
 }
 
 /// Writes the plain name of the user whom a client-first message names, and whose record is to be fetched.
@@ -363,7 +401,7 @@ fn conclude(
     }
     let message = concluded(alloc, kept, server, client_final, meter)?;
     put(&message, out, len)?;
-    server.stands = 2;
+    server.log_in();
     Ok(())
 }
 
@@ -397,10 +435,9 @@ fn tell(server: &ScramServer, out: &mut [u8], len: &mut usize) -> Result<(), Sta
         return Err(illegal);
     }
     match head(&server.user, server.user_len) {
-        Some(user) => put(user, out, len)?,
-        None => return Err(illegal),
+        Some(user) => put(user, out, len),
+        None => Err(illegal),
     }
-    Ok(())
 }
 
 /// Writes the plain name of the user who has logged in: the one whose challenge was answered.

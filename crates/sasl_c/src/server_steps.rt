@@ -16,7 +16,7 @@ use crate::sasl_server::{SaslHost, Shows};
 use crate::server::ScramServer;
 use crate::server_user::body_user;
 use crate::status::{Status, number};
-use crate::steps::{BODY_MOST, behind, number_of, sendable};
+use crate::steps::{behind, has_room, number_of, sendable};
 use bytes::BytesMut;
 use fe2o3_sasl::{SaslAcceptor, SaslAcceptorExt, ServerReply, acceptor_body_step};
 use fe2o3_sasl_negotiation::{Standing, Turn};
@@ -61,7 +61,10 @@ fn offer(alloc: Global, host: &SaslHost<'_>, out: &mut [u8], len: &mut usize) ->
     ensures { Fills (Offers host.now) (record { bytes = out.old; len = len.old })
         (record { bytes = out.new; len = len.new }) result }
 {
-    let body = offered(alloc, host)?;
+    let body = match offered(alloc, host) {
+        Ok(body) => body,
+        Err(status) => return Err(status),
+    };
     put(&body, out, len)
 }
 
@@ -185,10 +188,7 @@ fn step(
     ensures stays { OnErr result ((server.new ≡ server.old) × (standing.new ≡ standing.old)) }
     ensures first { IfErr result (λ status. status ≡ RoomTooSmall → meter.new ≡ meter.old) }
 {
-    if out.len() < BODY_MOST {
-        *len = BODY_MOST;
-        return Err(Status::RoomTooSmall);
-    }
+    has_room(out, len)?;
     let made = match answered(alloc, host, server, body, nonce, meter) {
         Ok(made) => made,
         Err(status) => return Err(status),
@@ -260,7 +260,10 @@ fn user(
     ensures { Fills (StepNames server.now body.now) (record { bytes = out.old; len = len.old })
         (record { bytes = out.new; len = len.new }) result }
 {
-    let name = named(alloc, server, body)?;
+    let name = match named(alloc, server, body) {
+        Ok(name) => name,
+        Err(status) => return Err(status),
+    };
     put(&name, out, len)
 }
 

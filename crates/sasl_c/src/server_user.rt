@@ -163,7 +163,10 @@ fn user(
     ensures { Fills (Names server.now bytes.now) (record { bytes = out.old; len = len.old })
         (record { bytes = out.new; len = len.new }) result }
 {
-    let name = named(alloc, server, bytes)?;
+    let name = match named(alloc, server, bytes) {
+        Ok(name) => name,
+        Err(status) => return Err(status),
+    };
     put(&name, out, len)
 }
 

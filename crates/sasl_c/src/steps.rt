@@ -1,7 +1,8 @@
 //! What the steps of a client and of a server over the bodies of frames have in common.
 
-ghost use Rattle.std.specs.Prelude.{◌≡◌, IfErr, MatchResult};
+ghost use Rattle.std.specs.Prelude.{◌≡◌, ◌<◌, ◌≤◌, length, IfOk, IfErr, MatchResult};
 ghost use Rattle.sasl_c.specs.Steps.{IsSent, IsUnsent, behind_code, standing_number};
+ghost use Rattle.sasl_c.specs.declared.status.Status.TheVariants.{RoomTooSmall};
 
 use crate::connection::of_closed;
 use crate::status::Status;
@@ -9,7 +10,19 @@ use fe2o3_sasl_negotiation::{ClosedBecause, Standing};
 use fe2o3_sasl_wire::SaslCode;
 
 /// The most bytes of a body that is sent.
-pub const BODY_MOST: usize = 508;
+const BODY_MOST: usize = 508;
+
+/// Looks for room for a body that is sent. Where there is too little, the length says what suffices.
+pub fn has_room(out: &[u8], len: &mut usize) -> Result<(), Status>
+    ensures ok { IfOk result (λ _. (508 ≤ length out.now) × (len.new ≡ len.old)) }
+    ensures err { IfErr result (λ status. (status ≡ RoomTooSmall) × (length out.now < 508) × (len.new ≡ 508)) }
+{
+    if out.len() < BODY_MOST {
+        *len = BODY_MOST;
+        return Err(Status::RoomTooSmall);
+    }
+    Ok(())
+}
 
 /// The body, where it can be sent.
 pub fn sendable(body: Vec<u8>) -> Result<Vec<u8>, Status>

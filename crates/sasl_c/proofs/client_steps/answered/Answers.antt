@@ -14,19 +14,19 @@ returns-in-Err-profile-clause-err c = λ other. client_no_profile c.args.login.n
     c.in-Err-profile.status c.in-Ok.ensures.utf8 (c.in-Err-profile.ensures.err other)
 
 pub returns-clause-ok : goal.returns-clause-ok
-returns-clause-ok c = ok_so c.stepped.result _ _ (λ made is.
+returns-clause-ok c = ok_so c.stepped-made.result _ _ (λ made is.
     client_stepped c.args.login.now _ c.args.client.now made.next (option_map string_bytes c.in-Ok.hostname)
     (shown c.shown_name-name.result) (profile_of c.in-Ok-profile.profile) made.standing made.sent.items
-    (c.shown_name-name.ensures, c.in-Ok.ensures.ok) c.in-Ok-profile.ensures.ok is) c.stepped.ensures.ok
+    (c.shown_name-name.ensures, c.in-Ok.ensures.ok) c.in-Ok-profile.ensures.ok is) c.stepped-made.ensures.ok
 
 pub returns-clause-fits : goal.returns-clause-fits
-returns-clause-fits c = ok_so c.stepped.result _ _ (λ made is.
+returns-clause-fits c = ok_so c.stepped-made.result _ _ (λ made is.
     client_steps_short (shown c.shown_name-name.result) (profile_of c.in-Ok-profile.profile) _ made.next made.standing
-    made.sent.items is) c.stepped.ensures.ok
+    made.sent.items is) c.stepped-made.ensures.ok
 
 pub returns-clause-err : goal.returns-clause-err
-returns-clause-err c = err_so c.stepped.result _ _ (λ status refused other.
+returns-clause-err c = err_so c.stepped-made.result _ _ (λ status refused other.
     client_not_stepped c.args.login.now _ c.args.client.now (option_map string_bytes c.in-Ok.hostname)
     (shown c.shown_name-name.result) (profile_of c.in-Ok-profile.profile) status c.in-Ok.ensures.utf8
     (c.shown_name-name.ensures, c.in-Ok.ensures.ok) c.in-Ok-profile.ensures.ok (refused other))
-    c.stepped.ensures.err
+    c.stepped-made.ensures.err
