@@ -7,6 +7,8 @@ use fe2o3_scram::OutOfMemory;
 use fe2o3_scram::credentials::{MixedCredentials, ScramRecord};
 use fe2o3_scram::hmac::ScramVersion;
 use fe2o3_scram::scram_messages::ServerScramErrorKind;
+use std::alloc::Global;
+use std::process::Abort;
 use std::test::Fail;
 
 /// A file that was moved from one version to the next: records with the values of GNU SASL 2.2, of SHA-1
@@ -30,11 +32,24 @@ fn count(store: &MixedCredentials, version: ScramVersion, name: &str) -> Option<
     Some(record.as_stored_password().iterations)
 }
 
+/// The store of the lines, in a box, where it costs the proof of its holder little.
+fn store<R: Abort + AllocGlobal>(rt: &R) -> Box<MixedCredentials> {
+    let store = MixedCredentials::parse_lines(rt.alloc(), LINES).expect(rt, "lines");
+    Box::new(rt.alloc(), store).expect(rt, "memory")
+}
+
+/// Whether the store has the lines that it was read from.
+fn is_written(alloc: Global, store: &MixedCredentials) -> bool {
+    match store.to_lines(alloc) {
+        Ok(lines) => lines.as_slice() == LINES.as_bytes(),
+        Err(_) => false,
+    }
+}
+
 #[test]
 fn writes_what_it_reads_and_finds_the_first_of_a_version(rt: HostRuntime) {
-    let store = MixedCredentials::parse_lines(rt.alloc(), LINES).expect(&rt, "lines");
-    let lines = store.to_lines(rt.alloc()).expect(&rt, "lines");
-    assert!(rt; lines.as_slice() == LINES.as_bytes());
+    let store = store(&rt);
+    assert!(rt; is_written(rt.alloc(), &store));
     for &(version, name, wanted) in &[
         (ScramVersion::Sha1, "user", Some(4096)),
         (ScramVersion::Sha256, "user", Some(4096)),
@@ -45,10 +60,8 @@ fn writes_what_it_reads_and_finds_the_first_of_a_version(rt: HostRuntime) {
         (ScramVersion::Sha256, "new", Some(4096)),
         (ScramVersion::Sha512, "", None),
     ] {
-        assert!(rt;
-            count(&store, version, name) == wanted,
-            "{version:?} {name}"
-        );
+        let found = count(&store, version, name);
+        assert!(rt; found == wanted, "{version:?} {name}");
     }
 }
 
@@ -76,15 +89,14 @@ static RECORDS: [(ScramVersion, u32); 5] = [
 
 #[test]
 fn finds_each_record_of_a_name(rt: HostRuntime) {
-    let mut store = MixedCredentials::parse_lines(rt.alloc(), LINES).expect(&rt, "lines");
+    let mut store = store(&rt);
     assert!(rt; has(&store, "user", &RECORDS) && has(&store, "nobody", &[]));
     assert!(rt; has(&store, "a,b=c", &[(ScramVersion::Sha1, 2)]));
     let record = ScramRecord::from_password(rt.alloc(), ScramVersion::Sha512, "pencil", b"salt", 1);
     let name = "a,b=c".to_string(rt.alloc()).expect(&rt, "memory");
     let added = store.add(name, record.expect(&rt, "a record"));
-    assert!(rt; added == Ok(()));
     let wanted = [(ScramVersion::Sha1, 2), (ScramVersion::Sha512, 1)];
-    assert!(rt; has(&store, "a,b=c", &wanted));
+    assert!(rt; added == Ok(()) && has(&store, "a,b=c", &wanted));
 }
 
 #[test]

@@ -5,9 +5,12 @@
 
 use crate::published::VERSION;
 use fe2o3_scram::hmac::Meter;
-use fe2o3_scram::provider::ScramCredentialProvider;
-use fe2o3_scram::scram_messages::{ClientFinal, ClientFirst, Gs2Header, ServerScramErrorKind};
+use fe2o3_scram::provider::{ScramCredentialProvider, StoredPassword};
+use fe2o3_scram::scram_messages::{
+    ClientFinal, ClientFirst, Gs2Header, ServerFirstMessage, ServerScramErrorKind,
+};
 use fe2o3_scram::{HidingAuthenticator, ScramAuthenticator, SingleScramCredential};
+use std::alloc::Global;
 use std::process::Abort;
 
 /// The client's first message.
@@ -32,12 +35,10 @@ const CLIENT_FINAL: &[u8] = b"c=eSws,r=AQEBAQEBAQEBAQEBAQEBAQEBAQEBAQEBAQEBAQEBA
 const SERVER_FINAL: &[u8] = b"v=Kvirjct/nXdXyX/mrBd1MWQvbo2zHXO3Sr2OjJqQ7ys=";
 
 /// The one user of a server.
-pub fn credential<R: Abort + AllocGlobal>(rt: &R) -> SingleScramCredential {
+fn credential<R: Abort + AllocGlobal>(rt: &R) -> SingleScramCredential {
     let user = "user".to_string(rt.alloc()).expect(rt, "memory");
-    SingleScramCredential::new(rt.alloc(), user, "pencil", VERSION, [3; 32]).expect(
-        rt,
-        "a credential",
-    )
+    let made = SingleScramCredential::new(rt.alloc(), user, "pencil", VERSION, [3; 32]);
+    made.expect(rt, "a credential")
 }
 
 /// Whether an answer is this text.
@@ -48,36 +49,67 @@ fn is(answer: &Result<Option<Vec<u8>>, ServerScramErrorKind>, text: &[u8]) -> bo
     }
 }
 
+/// Whether a server answers the first message, and keeps its header.
+fn opens<C: ScramCredentialProvider>(alloc: Global, server: &mut ScramAuthenticator<C>) -> bool {
+    let answer = server.compute_server_first_message(alloc, CLIENT_FIRST, &[2; 32]);
+    match server.open_challenge() {
+        Some(open) => is(&answer, SERVER_FIRST) && open.header == Gs2Header::Unoffered,
+        None => false,
+    }
+}
+
+/// The second server, where the challenge of the first is its own.
+fn taken_up<C: ScramCredentialProvider + Drop>(
+    alloc: Global,
+    first: &ScramAuthenticator<C>,
+    second: ScramAuthenticator<C>,
+) -> Option<ScramAuthenticator<C>> {
+    match first.open_challenge() {
+        Some(open) => second.waiting_for(alloc, &open).ok(),
+        None => None,
+    }
+}
+
+/// Whether a server ends the login, and names the user, who has the salt.
+fn concludes<C: ScramCredentialProvider>(
+    alloc: Global,
+    server: &mut ScramAuthenticator<C>,
+) -> bool {
+    let answer = server.compute_server_final_message(alloc, CLIENT_FINAL);
+    match server.credentials().get_stored_password("user") {
+        Some(kept) => {
+            is(&answer, SERVER_FINAL)
+                && kept.salt == [3; 32].as_slice()
+                && server.user() == Some("user")
+        }
+        None => false,
+    }
+}
+
 #[test]
 fn a_server_opens_the_login_and_another_ends_it(rt: HostRuntime) {
-    let alloc = rt.alloc();
     let mut first = ScramAuthenticator::new(credential(&rt)).accepts_unbound();
-    let answer = first.compute_server_first_message(alloc, CLIENT_FIRST, &[2; 32]);
-    assert!(rt; is(&answer, SERVER_FIRST));
-    let open = first.open_challenge().expect(&rt, "an open challenge");
-    assert!(rt; open.header == Gs2Header::Unoffered);
-    let mut second = ScramAuthenticator::new(credential(&rt))
-        .waiting_for(alloc, &open)
-        .expect(&rt, "memory");
-    let answer = second.compute_server_final_message(alloc, CLIENT_FINAL);
-    assert!(rt; is(&answer, SERVER_FINAL) && second.user() == Some("user"));
-    let kept = second.credentials().get_stored_password("user");
-    assert!(rt; kept.expect(&rt, "a user").salt == [3; 32].as_slice());
+    assert!(rt; opens(rt.alloc(), &mut first));
+    let second = ScramAuthenticator::new(credential(&rt));
+    let second = taken_up(rt.alloc(), &first, second);
+    let mut second = second.expect(&rt, "an open challenge");
+    assert!(rt; concludes(rt.alloc(), &mut second));
+}
+
+/// Whether a server that hides unknown users takes the login.
+fn hides<C: ScramCredentialProvider>(alloc: Global, server: &mut HidingAuthenticator<C>) -> bool {
+    let first = server.compute_server_first_message(alloc, CLIENT_FIRST, &[2; 32]);
+    let last = server.compute_server_final_message(alloc, CLIENT_FINAL);
+    is(&first, SERVER_FIRST) && is(&last, SERVER_FINAL)
 }
 
 #[test]
 fn so_does_one_that_hides_users(rt: HostRuntime) {
-    let alloc = rt.alloc();
-    let secret = b"a secret of 32 bytes, kept apart".to_vec(alloc);
+    let secret = b"a secret of 32 bytes, kept apart".to_vec(rt.alloc());
     let secret = secret.expect(&rt, "memory");
     let server = HidingAuthenticator::new(credential(&rt), secret, 32, 4096);
-    let mut server = server
-        .expect(&rt, "a salt of at most 64 bytes")
-        .accepts_unbound();
-    let answer = server.compute_server_first_message(alloc, CLIENT_FIRST, &[2; 32]);
-    assert!(rt; is(&answer, SERVER_FIRST));
-    let answer = server.compute_server_final_message(alloc, CLIENT_FINAL);
-    assert!(rt; is(&answer, SERVER_FINAL));
+    let server = server.expect(&rt, "a salt of at most 64 bytes");
+    assert!(rt; hides(rt.alloc(), &mut server.accepts_unbound()));
 }
 
 #[test]
@@ -87,30 +119,46 @@ fn the_readings_take_a_header(rt: HostRuntime) {
     let header = first.header;
     assert!(rt; first.username.as_str() == "user" && header.text() == "y,,");
     let last = ClientFinal::parse_behind(rt.alloc(), header, BOTH_NONCES, CLIENT_FINAL);
-    assert!(rt;
-        last.expect(&rt, "a message")
-            .without_proof
-            .starts_with("c=eSws,r=")
-    );
+    let last = last.expect(&rt, "a message");
+    assert!(rt; last.without_proof.starts_with("c=eSws,r="));
 }
 
-#[test]
-fn the_answers_take_a_header(rt: HostRuntime) {
-    let user = credential(&rt);
-    let first = VERSION
-        .compute_server_first_message_unbound(rt.alloc(), CLIENT_FIRST, SERVER_NONCE, true, &user)
-        .expect(&rt, "a message")
-        .expect(&rt, "a user");
-    let kept = user.get_stored_password("user");
+/// Whether the last message is answered behind this first one.
+fn ends(alloc: Global, first: &ServerFirstMessage<'_>, kept: &StoredPassword<'_>) -> bool {
     let last = VERSION.compute_server_final_message_behind(
-        rt.alloc(),
+        alloc,
         first.header,
         CLIENT_FINAL,
         &first.client_server_nonce,
         first.client_first_message_bare.as_bytes(),
         &first.message,
-        &kept.expect(&rt, "a user"),
+        kept,
         &mut Meter::new(),
     );
-    assert!(rt; last.expect(&rt, "an answer").as_slice() == SERVER_FINAL);
+    match last {
+        Ok(last) => last.as_slice() == SERVER_FINAL,
+        Err(_) => false,
+    }
+}
+
+/// Whether both messages are answered over these users.
+fn answers<C: ScramCredentialProvider>(alloc: Global, users: &C) -> bool {
+    let Some(kept) = users.get_stored_password("user") else {
+        return false;
+    };
+    match &VERSION.compute_server_first_message_unbound(
+        alloc,
+        CLIENT_FIRST,
+        SERVER_NONCE,
+        true,
+        users,
+    ) {
+        Ok(Some(first)) => ends(alloc, first, &kept),
+        _ => false,
+    }
+}
+
+#[test]
+fn the_answers_take_a_header(rt: HostRuntime) {
+    assert!(rt; answers(rt.alloc(), &credential(&rt)));
 }
