@@ -1,6 +1,6 @@
 //! The texts of the faults, most of them those of `fe2o3-amqp` 0.18.4.
 
-use fe2o3_scram::OutOfMemory;
+use fe2o3_scram::credentials::{RecordError, RecordTextError};
 use fe2o3_scram::hmac::UnknownMechanism;
 use fe2o3_scram::pbkdf2_hi::KeyError;
 use fe2o3_scram::saslprep_ascii::NormalizeError;
@@ -135,6 +135,28 @@ fn texts_of_what_a_server_refuses(rt: HostRuntime) {
     }
 }
 
+static RECORD_TEXT_ERRORS: [(RecordTextError, &str); 6] = [
+    (RecordTextError::PartsMismatch, "Parts missing or left over"),
+    (RecordTextError::UnknownMechanism, "Unknown SCRAM mechanism"),
+    (
+        RecordTextError::IterationCountParseError,
+        "Cannot parse iteration count",
+    ),
+    (RecordTextError::Base64DecodeError, "Invalid base64"),
+    (RecordTextError::KeyLengthMismatch, "Key length mismatch"),
+    (RecordTextError::OutOfMemory, "Out of memory"),
+];
+
+static KEY_ERRORS: [(KeyError, &str); 2] = [
+    (KeyError::NormalizeError, "NormalizeError"),
+    (KeyError::OutOfMemory, "OutOfMemory"),
+];
+
+static UNESCAPE_ERRORS: [(UnescapeError, &str); 2] = [
+    (UnescapeError::Invalid, "Invalid"),
+    (UnescapeError::OutOfMemory, "OutOfMemory"),
+];
+
 /// Whether the fault has this text.
 fn says<D: Display>(alloc: Global, fault: &D, wanted: &str) -> bool {
     match fault.to_string(alloc) {
@@ -146,39 +168,23 @@ fn says<D: Display>(alloc: Global, fault: &D, wanted: &str) -> bool {
 #[test]
 fn texts_of_the_other_faults(rt: HostRuntime) {
     let alloc = rt.alloc();
-    assert!(rt; says(alloc, &KeyError::NormalizeError, "NormalizeError"));
-    assert!(rt; says(alloc, &KeyError::OutOfMemory, "OutOfMemory"));
+    for (error, wanted) in &RECORD_TEXT_ERRORS {
+        assert!(rt; says(alloc, error, wanted), "{error:?}");
+    }
+    for (error, wanted) in &KEY_ERRORS {
+        assert!(rt; says(alloc, error, wanted), "{error:?}");
+    }
+    for (error, wanted) in &UNESCAPE_ERRORS {
+        assert!(rt; says(alloc, error, wanted), "{error:?}");
+    }
+    assert!(rt;
+        says(
+            alloc,
+            &RecordError::ZeroIterations,
+            "Iteration count is zero"
+        )
+    );
     assert!(rt; says(alloc, &NormalizeError, "NormalizeError"));
-    assert!(rt; says(alloc, &UnescapeError::Invalid, "Invalid"));
-    assert!(rt; says(alloc, &UnescapeError::OutOfMemory, "OutOfMemory"));
     assert!(rt; says(alloc, &XorLengthMismatch, "XorLengthMismatch"));
     assert!(rt; says(alloc, &UnknownMechanism, "Unknown SCRAM mechanism"));
-}
-
-/// Whether the faults of what is called become those of a client.
-fn become_kinds() -> bool {
-    ScramErrorKind::from(XorLengthMismatch) == ScramErrorKind::XorLengthMismatch
-        && ScramErrorKind::from(OutOfMemory) == ScramErrorKind::OutOfMemory
-        && KeyError::from(OutOfMemory) == KeyError::OutOfMemory
-        && KeyError::from(NormalizeError) == KeyError::NormalizeError
-        && UnescapeError::from(OutOfMemory) == UnescapeError::OutOfMemory
-}
-
-#[test]
-fn faults_become_kinds(rt: HostRuntime) {
-    assert!(rt; become_kinds());
-}
-
-/// Whether they become those of a server.
-fn become_kinds_of_the_server() -> bool {
-    ServerScramErrorKind::from(XorLengthMismatch) == ServerScramErrorKind::XorLengthMismatch
-        && ServerScramErrorKind::from(KeyError::NormalizeError)
-            == ServerScramErrorKind::NormalizeError
-        && ServerScramErrorKind::from(KeyError::OutOfMemory) == ServerScramErrorKind::OutOfMemory
-        && ServerScramErrorKind::from(OutOfMemory) == ServerScramErrorKind::OutOfMemory
-}
-
-#[test]
-fn faults_become_kinds_of_the_server(rt: HostRuntime) {
-    assert!(rt; become_kinds_of_the_server());
 }

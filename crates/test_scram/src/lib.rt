@@ -8,7 +8,7 @@
 #[cfg(test)]
 mod broker;
 #[cfg(test)]
-mod changes;
+mod clients;
 #[cfg(test)]
 mod debug_texts;
 #[cfg(test)]
@@ -16,19 +16,9 @@ mod exchanges;
 #[cfg(test)]
 mod fault_texts;
 #[cfg(test)]
-mod kept_keys;
-#[cfg(test)]
-mod kept_logins;
-#[cfg(test)]
-mod keyed_clients;
-#[cfg(test)]
-mod lines;
-#[cfg(test)]
 mod lines_broker;
 #[cfg(test)]
 mod logins;
-#[cfg(test)]
-mod machines;
 #[cfg(test)]
 mod map_store;
 #[cfg(test)]
@@ -36,17 +26,9 @@ mod mixed;
 #[cfg(test)]
 mod prepared;
 #[cfg(test)]
-mod providers;
-#[cfg(test)]
 mod published;
 #[cfg(test)]
-mod readings;
-#[cfg(test)]
-mod records;
-#[cfg(test)]
-mod set_down_servers;
-#[cfg(test)]
-mod short_logins;
+mod stores;
 #[cfg(test)]
 mod unbound;
 #[cfg(test)]

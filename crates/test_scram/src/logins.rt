@@ -6,10 +6,9 @@ use fe2o3_scram::scram_client::ScramClient;
 use fe2o3_scram::scram_messages::{ScramErrorKind, ServerScramErrorKind};
 use fe2o3_scram::scram_server::ScramAuthenticator;
 use std::alloc::{AllocError, Global};
-use std::test::Fail;
 
 /// What comes of a login.
-#[derive(Debug, Clone, Copy, PartialEq, Eq)]
+#[derive(Clone, Copy, PartialEq, Eq)]
 pub enum Login {
     /// The server does not know the user.
     Unknown,
@@ -17,14 +16,11 @@ pub enum Login {
     /// Both sides accept.
     Accepted,
 
-    /// The client refuses the challenge.
-    ChallengeRefused(ScramErrorKind),
+    /// The client refuses the challenge, or the signature.
+    ClientRefuses(ScramErrorKind),
 
-    /// The server refuses the proof.
-    ProofRefused(ServerScramErrorKind),
-
-    /// The client refuses the signature.
-    SignatureRefused(ScramErrorKind),
+    /// The server refuses the first message, or the proof.
+    ServerRefuses(ServerScramErrorKind),
 }
 
 /// A client of SHA-256 with this name and this password.
@@ -35,36 +31,49 @@ pub fn client(alloc: Global, name: &str, password: &str) -> Result<Box<ScramClie
     Ok(Box::new(alloc, client)?)
 }
 
-/// What comes of the login of a client that has sent nothing.
+/// What comes of the login of a client that has sent its first message.
 pub fn exchange<C: ScramCredentialProvider + Drop>(
     alloc: Global,
     server: &mut ScramAuthenticator<C>,
     client: &mut ScramClient,
-) -> Result<Login, Fail> {
-    let client_first = client.compute_client_first_message(alloc, &[1; 32])?;
-    match server.compute_server_first_message(alloc, &client_first, &[2; 32])? {
-        Some(challenge) => conclude(alloc, server, client, str::from_utf8(&challenge)?),
-        None => Ok(Login::Unknown),
+    client_first: &[u8],
+) -> Login {
+    match &server.compute_server_first_message(alloc, client_first, &[2; 32]) {
+        Ok(Some(challenge)) => answer(alloc, server, client, challenge),
+        Ok(None) => Login::Unknown,
+        Err(kind) => Login::ServerRefuses(*kind),
     }
 }
 
 /// What comes of the challenge.
-pub fn conclude<C: ScramCredentialProvider + Drop>(
+fn answer<C: ScramCredentialProvider + Drop>(
     alloc: Global,
     server: &mut ScramAuthenticator<C>,
     client: &mut ScramClient,
-    server_first: &str,
-) -> Result<Login, Fail> {
-    let client_final = match client.compute_client_final_message(alloc, server_first) {
-        Ok(client_final) => client_final,
-        Err(kind) => return Ok(Login::ChallengeRefused(kind)),
+    challenge: &[u8],
+) -> Login {
+    let Ok(challenge) = str::from_utf8(challenge) else {
+        return Login::ClientRefuses(ScramErrorKind::Utf8Error);
     };
-    let server_final = match server.compute_server_final_message(alloc, &client_final) {
-        Ok(answer) => answer.ok_or("no answer")?,
-        Err(kind) => return Ok(Login::ProofRefused(kind)),
-    };
-    match client.validate_server_final(alloc, &server_final) {
-        Ok(()) => Ok(Login::Accepted),
-        Err(kind) => Ok(Login::SignatureRefused(kind)),
+    match &client.compute_client_final_message(alloc, challenge) {
+        Ok(client_final) => conclude(alloc, server, client, client_final),
+        Err(kind) => Login::ClientRefuses(*kind),
+    }
+}
+
+/// What comes of the proof.
+fn conclude<C: ScramCredentialProvider + Drop>(
+    alloc: Global,
+    server: &mut ScramAuthenticator<C>,
+    client: &mut ScramClient,
+    client_final: &[u8],
+) -> Login {
+    match &server.compute_server_final_message(alloc, client_final) {
+        Ok(Some(server_final)) => match client.validate_server_final(alloc, server_final) {
+            Ok(()) => Login::Accepted,
+            Err(kind) => Login::ClientRefuses(kind),
+        },
+        Ok(None) => Login::Unknown,
+        Err(kind) => Login::ServerRefuses(*kind),
     }
 }

@@ -33,20 +33,6 @@ impl Model for MapStore {
     } };
 }
 
-impl MapStore {
-    /// The store of these records.
-    fn new(
-        alloc: Global,
-        scram_version: ScramVersion,
-        records: BTreeMap<String, ScramRecord>,
-    ) -> Result<Self, Fail> {
-        Ok(Self {
-            scram_version,
-            records: Rc::new(alloc, records)?,
-        })
-    }
-}
-
 impl Clone for MapStore {
     ghost is_clone = { λ store copy. copy ≡ store };
 
@@ -87,15 +73,6 @@ fn record_of<'a>(
     records.get(username)
 }
 
-/// The map of a name and the text of its record.
-fn map_of(alloc: Global, entries: &[(&str, &str)]) -> Result<BTreeMap<String, ScramRecord>, Fail> {
-    let mut records = BTreeMap::new(alloc);
-    for (name, text) in entries {
-        records.insert(name.to_string(alloc)?, ScramRecord::parse(alloc, text)?)?;
-    }
-    Ok(records)
-}
-
 /// Records of `pencil` and of another password, as GNU SASL 2.2 writes their values.
 static ENTRIES: [(&str, &str); 2] = [
     (
@@ -108,13 +85,16 @@ static ENTRIES: [(&str, &str); 2] = [
     ),
 ];
 
-/// The entries. No proof looks into them.
-fn entries() -> &'static [(&'static str, &'static str)] {
-    &ENTRIES
+/// Adds the entries to a map.
+fn add_entries(alloc: Global, records: &mut BTreeMap<String, ScramRecord>) -> Result<(), Fail> {
+    for (name, text) in &ENTRIES {
+        records.insert(name.to_string(alloc)?, ScramRecord::parse(alloc, text)?)?;
+    }
+    Ok(())
 }
 
 /// The iteration count of the user's record, by a provider's call.
-fn count<C: ScramCredentialProvider>(store: &C, name: &str) -> Option<u32> {
+pub fn count<C: ScramCredentialProvider>(store: &C, name: &str) -> Option<u32> {
     Some(store.get_stored_password(name)?.iterations)
 }
 
@@ -128,10 +108,13 @@ fn has_the_entries<C: ScramCredentialProvider>(store: &C) -> bool {
 
 #[test]
 fn a_map_of_records_is_a_provider(rt: HostRuntime) -> Result<(), Fail> {
-    let records = map_of(rt.alloc(), entries())?;
-    let store = MapStore::new(rt.alloc(), ScramVersion::Sha1, records)?;
-    assert!(rt; has_the_entries(&store));
+    let mut records = BTreeMap::new(rt.alloc());
+    add_entries(rt.alloc(), &mut records)?;
+    let store = MapStore {
+        scram_version: ScramVersion::Sha1,
+        records: Rc::new(rt.alloc(), records)?,
+    };
     let copy = store.clone()?;
-    assert!(rt; has_the_entries(&copy));
+    assert!(rt; has_the_entries(&store) && has_the_entries(&copy));
     Ok(())
 }

@@ -1,50 +1,55 @@
-//! Published SCRAM exchanges.
+//! The exchange of RFC 7677, section 3, of the user `user` with the password `pencil`. That of RFC 5802 and
+//! one of SHA-512 stand in the data of `scram_vectors`.
 
 use fe2o3_scram::hmac::ScramVersion;
 
-/// An exchange of the user `user` with the password `pencil`.
-#[derive(Drop)]
-pub struct Exchange {
-    pub version: ScramVersion,
-    pub client_nonce: &'static str,
-    pub client_first_bare: &'static str,
-    pub server_first: &'static str,
-    pub client_final: &'static str,
-    pub server_final: &'static str,
-}
+/// The version.
+pub const VERSION: ScramVersion = ScramVersion::Sha256;
 
-/// The exchange of RFC 5802, section 5.
-pub const SHA_1: Exchange = Exchange {
-    version: ScramVersion::Sha1,
-    client_nonce: "fyko+d2lbbFgONRv9qkxdawL",
-    client_first_bare: "n=user,r=fyko+d2lbbFgONRv9qkxdawL",
-    server_first: "r=fyko+d2lbbFgONRv9qkxdawL3rfcNHYJY1ZVvWVs7j,s=QSXCR+Q6sek8bf92,i=4096",
-    client_final: "c=biws,r=fyko+d2lbbFgONRv9qkxdawL3rfcNHYJY1ZVvWVs7j,p=v0X8v3Bz2T0CJGbJQyF0X+HI4Ts=",
-    server_final: "v=rmF9pqV8S7suAoZWja4dJRkFsKQ=",
-};
+/// The client's nonce.
+pub const CLIENT_NONCE: &str = "rOprNGfwEbeRWgbNEkqO";
 
-/// The exchange of RFC 7677, section 3.
-pub const SHA_256: Exchange = Exchange {
-    version: ScramVersion::Sha256,
-    client_nonce: "rOprNGfwEbeRWgbNEkqO",
-    client_first_bare: "n=user,r=rOprNGfwEbeRWgbNEkqO",
-    server_first: "r=rOprNGfwEbeRWgbNEkqO%hvYDpWUa2RaTCAfuxFIlj)hNlF$k0,s=W22ZaJ0SNY7soEsUEjb6gQ==,i=4096",
-    client_final: "c=biws,r=rOprNGfwEbeRWgbNEkqO%hvYDpWUa2RaTCAfuxFIlj)hNlF$k0,\
-        p=dHzbZapWIk4jUhN+Ute9ytag9zjfMHgsqmmiz7AndVQ=",
-    server_final: "v=6rriTRBi23WpRR/wtup+mMhUZUn/dB5nLTJRsjl95G4=",
-};
+/// The nonce of both sides.
+pub const NONCE: &str = "rOprNGfwEbeRWgbNEkqO%hvYDpWUa2RaTCAfuxFIlj)hNlF$k0";
 
-/// The exchange of the tests of `fe2o3-amqp` 0.18.4, since no RFC has one with SHA-512.
-pub const SHA_512: Exchange = Exchange {
-    version: ScramVersion::Sha512,
-    client_nonce: "rOprNGfwEbeRWgbNEkqO",
-    client_first_bare: "n=user,r=rOprNGfwEbeRWgbNEkqO",
-    server_first: "r=rOprNGfwEbeRWgbNEkqO02431b08-2f89-4bad-a4e6-80c0564ec865,\
-        s=Yin2FuHTt/M0kJWb0t9OI32n2VmOGi3m+JfjOvuDF88=,i=4096",
-    client_final: "c=biws,r=rOprNGfwEbeRWgbNEkqO02431b08-2f89-4bad-a4e6-80c0564ec865,\
-        p=Hc5yec3NmCD7t+kFRw4/3yD6/F3SQHc7AVYschRja+Bc3sbdjlA0eH1OjJc0DD4ghn1tnXN5/Wr6qm9xmaHt4A==",
-    server_final: "v=BQuhnKHqYDwQWS5jAw4sZed+C9KFUALsbrq81bB0mh+bcUUbbMPNNmBIupnS2AmyyDnG5CTBQtkjJ9kyY4kzmw==",
-};
+/// The client's first message.
+pub const CLIENT_FIRST: &[u8] = b"n,,n=user,r=rOprNGfwEbeRWgbNEkqO";
 
-/// All three.
-pub static EXCHANGES: [Exchange; 3] = [SHA_1, SHA_256, SHA_512];
+/// The same without its header.
+pub const BARE: &str = "n=user,r=rOprNGfwEbeRWgbNEkqO";
+
+/// The server's challenge.
+pub const SERVER_FIRST: &str =
+    "r=rOprNGfwEbeRWgbNEkqO%hvYDpWUa2RaTCAfuxFIlj)hNlF$k0,s=W22ZaJ0SNY7soEsUEjb6gQ==,i=4096";
+
+/// The client's answer.
+pub const CLIENT_FINAL: &[u8] = b"c=biws,r=rOprNGfwEbeRWgbNEkqO%hvYDpWUa2RaTCAfuxFIlj)hNlF$k0,\
+    p=dHzbZapWIk4jUhN+Ute9ytag9zjfMHgsqmmiz7AndVQ=";
+
+/// The same without its proof.
+pub const WITHOUT_PROOF: &str = "c=biws,r=rOprNGfwEbeRWgbNEkqO%hvYDpWUa2RaTCAfuxFIlj)hNlF$k0";
+
+/// The server's answer.
+pub const SERVER_FINAL: &[u8] = b"v=6rriTRBi23WpRR/wtup+mMhUZUn/dB5nLTJRsjl95G4=";
+
+/// The AuthMessage.
+pub const AUTH_MESSAGE: &[u8] = b"n=user,r=rOprNGfwEbeRWgbNEkqO,\
+    r=rOprNGfwEbeRWgbNEkqO%hvYDpWUa2RaTCAfuxFIlj)hNlF$k0,s=W22ZaJ0SNY7soEsUEjb6gQ==,i=4096,\
+    c=biws,r=rOprNGfwEbeRWgbNEkqO%hvYDpWUa2RaTCAfuxFIlj)hNlF$k0";
+
+/// The client's proof and the server's signature in base64, as is all that follows.
+pub const PROOF: &str = "dHzbZapWIk4jUhN+Ute9ytag9zjfMHgsqmmiz7AndVQ=";
+
+pub const SIGNATURE: &str = "6rriTRBi23WpRR/wtup+mMhUZUn/dB5nLTJRsjl95G4=";
+
+/// The salt.
+pub const SALT: &str = "W22ZaJ0SNY7soEsUEjb6gQ==";
+
+/// The salted password and the keys, computed with Python's `hashlib` and `hmac`.
+pub const SALTED_PASSWORD: &str = "xKSVEDI6tPlSysH6mUQZOeeOp01r6B3fcJbodRPcYV0=";
+
+pub const CLIENT_KEY: &str = "pg/JI9Z+hkSpLRa5btpe9GVrDHJcSEN0viVTVXaZbos=";
+
+pub const STORED_KEY: &str = "WG5d8oPm3OtcPnkdi4Uo7BkeZkBFzpcXkuLmtbsT4qY=";
+
+pub const SERVER_KEY: &str = "wfPLwcE6nTWhTAmQ7tl2KeoiWGPlZqQxSrmfPwDl2dU=";

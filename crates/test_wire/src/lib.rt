@@ -1,11 +1,12 @@
 //! Tests of the public calls of `fe2o3_sasl_wire`. Expected values come from the standard, from worked
-//! examples, and from other programs.
+//! examples, and from other programs. Bodies that are read, written and refused stand in the data of
+//! `sasl_vectors`.
 #![tactic(auto)]
 
 #[cfg(test)]
-mod amqp_types;
-#[cfg(test)]
 mod bodies;
+#[cfg(test)]
+mod fault_texts;
 #[cfg(test)]
 mod frames;
 #[cfg(test)]
@@ -14,7 +15,5 @@ mod malicious_bytes;
 mod printed;
 #[cfg(test)]
 mod protocol_headers;
-#[cfg(test)]
-mod symbols_views;
 #[cfg(test)]
 mod views_and_bodies;

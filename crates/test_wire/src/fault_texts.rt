@@ -1,0 +1,33 @@
+//! The texts of the faults, those of `fe2o3-amqp` 0.18.4, and what want of memory becomes.
+
+use fe2o3_sasl_wire::{Error, NegotiationError, SymbolError};
+use std::alloc::{AllocError, Global};
+use std::fmt::Display;
+
+/// Whether the fault has this text.
+fn says<D: Display>(alloc: Global, fault: &D, wanted: &str) -> bool {
+    match fault.to_string(alloc) {
+        Ok(text) => text.as_str() == wanted,
+        Err(_) => false,
+    }
+}
+
+/// The faults of frames, and their texts.
+static ERRORS: [(Error, &str); 4] = [
+    (Error::DecodeError, "Decode Error"),
+    (Error::NotImplemented, "AmqpError: NotImplemented"),
+    (Error::TooLarge, "Too large"),
+    (Error::OutOfMemory, "OutOfMemory"),
+];
+
+#[test]
+fn texts_of_refusals(rt: HostRuntime) {
+    let alloc = rt.alloc();
+    for (fault, wanted) in &ERRORS {
+        assert!(rt; says(alloc, fault, wanted), "{wanted}");
+    }
+    assert!(rt; says(alloc, &SymbolError::NotAscii, "NotAscii"));
+    assert!(rt; says(alloc, &SymbolError::from(AllocError), "OutOfMemory"));
+    let mismatch = NegotiationError::ProtocolHeaderMismatch(*b"AMQP\x01\x01\x00\x00");
+    assert!(rt; says(alloc, &mismatch, "Protocol header mismatch"));
+}
