@@ -62,6 +62,7 @@ fn is_refused(alloc: Global, kept: &SetDown<'_>) -> Result<bool, Fail> {
     Ok(matches!(side, Err(TakeUpError::NotKept)))
 }
 
+/// The frame of an init is due.
 const INIT_DUE: Due = Due::Frame(Turn::Init);
 
 /// What is due, the limit, what has come of it, and whether no side keeps that.

@@ -37,7 +37,7 @@ impl Expected for Bytes {
     }
 }
 
-/// A symbol that stands in no list.
+/// The name of one mechanism of SCRAM.
 impl Expected for Symbol {
     fn is_right(&self) -> bool {
         self.as_str() == "SCRAM-SHA-256"
