@@ -152,11 +152,8 @@ fn plain<R: Abort + AllocGlobal>(rt: &R) -> SaslPlainMechanism {
     SaslPlainMechanism::new(text(rt, USER), text(rt, PASSWORD))
 }
 
-/// A server of SCRAM.
-type Scram = ScramAuthenticator<SingleScramCredential>;
-
-/// One of `user`.
-fn scram<R: Abort + AllocGlobal>(rt: &R) -> Scram {
+/// A server of SCRAM that has `user`.
+fn scram<R: Abort + AllocGlobal>(rt: &R) -> ScramAuthenticator<SingleScramCredential> {
     let (user, version) = (text(rt, "user"), ScramVersion::Sha256);
     let credential = SingleScramCredential::new(rt.alloc(), user, "pencil", version, [3; 32]);
     ScramAuthenticator::new(credential.expect(rt, "memory"))
@@ -192,27 +189,28 @@ static BOTH: [Row; 8] = [
     (LOGIN_RESPONSE, LOGIN_OUTCOME, Some("user"), 2),
 ];
 
-/// A server of both mechanisms.
-fn both<R: Abort + AllocGlobal>(rt: &R) -> OneOf<Scram, SaslPlainMechanism> {
-    OneOf::new(scram(rt), plain(rt))
-}
-
-/// The same where it may offer PLAIN alone.
+/// The same server where it may offer PLAIN alone.
 static CUT_DOWN: [Row; 2] = [
     (LOGIN_INIT, OUTCOME_AUTH, None, 0),
     (INIT_PLAIN, OUTCOME_OK, Some(USER), 0),
 ];
 
+/// Sees to it that a server of both acceptors plays, and so it does where it may offer PLAIN alone.
+fn of_two<R, A, B>(rt: &R, first: A, second: B)
+where
+    R: Abort + AllocGlobal,
+    A: HasMechanism + Drop,
+    B: HasMechanism + Drop,
+{
+    let both = OneOf::new(first, second);
+    plays(rt, both.clone().expect(rt, "memory"), TWO_MECHANISMS, &BOTH);
+    let only = OffersOnly::new(rt.alloc(), both, &["EXTERNAL", "PLAIN"]);
+    plays(rt, only.expect(rt, "an offer"), MECHANISM_PLAIN, &CUT_DOWN);
+}
+
 #[test]
 fn a_server_of_two_mechanisms(rt: HostRuntime) {
-    plays(&rt, both(&rt), TWO_MECHANISMS, &BOTH);
-    let only = OffersOnly::new(rt.alloc(), both(&rt), &["EXTERNAL", "PLAIN"]);
-    plays(
-        &rt,
-        only.expect(&rt, "an offer"),
-        MECHANISM_PLAIN,
-        &CUT_DOWN,
-    );
+    of_two(&rt, scram(&rt), plain(&rt));
 }
 
 #[test]
@@ -221,15 +219,15 @@ fn an_offer_of_nothing_is_refused(rt: HostRuntime) {
     assert!(rt; matches!(only, Err(OfferError::NothingOffered)));
 }
 
-/// Sees to it that a server that has sent its challenge and is set down answers the response so, taken up with the
-/// part that it tells as the one that was asked, or with none.
-fn is_taken_up<R: Abort + AllocGlobal, A: HasMechanism + Drop, B: HasMechanism + Drop>(
-    rt: &R,
-    mut both: OneOf<A, B>,
-    told: bool,
-    row: Row,
-) {
-    let init = event(rt, 2, LOGIN_INIT);
+/// Sees to it that a server of both acceptors that has sent its challenge and is set down answers the row, taken up
+/// with the part that it tells as the one that was asked, or with none.
+fn is_taken_up<R, A, B>(rt: &R, first: A, second: B, told: bool, row: Row)
+where
+    R: Abort + AllocGlobal,
+    A: HasMechanism + Drop,
+    B: HasMechanism + Drop,
+{
+    let (mut both, init) = (OneOf::new(first, second), event(rt, 2, LOGIN_INIT));
     let challenge = acceptor_step(rt.alloc(), &mut both, &init).expect(rt, "a challenge");
     assert!(rt; is_server_reply(&challenge, &bytes_of(rt, LOGIN_CHALLENGE)));
     let asked = if told { both.asked() } else { None };
@@ -240,16 +238,8 @@ fn is_taken_up<R: Abort + AllocGlobal, A: HasMechanism + Drop, B: HasMechanism +
 
 #[test]
 fn a_server_that_was_set_down_knows_whom_it_asked(rt: HostRuntime) {
-    is_taken_up(
-        &rt,
-        both(&rt),
-        true,
-        (LOGIN_RESPONSE, LOGIN_OUTCOME, Some("user"), 2),
-    );
-    is_taken_up(
-        &rt,
-        both(&rt),
-        false,
-        (LOGIN_RESPONSE, OUTCOME_AUTH, None, 0),
-    );
+    let row = (LOGIN_RESPONSE, LOGIN_OUTCOME, Some("user"), 2);
+    is_taken_up(&rt, scram(&rt), plain(&rt), true, row);
+    let row = (LOGIN_RESPONSE, OUTCOME_AUTH, None, 0);
+    is_taken_up(&rt, scram(&rt), plain(&rt), false, row);
 }

@@ -85,18 +85,15 @@ fn takes<R: Abort + AllocGlobal>(
 ) -> bool {
     let body = bytes_of(rt, offer);
     let Ok((FrameView::Mechanisms(offer), _)) = view_frame(&body) else {
-        return false;
+        panic!(rt; "mechanisms");
     };
     let secret = ClientSecret::Password(PASSWORD);
-    match (
-        best_profile(rt.alloc(), &offer, USER, &secret, policy),
-        wanted,
-    ) {
+    let taken = boxed(rt, best_profile(rt.alloc(), &offer, USER, &secret, policy));
+    match (&*taken, wanted) {
         (Ok(profile), Some(wanted)) => {
-            let profile = boxed(rt, profile);
             profile.mechanism(rt.alloc()).expect(rt, "memory").as_str() == wanted
         }
-        (Err(fault), None) => fault == ChoiceError::NothingToTake,
+        (Err(fault), None) => *fault == ChoiceError::NothingToTake,
         _ => false,
     }
 }

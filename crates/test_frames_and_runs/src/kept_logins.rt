@@ -173,14 +173,16 @@ fn another_salt_wants_the_password(rt: HostRuntime) {
 /// Sees to it that of a profile these are shown: a nonce, a signature, the keys of an answer and those of a login; and
 /// that its client is done, or not.
 fn stands<R: Abort>(rt: &R, profile: &SaslProfile, wanted: [bool; 5]) {
+    let is_complete = match profile.scram_client() {
+        Some(client) => client.is_complete(),
+        None => false,
+    };
     let shown = [
         profile.nonce().is_some(),
         profile.server_signature().is_some(),
         profile.answer_keys().is_some(),
         profile.keys().is_some(),
-        profile
-            .scram_client()
-            .is_some_and(|client| client.is_complete()),
+        is_complete,
     ];
     assert!(rt; shown == wanted, "{wanted:?}");
 }

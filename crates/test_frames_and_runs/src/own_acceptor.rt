@@ -13,12 +13,12 @@ use std::process::Abort;
 
 /// Whether a reply is the outcome sys of this body where no fault is wanted, or else this fault.
 fn is_wanted(reply: &Result<ServerReply, Error>, sys: &[u8], wanted: Option<Error>) -> bool {
-    match (reply, wanted) {
-        (Ok(ServerReply::Outcome { code, body }), None) => {
-            *code == SaslCode::Sys && body.as_slice() == sys
+    match reply {
+        Ok(ServerReply::Outcome { code, body }) => {
+            wanted.is_none() && *code == SaslCode::Sys && body.as_slice() == sys
         }
-        (Err(fault), Some(wanted)) => *fault == wanted,
-        _ => false,
+        Ok(ServerReply::Challenge { .. }) => false,
+        Err(fault) => wanted == Some(*fault),
     }
 }
 
