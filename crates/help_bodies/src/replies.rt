@@ -14,10 +14,9 @@ pub fn bytes_of(alloc: Global, digits: &str) -> Result<Vec<u8>, Fail> {
 
 /// The event of a body, with a nonce of 32 times this byte.
 pub fn event(alloc: Global, nonce: u8, digits: &str) -> Result<Event, Fail> {
-    Ok(Event {
-        body: bytes_of(alloc, digits)?,
-        nonce: [nonce; 32],
-    })
+    let body = bytes_of(alloc, digits)?;
+    let nonce = [nonce; 32];
+    Ok(Event { body, nonce })
 }
 
 /// The events of the bodies.
@@ -39,44 +38,47 @@ pub fn frame(alloc: Global, digits: &str) -> Result<Frame, Fail> {
 /// The frame of a body, twice.
 pub fn two_frames(alloc: Global, digits: &str) -> Result<Vec<Frame>, Fail> {
     let mut frames = Vec::with_capacity(alloc, 2)?;
-    frames.push(frame(alloc, digits)?)?;
-    frames.push(frame(alloc, digits)?)?;
+    for _ in 0..2 {
+        frames.push(frame(alloc, digits)?)?;
+    }
     Ok(frames)
 }
 
 /// Whether the server's reply has this body.
 pub fn is_server_reply(reply: &ServerReply, wanted: &[u8]) -> bool {
     match reply {
-        ServerReply::Challenge { body } => body.as_slice() == wanted,
-        ServerReply::Outcome { body, .. } => body.as_slice() == wanted,
+        ServerReply::Challenge { body } | ServerReply::Outcome { body, .. } => {
+            body.as_slice() == wanted
+        }
     }
 }
 
 /// Whether the client's reply has this body; of an outcome, whether it is this frame.
 pub fn is_client_reply(reply: &ClientReply, wanted: &[u8], frame: &Frame) -> bool {
-    match reply {
-        ClientReply::Init { body } => body.as_slice() == wanted,
-        ClientReply::Response { body } => body.as_slice() == wanted,
-        ClientReply::Outcome(outcome) => match frame {
-            Frame::Outcome(told) => outcome == told,
-            _ => false,
-        },
+    match (reply, frame) {
+        (ClientReply::Init { body } | ClientReply::Response { body }, _) => {
+            body.as_slice() == wanted
+        }
+        (ClientReply::Outcome(outcome), Frame::Outcome(told)) => outcome == told,
+        _ => false,
     }
 }
 
 /// Whether the acceptor's reply is this frame.
 pub fn is_sent(reply: SaslServerFrame, wanted: &Frame) -> bool {
-    match reply {
-        SaslServerFrame::Challenge(challenge) => Frame::Challenge(challenge) == *wanted,
-        SaslServerFrame::Outcome(outcome) => Frame::Outcome(outcome) == *wanted,
+    match (&reply, wanted) {
+        (SaslServerFrame::Challenge(challenge), Frame::Challenge(wanted)) => challenge == wanted,
+        (SaslServerFrame::Outcome(outcome), Frame::Outcome(wanted)) => outcome == wanted,
+        _ => false,
     }
 }
 
 /// Whether the profile's answer is this frame.
 pub fn is_negotiated(answer: Negotiation, wanted: &Frame) -> bool {
-    match answer {
-        Negotiation::Init(init) => Frame::Init(init) == *wanted,
-        Negotiation::Response(response) => Frame::Response(response) == *wanted,
-        Negotiation::Outcome(outcome) => Frame::Outcome(outcome) == *wanted,
+    match (&answer, wanted) {
+        (Negotiation::Init(init), Frame::Init(wanted)) => init == wanted,
+        (Negotiation::Response(response), Frame::Response(wanted)) => response == wanted,
+        (Negotiation::Outcome(outcome), Frame::Outcome(wanted)) => outcome == wanted,
+        _ => false,
     }
 }

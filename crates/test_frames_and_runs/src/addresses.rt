@@ -1,8 +1,8 @@
 //! Profiles of PLAIN from addresses.
 
+use crate::values::boxed;
 use fe2o3_sasl::sasl_profile::{SaslProfile, UrlError};
-use std::alloc::Global;
-use std::test::Fail;
+use std::process::Abort;
 use url::Url;
 
 /// Addresses, with the user name and the password of the profile.
@@ -34,8 +34,10 @@ static ADDRESSES: [(&str, Option<(&str, &str)>); 12] = [
 ];
 
 /// Whether an address makes a profile of PLAIN with these words, or is refused for having none.
-fn is_made(made: &Result<SaslProfile, UrlError>, wanted: Option<(&str, &str)>) -> bool {
-    match (made, wanted) {
+fn makes<R: Abort + AllocGlobal>(rt: &R, address: &str, wanted: Option<(&str, &str)>) -> bool {
+    let url = Url::parse(rt.alloc(), address).expect(rt, "an address");
+    let made = boxed(rt, SaslProfile::from_url(rt.alloc(), &url));
+    match (&*made, wanted) {
         (Ok(SaslProfile::Plain { username, password }), Some((user, word))) => {
             username.as_str() == user && password.as_str() == word
         }
@@ -44,17 +46,9 @@ fn is_made(made: &Result<SaslProfile, UrlError>, wanted: Option<(&str, &str)>) -
     }
 }
 
-/// Whether the address of this text makes such a profile.
-fn makes(alloc: Global, address: &str, wanted: Option<(&str, &str)>) -> Result<bool, Fail> {
-    let url = Url::parse(alloc, address).ok().ok_or("an address")?;
-    Ok(is_made(&SaslProfile::from_url(alloc, &url), wanted))
-}
-
 #[test]
-fn an_address_with_both_words_is_a_profile(rt: HostRuntime) -> Result<(), Fail> {
+fn an_address_with_both_words_is_a_profile(rt: HostRuntime) {
     for (address, wanted) in &ADDRESSES {
-        let right = makes(rt.alloc(), address, *wanted)?;
-        assert!(rt; right, "{address}");
+        assert!(rt; makes(&rt, address, *wanted), "{address}");
     }
-    Ok(())
 }

@@ -9,32 +9,20 @@ mod acceptors;
 #[cfg(test)]
 mod addresses;
 #[cfg(test)]
-mod audit_texts;
+mod client_policy;
 #[cfg(test)]
 mod closed;
 #[cfg(test)]
-mod debug_texts;
-#[cfg(test)]
-mod events;
-#[cfg(test)]
-mod faults;
-#[cfg(test)]
-mod kept_keys;
-#[cfg(test)]
 mod kept_logins;
-#[cfg(test)]
-mod metered;
 #[cfg(test)]
 mod own_acceptor;
 #[cfg(test)]
 mod plain_records;
 #[cfg(test)]
+mod printed;
+#[cfg(test)]
 mod profiles;
 #[cfg(test)]
-mod program_findings;
+mod program;
 #[cfg(test)]
-mod program_refusals;
-#[cfg(test)]
-mod several;
-#[cfg(test)]
-mod users;
+mod values;

@@ -1,109 +1,81 @@
 //! An acceptor that the library does not know, by itself, in runs and step by step.
 
-use crate::acceptors::digits;
 use crate::closed::Closed;
-use fe2o3_sasl::runs::{Event, ServerReply, acceptor_step, run_acceptor};
+use crate::values::{body_of, bytes_of, event};
+use fe2o3_sasl::runs::{ServerReply, acceptor_step, run_acceptor};
 use fe2o3_sasl::sasl_acceptor::{SaslAcceptor, SaslAcceptorExt};
 use fe2o3_sasl_wire::{Error, Frame, SaslCode};
 use help_bodies::bodies::{
     CHALLENGE, INIT_ANONYMOUS, INIT_PLAIN, MECHANISM_ANONYMOUS, MECHANISMS, OUTCOME_OK,
     OUTCOME_SYS, RESPONSE,
 };
-use help_bodies::replies::{bytes_of, events};
-use std::alloc::Global;
-use std::test::Fail;
+use std::process::Abort;
 
-/// Whether a reply is the outcome sys where none is wanted, or else this fault.
+/// Whether a reply is the outcome sys of this body where no fault is wanted, or else this fault.
 fn is_wanted(reply: &Result<ServerReply, Error>, sys: &[u8], wanted: Option<Error>) -> bool {
-    match (reply, wanted) {
-        (Ok(ServerReply::Outcome { code, body }), None) => {
-            *code == SaslCode::Sys && body.as_slice() == sys
+    match reply {
+        Ok(ServerReply::Outcome { code, body }) => {
+            wanted.is_none() && *code == SaslCode::Sys && body.as_slice() == sys
         }
-        (Err(fault), Some(wanted)) => *fault == wanted,
-        _ => false,
+        Ok(ServerReply::Challenge { .. }) => false,
+        Err(fault) => wanted == Some(*fault),
     }
 }
 
-/// Whether the acceptor answers these events so in a run.
-fn runs(
-    alloc: Global,
-    closed: &mut Closed,
-    events: &[Event],
-    sys: &[u8],
-    wanted: &[Option<Error>],
-) -> Result<bool, Fail> {
-    let replies = run_acceptor(alloc, closed, events)?;
-    let mut right = replies.len() == wanted.len();
-    for (reply, wanted) in replies.iter().zip(wanted.iter()) {
-        right &= is_wanted(reply, sys, *wanted);
+/// Sees to it that an acceptor answers these bodies so, in a run, and a copy step by step.
+fn answers<R: Abort + AllocGlobal>(rt: &R, closed: &mut Closed, rows: &[(&str, Option<Error>)]) {
+    let (sys, mut events) = (bytes_of(rt, OUTCOME_SYS), Vec::new(rt.alloc()));
+    let mut copy = closed.clone().expect(rt, "memory");
+    for (body, wanted) in rows {
+        let event = event(rt, 2, body);
+        let step = acceptor_step(rt.alloc(), &mut copy, &event);
+        assert!(rt; is_wanted(&step, &sys, *wanted), "{body}");
+        events.push(event).expect(rt, "memory");
     }
-    Ok(right)
-}
-
-/// Whether the acceptor answers these events so step by step.
-fn steps(
-    alloc: Global,
-    closed: &mut Closed,
-    events: &[Event],
-    sys: &[u8],
-    wanted: &[Option<Error>],
-) -> bool {
-    let mut right = events.len() == wanted.len();
-    for (event, wanted) in events.iter().zip(wanted.iter()) {
-        right &= is_wanted(&acceptor_step(alloc, closed, event), sys, *wanted);
+    let replies = run_acceptor(rt.alloc(), closed, &events).expect(rt, "memory");
+    assert!(rt; replies.len() == rows.len());
+    for (reply, (body, wanted)) in replies.iter().zip(rows.iter()) {
+        assert!(rt; is_wanted(reply, &sys, *wanted), "{body}");
     }
-    right
-}
-
-/// Whether the acceptor answers these bodies so, in a run, and a copy step by step.
-fn answers(
-    alloc: Global,
-    closed: &mut Closed,
-    bodies: &[&str],
-    wanted: &[Option<Error>],
-) -> Result<bool, Fail> {
-    let sys = bytes_of(alloc, OUTCOME_SYS)?;
-    let events = events(alloc, 2, bodies)?;
-    let mut copy = closed.clone()?;
-    let right = runs(alloc, closed, &events, &sys, wanted)?;
-    Ok(right && steps(alloc, &mut copy, &events, &sys, wanted))
 }
 
 /// Bodies that nobody is asked by, and the fault of each.
-static NOT_ASKED: ([&str; 4], [Option<Error>; 4]) = (
-    [MECHANISMS, CHALLENGE, OUTCOME_OK, ""],
-    [
-        Some(Error::NotImplemented),
-        Some(Error::NotImplemented),
-        Some(Error::NotImplemented),
-        Some(Error::DecodeError),
-    ],
-);
+static NOT_ASKED: [(&str, Option<Error>); 4] = [
+    (MECHANISMS, Some(Error::NotImplemented)),
+    (CHALLENGE, Some(Error::NotImplemented)),
+    (OUTCOME_OK, Some(Error::NotImplemented)),
+    ("", Some(Error::DecodeError)),
+];
 
 /// Inits and responses to a server that is closed, which are all answered sys, and a challenge.
-static ASKED: ([&str; 4], [Option<Error>; 4]) = (
-    [INIT_PLAIN, RESPONSE, CHALLENGE, INIT_ANONYMOUS],
-    [None, None, Some(Error::NotImplemented), None],
-);
+static ASKED: [(&str, Option<Error>); 4] = [
+    (INIT_PLAIN, None),
+    (RESPONSE, None),
+    (CHALLENGE, Some(Error::NotImplemented)),
+    (INIT_ANONYMOUS, None),
+];
 
 #[test]
-fn an_acceptor_of_ones_own_keeps_its_state(rt: HostRuntime) -> Result<(), Fail> {
-    let alloc = rt.alloc();
+fn an_acceptor_of_ones_own_keeps_its_state(rt: HostRuntime) {
     let mut closed = Closed::new();
-    assert!(rt; answers(alloc, &mut closed, &NOT_ASKED.0, &NOT_ASKED.1)?);
+    answers(&rt, &mut closed, &NOT_ASKED);
     assert!(rt; !closed.is_asked());
-    assert!(rt; answers(alloc, &mut closed, &ASKED.0, &ASKED.1)?);
+    answers(&rt, &mut closed, &ASKED);
     assert!(rt; closed.is_asked());
-    Ok(())
 }
 
 #[test]
-fn an_acceptor_without_a_name_offers_anonymous(rt: HostRuntime) -> Result<(), Fail> {
-    let alloc = rt.alloc();
+fn an_acceptor_without_a_name_offers_anonymous(rt: HostRuntime) {
     let closed = Closed::new();
-    assert!(rt; closed.mechanisms(alloc)?.0.is_empty());
-    let offer = digits(alloc, Frame::Mechanisms(closed.sasl_mechanisms(alloc)?))?;
-    assert!(rt; offer.as_str() == MECHANISM_ANONYMOUS, "{offer}");
+    assert!(rt;
+        closed
+            .mechanisms(rt.alloc())
+            .expect(&rt, "memory")
+            .0
+            .is_empty()
+    );
+    let offer = closed.sasl_mechanisms(rt.alloc()).expect(&rt, "memory");
+    let offer = body_of(&rt, Frame::Mechanisms(offer));
+    assert!(rt; offer == bytes_of(&rt, MECHANISM_ANONYMOUS));
     assert!(rt; !closed.is_asked());
-    Ok(())
 }

@@ -5,8 +5,7 @@ use fe2o3_sasl::hmac::ScramVersion;
 use fe2o3_sasl::scram_client::ScramClient;
 use fe2o3_sasl::scram_messages::ServerScramErrorKind;
 use fe2o3_sasl::scram_server::ScramAuthenticator;
-use std::alloc::Global;
-use std::test::Fail;
+use std::process::Abort;
 
 /// A login of SCRAM-SHA-256 with a client's nonce of 32 bytes 01 and a server's of 32 bytes 02.
 #[derive(Drop)]
@@ -40,111 +39,81 @@ static LOGINS: [Login; 2] = [
     },
 ];
 
+/// A server of both users.
+type Server = ScramAuthenticator<Users>;
+
 /// A client of SCRAM-SHA-256.
-fn client(alloc: Global, name: &str, password: &str) -> Result<ScramClient, Fail> {
-    Ok(ScramClient::new(
-        name.to_string(alloc)?,
-        password.to_string(alloc)?,
-        ScramVersion::Sha256,
-    ))
+fn client<R: Abort + AllocGlobal>(rt: &R, name: &str, password: &str) -> ScramClient {
+    let name = name.to_string(rt.alloc()).expect(rt, "memory");
+    let password = password.to_string(rt.alloc()).expect(rt, "memory");
+    ScramClient::new(name, password, ScramVersion::Sha256)
 }
 
 /// The server's challenge to the client, and the client's answer to it.
-fn challenge(
-    alloc: Global,
+fn challenge<R: Abort + AllocGlobal>(
+    rt: &R,
     client: &mut ScramClient,
-    server: &mut ScramAuthenticator<Users>,
-) -> Result<(Vec<u8>, Vec<u8>), Fail> {
-    let client_first = client.compute_client_first_message(alloc, &[1; 32])?;
+    server: &mut Server,
+) -> (Vec<u8>, Vec<u8>) {
+    let client_first = client.compute_client_first_message(rt.alloc(), &[1; 32]);
+    let client_first = client_first.expect(rt, "memory");
     let server_first = server
-        .compute_server_first_message(alloc, &client_first, &[2; 32])?
-        .ok_or("unknown user")?;
-    let text = str::from_utf8(&server_first)?;
-    let client_final = client.compute_client_final_message(alloc, text)?;
-    Ok((server_first, client_final))
+        .compute_server_first_message(rt.alloc(), &client_first, &[2; 32])
+        .expect(rt, "memory")
+        .expect(rt, "a known user");
+    let text = str::from_utf8(&server_first).expect(rt, "a text");
+    let client_final = client.compute_client_final_message(rt.alloc(), text);
+    (server_first, client_final.expect(rt, "an answer"))
 }
 
-/// Whether a login ends well, with these messages.
-fn ends_well(
-    alloc: Global,
-    client: &mut ScramClient,
-    server: &mut ScramAuthenticator<Users>,
-    login: &Login,
-) -> Result<bool, Fail> {
-    let (server_first, client_final) = challenge(alloc, client, server)?;
+/// Sees to it that the user logs in, with these messages.
+fn logs_in<R: Abort + AllocGlobal>(rt: &R, server: &mut Server, login: &Login) {
+    let mut client = client(rt, login.name, login.password);
+    let (server_first, client_final) = challenge(rt, &mut client, server);
     let server_final = server
-        .compute_server_final_message(alloc, &client_final)?
-        .ok_or("no answer")?;
-    Ok(
-        str::from_utf8(&server_first)? == login.server_first
-            && str::from_utf8(&client_final)? == login.client_final
-            && str::from_utf8(&server_final)? == login.server_final
-            && client.validate_server_final(alloc, &server_final).is_ok(),
-    )
+        .compute_server_final_message(rt.alloc(), &client_final)
+        .expect(rt, "memory")
+        .expect(rt, "an answer");
+    assert!(rt;
+        server_first.as_slice() == login.server_first.as_bytes(),
+        "{}",
+        login.name
+    );
+    assert!(rt;
+        client_final.as_slice() == login.client_final.as_bytes(),
+        "{}",
+        login.name
+    );
+    assert!(rt;
+        server_final.as_slice() == login.server_final.as_bytes(),
+        "{}",
+        login.name
+    );
+    assert!(rt;
+        client
+            .validate_server_final(rt.alloc(), &server_final)
+            .is_ok()
+    );
 }
 
-/// Whether the user logs in.
-fn logs_in(
-    alloc: Global,
-    server: &mut ScramAuthenticator<Users>,
-    login: &Login,
-) -> Result<bool, Fail> {
-    let mut client = client(alloc, login.name, login.password)?;
-    ends_well(alloc, &mut client, server, login)
+/// Sees to it that a user with this password is challenged, and the answer is refused as that of another one.
+fn is_refused<R: Abort + AllocGlobal>(rt: &R, server: &mut Server, name: &str, password: &str) {
+    let (_, client_final) = challenge(rt, &mut client(rt, name, password), server);
+    let answer = server.compute_server_final_message(rt.alloc(), &client_final);
+    let refused = answer.err() == Some(ServerScramErrorKind::AuthenticationFailed);
+    assert!(rt; refused, "{name}");
 }
 
 #[test]
-fn both_users_log_in(rt: HostRuntime) -> Result<(), Fail> {
-    let alloc = rt.alloc();
-    let users = Users::new(alloc)?;
-    let mut server = Box::new(alloc, ScramAuthenticator::new(users))?;
+fn both_users_log_in_and_nobody_else(rt: HostRuntime) {
+    let mut server = ScramAuthenticator::new(Users::new());
     for login in &LOGINS {
-        assert!(rt; logs_in(alloc, &mut server, login)?, "{}", login.name);
+        logs_in(&rt, &mut server, login);
     }
-    Ok(())
-}
-
-/// Whether a client is challenged, and its answer is refused as that of another password.
-fn is_refused(
-    alloc: Global,
-    client: &mut ScramClient,
-    server: &mut ScramAuthenticator<Users>,
-) -> Result<bool, Fail> {
-    let (_, client_final) = challenge(alloc, client, server)?;
-    let answer = server.compute_server_final_message(alloc, &client_final);
-    Ok(answer.err() == Some(ServerScramErrorKind::AuthenticationFailed))
-}
-
-/// Whether a user with this password is refused.
-fn refuses(
-    alloc: Global,
-    server: &mut ScramAuthenticator<Users>,
-    name: &str,
-    password: &str,
-) -> Result<bool, Fail> {
-    let mut client = client(alloc, name, password)?;
-    is_refused(alloc, &mut client, server)
-}
-
-#[test]
-fn another_password_is_refused(rt: HostRuntime) -> Result<(), Fail> {
-    let alloc = rt.alloc();
-    let users = Users::new(alloc)?;
-    let mut server = Box::new(alloc, ScramAuthenticator::new(users))?;
-    for &(name, password) in &[("user", "crayon"), ("guest", "pencil")] {
-        assert!(rt; refuses(alloc, &mut server, name, password)?, "{name}");
-    }
-    Ok(())
-}
-
-#[test]
-fn others_are_unknown(rt: HostRuntime) -> Result<(), Fail> {
-    let alloc = rt.alloc();
-    let users = Users::new(alloc)?;
-    let mut server = Box::new(alloc, ScramAuthenticator::new(users))?;
+    is_refused(&rt, &mut server, "user", "crayon");
+    is_refused(&rt, &mut server, "guest", "pencil");
     for &message in &["n,,n=nobody,r=a", "n,,n=,r=a", "n,,n=users,r=a"] {
-        let answer = server.compute_server_first_message(alloc, message.as_bytes(), &[2; 32])?;
-        assert!(rt; answer.is_none(), "{message}");
+        let answer = server.compute_server_first_message(rt.alloc(), message.as_bytes(), &[2; 32]);
+        assert!(rt; answer.expect(&rt, "memory").is_none(), "{message}");
     }
-    Ok(())
 }

@@ -10,50 +10,28 @@ use fe2o3_sasl::scram_messages::{
     ClientAnswer, ScramErrorKind, ServerFirstMessage, ServerScramErrorKind, UnescapeError,
     XorLengthMismatch, escape_username, unescape_username,
 };
-use std::alloc::Global;
-use std::test::Fail;
+use std::process::Abort;
 
-/// The credential of `user`, whose items are named at the root.
-fn credential(
-    alloc: Global,
-) -> Result<fe2o3_sasl::SingleScramCredential, fe2o3_sasl::ServerScramErrorKind> {
-    SingleScramCredential::new(
-        alloc,
-        "user".to_string(alloc)?,
-        "pencil",
-        fe2o3_sasl::ScramVersion::Sha256,
-        [3; 32],
-    )
-}
-
-/// A challenge to `user`, whose type is named by its module.
-fn challenge<'a>(
-    alloc: Global,
-    message: &'a str,
-) -> Result<Option<ServerFirstMessage<'a>>, ServerScramErrorKind> {
-    ScramVersion::Sha256.compute_server_first_message(
-        alloc,
-        message.as_bytes(),
-        "b",
-        &credential(alloc)?,
-    )
-}
-
-/// Whether a challenge, whose type is named at the root, has this message.
-fn has_message(first: Option<fe2o3_sasl::ServerFirstMessage<'_>>, wanted: &str) -> bool {
-    match first {
-        Some(first) => first.message.as_slice() == wanted.as_bytes(),
-        None => false,
-    }
-}
-
+/// What is made by one name is taken by the other.
 #[test]
-fn a_challenge_has_one_type_by_both_names(rt: HostRuntime) -> Result<(), Fail> {
-    let first = challenge(rt.alloc(), "n,,n=user,r=a")?;
+fn a_challenge_has_one_type_by_both_names(rt: HostRuntime) {
+    let user = "user".to_string(rt.alloc()).expect(&rt, "memory");
+    let version = fe2o3_sasl::ScramVersion::Sha256;
+    let credential: Result<fe2o3_sasl::SingleScramCredential, ServerScramErrorKind> =
+        SingleScramCredential::new(rt.alloc(), user, "pencil", version, [3; 32]);
+    let credential = credential.expect(&rt, "memory");
+    let first: Result<Option<ServerFirstMessage<'_>>, fe2o3_sasl::ServerScramErrorKind> =
+        ScramVersion::Sha256.compute_server_first_message(
+            rt.alloc(),
+            b"n,,n=user,r=a",
+            "b",
+            &credential,
+        );
+    let first: Option<fe2o3_sasl::ServerFirstMessage<'_>> = first.expect(&rt, "memory");
+    let message = first.expect(&rt, "a known user").message;
     let wanted = "r=ab,s=AwMDAwMDAwMDAwMDAwMDAwMDAwMDAwMDAwMDAwMDAwM=,i=4096";
-    assert!(rt; has_message(first, wanted));
+    assert!(rt; message.as_slice() == wanted.as_bytes());
     assert!(rt; DEFAULT_SCRAM_ITERATIONS == fe2o3_sasl::DEFAULT_SCRAM_ITERATIONS);
-    Ok(())
 }
 
 #[test]
@@ -67,56 +45,46 @@ fn faults_have_one_type_by_both_names(rt: HostRuntime) {
 }
 
 #[test]
-fn functions_are_found_by_both_names(rt: HostRuntime) -> Result<(), Fail> {
-    let alloc = rt.alloc();
+fn functions_are_found_by_both_names(rt: HostRuntime) {
     assert!(rt; saslprep("pencil") == fe2o3_sasl::saslprep("pencil"));
-    let escaped = escape_username(alloc, b"a,r=x")?;
-    assert!(rt; escaped == fe2o3_sasl::escape_username(alloc, b"a,r=x")?);
-    let read = unescape_username(alloc, str::from_utf8(&escaped)?)?;
+    let escaped = escape_username(rt.alloc(), b"a,r=x").expect(&rt, "memory");
+    assert!(rt; escaped.as_slice() == "a=2Cr=3Dx".as_bytes());
+    let again = fe2o3_sasl::escape_username(rt.alloc(), b"a,r=x");
+    assert!(rt; again.expect(&rt, "memory") == escaped);
+    let read = unescape_username(rt.alloc(), "a=2Cr=3Dx").expect(&rt, "a name");
     assert!(rt; read.as_str() == "a,r=x");
-    let read = fe2o3_sasl::unescape_username(alloc, "a=2Cr=3Dx")?;
-    assert!(rt; read.as_str() == "a,r=x");
-    let mut meter: fe2o3_sasl::Meter = Meter::new();
-    ScramVersion::Sha256.h_i_metered(alloc, b"password", b"salt", 2, &mut meter)?;
-    assert!(rt; meter.count() == 2);
-    Ok(())
+    let again = fe2o3_sasl::unescape_username(rt.alloc(), "a=2Cr=3Dx");
+    assert!(rt; again.expect(&rt, "a name") == read);
 }
 
-/// The answer to a challenge by a secret. Types are named at the root.
-fn answer(
-    alloc: Global,
+/// The answer to a challenge by a secret, which has this message, as computed with Python's `hashlib` and `hmac`.
+/// Types are named at the root.
+fn answer<R: Abort + AllocGlobal>(
+    rt: &R,
     secret: fe2o3_sasl::ClientSecret<'_>,
     limits: fe2o3_sasl::IterationLimits,
-) -> Result<fe2o3_sasl::ClientAnswer, fe2o3_sasl::ScramErrorKind> {
-    ScramVersion::Sha256.answer_server_first(
-        alloc,
+) -> fe2o3_sasl::ClientAnswer {
+    let mut meter: fe2o3_sasl::Meter = Meter::new();
+    let answer: Result<_, fe2o3_sasl::ScramErrorKind> = ScramVersion::Sha256.answer_server_first(
+        rt.alloc(),
         "a",
         secret,
         "r=ab,s=AwMDAwMDAwMDAwMDAwMDAwMDAwMDAwMDAwMDAwMDAwM=,i=1",
         b"n=user,r=a",
         limits,
-        &mut Meter::new(),
-    )
-}
-
-/// Whether the answer has this message, which was computed with Python's `hashlib` and `hmac`. Its type is
-/// named by its module.
-fn is_answer(answer: &ClientAnswer) -> bool {
+        &mut meter,
+    );
+    let answer = answer.expect(rt, "an answer");
     let wanted = "c=biws,r=ab,p=W2Ew4GyipCofHQxrwv+CQYwFhPYga0tGr8uJJpp+p/U=";
-    answer.message.as_slice() == wanted.as_bytes()
+    assert!(rt; answer.message.as_slice() == wanted.as_bytes());
+    answer
 }
 
+/// Types are named by their modules.
 #[test]
-fn a_secret_has_one_type_by_both_names(rt: HostRuntime) -> Result<(), Fail> {
+fn a_secret_has_one_type_by_both_names(rt: HostRuntime) {
     let password = ClientSecret::Password("pencil");
-    let by_password = answer(rt.alloc(), password, IterationLimits::none())?;
-    assert!(rt; is_answer(&by_password));
+    let by_password: ClientAnswer = answer(&rt, password, IterationLimits::none());
     let keys: &ScramClientKeys = &by_password.keys;
-    let by_keys = answer(
-        rt.alloc(),
-        ClientSecret::Keys(keys),
-        IterationLimits::up_to(1),
-    )?;
-    assert!(rt; is_answer(&by_keys));
-    Ok(())
+    answer(&rt, ClientSecret::Keys(keys), IterationLimits::up_to(1));
 }

@@ -1,95 +1,71 @@
 //! A provider of two users.
 
-ghost use Rattle.std.specs.Prelude.{◌≡◌, ◌≤◌, nat_eq};
+ghost use Rattle.std.specs.Prelude.{◌≡◌, nat_eq};
 ghost use Rattle.std.specs.Cmp.Lexicographic.{pointwise};
 ghost use Rattle.fe2o3_sasl.specs.Credentials.{kept};
 
 use fe2o3_sasl::credentials::{ScramCredentialProvider, StoredPassword};
 use fe2o3_sasl::hmac::ScramVersion;
-use std::alloc::{AllocError, Global};
+use std::alloc::AllocError;
 use std::marker::Model;
-use std::test::Fail;
 
 /// A user of SCRAM-SHA-256, and what is kept of the password.
-#[derive(Debug, Drop)]
+#[derive(Clone, Copy)]
 struct User {
     name: &'static str,
     salt: [u8; 32],
-    stored_key: Vec<u8>,
-    server_key: Vec<u8>,
-}
-
-impl Model for User {
-    ghost use Rattle.std.specs.Prelude.{ℕ, List};
-    ghost use Rattle.fe2o3_sasl.specs.Credentials.{Record};
-
-    ghost Value = { List ℕ × Record };
-
-    ghost view = { λ user. (
-      user.name.now,
-      record {
-        salt = user.salt;
-        count = 4096;
-        stored_key = user.stored_key.items;
-        server_key = user.server_key.items;
-      },
-    ) };
+    stored_key: &'static [u8],
+    server_key: &'static [u8],
 }
 
 impl User {
-    /// The user with this password.
-    fn with_password(
-        alloc: Global,
-        name: &'static str,
-        password: &str,
-        salt: [u8; 32],
-    ) -> Result<User, Fail> {
-        let version = ScramVersion::Sha256;
-        let salted_password = version.compute_salted_password(alloc, password, &salt, 4096)?;
-        let client_key = version.hmac(alloc, &salted_password, b"Client Key")?;
-        Ok(User {
-            name,
-            salt,
-            stored_key: version.h(alloc, &client_key)?,
-            server_key: version.hmac(alloc, &salted_password, b"Server Key")?,
-        })
-    }
-
     /// What is kept of the password.
     fn stored_password(&self) -> StoredPassword<'_>
-        ensures { kept result ≡ self.now.1 }
+        ensures { kept result ≡ record {
+          salt = self.now.salt;
+          count = 4096;
+          stored_key = self.now.stored_key.now;
+          server_key = self.now.server_key.now;
+        } }
     {
         StoredPassword {
             salt: &self.salt,
             iterations: 4096,
-            stored_key: &self.stored_key,
-            server_key: &self.server_key,
+            stored_key: self.stored_key,
+            server_key: self.server_key,
         }
     }
 
     /// Whether the user has this name.
     fn is_called(&self, username: &str) -> bool
-        ensures { result ≡ pointwise nat_eq self.now.0 username.now }
+        ensures { result ≡ pointwise nat_eq self.now.name.now username.now }
     {
         self.name == username
     }
 }
 
-impl Clone for User {
-    ghost is_clone = { λ user copy. copy ≡ user };
+/// The user `user` with the password `pencil`. The keys of both were computed with Python's `hashlib` and `hmac`.
+static USER: User = User {
+    name: "user",
+    salt: [3; 32],
+    stored_key: b"\x6d\x2a\x83\x73\x69\xec\x55\xdf\x9d\xe6\x90\xfd\xa1\xd6\x4c\xea\
+        \x41\x4d\x79\xd4\x34\x9e\xd4\x2a\x61\xa3\x97\x24\x3d\xaa\xd8\xd1",
+    server_key: b"\x86\x29\xc4\x70\x0b\x89\x8e\x83\x90\xf9\xa1\x27\xe6\x25\x27\x5f\
+        \xc1\xe2\xab\x49\x24\x49\xb2\x18\x94\x2f\x85\x57\xc7\x54\x0e\x95",
+};
 
-    fn clone(&self) -> Result<User, AllocError> {
-        Ok(User {
-            name: self.name,
-            salt: self.salt,
-            stored_key: self.stored_key.clone()?,
-            server_key: self.server_key.clone()?,
-        })
-    }
-}
+/// The user `guest` with the password `crayon`.
+static GUEST: User = User {
+    name: "guest",
+    salt: [4; 32],
+    stored_key: b"\x38\xcb\xba\x65\x0f\x8c\xd8\x84\xaf\x59\xe9\xf4\x25\xa0\x00\x39\
+        \x18\xf0\x6b\x33\xf3\x7b\x6e\x01\xe7\xbb\xf4\x86\xe1\x29\x15\x91",
+    server_key: b"\x5d\x92\x90\x83\x43\x02\xb9\x24\x2d\x9d\x9d\x96\xc1\xa8\x11\xda\
+        \x8d\x9a\xe7\xac\x0f\x55\xd6\xc6\xf3\x9d\xc3\x30\xda\x91\xcc\x11",
+};
 
-/// The users `user` and `guest`.
-#[derive(Debug, Drop)]
+/// Both users.
+#[derive(Drop)]
 pub struct Users {
     version: ScramVersion,
     user: User,
@@ -104,18 +80,34 @@ impl Model for Users {
 
     ghost view = { λ users. record {
       version = users.version;
-      records = users.user ∷ users.guest ∷ [];
+      records = (
+        users.user.name.now,
+        record {
+          salt = users.user.salt;
+          count = 4096;
+          stored_key = users.user.stored_key.now;
+          server_key = users.user.server_key.now;
+        },
+      ) ∷ (
+        users.guest.name.now,
+        record {
+          salt = users.guest.salt;
+          count = 4096;
+          stored_key = users.guest.stored_key.now;
+          server_key = users.guest.server_key.now;
+        },
+      ) ∷ [];
     } };
 }
 
 impl Users {
-    /// Both users, with salts of 32 bytes 03 and 04.
-    pub fn new(alloc: Global) -> Result<Users, Fail> {
-        Ok(Users {
+    /// Both users.
+    pub fn new() -> Users {
+        Users {
             version: ScramVersion::Sha256,
-            user: User::with_password(alloc, "user", "pencil", [3; 32])?,
-            guest: User::with_password(alloc, "guest", "crayon", [4; 32])?,
-        })
+            user: USER,
+            guest: GUEST,
+        }
     }
 }
 
@@ -125,8 +117,8 @@ impl Clone for Users {
     fn clone(&self) -> Result<Users, AllocError> {
         Ok(Users {
             version: self.version,
-            user: self.user.clone()?,
-            guest: self.guest.clone()?,
+            user: self.user,
+            guest: self.guest,
         })
     }
 }

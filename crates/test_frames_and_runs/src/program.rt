@@ -1,17 +1,103 @@
-//! The last line where the program `sasl_lab` stops, for refusals that no command line is known to meet too,
-//! and its usage.
+//! The lines that the program `sasl_lab` prints of findings and the last line where it stops, for verdicts that no
+//! transcript and refusals that no command line is known to have too; and its usage.
 
-use fe2o3_sasl::audit::AuditError;
+use crate::values::{bytes, text};
+use fe2o3_sasl::audit::{AuditError, Finding, FindingKind, Parameters, Verdict};
 use fe2o3_sasl::{ProfileError, ScramErrorKind, ServerScramErrorKind};
 use fe2o3_sasl_wire::{Error, SaslCode};
 use sasl_commands::USAGE;
+use sasl_commands::audit::line_of;
 use sasl_commands::stop::Stop;
-use std::alloc::{AllocError, Global};
+use std::alloc::AllocError;
+use std::process::Abort;
 
-/// Whether this is the last line, and the status 1.
-fn is_told(alloc: Global, stop: Stop, wanted: &str) -> bool {
-    let mut output = Vec::new(alloc);
-    stop.end(&mut output) == 1 && output.as_slice() == wanted.as_bytes()
+/// Sees to it that a finding at the positions 3 and 4294967296 has this line.
+fn prints<R: Abort + AllocGlobal>(rt: &R, kind: FindingKind, verdict: Verdict, wanted: &str) {
+    let finding = Finding {
+        kind,
+        client: 3,
+        server: 4294967296,
+        verdict,
+    };
+    let line = line_of(rt.alloc(), &finding).expect(rt, "memory");
+    assert!(rt; line.as_str() == wanted, "{line}");
+}
+
+/// A verdict on which both sides agree, with a salt where they agree on parameters too: the nonce `nonce` and the
+/// highest count.
+fn agreed<R: Abort + AllocGlobal>(
+    rt: &R,
+    username: &str,
+    client_nonce: &str,
+    salt: Option<&[u8]>,
+) -> Verdict {
+    let parameters = match salt {
+        Some(salt) => Some(Parameters {
+            full_nonce: text(rt, "nonce"),
+            salt: bytes(rt, salt),
+            iterations: u32::MAX,
+        }),
+        None => None,
+    };
+    Verdict::Agreed {
+        username: text(rt, username),
+        client_nonce: text(rt, client_nonce),
+        parameters,
+    }
+}
+
+#[test]
+fn lines_of_agreed_findings(rt: HostRuntime) {
+    let verdict = agreed(&rt, "", "", None);
+    prints(
+        &rt,
+        FindingKind::Verifier,
+        verdict,
+        "verifier 3 4294967296 agreed - -",
+    );
+    let verdict = agreed(&rt, "\u{e9}", "", Some(b""));
+    let line = "proof 3 4294967296 agreed c3a9 - 6e6f6e6365 - 4294967295";
+    prints(&rt, FindingKind::Proof, verdict, line);
+    let verdict = agreed(&rt, "a b", "J\n", Some(b"\x00\xff"));
+    let line = "proof 3 4294967296 agreed 612062 4a0a 6e6f6e6365 00ff 4294967295";
+    prints(&rt, FindingKind::Proof, verdict, line);
+}
+
+#[test]
+fn lines_of_collisions_and_of_another_key(rt: HostRuntime) {
+    let same_mac = Verdict::SameMac {
+        client_key: bytes(&rt, b"\x0c\x1c"),
+        client_text: bytes(&rt, b"n=,r="),
+        server_key: Vec::new(rt.alloc()),
+        server_text: bytes(&rt, b"\x5a"),
+    };
+    let line = "verifier 3 4294967296 same-mac 0c1c 6e3d2c723d - 5a";
+    prints(&rt, FindingKind::Verifier, same_mac, line);
+    let same_hash = Verdict::SameHash {
+        client_key: bytes(&rt, b"\xc1"),
+        recovered_key: bytes(&rt, b"\xc2\xc3"),
+    };
+    prints(
+        &rt,
+        FindingKind::Proof,
+        same_hash,
+        "proof 3 4294967296 same-hash c1 c2c3",
+    );
+    prints(
+        &rt,
+        FindingKind::Proof,
+        Verdict::OtherKey,
+        "proof 3 4294967296 other-key",
+    );
+}
+
+/// Sees to it that this is the last line, and the status 1.
+fn ends<R: Abort + AllocGlobal>(rt: &R, stop: Stop, wanted: &str) {
+    let mut output = Vec::new(rt.alloc());
+    assert!(rt;
+        stop.end(&mut output) == 1 && output.as_slice() == wanted.as_bytes(),
+        "{wanted}"
+    );
 }
 
 /// Each refusal of a SCRAM message, with the last line.
@@ -113,24 +199,21 @@ static OTHERS: [(Stop, &str); 11] = [
 
 #[test]
 fn names_each_refusal(rt: HostRuntime) {
-    let alloc = rt.alloc();
     for (kind, wanted) in &MESSAGES {
-        assert!(rt; is_told(alloc, Stop::from(*kind), wanted), "{kind:?}");
+        ends(&rt, Stop::from(*kind), wanted);
     }
     for (fault, wanted) in &PROFILES {
-        assert!(rt; is_told(alloc, Stop::from(*fault), wanted), "{fault:?}");
+        ends(&rt, Stop::from(*fault), wanted);
     }
     for (stop, wanted) in &OTHERS {
-        assert!(rt; is_told(alloc, *stop, wanted), "{stop:?}");
+        ends(&rt, *stop, wanted);
     }
-}
-
-#[test]
-fn names_want_of_memory(rt: HostRuntime) {
-    let wanted = "refused OutOfMemory\n";
-    for &stop in &[Stop::from(AllocError), Stop::from(AuditError::OutOfMemory)] {
-        assert!(rt; is_told(rt.alloc(), stop, wanted));
-    }
+    ends(&rt, Stop::from(AllocError), "refused OutOfMemory\n");
+    ends(
+        &rt,
+        Stop::from(AuditError::OutOfMemory),
+        "refused OutOfMemory\n",
+    );
 }
 
 #[test]
