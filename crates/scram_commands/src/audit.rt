@@ -11,8 +11,9 @@ pub mod sentences;
 use crate::audit::half::{Given, Half, text_of};
 use crate::audit::sentences::sentence_of;
 use crate::explain::body_of;
+use crate::input;
 use crate::stop::Stop;
-use crate::{input, store};
+use crate::users::lines;
 use fe2o3_sasl::audit::{Finding, FindingKind, Verdict, audit_limited};
 use fe2o3_sasl::{
     ClientReply, ProfileError, ServerReply, scram_client_run_limited, scram_server_run,
@@ -69,31 +70,44 @@ where
     if saslprep(&password).is_err() {
         return Err(Stop::WrongPassword);
     }
-    let text = store::read(rt, asked.file)?;
-    let users = MixedCredentials::parse_lines(alloc, &text)?;
-    let sides = Sides::read(alloc, input, output)?;
-    let login = sides.login(&password, &users, asked.limit)?;
-    sides.audit(alloc, &login, output)
+    let users = lines::users(rt, asked.file)?;
+    let mut sides = Sides {
+        client: Half::client(alloc),
+        server: Half::server(alloc),
+    };
+    sides.run(alloc, &password, &users, asked.limit, input, output)
 }
 
 impl Sides {
+    /// Reads the bodies, and audits them.
+    fn run<I: BufRead, O: Write>(
+        &mut self,
+        alloc: Global,
+        password: &str,
+        users: &MixedCredentials,
+        limit: u32,
+        input: &mut I,
+        output: &mut O,
+    ) -> Result<(), Stop> {
+        self.read(alloc, input, output)?;
+        let login = self.login(password, users, limit)?;
+        self.audit(alloc, &login, output)
+    }
+
     /// Reads lines of a side and a body, the first of which is the second of the input, and prints what they say.
     fn read<I: BufRead, O: Write>(
+        &mut self,
         alloc: Global,
         input: &mut I,
         output: &mut O,
-    ) -> Result<Sides, Stop> {
-        let mut sides = Sides {
-            client: Half::client(alloc),
-            server: Half::server(alloc),
-        };
+    ) -> Result<(), Stop> {
         for number in 2..u64::MAX {
             let Some(line) = input::next_line(alloc, input)? else {
                 break;
             };
-            sides.take(alloc, number, &line, output)?;
+            self.take(alloc, number, &line, output)?;
         }
-        Ok(sides)
+        Ok(())
     }
 
     /// Takes a line, and prints what its body says.
@@ -150,17 +164,29 @@ impl Sides {
         self.print_client(alloc, login, output)?;
         self.print_server(alloc, login, output)?;
         let findings = self.findings(alloc, login)?;
-        for finding in &findings {
-            let sentence = sentence_of(alloc, login.version, &finding.verdict)?;
-            self.print(finding, &sentence, output)
-                .map_err(Stop::of_output)?;
-        }
+        self.print_all(alloc, login.version, &findings, output)?;
+        conclude(&findings)
+    }
+
+    /// Prints what is found.
+    fn print_all<O: Write>(
+        &self,
+        alloc: Global,
+        version: ScramVersion,
+        findings: &[Finding],
+        output: &mut O,
+    ) -> Result<(), Stop> {
         if findings.is_empty() {
             writeln!(output, "audit: the two sides have no login in common").map_err(
                 Stop::of_output,
             )?;
         }
-        conclude(&findings)
+        for finding in findings {
+            let sentence = sentence_of(alloc, version, &finding.verdict)?;
+            self.print(finding, &sentence, output)
+                .map_err(Stop::of_output)?;
+        }
+        Ok(())
     }
 
     /// Prints a finding.
@@ -192,16 +218,7 @@ impl Sides {
             login.limit,
             &self.client.events,
         )?;
-        let mut believes = false;
-        for (given, reply) in self.client.given.iter().zip(&replies) {
-            let answer = Answer::of_client(reply)?;
-            believes |= answer.is_ok;
-            print_client(given, &answer, output).map_err(Stop::of_output)?;
-        }
-        if !believes {
-            writeln!(output, "audit: the client believes no server").map_err(Stop::of_output)?;
-        }
-        Ok(())
+        print_believed(&self.client.given, &replies, output)
     }
 
     /// Prints whom the server accepts.
@@ -212,19 +229,7 @@ impl Sides {
         output: &mut O,
     ) -> Result<(), Stop> {
         let replies = scram_server_run(alloc, login.credentials, &self.server.events)?;
-        let (mut challenged, mut accepts) = (None, false);
-        for (given, reply) in self.server.given.iter().zip(&replies) {
-            let answer = Answer::of_server(reply)?;
-            accepts |= answer.is_ok;
-            if matches!(reply, Ok(ServerReply::Challenge { .. })) {
-                challenged = Some(given);
-            }
-            print_server(given, challenged, &answer, output).map_err(Stop::of_output)?;
-        }
-        if !accepts {
-            writeln!(output, "audit: the server accepts nobody").map_err(Stop::of_output)?;
-        }
-        Ok(())
+        print_accepted(&self.server.given, &replies, output)
     }
 
     /// What both sides have in common.
@@ -301,6 +306,45 @@ impl<'a> Answer<'a> {
             _ => false,
         }
     }
+}
+
+/// Prints whom the client believes, which gave these replies.
+fn print_believed<O: Write>(
+    given: &[Given],
+    replies: &[Result<ClientReply, ProfileError>],
+    output: &mut O,
+) -> Result<(), Stop> {
+    let mut believes = false;
+    for (given, reply) in given.iter().zip(replies) {
+        let answer = Answer::of_client(reply)?;
+        believes |= answer.is_ok;
+        print_client(given, &answer, output).map_err(Stop::of_output)?;
+    }
+    if !believes {
+        writeln!(output, "audit: the client believes no server").map_err(Stop::of_output)?;
+    }
+    Ok(())
+}
+
+/// Prints whom the server accepts, which gave these replies.
+fn print_accepted<O: Write>(
+    given: &[Given],
+    replies: &[Result<ServerReply, Error>],
+    output: &mut O,
+) -> Result<(), Stop> {
+    let (mut challenged, mut accepts) = (None, false);
+    for (given, reply) in given.iter().zip(replies) {
+        let answer = Answer::of_server(reply)?;
+        accepts |= answer.is_ok;
+        if matches!(reply, Ok(ServerReply::Challenge { .. })) {
+            challenged = Some(given);
+        }
+        print_server(given, challenged, &answer, output).map_err(Stop::of_output)?;
+    }
+    if !accepts {
+        writeln!(output, "audit: the server accepts nobody").map_err(Stop::of_output)?;
+    }
+    Ok(())
 }
 
 /// Prints whether the client answered otherwise than the one that is made anew, and whether it believes a server.

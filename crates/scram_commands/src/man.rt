@@ -28,23 +28,17 @@ fn print_commands<O: Write>(output: &mut O, above: &str, commands: &[Words]) -> 
 /// Prints a word.
 fn print_word<O: Write>(output: &mut O, word: &Word) -> Result<()> {
     let (name, value, help) = (word.name, word.value, word.help);
+    let default = match word.kind {
+        Kind::DefaultMechanism => "; else it is SCRAM-SHA-256",
+        Kind::Iterations => "; else it is 4096",
+        _ => "",
+    };
     match word.kind {
         Kind::Place | Kind::MechanismPlace => write!(output, ".TP\n.I {name}\n{help}.\n"),
         Kind::Flag => write!(output, ".TP\n.B \\-\\-{name}\n{help}.\n"),
-        Kind::Text | Kind::Mechanism | Kind::Count | Kind::CountOf(_) => {
-            write!(output, ".TP\n.BI \\-\\-{name} \" {value}\"\n{help}.\n")
-        }
-        Kind::DefaultMechanism => {
-            write!(
-                output,
-                ".TP\n.BI \\-\\-{name} \" {value}\"\n{help}; else it is SCRAM-SHA-256.\n"
-            )
-        }
-        Kind::Iterations => {
-            write!(
-                output,
-                ".TP\n.BI \\-\\-{name} \" {value}\"\n{help}; else it is 4096.\n"
-            )
-        }
+        _ => write!(
+            output,
+            ".TP\n.BI \\-\\-{name} \" {value}\"\n{help}{default}.\n"
+        ),
     }
 }

@@ -248,39 +248,41 @@ pub static USERS_COMMANDS: [Words; 4] = [
 impl Word {
     /// The word for the parser.
     fn arg<'a>(&self, alloc: Global) -> Result<Arg<'a>, AllocError> {
-        let arg = Arg::new(alloc, self.name)
-            .action(ArgAction::Set)
-            .help(self.help);
+        let arg = self.plain(alloc);
         Ok(match self.kind {
             Kind::Place => arg.required(true),
-            Kind::Text => self.option(arg),
-            Kind::Mechanism => self.option(arg).value_parser(MECHANISMS.as_slice()),
-            Kind::DefaultMechanism => self
-                .option(arg)
-                .value_parser(MECHANISMS.as_slice())
-                .default_value("SCRAM-SHA-256"),
-            Kind::Iterations => self
-                .option(arg)
-                .value_parser(ValueParser::unsigned(1, 4294967295))
-                .default_value("4096"),
+            Kind::MechanismPlace => mechanism(arg.required(true)),
             Kind::Flag => arg.long(self.name).action(ArgAction::SetTrue),
-            Kind::Count => self
-                .option(arg)
-                .value_parser(ValueParser::unsigned(1, 4294967295)),
-            Kind::CountOf(other) => self
-                .option(arg)
-                .value_parser(ValueParser::unsigned(1, 4294967295))
-                .requires_arg(other)?,
-            Kind::MechanismPlace => arg.required(true).value_parser(MECHANISMS.as_slice()),
+            Kind::Text => self.option(arg),
+            Kind::Mechanism => mechanism(self.option(arg)),
+            Kind::DefaultMechanism => mechanism(self.option(arg)).default_value("SCRAM-SHA-256"),
+            Kind::Iterations => count(self.option(arg)).default_value("4096"),
+            Kind::Count => count(self.option(arg)),
+            Kind::CountOf(other) => return count(self.option(arg)).requires_arg(other),
         })
     }
-}
 
-impl Word {
+    /// A word with a value.
+    fn plain<'a>(&self, alloc: Global) -> Arg<'a> {
+        Arg::new(alloc, self.name)
+            .action(ArgAction::Set)
+            .help(self.help)
+    }
+
     /// The word as an option.
     fn option<'a>(&self, arg: Arg<'a>) -> Arg<'a> {
         arg.long(self.name).value_name(self.value)
     }
+}
+
+/// A word whose value is the name of a mechanism.
+fn mechanism<'a>(arg: Arg<'a>) -> Arg<'a> {
+    arg.value_parser(MECHANISMS.as_slice())
+}
+
+/// A word whose value is an iteration count.
+fn count<'a>(arg: Arg<'a>) -> Arg<'a> {
+    arg.value_parser(ValueParser::unsigned(1, 4294967295))
 }
 
 impl Words {

@@ -1,10 +1,9 @@
 //! `server`: serves a login for the users of a file, in which the messages of the client come on the input.
 
 use crate::stop::Stop;
-use crate::{frames, nonces, store, wire};
-use fe2o3_scram::{
-    MixedCredentials, ScramAuthenticator, ScramCredentials, ScramVersion, ServerScramErrorKind,
-};
+use crate::users::lines;
+use crate::{frames, nonces, wire};
+use fe2o3_scram::{ScramAuthenticator, ScramCredentials, ScramVersion, ServerScramErrorKind};
 use std::alloc::Global;
 use std::io::{BufRead, Write};
 use std::random::RandomSource;
@@ -69,8 +68,7 @@ where
 
 /// The users of the file who have records for the mechanism.
 fn users<R: Files + AllocGlobal>(rt: &R, service: &Service<'_>) -> Result<ScramCredentials, Stop> {
-    let text = store::read(rt, service.file)?;
-    let users = MixedCredentials::parse_lines(rt.alloc(), &text)?;
+    let users = lines::users(rt, service.file)?;
     Ok(users.for_version(service.version).clone()?)
 }
 

@@ -95,8 +95,7 @@ pub fn check<R: Files + AllocGlobal, O: Write>(
     password: &str,
     output: &mut O,
 ) -> Result<(), Stop> {
-    let text = store::read(rt, named.file)?;
-    let users = MixedCredentials::parse_lines(rt.alloc(), &text)?;
+    let users = lines::users(rt, named.file)?;
     conclude(&answers(&users, named, password), output)
 }
 

@@ -107,27 +107,22 @@ impl Half {
             return self.send(alloc, &view);
         }
         let is_open = !matches!(view, FrameView::Outcome { .. });
-        self.receive(alloc, line, is_open, body)
+        self.receive(line, is_open, body)
     }
 
     /// Takes a body that the side was given.
-    fn receive(
-        &mut self,
-        alloc: Global,
-        line: u64,
-        is_open: bool,
-        body: Vec<u8>,
-    ) -> Result<(), Stop> {
+    fn receive(&mut self, line: u64, is_open: bool, body: Vec<u8>) -> Result<(), Stop> {
+        let user = self.heard.user.clone()?;
         let answer = if is_open { self.early.take() } else { None };
-        let given = Given {
+        let is_open = is_open && answer.is_none();
+        self.given.push(Given {
             line,
-            user: self.heard.user.as_str().to_string(alloc)?,
-            is_open: is_open && answer.is_none(),
+            user,
+            is_open,
             answer,
-        };
+        })?;
         let nonce = self.nonce;
         self.events.push(Event { body, nonce })?;
-        self.given.push(given)?;
         Ok(())
     }
 

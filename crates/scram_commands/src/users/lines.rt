@@ -1,8 +1,10 @@
 //! The lines of a file of users.
 
 use crate::stop::Stop;
+use crate::store;
 use fe2o3_scram::{MixedCredentials, ScramRecord, WriteLinesError, escape_username};
 use std::alloc::Global;
+use std::rt::Files;
 
 /// A line that was tested, in its parts.
 #[derive(Clone, Copy)]
@@ -31,6 +33,12 @@ impl<'a> UserLine<'a> {
     }
 }
 
+/// The users of a file.
+pub fn users<R: Files + AllocGlobal>(rt: &R, file: &str) -> Result<MixedCredentials, Stop> {
+    let text = store::read(rt, file)?;
+    Ok(MixedCredentials::parse_lines(rt.alloc(), &text)?)
+}
+
 /// Tests that each line of a text is a user's.
 pub fn test(alloc: Global, text: &str) -> Result<(), Stop> {
     MixedCredentials::parse_lines(alloc, text)?;
@@ -47,15 +55,21 @@ pub fn escaped(alloc: Global, name: &str) -> Result<String, Stop> {
 
 /// The line of a user, with its line feed.
 pub fn line_of(alloc: Global, name: &str, record: ScramRecord) -> Result<String, Stop> {
+    let name = name.to_string(alloc)?;
     let mut users = MixedCredentials::new(alloc);
-    users.add(name.to_string(alloc)?, record)?;
-    let line = match users.to_lines(alloc) {
-        Ok(line) => line,
+    users.add(name, record)?;
+    text_of(alloc, &users)
+}
+
+/// The lines of users.
+fn text_of(alloc: Global, users: &MixedCredentials) -> Result<String, Stop> {
+    let lines = match users.to_lines(alloc) {
+        Ok(lines) => lines,
         Err(WriteLinesError::UserNotWritable) => return Err(Stop::WrongName),
         Err(WriteLinesError::OutOfMemory) => return Err(Stop::OutOfMemory),
     };
-    match String::from_utf8(line) {
-        Ok(line) => Ok(line),
+    match String::from_utf8(lines) {
+        Ok(text) => Ok(text),
         Err(_) => Err(Stop::WrongName),
     }
 }
