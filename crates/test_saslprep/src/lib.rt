@@ -1,4 +1,4 @@
-//! Tests of what no row of `saslprep_vectors` shows: SASLprep while there is too little memory, what is
+//! Tests of what no row of `scram_vectors` shows: SASLprep while there is too little memory, what is
 //! borrowed, and the texts of faults.
 #![tactic(auto)]
 
