@@ -2,9 +2,8 @@
 
 mod streams;
 
-use crate::Unconfirmed;
 use crate::commands::streams::{Full, Text};
-use crate::runs::words::{bytes_of, number_of, text_of};
+use crate::rows::Row;
 use sasl_commands::{USAGE, run};
 use std::alloc::{AllocError, Global};
 use std::io;
@@ -19,8 +18,10 @@ struct Command {
     input: Vec<u8>,
     fault: Option<io::ErrorKind>,
 
-    /// What is printed.
-    output: String,
+    /// What is printed, how many lines that is, and whether the last is `wrong words`.
+    output: Vec<u8>,
+    lines: usize,
+    is_misused: bool,
 
     /// The status.
     status: u32,
@@ -30,104 +31,90 @@ struct Command {
     usage_rooms: Vec<usize>,
 }
 
-/// Checks the run that a paragraph spells, and answers how many lines it prints.
-pub fn check(alloc: Global, paragraph: &str) -> Result<usize, Unconfirmed> {
-    check_all(alloc, &read(alloc, paragraph)?)
-}
-
-/// Checks a run with room for all that it writes, and with each less room.
-fn check_all(alloc: Global, command: &Command) -> Result<usize, Unconfirmed> {
+/// Checks the run that a paragraph spells with room for all that it writes, and with each less room, and
+/// tells how many lines it prints.
+pub fn check(row: &mut Row<'_>) -> usize {
+    let command = read(row);
     let (len, usage_len) = (command.output.len(), USAGE.len());
-    check_run(alloc, command, len, usage_len)?;
+    check_run(row, &command, len, usage_len);
     for room in &command.rooms {
-        check_run(alloc, command, *room, usage_len)?;
+        check_run(row, &command, *room, usage_len);
     }
     for room in &command.usage_rooms {
-        check_run(alloc, command, len, *room)?;
+        check_run(row, &command, len, *room);
     }
-    Ok(command.output.lines().count())
+    command.lines
 }
 
 /// Checks a run whose output and whose usage have room for so many bytes. Where the output has too little,
-/// the status is 1 and no usage is told.
-fn check_run(
-    alloc: Global,
-    command: &Command,
-    room: usize,
-    usage_room: usize,
-) -> Result<(), Unconfirmed> {
+/// the status is 1 and no usage is told. Else it is told behind `wrong words`.
+fn check_run(row: &mut Row<'_>, command: &Command, room: usize, usage_room: usize) {
     let is_whole = room >= command.output.len();
     let status = if is_whole { command.status } else { 1 };
-    let usage = if is_whole {
-        usage_behind(&command.output)
+    let usage = if is_whole && command.is_misused {
+        USAGE
     } else {
         ""
     };
-    let (mut output, mut errors) = (Full::new(alloc, room), Full::new(alloc, usage_room));
-    let ended = command.run(alloc, &mut output, &mut errors);
-    if u32::from(ended) == status
-        && output.holds(command.output.as_bytes())
-        && errors.holds(usage.as_bytes())
-    {
-        return Ok(());
-    }
-    Err(Unconfirmed::Other(output.text()?))
-}
-
-impl Command {
-    /// Runs the program.
-    fn run(&self, alloc: Global, output: &mut Full, errors: &mut Full) -> u8 {
-        let mut input = Text::new(&self.input, self.fault);
-        run(alloc, &self.words, &mut input, output, errors)
-    }
-}
-
-/// The usage, where it is told behind this text.
-fn usage_behind(text: &str) -> &'static str {
-    match text {
-        "wrong words\n" => USAGE,
-        _ => "",
+    let (mut output, mut errors) = (Full::new(row.alloc, room), Full::new(row.alloc, usage_room));
+    let mut input = Text::new(&command.input, command.fault);
+    let ended = run(
+        row.alloc,
+        &command.words,
+        &mut input,
+        &mut output,
+        &mut errors,
+    );
+    let is_told = output.holds(&command.output) && errors.holds(usage.as_bytes());
+    if u32::from(ended) != status || !is_told {
+        let text = row.made(str::from_utf8(&output.written), "");
+        row.refuse(text);
     }
 }
 
 /// Reads a paragraph, a mark and a text in each line.
-fn read(alloc: Global, paragraph: &str) -> Result<Command, Unconfirmed> {
+fn read(row: &mut Row<'_>) -> Command {
     let mut command = Command {
-        words: Vec::new(alloc),
-        input: Vec::new(alloc),
+        words: Vec::new(row.alloc),
+        input: Vec::new(row.alloc),
         fault: None,
-        output: String::new(alloc),
+        output: Vec::new(row.alloc),
+        lines: 0,
+        is_misused: false,
         status: 0,
-        rooms: Vec::new(alloc),
-        usage_rooms: Vec::new(alloc),
+        rooms: Vec::new(row.alloc),
+        usage_rooms: Vec::new(row.alloc),
     };
-    for line in paragraph.lines() {
+    for line in row.rest().lines() {
         let (mark, text) = line.split_once(' ').unwrap_or((line, ""));
-        read_line(alloc, &mut command, mark, text)?;
+        row.turn_to(text);
+        read_line(row, &mut command, mark);
     }
-    Ok(command)
+    command
 }
 
-/// Reads a line of a mark and a text.
-fn read_line(
-    alloc: Global,
-    command: &mut Command,
-    mark: &str,
-    text: &str,
-) -> Result<(), Unconfirmed> {
+/// Reads what stands behind a mark.
+fn read_line(row: &mut Row<'_>, command: &mut Command, mark: &str) {
     match mark {
-        "#" => Ok(()),
-        "audit" => push_audit(alloc, &mut command.words, text),
-        "$" => Ok(push_words(alloc, &mut command.words, text)?),
-        "<" => Ok(push_line(alloc, &mut command.input, text)?),
-        "<-" => Ok(push_text(alloc, &mut command.input, text)?),
-        "x" => push_bytes(alloc, &mut command.input, text),
-        "!" => read_fault(&mut command.fault, text),
-        ">" => Ok(print_line(alloc, &mut command.output, text)?),
-        "=" => read_number(&mut command.status, text),
-        "|" => push_rooms(&mut command.rooms, text),
-        "&" => push_rooms(&mut command.usage_rooms, text),
-        _ => Err(Unconfirmed::Malformed),
+        "#" => drop(row.rest()),
+        "audit" => push_audit(row, &mut command.words),
+        "$" => push_words(row, &mut command.words),
+        "<" => push_text(row, &mut command.input, b"\n"),
+        "<-" => push_text(row, &mut command.input, b""),
+        "x" => {
+            let bytes = row.bytes();
+            row.made(command.input.extend_from_slice(&bytes), ());
+        }
+        "!" => command.fault = fault_of(row),
+        ">" => {
+            command.is_misused = row.is_left("wrong words");
+            push_text(row, &mut command.output, b"\n");
+            command.lines = command.lines.saturating_add(1);
+        }
+        "=" => command.status = row.number(),
+        "|" => push_rooms(row, &mut command.rooms),
+        "&" => push_rooms(row, &mut command.usage_rooms),
+        _ => row.refuse("no mark"),
     }
 }
 
@@ -139,78 +126,59 @@ fn unescaped(alloc: Global, text: &str) -> Result<String, AllocError> {
     text.replace(alloc, "\\s", " ")
 }
 
+/// Adds a text and its end.
+fn push_text(row: &mut Row<'_>, bytes: &mut Vec<u8>, end: &[u8]) {
+    let text = unescaped(row.alloc, row.rest());
+    let text = row.made(text, String::new(row.alloc));
+    row.made(bytes.extend_from_slice(text.as_bytes()), ());
+    row.made(bytes.extend_from_slice(end), ());
+}
+
 /// Adds words, each cut at one space. Of an empty text there are none.
-fn push_words(alloc: Global, words: &mut Vec<String>, text: &str) -> Result<(), AllocError> {
-    if text.is_empty() {
-        return Ok(());
+fn push_words(row: &mut Row<'_>, words: &mut Vec<String>) {
+    if row.is_over() {
+        return;
     }
-    for word in unescaped(alloc, text)?.split(' ') {
-        words.push(word.to_string(alloc)?)?;
+    let text = unescaped(row.alloc, row.rest());
+    let text = row.made(text, String::new(row.alloc));
+    for word in text.split(' ') {
+        push_word(row, words, word);
     }
-    Ok(())
+}
+
+/// Adds a word.
+fn push_word(row: &mut Row<'_>, words: &mut Vec<String>, word: &str) {
+    let word = word.to_string(row.alloc);
+    let word = row.made(word, String::new(row.alloc));
+    row.push(words, word);
 }
 
 /// Adds the words of an audit: version, user, password and salt, of which the user and the password stand in
 /// hexadecimal digits.
-fn push_audit(alloc: Global, words: &mut Vec<String>, text: &str) -> Result<(), Unconfirmed> {
-    words.push("audit".to_string(alloc)?)?;
-    for (place, word) in text.split(' ').enumerate() {
-        words.push(audit_word(alloc, place, word)?)?;
-    }
-    Ok(())
-}
-
-/// The word of an audit at a place.
-fn audit_word(alloc: Global, place: usize, word: &str) -> Result<String, Unconfirmed> {
-    match place {
-        1 | 2 => text_of(alloc, word),
-        _ => Ok(word.to_string(alloc)?),
+fn push_audit(row: &mut Row<'_>, words: &mut Vec<String>) {
+    let (version, user, password, salt) = (row.word(), row.text(), row.text(), row.word());
+    for &word in &["audit", version, user.as_str(), password.as_str(), salt] {
+        push_word(row, words, word);
     }
 }
 
-/// Adds a text.
-fn push_text(alloc: Global, input: &mut Vec<u8>, text: &str) -> Result<(), AllocError> {
-    input.extend_from_slice(unescaped(alloc, text)?.as_bytes())
-}
-
-/// Adds a line and its end.
-fn push_line(alloc: Global, input: &mut Vec<u8>, text: &str) -> Result<(), AllocError> {
-    push_text(alloc, input, text)?;
-    input.extend_from_slice(b"\n")
-}
-
-/// Adds bytes of hexadecimal digits.
-fn push_bytes(alloc: Global, input: &mut Vec<u8>, digits: &str) -> Result<(), Unconfirmed> {
-    Ok(input.extend_from_slice(&bytes_of(alloc, digits)?)?)
-}
-
-/// Adds a line and its end to what is printed.
-fn print_line(alloc: Global, output: &mut String, text: &str) -> Result<(), AllocError> {
-    output.push_str(&unescaped(alloc, text)?)?;
-    output.push('\n')
-}
-
-/// Reads how an input fails.
-fn read_fault(fault: &mut Option<io::ErrorKind>, name: &str) -> Result<(), Unconfirmed> {
-    *fault = match name {
+/// How an input fails.
+fn fault_of(row: &mut Row<'_>) -> Option<io::ErrorKind> {
+    match row.word() {
         "BrokenPipe" => Some(io::ErrorKind::BrokenPipe),
         "Other" => Some(io::ErrorKind::Other),
         "OutOfMemory" => Some(io::ErrorKind::OutOfMemory),
-        _ => return Err(Unconfirmed::Malformed),
-    };
-    Ok(())
-}
-
-/// Reads a number.
-fn read_number(number: &mut u32, digits: &str) -> Result<(), Unconfirmed> {
-    *number = number_of(digits)?;
-    Ok(())
+        _ => {
+            row.refuse("no fault");
+            None
+        }
+    }
 }
 
 /// Adds rooms.
-fn push_rooms(rooms: &mut Vec<usize>, text: &str) -> Result<(), Unconfirmed> {
-    for digits in text.split(' ') {
-        rooms.push(number_of(digits)? as usize)?;
+fn push_rooms(row: &mut Row<'_>, rooms: &mut Vec<usize>) {
+    for digits in row.rest().split(' ') {
+        let room = row.made(digits.parse::<u32>(), 0);
+        row.push(rooms, room as usize);
     }
-    Ok(())
 }

@@ -1,103 +1,64 @@
-//! Connections, each with what one side answers to each call.
+//! Connections, each with what one side answers to each call, and logins that are cut at each pair of places.
 
-pub mod cuts;
 mod fed;
-mod sides;
+pub mod sides;
 pub mod strangers;
-mod words;
 
-use crate::Unconfirmed;
+use crate::connections::fed::Fed;
 use crate::connections::sides::{Play, Side, play_side};
-use crate::connections::words::nonce_of;
-use crate::runs::words::bytes_of;
+use crate::rows::Row;
+use crate::runs::{Run, read};
 use bytes::BytesMut;
-use sasl_commands::digits::digits_of;
-use std::alloc::Global;
 
-/// A call, and what is answered to it.
-#[derive(Drop)]
-pub struct Call<'a> {
-    /// The nonce.
-    pub nonce: [u8; 32],
-
-    /// The bytes.
-    pub bytes: Vec<u8>,
-
-    /// What is answered.
-    pub answer: &'a str,
-}
-
-/// A paragraph as the file has it.
-#[derive(Drop)]
-pub struct Connection<'a> {
-    /// The side, and what it is made of.
-    pub side: Vec<&'a str>,
-
-    /// The calls.
-    pub calls: Vec<Call<'a>>,
-}
-
-/// Checks the connection that a paragraph spells, and answers how many calls it has.
-pub fn check(alloc: Global, paragraph: &str) -> Result<usize, Unconfirmed> {
-    let connection = read(alloc, paragraph)?;
-    play_side(alloc, &connection.side, &mut Replay(&connection.calls))?;
-    Ok(connection.calls.len())
-}
-
-/// Reads a paragraph: a line for the side, and one for each call.
-pub fn read<'a>(alloc: Global, paragraph: &'a str) -> Result<Connection<'a>, Unconfirmed> {
-    let mut connection = Connection {
-        side: Vec::new(alloc),
-        calls: Vec::new(alloc),
-    };
-    for line in paragraph.lines() {
-        if line.is_empty() || line.starts_with('#') {
-            continue;
-        }
-        match line.split_once(" => ") {
-            Some((call, answer)) => connection.calls.push(call_of(alloc, call, answer)?)?,
-            None => {
-                for word in line.split(' ') {
-                    connection.side.push(word)?;
-                }
-            }
-        }
-    }
-    Ok(connection)
-}
-
-/// The call of a nonce and bytes.
-fn call_of<'a>(alloc: Global, words: &str, answer: &'a str) -> Result<Call<'a>, Unconfirmed> {
-    let (nonce, bytes) = words.split_once(' ').ok_or(Unconfirmed::Malformed)?;
-    Ok(Call {
-        nonce: nonce_of(nonce)?,
-        bytes: bytes_of(alloc, bytes)?,
-        answer,
-    })
+/// Checks the connection that a paragraph spells, and tells how many calls it has.
+pub fn check(row: &mut Row<'_>) -> usize {
+    let run = read(row);
+    play_side(row, run.side, &mut Replay(&run));
+    run.wanted.len()
 }
 
 /// Replays calls, one after another, and compares what is answered.
 #[derive(Drop)]
-struct Replay<'a>(&'a [Call<'a>]);
+struct Replay<'a, 'b>(&'a Run<'b>);
 
-impl Play for Replay<'_> {
-    fn play<S: Side>(&mut self, alloc: Global, side: &mut S) -> Result<(), Unconfirmed> {
-        for call in self.0 {
-            let answer = answer_to(alloc, side, call)?;
-            if answer.as_str() != call.answer {
-                return Err(Unconfirmed::Other(answer));
+impl Play for Replay<'_, '_> {
+    fn play<S: Side>(&mut self, row: &mut Row<'_>, side: &mut S) {
+        for (call, wanted) in self.0.events.iter().zip(self.0.wanted.iter()) {
+            let mut out = BytesMut::new(row.alloc);
+            match side.take(row.alloc, &call.body, &call.nonce, &mut out) {
+                Ok(received) => row.say(received.taken),
+                Err(error) => row.refuse(error),
             }
+            row.say_bytes(out.as_slice());
+            side.say_standing(row);
+            row.agree(wanted);
         }
-        Ok(())
     }
 }
 
-/// What a side answers to a call, in the words of the file.
-fn answer_to<S: Side>(alloc: Global, side: &mut S, call: &Call<'_>) -> Result<String, Unconfirmed> {
-    let mut out = BytesMut::new(alloc);
-    let received = side.take(alloc, &call.bytes, &call.nonce, &mut out)?;
-    let sent = digits_of(alloc, out.as_slice())?;
-    let standing = side.word(alloc)?;
-    let taken = received.taken;
-    Ok(format!(in alloc; "{taken} {sent} {standing}")?)
+/// Checks the login that a paragraph spells, cut at each pair of places, and tells how many connections and
+/// calls these are.
+pub fn check_cuts(row: &mut Row<'_>) -> (usize, usize) {
+    let run = read(row);
+    let (mut connections, mut calls) = (0usize, 0usize);
+    let ([login], [wanted]) = (run.events.as_slice(), run.wanted.as_slice()) else {
+        row.refuse("no login");
+        return (0, 0);
+    };
+    let len = login.body.len();
+    for first in 0..=len {
+        for second in first..=len {
+            let ends = [first, second, len];
+            let mut fed = Fed::new(row.alloc, &login.body, &ends, &login.nonce);
+            play_side(row, run.side, &mut fed);
+            let standing = row.take_answer();
+            row.say(fed.taken);
+            row.say_bytes(fed.sent.as_slice());
+            row.say(standing);
+            row.agree(wanted);
+            connections = connections.saturating_add(1);
+            calls = calls.saturating_add(fed.calls);
+        }
+    }
+    (connections, calls)
 }

@@ -1,194 +1,105 @@
 //! Bodies of SASL frames: what they are read as, how long they are, and what is written for them.
 
-use crate::Unconfirmed;
+use crate::rows::Row;
 use bytes::BytesMut;
-use fe2o3_sasl_wire::{Error, Frame, FrameCodec, FrameView, SaslCode, SymbolsView, view_frame};
+use fe2o3_sasl_wire::{FrameCodec, FrameView, SymbolsView, view_frame};
 use sasl_commands::digits::digits_of;
-use std::alloc::{AllocError, AllocFailed, Global};
+use std::alloc::{AllocError, Global};
 
-impl From<AllocError> for Unconfirmed {
-    fn from(_error: AllocError) -> Self {
-        Unconfirmed::Failed
+/// Checks a line: a body, what it is read as, how long that is, and what is written for its frame, or how it
+/// is refused. Tells whether it is a body, and whether that is read.
+pub fn check(row: &mut Row<'_>) -> (usize, usize) {
+    if row.is_over() || row.is_comment() {
+        row.rest();
+        return (0, 0);
     }
-}
-
-impl<T: Drop> From<AllocFailed<T>> for Unconfirmed {
-    fn from(_error: AllocFailed<T>) -> Self {
-        Unconfirmed::Failed
-    }
-}
-
-impl From<Error> for Unconfirmed {
-    fn from(_error: Error) -> Self {
-        Unconfirmed::Failed
-    }
-}
-
-/// Checks one line: the body it begins with, and the answer that follows.
-pub fn check(alloc: Global, line: &str) -> Result<(), Unconfirmed> {
-    let Some((digits, answer)) = line.split_once(' ') else {
-        return Err(Unconfirmed::Malformed);
-    };
-    let Ok(body) = hex::decode(alloc, digits) else {
-        return Err(Unconfirmed::Malformed);
-    };
-    let found = answer_of(alloc, &body)?;
-    if found.as_str() == answer {
-        Ok(())
-    } else {
-        Err(Unconfirmed::Other(found))
-    }
-}
-
-/// The body that is written for a frame, in hexadecimal digits.
-fn written(alloc: Global, frame: Frame) -> Result<String, Unconfirmed> {
-    let mut body = BytesMut::new(alloc);
-    FrameCodec {}.encode(frame, &mut body)?;
-    Ok(hex::encode(alloc, body.as_slice())?)
-}
-
-/// The answer for a body that is read: its view, how long it is, whether `decode` takes as much, and
-/// what is written for its frame.
-fn read_answer(
-    alloc: Global,
-    view: FrameView<'_>,
-    len: usize,
-    takes_as_much: bool,
-    written: &str,
-) -> Result<String, Unconfirmed> {
-    let mut text = format!(in alloc; "read {len} ")?;
-    push_fields(alloc, &mut text, view)?;
-    if !takes_as_much {
-        text.push_str(" but decode takes another length")?;
-    }
-    text.push_str(" written ")?;
-    text.push_str(written)?;
-    Ok(text)
-}
-
-/// The answer for a body that is refused, and whether `decode` refuses it alike.
-fn refused_answer(alloc: Global, fault: Error, is_alike: bool) -> Result<String, Unconfirmed> {
-    let mut text = String::from_str(alloc, "refused ")?;
-    text.push_str(name_of(fault))?;
-    if !is_alike {
-        text.push_str(" but not by decode")?;
-    }
-    Ok(text)
-}
-
-/// The answer for a body that is read in one way and refused in the other.
-fn differing_answer(alloc: Global) -> Result<String, Unconfirmed> {
-    Ok(String::from_str(alloc, "view_frame and decode differ")?)
-}
-
-/// The answer for a body, in the words of the file.
-fn answer_of(alloc: Global, body: &[u8]) -> Result<String, Unconfirmed> {
-    let mut buffer = BytesMut::copy_from_slice(alloc, body)?;
+    let (alloc, body, wanted) = (row.alloc, row.bytes(), row.rest());
+    let copy = BytesMut::copy_from_slice(alloc, &body);
+    let mut buffer = row.made(copy, BytesMut::new(alloc));
     let decoded = FrameCodec {}.decode(alloc, &mut buffer);
-    match (view_frame(body), decoded) {
+    match (view_frame(&body), decoded) {
         (Ok((view, len)), Ok(frame)) => {
-            let takes_as_much = body.get(len..) == Some(buffer.as_slice());
-            let written = written(alloc, frame)?;
-            read_answer(alloc, view, len, takes_as_much, written.as_str())
+            row.say(format_args!("read {len}"));
+            say_fields(row, view);
+            if body.get(len..) != Some(buffer.as_slice()) {
+                row.refuse("but decode takes another length");
+            }
+            row.say("written");
+            row.say_frame(frame);
+            row.agree(wanted);
+            (1, 1)
         }
         (Err(viewed), Err(refused)) => {
-            let is_alike = viewed == refused && buffer.as_slice() == body;
-            refused_answer(alloc, viewed, is_alike)
+            row.say(format_args!("refused {viewed:?}"));
+            if viewed != refused || buffer.as_slice() != body.as_slice() {
+                row.refuse("but not by decode");
+            }
+            row.agree(wanted);
+            (1, 0)
         }
-        _ => differing_answer(alloc),
+        _ => {
+            row.refuse("view_frame and decode differ");
+            (1, 0)
+        }
     }
 }
 
-/// The name of a fault.
-fn name_of(fault: Error) -> &'static str {
-    match fault {
-        Error::DecodeError => "DecodeError",
-        Error::NotImplemented => "NotImplemented",
-        Error::TooLarge => "TooLarge",
-        Error::OutOfMemory => "OutOfMemory",
-    }
-}
-
-/// The name of a code.
-fn name_of_code(code: SaslCode) -> &'static str {
-    match code {
-        SaslCode::Ok => "Ok",
-        SaslCode::Auth => "Auth",
-        SaslCode::Sys => "Sys",
-        SaslCode::SysPerm => "SysPerm",
-        SaslCode::SysTemp => "SysTemp",
-    }
-}
-
-/// The kind of a frame and its fields.
-fn push_fields(alloc: Global, text: &mut String, view: FrameView<'_>) -> Result<(), AllocError> {
+/// Says the kind of a frame and its fields.
+fn say_fields(row: &mut Row<'_>, view: FrameView<'_>) {
     match view {
         FrameView::Mechanisms(symbols) => {
-            text.push_str("Mechanisms ")?;
-            push_symbols(alloc, text, &symbols)
+            row.say("Mechanisms");
+            let names = names_of(row.alloc, &symbols);
+            let names = row.made(names, String::new(row.alloc));
+            row.say(names);
         }
         FrameView::Init {
             mechanism,
             initial_response,
             hostname,
         } => {
-            push_field(alloc, text, "Init ", mechanism.as_bytes())?;
-            push_optional(alloc, text, initial_response)?;
-            push_optional(alloc, text, hostname.map(|name| name.as_bytes()))
+            row.say("Init");
+            row.say_bytes(mechanism.as_bytes());
+            say_optional(row, initial_response);
+            say_optional(row, hostname.map(|name| name.as_bytes()));
         }
-        FrameView::Challenge(challenge) => push_field(alloc, text, "Challenge ", challenge),
-        FrameView::Response(response) => push_field(alloc, text, "Response ", response),
+        FrameView::Challenge(challenge) => {
+            row.say("Challenge");
+            row.say_bytes(challenge);
+        }
+        FrameView::Response(response) => {
+            row.say("Response");
+            row.say_bytes(response);
+        }
         FrameView::Outcome {
             code,
             additional_data,
         } => {
-            text.push_str("Outcome ")?;
-            text.push_str(name_of_code(code))?;
-            push_optional(alloc, text, additional_data)
+            row.say(format_args!("Outcome {code:?}"));
+            say_optional(row, additional_data);
         }
     }
 }
 
 /// The symbols of a list, joined by commas.
-fn push_symbols(
-    alloc: Global,
-    text: &mut String,
-    symbols: &SymbolsView<'_>,
-) -> Result<(), AllocError> {
+fn names_of(alloc: Global, symbols: &SymbolsView<'_>) -> Result<String, AllocError> {
     if symbols.is_empty() {
-        return text.push_str("empty");
+        return String::from_str(alloc, "empty");
     }
-    let mut first = true;
+    let mut names = String::new(alloc);
     for symbol in symbols.iter() {
-        if !first {
-            text.push_str(",")?;
+        if !names.is_empty() {
+            names.push(',')?;
         }
-        push_bytes(alloc, text, symbol.as_bytes())?;
-        first = false;
+        names.push_str(&digits_of(alloc, symbol.as_bytes())?)?;
     }
-    Ok(())
+    Ok(names)
 }
 
-/// A field that may be absent, behind a space.
-fn push_optional(alloc: Global, text: &mut String, bytes: Option<&[u8]>) -> Result<(), AllocError> {
+/// Says a field that may be absent.
+fn say_optional(row: &mut Row<'_>, bytes: Option<&[u8]>) {
     match bytes {
-        Some(bytes) => push_field(alloc, text, " ", bytes),
-        None => text.push_str(" none"),
+        Some(bytes) => row.say_bytes(bytes),
+        None => row.say("none"),
     }
-}
-
-/// Bytes in hexadecimal digits, behind what stands before them.
-fn push_field(
-    alloc: Global,
-    text: &mut String,
-    before: &str,
-    bytes: &[u8],
-) -> Result<(), AllocError> {
-    text.push_str(before)?;
-    push_bytes(alloc, text, bytes)
-}
-
-/// Bytes in hexadecimal digits, where `-` is none.
-fn push_bytes(alloc: Global, text: &mut String, bytes: &[u8]) -> Result<(), AllocError> {
-    text.push_str(digits_of(alloc, bytes)?.as_str())
 }

@@ -30,3 +30,18 @@ impl Numbers {
         number % bound
     }
 }
+
+/// Cuts bytes off somewhere.
+pub fn cut(bytes: &mut Vec<u8>, number: usize) {
+    if !bytes.is_empty() {
+        bytes.truncate(number % bytes.len());
+    }
+}
+
+/// Flips a bit of one of the bytes.
+pub fn flip(bytes: &mut [u8], number: usize, bit: usize) {
+    if !bytes.is_empty() {
+        let place = number % bytes.len();
+        bytes[place] ^= [1, 2, 4, 8, 16, 32, 64, 128][bit & 7];
+    }
+}

@@ -1,153 +1,132 @@
-//! Runs over bodies of frames, each with the replies of one side.
+//! Runs over bodies of frames, each with the replies of one side, and audits of two.
 
-mod clients;
-mod prepared;
+mod acceptors;
+mod audits;
 pub mod profiles;
-pub mod servers;
-pub mod words;
 
-use crate::Unconfirmed;
-use crate::runs::words::{number_of, text_of};
-use fe2o3_sasl::runs::Event;
-use std::alloc::Global;
+use crate::replies::{Reply, agree_all};
+use crate::rows::Row;
+use fe2o3_sasl::runs::{Event, scram_client_run, scram_client_run_limited};
 
-/// A run as the file has it.
+/// A paragraph of a file.
 #[derive(Drop)]
 pub struct Run<'a> {
-    /// The side, and what it is made of.
-    side: Vec<&'a str>,
+    /// What the side or the two sides of an audit are made of.
+    pub side: &'a str,
 
-    /// What comes in.
-    events: Vec<Event>,
+    /// What comes in, of an audit to its server.
+    pub events: Vec<Event>,
 
-    /// What is answered to each.
-    answers: Vec<&'a str>,
+    /// What comes in to the client of an audit.
+    pub client_events: Vec<Event>,
+
+    /// What is answered to each event, or what an audit finds.
+    pub wanted: Vec<&'a str>,
 }
 
-/// Events, and what is answered to each.
-type Part<'b, 'a> = (&'b [Event], &'b [&'a str]);
-
-impl<'a> Run<'a> {
-    /// The first half of the run, and the other half.
-    fn halves<'b>(&'b self) -> (Part<'b, 'a>, Part<'b, 'a>) {
-        let (events, next_events) = self.events.as_slice().split_at(self.events.len() / 2);
-        let (answers, next_answers) = self.answers.as_slice().split_at(self.answers.len() / 2);
-        ((events, answers), (next_events, next_answers))
-    }
-}
-
-/// Whether these answers are those of the file.
-pub fn confirm_all(found: &[String], wanted: &[&str]) -> Result<(), Unconfirmed> {
-    if found.len() != wanted.len() {
-        return Err(Unconfirmed::Malformed);
-    }
-    for (found, wanted) in found.iter().zip(wanted.iter()) {
-        confirm(found, wanted)?;
-    }
-    Ok(())
-}
-
-/// Whether an answer is the one of the file.
-fn confirm(found: &String, wanted: &str) -> Result<(), Unconfirmed> {
-    if found.as_str() == wanted {
-        Ok(())
-    } else {
-        Err(Unconfirmed::Other(found.clone()?))
-    }
-}
-
-/// Checks the run that a paragraph spells, and answers how many events it has.
-pub fn check(alloc: Global, paragraph: &str) -> Result<usize, Unconfirmed> {
-    let run = read(alloc, paragraph)?;
-    check_side(alloc, &run)?;
-    Ok(run.answers.len())
-}
-
-/// Reads a paragraph: a line for the side, and one for each event.
-fn read<'a>(alloc: Global, paragraph: &'a str) -> Result<Run<'a>, Unconfirmed> {
+/// Reads a paragraph: a line for the side, and one for each event, with what is answered to it, or for what
+/// an audit finds.
+pub fn read<'a>(row: &mut Row<'a>) -> Run<'a> {
     let mut run = Run {
-        side: Vec::new(alloc),
-        events: Vec::new(alloc),
-        answers: Vec::new(alloc),
+        side: "",
+        events: Vec::new(row.alloc),
+        client_events: Vec::new(row.alloc),
+        wanted: Vec::new(row.alloc),
     };
-    for line in paragraph.lines() {
+    for line in row.rest().lines() {
         if line.is_empty() || line.starts_with('#') {
             continue;
         }
-        read_line(alloc, &mut run, line)?;
-    }
-    Ok(run)
-}
-
-/// Reads a line.
-fn read_line<'a>(alloc: Global, run: &mut Run<'a>, line: &'a str) -> Result<(), Unconfirmed> {
-    match line.split_once(" => ") {
-        Some((event, answer)) => {
-            run.answers.push(answer)?;
-            run.events.push(event_of(alloc, event)?)?;
-        }
-        None => {
-            for word in line.split(' ') {
-                run.side.push(word)?;
-            }
+        if let Some((asked, answer)) = line.split_once(" => ") {
+            push_event(row, asked, &mut run.events);
+            row.push(&mut run.wanted, answer);
+        } else if let Some(asked) = line.strip_prefix("< c ") {
+            push_event(row, asked, &mut run.client_events);
+        } else if let Some(asked) = line.strip_prefix("< s ") {
+            push_event(row, asked, &mut run.events);
+        } else if let Some(finding) = line.strip_prefix("> ") {
+            row.push(&mut run.wanted, finding);
+        } else {
+            run.side = line;
         }
     }
-    Ok(())
+    run
 }
 
-/// The event of a nonce and a body.
-pub fn event_of(alloc: Global, words: &str) -> Result<Event, Unconfirmed> {
-    let (nonce, body) = words.split_once(' ').ok_or(Unconfirmed::Malformed)?;
-    match Event::from_hex(alloc, nonce, body) {
-        Ok(event) => Ok(event),
-        Err(_) => Err(Unconfirmed::Malformed),
+/// Adds the event of a nonce and a body.
+fn push_event<'a>(row: &mut Row<'a>, asked: &'a str, events: &mut Vec<Event>) {
+    row.turn_to(asked);
+    let event = row.event();
+    row.push(events, event);
+}
+
+/// Events, and what is answered to each.
+type Part<'a> = (&'a [Event], &'a [&'a str]);
+
+/// A side of a run, of which copies can be made.
+trait Side: Clone + Drop {
+    /// Compares what it answers in a run.
+    fn answer_all(&mut self, row: &mut Row<'_>, part: Part<'_>);
+
+    /// Says what it answers to an event.
+    fn answer(&mut self, row: &mut Row<'_>, event: &Event);
+
+    /// Compares what copies of it answer to an event.
+    fn copies_answer(&self, row: &mut Row<'_>, event: &Event, wanted: &str);
+}
+
+/// Checks a side: a copy in two runs, of which a further copy makes the second one first, and itself and
+/// copies of it step by step.
+fn check_side<S: Side>(row: &mut Row<'_>, run: &Run<'_>, side: &mut S) {
+    match side.clone() {
+        Ok(mut copy) => check_halves(row, run, &mut copy),
+        Err(error) => row.refuse(error),
     }
-}
-
-/// Checks what the side of a run answers, in each way in which it can be asked.
-fn check_side(alloc: Global, run: &Run<'_>) -> Result<(), Unconfirmed> {
-    match run.side.as_slice() {
-        ["server", version, user, password, salt] => {
-            servers::check_one(alloc, run, false, version, user, password, salt)
-        }
-        ["unbound", version, user, password, salt] => {
-            servers::check_one(alloc, run, true, version, user, password, salt)
-        }
-        ["records", version, records @ ..] => servers::check_records(alloc, run, version, records),
-        ["acceptor", "ANONYMOUS"] => servers::check_anonymous(alloc, run),
-        ["acceptor", "PLAIN", user, password] => servers::check_plain(alloc, run, user, password),
-        ["client", version, user, password] => {
-            clients::check(alloc, run, version, user, password, None)
-        }
-        ["client", version, user, password, limit] => {
-            clients::check(alloc, run, version, user, password, Some(number_of(limit)?))
-        }
-        ["profile", mechanism, user, password, limit, hostname] => {
-            let limit = number_of(limit)?;
-            let profile = profiles::of_password(alloc, mechanism, user, password, limit)?;
-            profiles::check(alloc, Some(profile), run, hostname)
-        }
-        ["keyed", mechanism, user, password, salt, count, limit] => {
-            let (count, limit) = (number_of(count)?, number_of(limit)?);
-            let keys = profiles::keys(alloc, mechanism, password, salt, count)?;
-            let profile = profiles::of_keys(text_of(alloc, user)?, keys, limit);
-            profiles::check(alloc, profile, run, "none")
-        }
-        ["both", words @ ..] => check_both(alloc, run, words),
-        ["prepared", words @ ..] => prepared::check(alloc, run, words),
-        ["prepared-both", words @ ..] => prepared::check_both(alloc, run, words),
-        _ => Err(Unconfirmed::Malformed),
+    for (event, wanted) in run.events.iter().zip(run.wanted.iter()) {
+        side.copies_answer(row, event, wanted);
+        side.answer(row, event);
+        row.agree(wanted);
     }
 }
 
-/// Checks a profile with a password and with keys, of the words behind `both`.
-fn check_both(alloc: Global, run: &Run<'_>, words: &[&str]) -> Result<(), Unconfirmed> {
-    let [version, user, password, kept, salt, count, least, limit] = words else {
-        return Err(Unconfirmed::Malformed);
+/// Checks a side in two runs, of which a copy makes the second one first.
+fn check_halves<S: Side>(row: &mut Row<'_>, run: &Run<'_>, side: &mut S) {
+    let (events, later) = run.events.as_slice().split_at(run.events.len() / 2);
+    let (wanted, wanted_later) = run.wanted.as_slice().split_at(run.wanted.len() / 2);
+    side.answer_all(row, (events, wanted));
+    match side.clone() {
+        Ok(mut copy) => copy.answer_all(row, (later, wanted_later)),
+        Err(error) => row.refuse(error),
+    }
+    side.answer_all(row, (later, wanted_later));
+}
+
+/// Checks what the side of a paragraph answers, in each way in which it can be asked, or what an audit finds,
+/// and tells how many answers or findings these are.
+pub fn check(row: &mut Row<'_>) -> usize {
+    let run = read(row);
+    row.turn_to(run.side);
+    match row.word() {
+        "server" => acceptors::check_one(row, &run, false),
+        "unbound" => acceptors::check_one(row, &run, true),
+        "records" => acceptors::check_records(row, &run),
+        "acceptor" => acceptors::check_plain(row, &run),
+        "client" => check_client(row, &run),
+        "audit" => audits::check(row, &run),
+        kind => profiles::check(row, &run, kind),
+    }
+    run.wanted.len()
+}
+
+/// Checks a SCRAM client: `VERSION USER PASSWORD`, and a limit on the count, where there is one.
+fn check_client(row: &mut Row<'_>, run: &Run<'_>) {
+    let (alloc, version, user, password) = (row.alloc, row.version(), row.text(), row.text());
+    let replies = if row.is_over() {
+        scram_client_run(alloc, &user, &password, version, &run.events)
+    } else {
+        let limit = row.number();
+        scram_client_run_limited(alloc, &user, &password, version, limit, &run.events)
     };
-    let (least, limit) = (number_of(least)?, number_of(limit)?);
-    let keys = profiles::keys(alloc, version, kept, salt, number_of(count)?)?;
-    let (user, password) = (text_of(alloc, user)?, text_of(alloc, password)?);
-    let profile = profiles::of_both(user, password, keys, least, limit);
-    profiles::check(alloc, profile, run, "none")
+    let replies = row.made(replies, Vec::new(alloc));
+    agree_all(row, &replies, &run.wanted);
 }

@@ -5,73 +5,53 @@
 mod logins;
 mod sides;
 
-use crate::Unconfirmed;
+use crate::connections::sides::stored;
 use crate::numbers::Numbers;
-use crate::strangers::logins::{Login, Quick, logins};
-use crate::strangers::sides::{Sides, alter, client_list, server_list};
-use std::alloc::Global;
+use crate::rows::Row;
+use crate::strangers::logins::{altered, login_of};
+use crate::strangers::sides::{Counts, Sides};
 
 /// How many lists each side is given.
 const LISTS: u32 = 5000;
 
-/// What came of all lists.
-#[derive(Clone, Copy)]
-pub struct Counts {
-    /// The lists.
-    pub lists: u32,
-
-    /// The outcomes of code ok that servers gave.
-    pub accepted: usize,
-
-    /// The outcomes of code ok that clients reported.
-    pub reported: usize,
-
-    /// The findings of the audits.
-    pub found: usize,
-}
-
-/// Plays every list.
-pub fn play(alloc: Global) -> Result<Counts, Unconfirmed> {
-    let credentials = Quick::new(alloc)?;
-    let logins = logins(alloc, &credentials)?;
-    let mut numbers = Numbers::new(2026);
-    let mut counts = Counts {
-        lists: 0,
-        accepted: 0,
-        reported: 0,
-        found: 0,
-    };
-    for _ in 0..LISTS {
-        let one = play_once(alloc, &credentials, &logins, &mut numbers)?;
-        counts.lists = counts.lists.saturating_add(2);
-        counts.accepted = counts.accepted.saturating_add(one.accepted);
-        counts.reported = counts.reported.saturating_add(one.reported);
-        counts.found = counts.found.saturating_add(one.found);
+/// Plays every list of the user and of the logins of a paragraph, `VERSION USER PASSWORD SALT COUNT` and a line
+/// for each login, and tells what came of them.
+pub fn play(row: &mut Row<'_>) -> String {
+    let mut logins = Vec::new(row.alloc);
+    let paragraph = row.rest();
+    let (user, lines) = paragraph.split_once('\n').unwrap_or((paragraph, ""));
+    for line in lines.lines() {
+        row.turn_to(line);
+        let login = login_of(row);
+        row.push(&mut logins, login);
     }
-    Ok(counts)
-}
-
-/// Plays a list of each side.
-fn play_once(
-    alloc: Global,
-    credentials: &Quick,
-    logins: &[Login],
-    numbers: &mut Numbers,
-) -> Result<Counts, Unconfirmed> {
-    let mut client = client_list(alloc, logins, numbers)?;
-    alter(alloc, &mut client, numbers)?;
-    let mut server = server_list(alloc, logins, numbers)?;
-    alter(alloc, &mut server, numbers)?;
-    let sides = Sides {
-        credentials,
-        logins,
-        client: &client,
-        server: &server,
-    };
-    Ok(Counts {
-        lists: 2,
-        accepted: sides.accepted(alloc)?,
-        reported: sides.reported(alloc)?,
-        found: sides.found(alloc)?,
-    })
+    row.turn_to(user);
+    let version = row.word();
+    let (mut counts, mut numbers) = (Counts::default(), Numbers::new(2026));
+    match &stored(row, version) {
+        Some(credentials) => {
+            for _ in 0..LISTS {
+                let client = altered(row, &logins, &mut numbers, true);
+                let server = altered(row, &logins, &mut numbers, false);
+                let sides = Sides {
+                    credentials,
+                    logins: &logins,
+                    client: &client,
+                    server: &server,
+                };
+                sides.play(row, &mut counts);
+            }
+        }
+        None => row.refuse("no user"),
+    }
+    let Counts {
+        accepted,
+        reported,
+        found,
+    } = counts;
+    let lists = 2 * LISTS;
+    let told = format!(in row.alloc;
+        "strangers: {lists} lists, {accepted} accepted, {reported} reported, {found} findings\n"
+    );
+    row.made(told, String::new(row.alloc))
 }

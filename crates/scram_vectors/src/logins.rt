@@ -1,9 +1,6 @@
 //! Logins through both machines, call after call.
 
-use crate::rows::{
-    Answers, Unconfirmed, answer_costing, bytes_of, costing, kind_costing, message_text,
-    owned_text, text_of, verdict_words,
-};
+use crate::rows::{Answers, Row};
 use fe2o3_scram::credentials::{
     ScramCredentialProvider, ScramCredentials, ScramRecord, SingleScramCredential,
 };
@@ -12,9 +9,10 @@ use fe2o3_scram::scram_client::ScramClient;
 use fe2o3_scram::scram_messages::ServerScramErrorKind;
 use fe2o3_scram::scram_server::ScramAuthenticator;
 use std::alloc::Global;
+use std::io;
 
 /// A client of `user` with the password `pencil`, and a server.
-#[derive(Drop)]
+#[derive(Clone, Drop)]
 pub struct Sides<C: ScramCredentialProvider> {
     client: Box<ScramClient>,
     server: Box<ScramAuthenticator<C>>,
@@ -22,120 +20,104 @@ pub struct Sides<C: ScramCredentialProvider> {
 
 impl<C: ScramCredentialProvider + Drop> Sides<C> {
     /// Both sides before their first call.
-    pub fn new(alloc: Global, credentials: C) -> Result<Sides<C>, Unconfirmed> {
+    pub fn new(alloc: Global, credentials: C) -> io::Result<Sides<C>> {
         let server = Box::new(alloc, ScramAuthenticator::new(credentials))?;
-        let username = "user".to_string(alloc)?;
-        let password = "pencil".to_string(alloc)?;
-        let client = ScramClient::new(username, password, ScramVersion::Sha256);
-        Ok(Sides {
-            client: Box::new(alloc, client)?,
-            server,
-        })
+        let (user, password) = ("user".to_string(alloc)?, "pencil".to_string(alloc)?);
+        let client = Box::new(
+            alloc,
+            ScramClient::new(user, password, ScramVersion::Sha256),
+        )?;
+        Ok(Sides { client, server })
     }
+}
 
-    /// Clones of both sides.
-    fn copy(&self, alloc: Global) -> Result<Sides<C>, Unconfirmed> {
-        let client: &ScramClient = &self.client;
-        let server: &ScramAuthenticator<C> = &self.server;
-        Ok(Sides {
-            client: Box::new(alloc, client.clone()?)?,
-            server: Box::new(alloc, server.clone()?)?,
-        })
-    }
-
-    /// Makes the call of these words, with 32 bytes 01 as the client's nonce and 32 bytes 02 as the
-    /// server's.
-    fn call(&mut self, alloc: Global, words: &[&str]) -> Result<String, Unconfirmed> {
-        let mut meter = Meter::new();
-        match words {
-            ["start"] => start(alloc, &mut self.client),
-            ["client-reads-first", text] => {
-                let text = text_of(alloc, text)?;
-                let client = &mut self.client;
-                let answer = client.compute_client_final_message_metered(alloc, &text, &mut meter);
-                answer_costing(alloc, &answer, meter.count())
-            }
-            ["client-reads-final", text] => {
-                let text = bytes_of(alloc, text)?;
-                verdict_words(alloc, self.client.validate_server_final(alloc, &text))
-            }
-            ["server-reads-first", text] => {
-                let text = bytes_of(alloc, text)?;
-                let answer = self
-                    .server
-                    .compute_server_first_message(alloc, &text, &[2; 32]);
-                served(alloc, &answer, meter.count())
-            }
-            ["server-reads-final", text] => {
-                let text = bytes_of(alloc, text)?;
-                let server = &mut self.server;
-                let answer = server.compute_server_final_message_metered(alloc, &text, &mut meter);
-                served(alloc, &answer, meter.count())
-            }
-            _ => Err(Unconfirmed::Malformed),
+/// Makes the call of a row, with 32 bytes 01 as the client's nonce and 32 bytes 02 as the server's.
+fn call<C: ScramCredentialProvider>(
+    row: &mut Row<'_>,
+    client: &mut ScramClient,
+    server: &mut ScramAuthenticator<C>,
+) {
+    let (alloc, mut meter) = (row.alloc, Meter::new());
+    match row.word() {
+        "start" => {
+            let first = client.compute_client_first_message(alloc, &[1; 32]);
+            return match &first {
+                Ok(message) => row.say_message(message),
+                Err(error) => row.refuse(*error),
+            };
         }
+        "client-reads-final" => {
+            let verdict = client.validate_server_final(alloc, &row.bytes());
+            return row.judge(&verdict, "believed");
+        }
+        "client-reads-first" => {
+            let text = row.text();
+            let answer = client.compute_client_final_message_metered(alloc, &text, &mut meter);
+            row.say_answer(&answer);
+        }
+        "server-reads-first" => {
+            let answer = server.compute_server_first_message(alloc, &row.bytes(), &[2; 32]);
+            say_served(row, answer);
+        }
+        "server-reads-final" => {
+            let text = row.bytes();
+            let answer = server.compute_server_final_message_metered(alloc, &text, &mut meter);
+            say_served(row, answer);
+        }
+        _ => return row.refuse("no call"),
     }
+    row.say(meter.count());
 }
 
 impl<C: ScramCredentialProvider + Drop> Answers for Sides<C> {
     /// Makes a call on clones, and then on the sides themselves.
-    fn answer(&mut self, alloc: Global, words: &[&str]) -> Result<String, Unconfirmed> {
-        let copied = self.copy(alloc)?.call(alloc, words)?;
-        let answer = self.call(alloc, words)?;
-        if answer == copied {
-            Ok(answer)
-        } else {
-            Ok(format!(in alloc; "{answer}, and clones {copied}")?)
+    fn answer(&mut self, row: &mut Row<'_>) {
+        let mut again = row.again();
+        match self.clone() {
+            Ok(mut copy) => call(&mut again, &mut copy.client, &mut copy.server),
+            Err(error) => row.refuse(error),
         }
+        call(row, &mut self.client, &mut self.server);
+        row.compare(&again);
     }
 }
 
-/// The client's first message.
-fn start(alloc: Global, client: &mut ScramClient) -> Result<String, Unconfirmed> {
-    let message = client.compute_client_first_message(alloc, &[1; 32])?;
-    owned_text(alloc, &message)
-}
-
-/// What the server answers, and the HMAC values that it cost.
-fn served(
-    alloc: Global,
-    answer: &Result<Option<Vec<u8>>, ServerScramErrorKind>,
-    cost: u64,
-) -> Result<String, Unconfirmed> {
+/// Adds what the server answers, and hands a message on.
+pub fn say_served(
+    row: &mut Row<'_>,
+    answer: Result<Option<Vec<u8>>, ServerScramErrorKind>,
+) -> Vec<u8> {
     match answer {
-        Ok(Some(message)) => costing(alloc, message_text(message)?, cost),
-        Ok(None) => costing(alloc, "unknown user", cost),
-        Err(kind) => kind_costing(alloc, kind, cost),
+        Ok(Some(message)) => {
+            row.say_message(&message);
+            return message;
+        }
+        Ok(None) => row.say("unknown user"),
+        Err(kind) => row.show(&kind),
     }
+    Vec::new(row.alloc)
 }
 
 /// The credential of `user` with the salt of 32 bytes 03.
-pub fn credential(alloc: Global) -> Result<SingleScramCredential, Unconfirmed> {
+pub fn credential(alloc: Global) -> io::Result<SingleScramCredential> {
     let (user, version) = ("user".to_string(alloc)?, ScramVersion::Sha256);
     let credential = SingleScramCredential::new(alloc, user, "pencil", version, [3; 32]);
-    credential.ok().ok_or(Unconfirmed::Malformed)
+    credential.ok().ok_or(io::ErrorKind::Other.into())
 }
 
 /// The same user behind another, and before a further record of the name.
-pub fn credentials(alloc: Global) -> Result<ScramCredentials, Unconfirmed> {
-    let mut users = ScramCredentials::new(alloc, ScramVersion::Sha256);
-    add(alloc, &mut users, "admin", "pencil", &[3; 32], 1)?;
-    add(alloc, &mut users, "user", "pencil", &[3; 32], 4096)?;
-    add(alloc, &mut users, "user", "pen", &[4; 32], 2)?;
+pub fn credentials(alloc: Global) -> io::Result<ScramCredentials> {
+    let version = ScramVersion::Sha256;
+    let mut users = ScramCredentials::new(alloc, version);
+    for &(name, password, salt, count) in &[
+        ("admin", "pencil", [3; 32], 1),
+        ("user", "pencil", [3; 32], 4096),
+        ("user", "pen", [4; 32], 2),
+    ] {
+        let name = name.to_string(alloc)?;
+        let record = ScramRecord::from_password(alloc, version, password, &salt, count);
+        let record = record.ok().ok_or(io::ErrorKind::Other)?;
+        users.add(name, record).ok().ok_or(io::ErrorKind::Other)?;
+    }
     Ok(users)
-}
-
-/// Adds a user with this password.
-fn add(
-    alloc: Global,
-    users: &mut ScramCredentials,
-    name: &str,
-    password: &str,
-    salt: &[u8],
-    iterations: u32,
-) -> Result<(), Unconfirmed> {
-    let (name, version) = (name.to_string(alloc)?, ScramVersion::Sha256);
-    let record = ScramRecord::from_password(alloc, version, password, salt, iterations);
-    let record = record.ok().ok_or(Unconfirmed::Malformed)?;
-    users.add(name, record).ok().ok_or(Unconfirmed::Malformed)
 }

@@ -1,6 +1,6 @@
-//! Answers the rows of `data/`, values and texts of SCRAM from outside, and prints one line a file. A
-//! row that the library answers otherwise is printed with that answer, and the program then ends with
-//! status 1.
+//! Answers the rows of `data/`, values and texts of SCRAM and of SASLprep from outside, and prints one
+//! line a file. A row that the libraries answer otherwise is printed with that answer, and the program
+//! then ends with status 1.
 #![tactic(auto)]
 
 mod hashes;
@@ -13,7 +13,8 @@ mod records;
 mod rows;
 
 use crate::logins::{Sides, credential, credentials};
-use crate::rows::{Answers, Unconfirmed, words_of};
+use crate::rows::{Answers, Row};
+use fe2o3_scram::credentials::ScramCredentialProvider;
 use std::alloc::Global;
 use std::fs;
 use std::io::{self, Write};
@@ -41,11 +42,12 @@ enum Table {
     OddRecords,
     MadeUpRecords,
     PreparedRecords,
-    PreparedSecrets,
+    PreparedTexts,
+    CodePoints,
 }
 
 /// The tables, and the file of each.
-static TABLES: [(Table, &str); 19] = [
+static TABLES: [(Table, &str); 23] = [
     (Table::Digests, "digests.txt"),
     (Table::Hmac, "hmac.txt"),
     (Table::SaltedPasswords, "salted-passwords.txt"),
@@ -64,87 +66,76 @@ static TABLES: [(Table, &str); 19] = [
     (Table::OddRecords, "odd-records.txt"),
     (Table::MadeUpRecords, "made-up-records.txt"),
     (Table::PreparedRecords, "prepared-records.txt"),
-    (Table::PreparedSecrets, "prepared-secrets.txt"),
+    (Table::ClientSecrets, "prepared-secrets.txt"),
+    (Table::PreparedTexts, "rfc4013.txt"),
+    (Table::CodePoints, "code-points.txt"),
+    (Table::PreparedTexts, "texts.txt"),
+    (Table::PreparedTexts, "differences.txt"),
 ];
 
 impl Answers for Table {
-    fn answer(&mut self, alloc: Global, words: &[&str]) -> Result<String, Unconfirmed> {
+    fn answer(&mut self, row: &mut Row<'_>) {
         match self {
-            Table::Digests => hashes::digest(alloc, words),
-            Table::Hmac => hashes::hmac(alloc, words),
-            Table::SaltedPasswords => hashes::salted_password(alloc, words),
-            Table::Mechanisms => names::mechanism(alloc, words),
-            Table::Passwords => names::password(alloc, words),
-            Table::UserNames => names::user_name(alloc, words),
-            Table::SentNames => names::sent_name(alloc, words),
-            Table::ClientFirst => messages::client_first(alloc, words),
-            Table::ServerFirst => messages::server_first(alloc, words),
-            Table::ClientSecrets | Table::PreparedSecrets => {
-                messages::client_secret(alloc, words)
-            }
-            Table::ClientFinal => messages::client_final(alloc, words),
-            Table::ServerFinal => messages::server_final(alloc, words),
-            Table::Records => records::record(alloc, words),
-            Table::RecordFaults => records::record_fault(alloc, words),
-            Table::RecordLines => records::record_lines(alloc, words),
-            Table::OddRecords => odd_records::odd_record(alloc, words),
-            Table::MadeUpRecords => records::made_up(alloc, words),
-            Table::PreparedRecords => prepared::record(alloc, words),
+            Table::Digests => hashes::digest(row),
+            Table::Hmac => hashes::hmac(row),
+            Table::SaltedPasswords => hashes::salted_password(row),
+            Table::Mechanisms => names::mechanism(row),
+            Table::Passwords => names::password(row),
+            Table::UserNames => names::user_name(row),
+            Table::SentNames => names::sent_name(row),
+            Table::ClientFirst => messages::client_first(row),
+            Table::ServerFirst => messages::server_first(row),
+            Table::ClientSecrets => messages::client_secret(row),
+            Table::ClientFinal => messages::client_final(row),
+            Table::ServerFinal => messages::server_final(row),
+            Table::Records => records::record(row),
+            Table::RecordFaults => records::record_fault(row),
+            Table::RecordLines => records::record_lines(row),
+            Table::OddRecords => odd_records::odd_record(row),
+            Table::MadeUpRecords => records::made_up(row),
+            Table::PreparedRecords => records::prepared_record(row),
+            Table::PreparedTexts => prepared::text(row),
+            Table::CodePoints => prepared::code_points(row),
         }
     }
 }
 
-/// Checks a row, behind the words that are given to all rows since the last such line.
-fn check<A: Answers>(
-    alloc: Global,
+/// Checks a row of a file, behind the words that are given to it and others, prints an answer that is not
+/// the wanted one, and tells whether it is.
+fn check<W: Write, A: Answers>(
     answers: &mut A,
-    given: &str,
-    row: &str,
-) -> Result<(), Unconfirmed> {
-    let (asked, wanted) = row.split_once(" => ").ok_or(Unconfirmed::Malformed)?;
-    let words = words_of(alloc, given, asked)?;
-    let found = answers.answer(alloc, &words)?;
-    if found.as_str() == wanted {
-        Ok(())
-    } else {
-        Err(Unconfirmed::Other(found))
-    }
-}
-
-/// Prints what was not confirmed, with the name of its rows and what is answered in its place.
-fn report<W: Write>(
+    (alloc, file, given): (Global, &str, &str),
+    line: &str,
     output: &mut W,
-    name: &str,
-    row: &str,
-    fault: Unconfirmed,
-) -> Result<(), io::Error> {
-    match fault {
-        Unconfirmed::Other(answer) => writeln!(output, "{name}: {row}: but {answer}"),
-        fault => writeln!(output, "{name}: {row}: {fault:?}"),
+) -> io::Result<bool> {
+    let (asked, wanted) = line.split_once(" => ").unwrap_or((line, "nothing"));
+    let words = format!(in alloc; "{given} {asked}")?;
+    let mut row = Row::new(alloc, &words, wanted);
+    answers.answer(&mut row);
+    if let Some(answer) = row.other_answer() {
+        writeln!(output, "{file}: {line}: but {answer}")?;
+        return Ok(false);
     }
+    Ok(true)
 }
 
-/// Checks each row of a file, and prints how many there are. A line that begins with `#` names the
-/// rows behind it.
+/// Checks each row of a file, and prints how many there are. A line that begins with `given ` has words for
+/// the rows behind it.
 fn replay<W: Write, A: Answers>(
     alloc: Global,
     answers: &mut A,
     file: &str,
     text: &str,
     output: &mut W,
-) -> Result<bool, io::Error> {
-    let (mut rows, mut differ) = (0u64, 0u64);
-    let (mut name, mut given) = ("", "");
+) -> io::Result<bool> {
+    let (mut rows, mut differ, mut given) = (0u64, 0u64, "");
     for line in text.lines() {
-        if line.starts_with('#') {
-            name = line;
-        } else if let Some(words) = line.strip_prefix("given ") {
+        if let Some(words) = line.strip_prefix("given ") {
             given = words;
-        } else if !line.is_empty() {
+        } else if !line.is_empty() && !line.starts_with('#') {
             rows = rows.saturating_add(1);
-            if let Err(fault) = check(alloc, answers, given, line) {
+            if !check(answers, (alloc, file, given), line, output)? {
                 differ = differ.saturating_add(1);
-                report(output, name, line, fault)?;
             }
         }
     }
@@ -156,19 +147,41 @@ fn replay<W: Write, A: Answers>(
     Ok(differ == 0)
 }
 
+/// Checks the calls of logins on a server of these credentials.
+fn replay_logins<W: Write, C: ScramCredentialProvider + Drop>(
+    alloc: Global,
+    credentials: C,
+    file: &str,
+    text: &str,
+    output: &mut W,
+) -> io::Result<bool> {
+    replay(
+        alloc,
+        &mut Sides::new(alloc, credentials)?,
+        file,
+        text,
+        output,
+    )
+}
+
 /// Checks the calls of logins on three servers: of one user, of the same one shared, and of many.
-fn replay_logins<W: Write>(alloc: Global, text: &str, output: &mut W) -> Result<bool, Unconfirmed> {
-    let mut one = Sides::new(alloc, credential(alloc)?)?;
-    let mut agree = replay(alloc, &mut one, "logins.txt, one user", text, output)?;
-    let mut shared = Sides::new(alloc, Rc::new(alloc, credential(alloc)?)?)?;
-    agree &= replay(alloc, &mut shared, "logins.txt, shared", text, output)?;
-    let mut many = Sides::new(alloc, credentials(alloc)?)?;
-    agree &= replay(alloc, &mut many, "logins.txt, many users", text, output)?;
-    Ok(agree)
+fn replay_servers<W: Write>(alloc: Global, text: String, output: &mut W) -> io::Result<bool> {
+    let one = replay_logins(
+        alloc,
+        credential(alloc)?,
+        "logins.txt, one user",
+        &text,
+        output,
+    )?;
+    let shared = Rc::new(alloc, credential(alloc)?)?;
+    let shared = replay_logins(alloc, shared, "logins.txt, shared", &text, output)?;
+    let many = credentials(alloc)?;
+    let many = replay_logins(alloc, many, "logins.txt, many users", &text, output)?;
+    Ok(one && shared && many)
 }
 
 /// Checks every file.
-fn replay_all(rt: &HostRuntime) -> Result<bool, Unconfirmed> {
+fn replay_all(rt: &HostRuntime) -> io::Result<bool> {
     let mut output = io::writer(rt);
     let mut agree = true;
     for (table, file) in &TABLES {
@@ -176,9 +189,14 @@ fn replay_all(rt: &HostRuntime) -> Result<bool, Unconfirmed> {
         let mut table = *table;
         agree &= replay(rt.alloc(), &mut table, file, text.as_str(), &mut output)?;
     }
-    let text = fs::read_to_string(rt, "logins.txt")?;
-    agree &= replay_logins(rt.alloc(), text.as_str(), &mut output)?;
-    Ok(agree)
+    Ok(
+        agree
+            & replay_servers(
+                rt.alloc(),
+                fs::read_to_string(rt, "logins.txt")?,
+                &mut output,
+            )?,
+    )
 }
 
 fn main(rt: HostRuntime) -> ExitCode {

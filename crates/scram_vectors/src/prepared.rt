@@ -1,60 +1,94 @@
-//! Passwords as they are typed, which SASLprep prepares, and the records of the prepared text.
+//! What SASLprep makes of texts, by the answers of other programs. Texts stand as code points in hexadecimal
+//! digits, with `+` between them.
 
-use crate::records::made_again;
-use crate::rows::{Unconfirmed, kind_words, text_of};
-use fe2o3_scram::credentials::ScramRecord;
-use saslprep::{Unassigned, saslprep};
-use std::alloc::Global;
+use crate::rows::Row;
+use saslprep::{SaslprepError, Unassigned, saslprep};
+use std::borrow::CowStr;
 
-/// What a typed password is prepared to, whether that meets the record and makes it again, and what the
-/// call for a typed password makes of it: `RECORD TYPED`.
-pub fn record(alloc: Global, words: &[&str]) -> Result<String, Unconfirmed> {
-    let [text, typed] = words else {
-        return Err(Unconfirmed::Malformed);
+/// Each code point by itself, stored and as a query: `FIRST-LAST`.
+pub fn code_points(row: &mut Row<'_>) {
+    let (points, wanted) = (row.word(), row.wanted);
+    let (first, last) = points.split_once('-').unwrap_or((points, points));
+    let (Some(first), Some(last)) = (code_of(first), code_of(last)) else {
+        return row.refuse("no code points");
     };
-    let typed = text_of(alloc, typed)?;
-    let record = ScramRecord::parse(alloc, text);
-    let record = record.ok().ok_or(Unconfirmed::Malformed)?;
-    let prepared = saslprep(alloc, &typed, Unassigned::Refused);
-    let prepared = prepared.ok().ok_or(Unconfirmed::Malformed)?;
-    let made = compared(alloc, text, &record, prepared.as_str())?;
-    let plain = made_again(alloc, &record, &typed)?;
-    Ok(format!(in alloc; "{prepared} {made}, {plain} by the plain call")?)
-}
-
-/// Whether the prepared password meets the record, and makes one of this text again.
-fn compared(
-    alloc: Global,
-    text: &str,
-    record: &ScramRecord,
-    password: &str,
-) -> Result<String, Unconfirmed> {
-    let kept = record.as_stored_password();
-    let version = *record.scram_version();
-    if !kept.verify_prepared_password(version, password) {
-        return Ok(String::from_str(alloc, "not met")?);
-    }
-    let made = ScramRecord::from_prepared_password(
-        alloc,
-        version,
-        password,
-        kept.salt,
-        kept.iterations,
-    );
-    match &made {
-        Ok(made) => told(alloc, text, &made.to_text(alloc)?),
-        Err(error) => kind_words(alloc, error),
+    let (stored, query) = match wanted {
+        "unassigned" => (wanted, "kept"),
+        "unassigned, changed" => ("unassigned", "changed"),
+        _ => (wanted, wanted),
+    };
+    row.say(wanted);
+    for code in first..=last {
+        if let Some(c) = char::from_u32(code) {
+            let mut bytes = [0; 4];
+            let text = c.encode_utf8(&mut bytes);
+            check(row, text, Unassigned::Refused, stored);
+            check(row, text, Unassigned::Allowed, query);
+        }
     }
 }
 
-/// Whether the text is the record's, or which one is.
-fn told(alloc: Global, text: &str, made: &str) -> Result<String, Unconfirmed> {
-    Ok(String::from_str(
-        alloc,
-        if made == text {
-            "made again and met"
-        } else {
-            made
+/// A text in a mode: `TEXT MODE`. Behind the mode and a comma may stand what others answer.
+pub fn text(row: &mut Row<'_>) {
+    let (points, wanted, mut text) = (row.word(), row.wanted, String::new(row.alloc));
+    for point in points.split('+') {
+        let c = code_of(point).and_then(char::from_u32);
+        row.made(text.push(c.unwrap_or(char::REPLACEMENT_CHARACTER)), ());
+    }
+    let mode = row.rest();
+    row.say(wanted);
+    match mode.split_once(',').unwrap_or((mode, "")) {
+        ("stored", _) => check(row, &text, Unassigned::Refused, wanted),
+        ("query", _) => check(row, &text, Unassigned::Allowed, wanted),
+        _ => row.refuse("no mode"),
+    }
+}
+
+/// Asks for a text, and tells an answer that is not the wanted one.
+fn check(row: &mut Row<'_>, text: &str, mode: Unassigned, wanted: &str) {
+    let answer = saslprep(row.alloc, text, mode);
+    if !is_answered(wanted, text, &answer) {
+        row.refuse(answer);
+    }
+}
+
+/// Whether this is what `text` was to be answered: `kept`, `changed` to any other text, `nothing`, the
+/// text of these code points, or the word of a refusal, behind which its code point may stand.
+fn is_answered(words: &str, text: &str, answer: &Result<CowStr<'_>, SaslprepError>) -> bool {
+    match answer {
+        Ok(out) => match words {
+            "kept" => out.as_str() == text,
+            "changed" => out.as_str() != text,
+            "nothing" => out.is_empty(),
+            points => spells(points, out),
         },
-    )?)
+        Err(SaslprepError::ProhibitedCharacter(c)) => is_refusal(words, "prohibited", *c),
+        Err(SaslprepError::MixedDirections) => words == "mixed",
+        Err(SaslprepError::UnassignedCodePoint(c)) => is_refusal(words, "unassigned", *c),
+        Err(SaslprepError::OutOfMemory) => false,
+    }
+}
+
+/// Whether these are the code points of the text.
+fn spells(points: &str, text: &str) -> bool {
+    let mut chars = text.chars();
+    for point in points.split('+') {
+        if code_of(point) != chars.next().map(u32::from) {
+            return false;
+        }
+    }
+    chars.next().is_none()
+}
+
+/// Whether the words are this refusal's, of this character where they name one.
+fn is_refusal(words: &str, refusal: &str, c: char) -> bool {
+    match words.split_once(' ') {
+        Some((word, point)) => word == refusal && code_of(point) == Some(u32::from(c)),
+        None => words == refusal,
+    }
+}
+
+/// The number of hexadecimal digits.
+fn code_of(digits: &str) -> Option<u32> {
+    u32::from_str_radix(digits, 16).ok()
 }

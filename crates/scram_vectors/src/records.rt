@@ -1,116 +1,96 @@
 //! Texts of records, lines of users, and records that are made up.
 
-use crate::rows::{Unconfirmed, bytes_of, costing, kind_words, number_of, text_of, version_of};
-use fe2o3_scram::credentials::{ReadLinesError, ScramCredentials, ScramRecord};
+use crate::rows::Row;
+use fe2o3_scram::credentials::{RecordError, ScramCredentials, ScramRecord};
 use fe2o3_scram::hmac::{Meter, ScramVersion};
-use std::alloc::Global;
+use saslprep::{Unassigned, saslprep};
+
+/// The text of a record that was made, or the name of what was refused.
+fn text_of(row: &mut Row<'_>, made: &Result<ScramRecord, RecordError>) -> String {
+    let text = match made {
+        Ok(record) => record.to_text(row.alloc),
+        Err(kind) => format!(in row.alloc; "{kind:?}"),
+    };
+    row.made(text, String::new(row.alloc))
+}
 
 /// Whether a record is written as it was read, and made again of its password: `RECORD PASSWORD`.
-pub fn record(alloc: Global, words: &[&str]) -> Result<String, Unconfirmed> {
-    let [text, password] = words else {
-        return Err(Unconfirmed::Malformed);
+pub fn record(row: &mut Row<'_>) {
+    let (alloc, text, password) = (row.alloc, row.word(), row.text());
+    let read = ScramRecord::parse(alloc, text);
+    let Ok(record) = &read else {
+        return row.refuse("no record");
     };
-    let password = text_of(alloc, password)?;
-    let record = ScramRecord::parse(alloc, text);
-    let record = record.ok().ok_or(Unconfirmed::Malformed)?;
-    compared(alloc, text, &record, &password)
+    let written = row.made(record.to_text(alloc), String::new(alloc));
+    row.compare_text(&written, text, "written and");
+    let (kept, version) = (record.as_stored_password(), *record.scram_version());
+    let made = ScramRecord::from_password(alloc, version, &password, kept.salt, kept.iterations);
+    let made = text_of(row, &made);
+    row.compare_text(&made, text, "made again");
 }
 
-/// Whether the record is written as this text, and made again of the password.
-fn compared(
-    alloc: Global,
-    text: &str,
-    record: &ScramRecord,
-    password: &str,
-) -> Result<String, Unconfirmed> {
-    let written = record.to_text(alloc)?;
-    let made = made_again(alloc, record, password)?;
-    if written.as_str() == text && made == written {
-        Ok(String::from_str(alloc, "written and made again")?)
-    } else {
-        Ok(format!(in alloc; "{written} {made}")?)
+/// What a typed password is prepared to, whether that meets the record and makes it again, and what the
+/// call for a typed password makes of it: `RECORD TYPED`.
+pub fn prepared_record(row: &mut Row<'_>) {
+    let (alloc, text, typed) = (row.alloc, row.word(), row.text());
+    let read = ScramRecord::parse(alloc, text);
+    let prepared = saslprep(alloc, &typed, Unassigned::Refused);
+    let (Ok(record), Ok(prepared)) = (&read, &prepared) else {
+        return row.refuse("no record, or not prepared");
+    };
+    let (kept, version) = (record.as_stored_password(), *record.scram_version());
+    let prepared = prepared.as_str();
+    row.say(prepared);
+    if !kept.verify_prepared_password(version, prepared) {
+        row.say("not met");
     }
-}
-
-/// The record of this password, with the salt and the count of another.
-pub fn made_again(
-    alloc: Global,
-    record: &ScramRecord,
-    password: &str,
-) -> Result<String, Unconfirmed> {
-    let kept = record.as_stored_password();
-    let version = *record.scram_version();
-    match &ScramRecord::from_password(alloc, version, password, kept.salt, kept.iterations) {
-        Ok(made) => Ok(made.to_text(alloc)?),
-        Err(error) => kind_words(alloc, error),
-    }
+    let (salt, count) = (kept.salt, kept.iterations);
+    let made = ScramRecord::from_prepared_password(alloc, version, prepared, salt, count);
+    let made = text_of(row, &made);
+    row.compare_text(&made, text, "made again and met,");
+    let plain = ScramRecord::from_password(alloc, version, &typed, salt, count);
+    let plain = text_of(row, &plain);
+    row.say(plain);
+    row.say("by the plain call");
 }
 
 /// Why a text is no record: `TEXT`.
-pub fn record_fault(alloc: Global, words: &[&str]) -> Result<String, Unconfirmed> {
-    let [text] = words else {
-        return Err(Unconfirmed::Malformed);
-    };
-    let text = text_of(alloc, text)?;
-    match &ScramRecord::parse(alloc, &text) {
-        Ok(_) => Ok(String::from_str(alloc, "a record")?),
-        Err(error) => kind_words(alloc, error),
-    }
+pub fn record_fault(row: &mut Row<'_>) {
+    let (alloc, text) = (row.alloc, row.text());
+    row.judge(&ScramRecord::parse(alloc, &text), "a record");
 }
 
 /// Which line is not read and why, of a text and of the same behind other lines:
 /// `VERSION LINES TEXT`.
-pub fn record_lines(alloc: Global, words: &[&str]) -> Result<String, Unconfirmed> {
-    let [version, lines, text] = words else {
-        return Err(Unconfirmed::Malformed);
-    };
-    let version = version_of(version)?;
-    let alone = refusal(alloc, version, "", text)?;
-    let behind = refusal(alloc, version, lines, text)?;
-    Ok(format!(in alloc;
-        "{} {:?}, {} {:?}",
-        alone.line, alone.kind, behind.line, behind.kind
-    )?)
+pub fn record_lines(row: &mut Row<'_>) {
+    let (version, mut lines, text) = (row.version(), row.text(), row.text());
+    refusal(row, version, &text);
+    row.made(lines.push_str(&text), ());
+    refusal(row, version, &lines);
 }
 
-/// The first line that is not read, of a text behind other lines.
-fn refusal(
-    alloc: Global,
-    version: ScramVersion,
-    lines: &str,
-    text: &str,
-) -> Result<ReadLinesError, Unconfirmed> {
-    let mut lines = text_of(alloc, lines)?;
-    lines.push_str(&text_of(alloc, text)?)?;
-    let users = ScramCredentials::parse_lines(alloc, version, &lines);
-    users.err().ok_or(Unconfirmed::Malformed)
+/// The first line of a text that is not read, and why.
+fn refusal(row: &mut Row<'_>, version: ScramVersion, text: &str) {
+    match &ScramCredentials::parse_lines(row.alloc, version, text) {
+        Ok(_) => row.say("users"),
+        Err(error) => {
+            row.say(error.line);
+            row.show(&error.kind);
+        }
+    }
 }
 
 /// The record that is made up for a name, and the HMAC values that it costs:
 /// `VERSION SECRET NAME LENGTH COUNT`, of which the length is the salt's.
-pub fn made_up(alloc: Global, words: &[&str]) -> Result<String, Unconfirmed> {
-    let [version, secret, name, salt_len, count] = words else {
-        return Err(Unconfirmed::Malformed);
-    };
-    let version = version_of(version)?;
-    let (salt_len, iterations) = (number_of(salt_len)? as usize, number_of(count)?);
-    let secret = bytes_of(alloc, secret)?;
-    let name = text_of(alloc, name)?;
-    of_nobody(alloc, version, &secret, &name, salt_len, iterations)
-}
-
-/// The record that is made up, and the HMAC values that it costs.
-fn of_nobody(
-    alloc: Global,
-    version: ScramVersion,
-    secret: &[u8],
-    name: &str,
-    salt_len: usize,
-    iterations: u32,
-) -> Result<String, Unconfirmed> {
+pub fn made_up(row: &mut Row<'_>) {
+    let (alloc, version, secret, name) = (row.alloc, row.version(), row.bytes(), row.text());
+    let (len, count) = (row.number() as usize, row.number());
     let mut meter = Meter::new();
     let made = ScramRecord::of_nobody_metered(
-        alloc, version, secret, name, salt_len, iterations, &mut meter,
-    )?;
-    costing(alloc, &made.to_text(alloc)?, meter.count())
+        alloc, version, &secret, &name, len, count, &mut meter,
+    );
+    let text = made.and_then(|record| record.to_text(alloc));
+    let text = row.made(text, String::new(alloc));
+    row.say(text);
+    row.say(meter.count());
 }

@@ -1,185 +1,210 @@
-//! The words of a row, and what they spell.
+//! A row of a file: its words, which are read one after another, and its answer, which grows by words.
 
 use base64::engine::general_purpose::STANDARD;
 use fe2o3_scram::hmac::ScramVersion;
-use fe2o3_scram::scram_messages::ScramErrorKind;
-use std::alloc::{AllocError, AllocFailed, Global};
-use std::fmt::Debug;
-use std::io;
+use std::alloc::Global;
+use std::fmt::{Debug, Display, Write};
 
-/// Why a row was not confirmed.
-#[derive(Debug, Drop)]
-pub enum Unconfirmed {
-    /// The library answers this in its place.
-    Other(String),
+/// A row while it is answered. Where a word is not of its form or a value cannot be made, an empty one
+/// stands in its place, the answer says why, and the row is confirmed no more.
+#[derive(Drop)]
+pub struct Row<'a> {
+    /// What the values of the row are made in.
+    pub alloc: Global,
 
-    /// The row is not of the file's form.
-    Malformed,
+    /// What is to be answered.
+    pub wanted: &'a str,
 
-    /// There was no memory.
-    OutOfMemory,
+    /// The words that are not read yet.
+    words: &'a str,
 
-    /// A file was not read, or a line not printed.
-    Io,
+    /// The words of the answer.
+    answer: String,
+
+    /// Whether each word and each value was there so far.
+    is_sound: bool,
 }
 
-impl From<io::Error> for Unconfirmed {
-    fn from(_error: io::Error) -> Self {
-        Unconfirmed::Io
+impl<'a> Row<'a> {
+    /// A row of these words, which is not answered yet.
+    pub fn new(alloc: Global, words: &'a str, wanted: &'a str) -> Row<'a> {
+        Row {
+            alloc,
+            wanted,
+            words,
+            answer: String::new(alloc),
+            is_sound: true,
+        }
     }
-}
 
-impl From<AllocError> for Unconfirmed {
-    fn from(_error: AllocError) -> Self {
-        Unconfirmed::OutOfMemory
+    /// A row of the words that are left, which is not answered yet.
+    pub fn again(&self) -> Row<'a> {
+        Row::new(self.alloc, self.words, self.wanted)
     }
-}
 
-impl<T: Drop> From<AllocFailed<T>> for Unconfirmed {
-    fn from(_error: AllocFailed<T>) -> Self {
-        Unconfirmed::OutOfMemory
+    /// Tells another answer to the same words, where it is another.
+    pub fn compare(&mut self, other: &Row<'_>) {
+        if !other.is_sound || other.answer != self.answer {
+            self.refuse("and");
+            self.say(other.answer.as_str());
+        }
     }
-}
 
-/// The words that are given, and those of a row behind them.
-pub fn words_of<'a>(
-    alloc: Global,
-    given: &'a str,
-    asked: &'a str,
-) -> Result<Vec<&'a str>, AllocError> {
-    let mut words = Vec::new(alloc);
-    push_words(&mut words, given)?;
-    push_words(&mut words, asked)?;
-    Ok(words)
-}
+    /// The answer, where it is not the wanted one or the row is not sound.
+    pub fn other_answer(&self) -> Option<&str> {
+        let (is_read, answer) = (self.words.trim_start().is_empty(), self.answer.as_str());
+        if self.is_sound && is_read && answer == self.wanted {
+            return None;
+        }
+        Some(answer)
+    }
 
-/// Adds the words of a line. A word in quotation marks may be empty and may have spaces.
-fn push_words<'a>(words: &mut Vec<&'a str>, line: &'a str) -> Result<(), AllocError> {
-    let mut quoted = false;
-    for piece in line.split('"') {
-        if quoted {
-            words.push(piece)?;
-        } else {
-            for word in piece.split_ascii_whitespace() {
-                words.push(word)?;
+    /// The next word. One in quotation marks may be empty and may have spaces.
+    pub fn word(&mut self) -> &'a str {
+        let words = self.words.trim_start();
+        self.is_sound &= !words.is_empty();
+        let cut = match words.strip_prefix('"') {
+            Some(quoted) => quoted.split_once('"'),
+            None => words.split_once(' '),
+        };
+        let (word, rest) = cut.unwrap_or((words, ""));
+        self.words = rest;
+        word
+    }
+
+    /// All words that are left.
+    pub fn rest(&mut self) -> &'a str {
+        let words = self.words.trim_start();
+        self.words = "";
+        words
+    }
+
+    /// The bytes of the next word, where `\x` and two hexadecimal digits stand for a byte.
+    pub fn bytes(&mut self) -> Vec<u8> {
+        let (alloc, word) = (self.alloc, self.word());
+        let mut bytes = Vec::new(alloc);
+        for (place, piece) in word.split("\\x").enumerate() {
+            let (digits, text) = match place {
+                0 => ("", piece),
+                _ => piece.split_at_checked(2).unwrap_or(("no", "digits")),
+            };
+            let escaped = self.made(hex::decode(alloc, digits), Vec::new(alloc));
+            self.made(bytes.extend_from_slice(&escaped), ());
+            self.made(bytes.extend_from_slice(text.as_bytes()), ());
+        }
+        bytes
+    }
+
+    /// The text of the next word, with bytes as `bytes` has them.
+    pub fn text(&mut self) -> String {
+        let text = String::from_utf8(self.bytes());
+        self.made(text, String::new(self.alloc))
+    }
+
+    /// The bytes of the hexadecimal digits of the next word.
+    pub fn digits(&mut self) -> Vec<u8> {
+        let bytes = hex::decode(self.alloc, self.word());
+        self.made(bytes, Vec::new(self.alloc))
+    }
+
+    /// The bytes of the base64 of the next word.
+    pub fn base64(&mut self) -> Vec<u8> {
+        let bytes = STANDARD.decode(self.alloc, self.word().as_bytes());
+        self.made(bytes, Vec::new(self.alloc))
+    }
+
+    /// The version that the next word names.
+    pub fn version(&mut self) -> ScramVersion {
+        let version = self.word().parse::<ScramVersion>();
+        self.made(version, ScramVersion::Sha1)
+    }
+
+    /// The number of the next word.
+    pub fn number(&mut self) -> u32 {
+        let number = self.word().parse::<u32>();
+        self.made(number, 0)
+    }
+
+    /// A text of its own.
+    pub fn own(&mut self, text: &str) -> String {
+        let text = text.to_string(self.alloc);
+        self.made(text, String::new(self.alloc))
+    }
+
+    /// The value that was made, or this one in its place.
+    pub fn made<T: Drop, E: Debug + Drop>(&mut self, made: Result<T, E>, instead: T) -> T {
+        match made {
+            Ok(value) => value,
+            Err(error) => {
+                self.refuse(error);
+                instead
             }
         }
-        quoted = !quoted;
     }
-    Ok(())
-}
 
-/// The bytes of a word, where `\x` and two hexadecimal digits stand for a byte.
-pub fn bytes_of(alloc: Global, word: &str) -> Result<Vec<u8>, Unconfirmed> {
-    let mut bytes = Vec::new(alloc);
-    let mut escaped = false;
-    for piece in word.split("\\x") {
-        let text = if escaped {
-            push_escaped(alloc, &mut bytes, piece)?
+    /// Says why the row is not confirmed.
+    pub fn refuse<E: Debug + Drop>(&mut self, why: E) {
+        self.is_sound = false;
+        self.show(&why);
+    }
+
+    /// Adds a word to the answer.
+    pub fn say<T: Display + Drop>(&mut self, word: T) {
+        let said = if self.answer.is_empty() {
+            write!(self.answer, "{word}")
         } else {
-            piece
+            write!(self.answer, " {word}")
         };
-        bytes.extend_from_slice(text.as_bytes())?;
-        escaped = true;
+        self.is_sound &= said.is_ok();
     }
-    Ok(bytes)
-}
 
-/// Adds the byte of the two digits at the front of a piece, and answers what stands behind them.
-fn push_escaped<'a>(
-    alloc: Global,
-    bytes: &mut Vec<u8>,
-    piece: &'a str,
-) -> Result<&'a str, Unconfirmed> {
-    let (digits, text) = piece.split_at_checked(2).ok_or(Unconfirmed::Malformed)?;
-    bytes.extend_from_slice(&digits_of(alloc, digits)?)?;
-    Ok(text)
-}
+    /// Adds the name of a value to the answer.
+    pub fn show<T: Debug>(&mut self, value: &T) {
+        self.say(format_args!("{value:?}"));
+    }
 
-/// The text of a word.
-pub fn text_of(alloc: Global, word: &str) -> Result<String, Unconfirmed> {
-    let text = String::from_utf8(bytes_of(alloc, word)?);
-    text.ok().ok_or(Unconfirmed::Malformed)
-}
+    /// Adds bytes in hexadecimal digits to the answer.
+    pub fn say_digits(&mut self, bytes: &[u8]) {
+        let digits = self.made(hex::encode(self.alloc, bytes), String::new(self.alloc));
+        self.say(digits);
+    }
 
-/// The bytes of hexadecimal digits.
-pub fn digits_of(alloc: Global, word: &str) -> Result<Vec<u8>, Unconfirmed> {
-    let bytes = hex::decode(alloc, word);
-    bytes.ok().ok_or(Unconfirmed::Malformed)
-}
+    /// Adds bytes in base64 to the answer.
+    pub fn say_base64(&mut self, bytes: &[u8]) {
+        let text = self.made(STANDARD.encode(self.alloc, bytes), String::new(self.alloc));
+        self.say(text);
+    }
 
-/// The bytes of a text in base64.
-pub fn base64_of(alloc: Global, word: &str) -> Result<Vec<u8>, Unconfirmed> {
-    let bytes = STANDARD.decode(alloc, word.as_bytes());
-    bytes.ok().ok_or(Unconfirmed::Malformed)
-}
+    /// Adds a message to the answer, a text.
+    pub fn say_message(&mut self, message: &[u8]) {
+        let text = self.made(str::from_utf8(message), "");
+        self.say(text);
+    }
 
-/// The version of this name.
-pub fn version_of(word: &str) -> Result<ScramVersion, Unconfirmed> {
-    ScramVersion::from_mechanism(word).ok_or(Unconfirmed::Malformed)
-}
+    /// Adds a word to the answer where something went well, and else the name of what was refused.
+    pub fn judge<T, E: Debug>(&mut self, verdict: &Result<T, E>, word: &str) {
+        match verdict {
+            Ok(_) => self.say(word),
+            Err(kind) => self.show(kind),
+        }
+    }
 
-/// A number.
-pub fn number_of(word: &str) -> Result<u32, Unconfirmed> {
-    word.parse().ok().ok_or(Unconfirmed::Malformed)
-}
+    /// Adds a message to the answer, or the name of what was refused.
+    pub fn say_answer<E: Debug>(&mut self, answer: &Result<Vec<u8>, E>) {
+        match answer {
+            Ok(message) => self.say_message(message),
+            Err(kind) => self.show(kind),
+        }
+    }
 
-/// A text and what it cost.
-pub fn costing(alloc: Global, text: &str, cost: u64) -> Result<String, Unconfirmed> {
-    Ok(format!(in alloc; "{text} {cost}")?)
-}
-
-/// Adds a space and a word.
-pub fn push_word(words: &mut String, word: &str) -> Result<(), AllocError> {
-    words.push(' ')?;
-    words.push_str(word)
-}
-
-/// The name of a kind of refusal.
-pub fn kind_words<K: Debug>(alloc: Global, kind: &K) -> Result<String, Unconfirmed> {
-    Ok(format!(in alloc; "{kind:?}")?)
-}
-
-/// The name of a kind of refusal, and what it cost.
-pub fn kind_costing<K: Debug>(alloc: Global, kind: &K, cost: u64) -> Result<String, Unconfirmed> {
-    Ok(format!(in alloc; "{kind:?} {cost}")?)
-}
-
-/// A message that was answered, or the kind of refusal, and what it cost.
-pub fn answer_costing<K: Debug>(
-    alloc: Global,
-    answer: &Result<Vec<u8>, K>,
-    cost: u64,
-) -> Result<String, Unconfirmed> {
-    match answer {
-        Ok(message) => costing(alloc, message_text(message)?, cost),
-        Err(kind) => kind_costing(alloc, kind, cost),
+    /// Adds a word to the answer where a text is this one, and else the text.
+    pub fn compare_text(&mut self, text: &str, wanted: &str, word: &str) {
+        self.say(if text == wanted { word } else { text });
     }
 }
 
-/// Whether a client believes a server, or the kind of its refusal.
-pub fn verdict_words(
-    alloc: Global,
-    verdict: Result<(), ScramErrorKind>,
-) -> Result<String, Unconfirmed> {
-    match verdict {
-        Ok(()) => Ok(String::from_str(alloc, "believed")?),
-        Err(kind) => kind_words(alloc, &kind),
-    }
-}
-
-/// A message as a text.
-pub fn message_text(message: &[u8]) -> Result<&str, Unconfirmed> {
-    str::from_utf8(message).ok().ok_or(Unconfirmed::Malformed)
-}
-
-/// A message as a text of its own.
-pub fn owned_text(alloc: Global, message: &[u8]) -> Result<String, Unconfirmed> {
-    Ok(message_text(message)?.to_string(alloc)?)
-}
-
-/// What answers the words of a row.
+/// What answers rows.
 pub trait Answers {
-    /// The answer.
-    fn answer(&mut self, alloc: Global, words: &[&str]) -> Result<String, Unconfirmed>;
+    /// Reads the words of a row, and says the answer.
+    fn answer(&mut self, row: &mut Row<'_>);
 }

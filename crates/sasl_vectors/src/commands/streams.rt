@@ -1,6 +1,5 @@
 //! An output that has room for so much, and an input that can fail.
 
-use crate::Unconfirmed;
 use std::alloc::Global;
 use std::io;
 use std::io::{Read, Write};
@@ -9,7 +8,10 @@ use std::io::{Read, Write};
 #[derive(Drop)]
 pub struct Full {
     most: usize,
-    written: Vec<u8>,
+
+    /// What it holds.
+    pub written: Vec<u8>,
+
     refused: u32,
 }
 
@@ -31,14 +33,6 @@ impl Full {
                 self.refused == 1 && self.written.as_slice() == beginning
             }
             _ => self.refused == 0 && self.written.as_slice() == text,
-        }
-    }
-
-    /// The text that it holds.
-    pub fn text(self) -> Result<String, Unconfirmed> {
-        match String::from_utf8(self.written) {
-            Ok(text) => Ok(text),
-            Err(_) => Err(Unconfirmed::Malformed),
         }
     }
 }

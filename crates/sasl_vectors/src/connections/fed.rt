@@ -1,10 +1,9 @@
 //! A stream of bytes that is handed in in pieces.
 
-use crate::Unconfirmed;
 use crate::connections::sides::{Play, Side};
+use crate::rows::Row;
 use bytes::BytesMut;
 use fe2o3_sasl_negotiation::Standing;
-use sasl_commands::digits::digits_of;
 use std::alloc::Global;
 
 /// A stream, and what came of it.
@@ -22,9 +21,6 @@ pub struct Fed<'a> {
 
     /// What was sent.
     pub sent: BytesMut,
-
-    /// How the side stands in the end.
-    pub standing: String,
 }
 
 impl<'a> Fed<'a> {
@@ -37,48 +33,42 @@ impl<'a> Fed<'a> {
             calls: 0,
             taken: 0,
             sent: BytesMut::new(alloc),
-            standing: String::new(alloc),
         }
     }
 
-    /// What came of it, in the words of the files.
-    pub fn answer(&self, alloc: Global) -> Result<String, Unconfirmed> {
-        let (taken, standing) = (self.taken, self.standing.as_str());
-        let sent = digits_of(alloc, self.sent.as_slice())?;
-        Ok(format!(in alloc; "{taken} {sent} {standing}")?)
-    }
-
     /// Hands a piece in, until all of it is taken or the side is at its end.
-    fn hand_in<S: Side>(
-        &mut self,
-        alloc: Global,
-        side: &mut S,
-        piece: &[u8],
-    ) -> Result<(), Unconfirmed> {
+    fn hand_in<S: Side>(&mut self, row: &mut Row<'_>, side: &mut S, piece: &[u8]) {
         let mut left = piece;
         for _ in 0..=piece.len() {
-            let received = side.take(alloc, left, self.nonce, &mut self.sent)?;
+            let received = match side.take(row.alloc, left, self.nonce, &mut self.sent) {
+                Ok(received) => received,
+                Err(error) => return row.refuse(error),
+            };
             self.calls = self.calls.saturating_add(1);
             self.taken = self.taken.saturating_add(received.taken);
-            left = left.get(received.taken..).ok_or(Unconfirmed::Malformed)?;
+            let Some(rest) = left.get(received.taken..) else {
+                return row.refuse("more is taken than was handed in");
+            };
+            left = rest;
             if left.is_empty() || received.standing != Standing::Wanting {
                 break;
             }
         }
-        Ok(())
     }
 }
 
 impl Play for Fed<'_> {
-    fn play<S: Side>(&mut self, alloc: Global, side: &mut S) -> Result<(), Unconfirmed> {
+    /// Hands all in, and says how the side stands then.
+    fn play<S: Side>(&mut self, row: &mut Row<'_>, side: &mut S) {
         let (stream, ends) = (self.stream, self.ends);
         let mut start = 0usize;
         for end in ends {
-            let piece = stream.get(start..*end).ok_or(Unconfirmed::Malformed)?;
-            self.hand_in(alloc, side, piece)?;
+            match stream.get(start..*end) {
+                Some(piece) => self.hand_in(row, side, piece),
+                None => row.refuse("no such piece"),
+            }
             start = *end;
         }
-        self.standing = side.word(alloc)?;
-        Ok(())
+        side.say_standing(row);
     }
 }

@@ -1,15 +1,16 @@
-//! Both sides of a connection as one: bytes in, bytes out, and a word for how the side stands.
+//! Both sides of a connection as one: bytes in, bytes out, and words for how the side stands.
 
-use crate::Unconfirmed;
-use crate::connections::words::{standing_word, user_word};
-use crate::runs::profiles::of_password;
-use crate::runs::words::{bytes_of, number_of, text_of};
+use crate::rows::Row;
+use crate::runs::profiles::profile_of;
 use bytes::BytesMut;
 use fe2o3_sasl::credentials::{ScramRecord, StoredScramCredential};
 use fe2o3_sasl::hmac::{Meter, ScramVersion};
 use fe2o3_sasl::sasl_acceptor::{NamesUser, SaslAnonymousMechanism, SaslPlainMechanism};
+use fe2o3_sasl::sasl_profile::ProfileError;
 use fe2o3_sasl::scram_server::ScramAuthenticator;
-use fe2o3_sasl_negotiation::{ClientNegotiation, Received, ServerNegotiation, Standing};
+use fe2o3_sasl_negotiation::{
+    ClientNegotiation, ClosedBecause, Received, ServerNegotiation, Standing,
+};
 use std::alloc::{AllocError, Global};
 use std::rc::Rc;
 
@@ -24,8 +25,8 @@ pub trait Side {
         out: &mut BytesMut,
     ) -> Result<Received, AllocError>;
 
-    /// How it stands, in the words of the files.
-    fn word(&self, alloc: Global) -> Result<String, Unconfirmed>;
+    /// Says how it stands.
+    fn say_standing(&self, row: &mut Row<'_>);
 }
 
 impl<A: NamesUser> Side for ServerNegotiation<A> {
@@ -39,14 +40,12 @@ impl<A: NamesUser> Side for ServerNegotiation<A> {
         self.receive(alloc, bytes, nonce, &mut Meter::new(), out)
     }
 
-    fn word(&self, alloc: Global) -> Result<String, Unconfirmed> {
-        let standing = standing_word(alloc, self.standing())?;
-        match self.standing() {
-            Standing::LoggedIn => {
-                let user = user_word(alloc, self.user())?;
-                Ok(format!(in alloc; "{standing} {user}")?)
-            }
-            _ => Ok(standing),
+    fn say_standing(&self, row: &mut Row<'_>) {
+        say(row, self.standing());
+        match self.user() {
+            _ if self.standing() != Standing::LoggedIn => {}
+            Some(user) => row.say_bytes(user.as_bytes()),
+            None => row.say("none"),
         }
     }
 }
@@ -62,91 +61,88 @@ impl Side for ClientNegotiation {
         self.receive(alloc, bytes, nonce, &mut Meter::new(), out)
     }
 
-    fn word(&self, alloc: Global) -> Result<String, Unconfirmed> {
-        Ok(standing_word(alloc, self.standing())?)
+    fn say_standing(&self, row: &mut Row<'_>) {
+        say(row, self.standing());
+    }
+}
+
+/// Says how a side stands, and why it is closed.
+fn say(row: &mut Row<'_>, standing: Standing) {
+    match standing {
+        Standing::Closed(ClosedBecause::Unread(fault)) => {
+            row.say(format_args!("Unread {fault:?}"));
+        }
+        Standing::Closed(ClosedBecause::Refused(code)) => {
+            row.say(format_args!("Refused {code:?}"));
+        }
+        Standing::Closed(ClosedBecause::Profile(ProfileError::Scram(kind))) => {
+            row.say(format_args!("Profile Scram {kind:?}"));
+        }
+        Standing::Closed(ClosedBecause::Profile(ProfileError::Frame(fault))) => {
+            row.say(format_args!("Profile Frame {fault:?}"));
+        }
+        Standing::Closed(ClosedBecause::Profile(fault)) => {
+            row.say(format_args!("Profile {fault:?}"));
+        }
+        Standing::Closed(why) => row.say(format_args!("{why:?}")),
+        standing => row.say(format_args!("{standing:?}")),
     }
 }
 
 /// What is done with a side that no connection has used.
 pub trait Play {
     /// Does it.
-    fn play<S: Side>(&mut self, alloc: Global, side: &mut S) -> Result<(), Unconfirmed>;
+    fn play<S: Side>(&mut self, row: &mut Row<'_>, side: &mut S);
 }
 
-/// Plays with the side that these words name.
-pub fn play_side<P: Play>(alloc: Global, words: &[&str], play: &mut P) -> Result<(), Unconfirmed> {
-    match words {
-        ["server", "ANONYMOUS"] => {
-            let acceptor = SaslAnonymousMechanism::new();
-            play.play(alloc, &mut ServerNegotiation::new(alloc, acceptor))
-        }
-        ["server", "PLAIN", user, password] => play_plain(alloc, user, password, play),
-        ["server", version, user, password, salt, count] => {
-            let stored = stored(alloc, version, user, password, salt, count)?;
-            play_scram(alloc, Rc::new(alloc, stored)?, play)
-        }
-        ["client", mechanism, user, password, limit, hostname] => {
-            play_client(alloc, (mechanism, user, password, limit), hostname, play)
-        }
-        _ => Err(Unconfirmed::Malformed),
+/// Plays with the side that a line names.
+pub fn play_side<'a, P: Play>(row: &mut Row<'a>, side: &'a str, play: &mut P) {
+    row.turn_to(side);
+    match row.word() {
+        "server" => play_server(row, play),
+        _ => play_client(row, play),
     }
 }
 
-/// Plays with a server of PLAIN.
-fn play_plain<P: Play>(
-    alloc: Global,
-    user: &str,
-    password: &str,
-    play: &mut P,
-) -> Result<(), Unconfirmed> {
-    let user = text_of(alloc, user)?;
-    let password = text_of(alloc, password)?;
-    let acceptor = SaslPlainMechanism::new(user, password);
-    play.play(alloc, &mut ServerNegotiation::new(alloc, acceptor))
+/// Plays with a server of an acceptor.
+fn play_acceptor<A: NamesUser + Drop, P: Play>(row: &mut Row<'_>, acceptor: A, play: &mut P) {
+    let mut server = ServerNegotiation::new(row.alloc, acceptor);
+    play.play(row, &mut server);
 }
 
-/// What a server of SCRAM keeps of its user.
-fn stored(
-    alloc: Global,
-    version: &str,
-    user: &str,
-    password: &str,
-    salt: &str,
-    count: &str,
-) -> Result<StoredScramCredential, Unconfirmed> {
-    let version = ScramVersion::from_mechanism(version).ok_or(Unconfirmed::Malformed)?;
-    let (salt, count) = (bytes_of(alloc, salt)?, number_of(count)?);
-    let (user, password) = (text_of(alloc, user)?, text_of(alloc, password)?);
-    let record = ScramRecord::from_password(alloc, version, &password, &salt, count)?;
-    Ok(StoredScramCredential::new(user, record))
-}
-
-/// Plays with a server of SCRAM.
-fn play_scram<P: Play>(
-    alloc: Global,
-    stored: Rc<StoredScramCredential>,
-    play: &mut P,
-) -> Result<(), Unconfirmed> {
-    let acceptor = ScramAuthenticator::new(stored);
-    play.play(alloc, &mut ServerNegotiation::new(alloc, acceptor))
-}
-
-/// The hostname of this word, where `none` is none.
-fn hostname_of(alloc: Global, word: &str) -> Result<Option<String>, Unconfirmed> {
-    match word {
-        "none" => Ok(None),
-        digits => Ok(Some(text_of(alloc, digits)?)),
+/// Plays with a server: `ANONYMOUS`, `PLAIN USER PASSWORD` or `VERSION USER PASSWORD SALT COUNT`.
+fn play_server<P: Play>(row: &mut Row<'_>, play: &mut P) {
+    let alloc = row.alloc;
+    match row.word() {
+        "ANONYMOUS" => play_acceptor(row, SaslAnonymousMechanism::new(), play),
+        "PLAIN" => {
+            let (user, password) = (row.text(), row.text());
+            play_acceptor(row, SaslPlainMechanism::new(user, password), play);
+        }
+        version => match stored(row, version).map(|stored| Rc::new(alloc, stored)) {
+            Some(Ok(stored)) => play_acceptor(row, ScramAuthenticator::new(stored), play),
+            _ => row.refuse("no record"),
+        },
     }
 }
 
-/// Plays with the client of a mechanism, a user and a password, which accepts counts up to the limit.
-fn play_client<P: Play>(
-    alloc: Global,
-    (mechanism, user, password, limit): (&str, &str, &str, &str),
-    hostname: &str,
-    play: &mut P,
-) -> Result<(), Unconfirmed> {
-    let hostname = hostname_of(alloc, hostname)?;
-    let profile = of_password(alloc, mechanism, user, password, number_of(limit)?)?;
-    play.play(alloc, &mut ClientNegotiation::new(alloc, profile, hostname))
+/// What a server of SCRAM keeps of its user: `USER PASSWORD SALT COUNT`.
+pub fn stored(row: &mut Row<'_>, version: &str) -> Option<StoredScramCredential> {
+    let version = ScramVersion::from_mechanism(version)?;
+    let (user, password, salt, count) = (row.text(), row.text(), row.bytes(), row.number());
+    let record = ScramRecord::from_password(row.alloc, version, &password, &salt, count);
+    record
+        .ok()
+        .map(|record| StoredScramCredential::new(user, record))
+}
+
+/// Plays with a client: `MECHANISM USER PASSWORD LIMIT HOSTNAME`.
+fn play_client<P: Play>(row: &mut Row<'_>, play: &mut P) {
+    let (profile, hostname, alloc) = (profile_of(row, "profile"), row.hostname(), row.alloc);
+    match profile {
+        Some(profile) => {
+            play.play(row, &mut ClientNegotiation::new(alloc, profile, hostname));
+        }
+        None => row.refuse("no profile"),
+    }
 }

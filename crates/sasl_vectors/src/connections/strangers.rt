@@ -5,76 +5,68 @@
 mod counts;
 mod logins;
 
-use crate::Unconfirmed;
 use crate::connections::fed::Fed;
 use crate::connections::sides::play_side;
 use crate::connections::strangers::counts::Counts;
 use crate::connections::strangers::logins::{Login, altered, login_of};
 use crate::numbers::Numbers;
-use std::alloc::Global;
+use crate::rows::Row;
 
 /// How many connections each side is given.
 const CONNECTIONS: usize = 5000;
 
-/// Plays the connections of the side and of the logins of a paragraph, and answers what came of them.
-pub fn play(alloc: Global, paragraph: &str) -> Result<String, Unconfirmed> {
-    let (mut side, mut logins) = (Vec::new(alloc), Vec::new(alloc));
-    for line in paragraph.lines() {
-        if side.is_empty() {
-            for word in line.split(' ') {
-                side.push(word)?;
-            }
-        } else {
-            logins.push(login_of(alloc, line)?)?;
-        }
+/// Plays the connections of the side and of the logins of a paragraph, and tells what came of them.
+pub fn play(row: &mut Row<'_>) -> String {
+    let paragraph = row.rest();
+    let (side, lines) = paragraph.split_once('\n').unwrap_or((paragraph, ""));
+    let mut logins = Vec::new(row.alloc);
+    for line in lines.lines() {
+        row.turn_to(line);
+        let login = login_of(row);
+        row.push(&mut logins, login);
     }
-    play_all(alloc, &side, &logins)
-}
-
-/// Plays the connections of this side and of these logins.
-fn play_all(alloc: Global, side: &[&str], logins: &[Login]) -> Result<String, Unconfirmed> {
-    let mut numbers = Numbers::new(2026);
-    let mut counts = Counts::new(alloc);
+    let (mut numbers, mut counts) = (Numbers::new(2026), Counts::new(row.alloc));
     for _ in 0..CONNECTIONS {
-        play_one(alloc, side, logins, &mut numbers, &mut counts)?;
+        play_one(row, side, &logins, &mut numbers, &mut counts);
     }
-    let name = side.first().copied().unwrap_or("side");
-    let head = format!(in alloc; "strangers of a {name}: {CONNECTIONS} connections")?;
-    counts.text(alloc, head)
+    let name = side.split_once(' ').unwrap_or((side, "")).0;
+    let text = counts.text(row.alloc, name, CONNECTIONS);
+    row.made(text, String::new(row.alloc))
 }
 
 /// Plays a connection, and counts what came of it.
-fn play_one(
-    alloc: Global,
-    side: &[&str],
+fn play_one<'a>(
+    row: &mut Row<'a>,
+    side: &'a str,
     logins: &[Login],
     numbers: &mut Numbers,
     counts: &mut Counts,
-) -> Result<(), Unconfirmed> {
-    let login = altered(alloc, logins, numbers)?;
-    let stream = login.stream(alloc)?;
-    let ends = places(alloc, numbers, stream.len())?;
-    let mut fed = Fed::new(alloc, &stream, &ends, &login.nonce);
-    play_side(alloc, side, &mut fed)?;
-    counts.add(&fed)
+) {
+    let Some(login) = altered(row, logins, numbers) else {
+        return row.refuse("no logins");
+    };
+    let mut stream = Vec::new(row.alloc);
+    for unit in &login.units {
+        row.made(stream.extend_from_slice(unit), ());
+    }
+    let ends = places(row, numbers, stream.len());
+    let mut fed = Fed::new(row.alloc, &stream, &ends, &login.nonce);
+    play_side(row, side, &mut fed);
+    counts.add(row, &fed);
 }
 
 /// Where the pieces of so many bytes end, each of which has at least one.
-fn places(alloc: Global, numbers: &mut Numbers, len: usize) -> Result<Vec<usize>, Unconfirmed> {
-    let most = [4, 16, 64, 256, 1024]
-        .get(numbers.below(5))
-        .copied()
-        .unwrap_or(1);
-    let (mut ends, mut end) = (Vec::new(alloc), 0usize);
+fn places(row: &mut Row<'_>, numbers: &mut Numbers, len: usize) -> Vec<usize> {
+    let sizes = [4, 16, 64, 256, 1024];
+    let most = sizes.get(numbers.below(5)).copied().unwrap_or(1);
+    let (mut ends, mut end) = (Vec::new(row.alloc), 0usize);
     for _ in 0..len {
         if end == len {
             break;
         }
-        end = end
-            .saturating_add(numbers.below(most))
-            .saturating_add(1)
-            .min(len);
-        ends.push(end)?;
+        let more = numbers.below(most).saturating_add(1);
+        end = end.saturating_add(more).min(len);
+        row.push(&mut ends, end);
     }
-    Ok(ends)
+    ends
 }

@@ -1,102 +1,46 @@
-//! The lists of each side, and what may come of them.
+//! What may come of the lists of each side.
 
-use crate::Unconfirmed;
-use crate::numbers::Numbers;
-use crate::runs::words::{client_words, server_words};
-use crate::strangers::logins::{Login, PASSWORD, Quick, USER, copy_of};
-use fe2o3_sasl::OutOfMemory;
+use crate::replies::Reply;
+use crate::rows::Row;
+use crate::strangers::logins::Login;
 use fe2o3_sasl::audit::{Verdict, audit_limited};
+use fe2o3_sasl::credentials::StoredScramCredential;
 use fe2o3_sasl::hmac::ScramVersion;
 use fe2o3_sasl::runs::{
     ClientReply, Event, ServerReply, scram_client_run_limited, scram_server_run,
 };
-use fe2o3_sasl::sasl_profile::ProfileError;
-use fe2o3_sasl_wire::{Error, FrameView, SaslCode, view_frame};
-use std::alloc::Global;
+use fe2o3_sasl_wire::{FrameView, SaslCode, view_frame};
+
+/// The version of the logins.
+const VERSION: ScramVersion = ScramVersion::Sha256;
+
+/// The name of the user.
+const USER: &str = "user";
+
+/// The password of the user.
+const PASSWORD: &str = "pencil";
 
 /// The limit of the client's on the count.
 const LIMIT: u32 = 16;
 
-/// What a client is given in two of the logins.
-pub fn client_list(
-    alloc: Global,
-    logins: &[Login],
-    numbers: &mut Numbers,
-) -> Result<Vec<Event>, Unconfirmed> {
-    let mut events = Vec::new(alloc);
-    for _ in 0..2 {
-        let login = logins
-            .get(numbers.below(logins.len()))
-            .ok_or(Unconfirmed::Malformed)?;
-        for &event in &[&login.mechanisms, &login.challenge, &login.outcome] {
-            events.push(copy_of(alloc, event)?)?;
-        }
-    }
-    Ok(events)
-}
+/// What came of all lists.
+#[derive(Default)]
+pub struct Counts {
+    /// The outcomes of code ok that servers gave.
+    pub accepted: usize,
 
-/// What a server is given in two of the logins.
-pub fn server_list(
-    alloc: Global,
-    logins: &[Login],
-    numbers: &mut Numbers,
-) -> Result<Vec<Event>, Unconfirmed> {
-    let mut events = Vec::new(alloc);
-    for _ in 0..2 {
-        let login = logins
-            .get(numbers.below(logins.len()))
-            .ok_or(Unconfirmed::Malformed)?;
-        for &event in &[&login.init, &login.response] {
-            events.push(copy_of(alloc, event)?)?;
-        }
-    }
-    Ok(events)
-}
+    /// The outcomes of code ok that clients reported.
+    pub reported: usize,
 
-/// Alters none to three of the events of a list.
-pub fn alter(
-    alloc: Global,
-    events: &mut Vec<Event>,
-    numbers: &mut Numbers,
-) -> Result<(), Unconfirmed> {
-    for _ in 0..numbers.below(4) {
-        let (place, other) = (numbers.below(events.len()), numbers.below(events.len()));
-        if place >= events.len() || other >= events.len() {
-            continue;
-        }
-        match numbers.below(5) {
-            0 => cut(&mut events[place], numbers),
-            1 => {
-                let double = copy_of(alloc, &events[place])?;
-                events.push(double)?;
-            }
-            2 => events.swap(place, other),
-            3 => flip(&mut events[place], numbers),
-            _ => events[place].nonce = [(numbers.below(6) & 0xff) as u8; 32],
-        }
-    }
-    Ok(())
-}
-
-/// Cuts the event's body off somewhere.
-fn cut(event: &mut Event, numbers: &mut Numbers) {
-    let len = numbers.below(event.body.len());
-    event.body.truncate(len);
-}
-
-/// Flips a bit of the event's body.
-fn flip(event: &mut Event, numbers: &mut Numbers) {
-    let (place, bit) = (numbers.below(event.body.len()), numbers.below(8));
-    if let Some(byte) = event.body.get_mut(place) {
-        *byte ^= [1, 2, 4, 8, 16, 32, 64, 128][bit & 7];
-    }
+    /// The findings of the audits.
+    pub found: usize,
 }
 
 /// What a client and a server are given, and the logins that all of it was made of.
-#[derive(Drop)]
+#[derive(Clone, Copy)]
 pub struct Sides<'a> {
     /// The server's credentials.
-    pub credentials: &'a Quick,
+    pub credentials: &'a StoredScramCredential,
 
     /// The logins.
     pub logins: &'a [Login],
@@ -108,187 +52,132 @@ pub struct Sides<'a> {
     pub server: &'a [Event],
 }
 
+/// Says replies one after the other.
+fn said<R: Reply>(row: &mut Row<'_>, replies: &[R]) -> String {
+    for reply in replies {
+        reply.say(row);
+    }
+    row.take_answer()
+}
+
 impl Sides<'_> {
-    /// How often the server ends well: each time at the response of a login whose challenge it gave
-    /// last, and the same when it is asked again.
-    pub fn accepted(&self, alloc: Global) -> Result<usize, Unconfirmed> {
-        let replies = scram_server_run(alloc, self.credentials, self.server)?;
-        self.replies_again(alloc, &replies)?;
-        match self.count_accepted(&replies) {
-            Some(count) => Ok(count),
-            None => fault(alloc, "an ok without its response"),
+    /// Plays a list of each side, twice, and counts what came of it.
+    pub fn play(&self, row: &mut Row<'_>, counts: &mut Counts) {
+        self.play_server(row, counts);
+        self.play_client(row, counts);
+        self.play_audit(row, counts);
+    }
+
+    /// The server replies the same when it is asked again, and ends well at the response of a login whose
+    /// challenge it gave last, and nowhere else.
+    fn play_server(&self, row: &mut Row<'_>, counts: &mut Counts) {
+        let alloc = row.alloc;
+        let again = scram_server_run(alloc, self.credentials, self.server);
+        let again = row.made(again, Vec::new(alloc));
+        let replies = scram_server_run(alloc, self.credentials, self.server);
+        let replies = row.made(replies, Vec::new(alloc));
+        let again = said(row, &again);
+        if said(row, &replies) != again {
+            row.refuse("other replies the second time");
         }
-    }
-
-    /// The server replies the same when it is asked again.
-    fn replies_again(
-        &self,
-        alloc: Global,
-        replies: &[Result<ServerReply, Error>],
-    ) -> Result<(), Unconfirmed> {
-        let first = server_words(alloc, replies)?;
-        let again = scram_server_run(alloc, self.credentials, self.server)?;
-        are_same(alloc, &first, &server_words(alloc, &again)?)
-    }
-
-    /// How often the server ends well, if each time stands at its response.
-    fn count_accepted(&self, replies: &[Result<ServerReply, Error>]) -> Option<usize> {
-        let mut challenge: Option<&[u8]> = None;
-        let mut count = 0usize;
+        let mut challenge = None;
         for (event, reply) in self.server.iter().zip(replies.iter()) {
             match reply {
-                Ok(ServerReply::Challenge { body }) => challenge = Some(body),
-                Ok(
-                    ServerReply::Outcome {
-                        code: SaslCode::Ok,
-                        ..
-                    },
-                ) => {
-                    if !self.is_response(challenge.take(), &event.body) {
-                        return None;
+                Ok(ServerReply::Challenge { body }) => challenge = Some(body.as_slice()),
+                Ok(ServerReply::Outcome { code, .. }) if *code == SaslCode::Ok => {
+                    if !self.is_login(true, challenge.take(), &event.body) {
+                        row.refuse("an ok without its response");
                     }
-                    count = count.saturating_add(1);
+                    counts.accepted = counts.accepted.saturating_add(1);
                 }
                 _ => {}
             }
         }
-        Some(count)
     }
 
-    /// Whether a body has the response of a login that has this challenge.
-    fn is_response(&self, challenge: Option<&[u8]>, body: &[u8]) -> bool {
-        let (Some(challenge), Some(response)) = (challenge, response_of(body)) else {
-            return false;
-        };
-        for login in self.logins {
-            if login.challenge.body.as_slice() == challenge
-                && response_of(&login.response.body) == Some(response)
-            {
-                return true;
-            }
+    /// The client says the same when it is asked again, and reports that it ended well at the signature of a
+    /// login whose response it gave last, and nowhere else.
+    fn play_client(&self, row: &mut Row<'_>, counts: &mut Counts) {
+        let (alloc, events) = (row.alloc, self.client);
+        let again = scram_client_run_limited(alloc, USER, PASSWORD, VERSION, LIMIT, events);
+        let again = row.made(again, Vec::new(alloc));
+        let replies = scram_client_run_limited(alloc, USER, PASSWORD, VERSION, LIMIT, events);
+        let replies = row.made(replies, Vec::new(alloc));
+        let again = said(row, &again);
+        if said(row, &replies) != again {
+            row.refuse("other replies the second time");
         }
-        false
-    }
-
-    /// How often the client reports that it ended well: each time at the signature of a login whose
-    /// response it gave last, and the same when it is asked again.
-    pub fn reported(&self, alloc: Global) -> Result<usize, Unconfirmed> {
-        let replies = client_replies(alloc, self.client)?;
-        says_again(alloc, self.client, &replies)?;
-        match self.count_reported(&replies) {
-            Some(count) => Ok(count),
-            None => fault(alloc, "a report without its signature"),
-        }
-    }
-
-    /// How often the client reports that it ended well, if each time stands at its signature.
-    fn count_reported(&self, replies: &[Result<ClientReply, ProfileError>]) -> Option<usize> {
-        let mut response: Option<&[u8]> = None;
-        let mut count = 0usize;
-        for (event, reply) in self.client.iter().zip(replies.iter()) {
+        let mut response = None;
+        for (event, reply) in events.iter().zip(replies.iter()) {
             match reply {
                 Ok(ClientReply::Init { .. }) => response = None,
-                Ok(ClientReply::Response { body }) => response = Some(body),
+                Ok(ClientReply::Response { body }) => response = Some(body.as_slice()),
                 Ok(ClientReply::Outcome(outcome)) if outcome.code == SaslCode::Ok => {
-                    if !self.is_signed(response.take(), &event.body) {
-                        return None;
+                    if !self.is_login(false, response.take(), &event.body) {
+                        row.refuse("a report without its signature");
                     }
-                    count = count.saturating_add(1);
+                    counts.reported = counts.reported.saturating_add(1);
                 }
                 _ => {}
             }
         }
-        Some(count)
     }
 
-    /// Whether a body has the signature of a login that has this response.
-    fn is_signed(&self, response: Option<&[u8]>, body: &[u8]) -> bool {
-        let (Some(response), Some(signature)) = (response, signature_of(body)) else {
+    /// Whether a body has the response of a login that has this challenge, or the signature of one that has
+    /// this response.
+    fn is_login(&self, is_response: bool, before: Option<&[u8]>, body: &[u8]) -> bool {
+        let (Some(before), Some(data)) = (before, data_of(body)) else {
             return false;
         };
         for login in self.logins {
-            if login.response.body.as_slice() == response
-                && signature_of(&login.outcome.body) == Some(signature)
-            {
+            let (first, second) = match is_response {
+                true => (&login.challenge, &login.response),
+                false => (&login.response, &login.outcome),
+            };
+            if first.body.as_slice() == before && data_of(&second.body) == Some(data) {
                 return true;
             }
         }
         false
     }
 
-    /// How much an audit of both sides finds, all of it agreed.
-    pub fn found(&self, alloc: Global) -> Result<usize, Unconfirmed> {
+    /// All that an audit of both sides finds is agreed.
+    fn play_audit(&self, row: &mut Row<'_>, counts: &mut Counts) {
+        let (alloc, client, server) = (row.alloc, self.client, self.server);
+        let credentials = self.credentials;
         let findings = audit_limited(
             alloc,
             USER,
             PASSWORD,
-            ScramVersion::Sha256,
+            VERSION,
             LIMIT,
-            self.client,
-            self.credentials,
-            self.server,
-        )?;
+            client,
+            credentials,
+            server,
+        );
+        let findings = row.made(findings, Vec::new(alloc));
         for finding in &findings {
             if !matches!(finding.verdict, Verdict::Agreed { .. }) {
-                return fault(alloc, "a finding that is not agreed");
+                row.refuse("a finding that is not agreed");
             }
         }
-        Ok(findings.len())
+        counts.found = counts.found.saturating_add(findings.len());
     }
 }
 
-/// What the client says to these events.
-fn client_replies(
-    alloc: Global,
-    events: &[Event],
-) -> Result<Vec<Result<ClientReply, ProfileError>>, OutOfMemory> {
-    scram_client_run_limited(alloc, USER, PASSWORD, ScramVersion::Sha256, LIMIT, events)
-}
-
-/// The client says the same when it is asked again.
-fn says_again(
-    alloc: Global,
-    events: &[Event],
-    replies: &[Result<ClientReply, ProfileError>],
-) -> Result<(), Unconfirmed> {
-    let first = client_words(alloc, replies)?;
-    let again = client_replies(alloc, events)?;
-    are_same(alloc, &first, &client_words(alloc, &again)?)
-}
-
-/// What was not to be.
-fn fault<T>(alloc: Global, text: &str) -> Result<T, Unconfirmed> {
-    Err(Unconfirmed::Other(text.to_string(alloc)?))
-}
-
-/// Two lists of replies are the same.
-fn are_same(alloc: Global, first: &[String], second: &[String]) -> Result<(), Unconfirmed> {
-    if first == second {
-        return Ok(());
-    }
-    fault(alloc, "other replies the second time")
-}
-
-/// What a body says, if it is a response.
-fn response_of(body: &[u8]) -> Option<&[u8]> {
+/// What a body says, if it is a response, or its signature, with its `v=`, if it is an outcome that has one.
+fn data_of(body: &[u8]) -> Option<&[u8]> {
     match view_frame(body) {
         Ok((FrameView::Response(data), _)) => Some(data),
-        _ => None,
-    }
-}
-
-/// The signature of a body, with its `v=`, if it is an outcome that has one.
-fn signature_of(body: &[u8]) -> Option<&[u8]> {
-    match view_frame(body) {
         Ok(
             (
                 FrameView::Outcome {
-                    additional_data: Some(data),
+                    additional_data,
                     ..
                 },
                 _,
             ),
-        ) => data.get(..46),
+        ) => additional_data?.get(..46),
         _ => None,
     }
 }

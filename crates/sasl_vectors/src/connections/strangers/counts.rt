@@ -1,8 +1,9 @@
 //! What came of the connections.
 
-use crate::Unconfirmed;
 use crate::connections::fed::Fed;
-use std::alloc::Global;
+use crate::rows::Row;
+use std::alloc::{AllocError, Global};
+use std::fmt::Write;
 
 /// What came of the connections.
 #[derive(Drop)]
@@ -26,33 +27,32 @@ impl Counts {
         }
     }
 
-    /// Adds one.
-    pub fn add(&mut self, fed: &Fed<'_>) -> Result<(), Unconfirmed> {
+    /// Adds one, whose standing the row has said.
+    pub fn add(&mut self, row: &mut Row<'_>, fed: &Fed<'_>) {
         self.calls = self.calls.saturating_add(fed.calls);
         self.taken = self.taken.saturating_add(fed.taken);
-        self.sent = self.sent.saturating_add(fed.sent.as_slice().len());
+        self.sent = self.sent.saturating_add(fed.sent.len());
         for byte in fed.sent.as_slice() {
             self.mixed = self.mixed.wrapping_mul(31).wrapping_add(u64::from(*byte));
         }
-        for (standing, count) in self.standings.iter_mut() {
-            if standing.as_str() == fed.standing.as_str() {
+        let standing = row.take_answer();
+        for (known, count) in self.standings.iter_mut() {
+            if *known == standing {
                 *count = count.saturating_add(1);
-                return Ok(());
+                return;
             }
         }
-        self.standings.push((fed.standing.clone()?, 1))?;
-        Ok(())
+        row.push(&mut self.standings, (standing, 1));
     }
 
-    /// A line behind this head, and one for each standing in the order in which they came.
-    pub fn text(&self, alloc: Global, head: String) -> Result<String, Unconfirmed> {
+    /// A line of all, and one for each standing in the order in which they came.
+    pub fn text(&self, alloc: Global, name: &str, len: usize) -> Result<String, AllocError> {
         let (calls, taken, sent, mixed) = (self.calls, self.taken, self.sent, self.mixed);
         let mut text = format!(in alloc;
-            "{head}, {calls} calls, {taken} bytes taken, {sent} sent, {mixed:016x}\n"
+            "strangers of a {name}: {len} connections, {calls} calls, {taken} bytes taken, {sent} sent, {mixed:016x}\n"
         )?;
-        for (standing, count) in self.standings.iter() {
-            let line = format!(in alloc; "    {count} {standing}\n")?;
-            text.push_str(&line)?;
+        for (standing, count) in &self.standings {
+            write!(text, "    {count} {standing}\n")?;
         }
         Ok(text)
     }
