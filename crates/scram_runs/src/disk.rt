@@ -1,4 +1,4 @@
-//! A system of the tests' own: files in memory, one call of which may fail, and random bytes that count up.
+//! A system of the tests' own: files in memory, one call of which may fail, and random bytes that are known.
 
 use std::alloc::Global;
 use std::cell::Cell;
@@ -48,6 +48,7 @@ pub struct Disk {
     alloc: Global,
     stored: Cell<Vec<Stored>>,
     calls: Rc<Calls>,
+    random: Vec<u8>,
 }
 
 /// An open file.
@@ -60,13 +61,15 @@ pub struct Open {
 }
 
 impl Disk {
-    /// A disk without a file, of which this call fails.
-    pub fn new(alloc: Global, failing: u32) -> Result<Disk> {
+    /// A disk without a file, of which this call fails. Random bytes are, for each call in turn, all the next of
+    /// these, and for further calls all the last; where there are none they count up.
+    pub fn new(alloc: Global, failing: u32, random: Vec<u8>) -> Result<Disk> {
         let made = Cell::new(0);
         Ok(Disk {
             alloc,
             stored: Cell::new(Vec::new(alloc)),
             calls: Rc::new(alloc, Calls { made, failing })?,
+            random,
         })
     }
 
@@ -168,9 +171,11 @@ impl Alloc for Disk {
 
 impl RandomSource for Disk {
     fn fill_bytes(&self, buffer: &mut [u8]) -> Result<()> {
+        let known = self.random.get(self.calls() as usize);
+        let known = known.or(self.random.last()).copied();
         self.calls.count()?;
         for (place, byte) in buffer.iter_mut().enumerate() {
-            *byte = (place % 256) as u8;
+            *byte = known.unwrap_or((place % 256) as u8);
         }
         Ok(())
     }

@@ -1,4 +1,4 @@
-//! Replays runs of the program `scram`, the files of `data/`, and prints one line a file. A run that is not
+//! Replays runs of the programs `scram` and `broker`, the files of `data/`, and prints one line a file. A run that is not
 //! confirmed is printed with what comes of it, and ends the program with status 1.
 #![tactic(auto)]
 
@@ -28,7 +28,7 @@ fn replay<W: Write>(alloc: Global, name: &str, text: &str, output: &mut W) -> io
 }
 
 /// The files of runs.
-static FILES: [&str; 8] = [
+static FILES: [&str; 9] = [
     "words.txt",
     "records.txt",
     "users.txt",
@@ -37,6 +37,7 @@ static FILES: [&str; 8] = [
     "explained.txt",
     "bodies.txt",
     "audits.txt",
+    "brokers.txt",
 ];
 
 /// Replays every file.

@@ -1,19 +1,23 @@
-//! Runs of the program: its words, its input and its files, and what comes of them.
+//! Runs of a program: its words, its input and its files, and what comes of them.
 
 use crate::disk::Disk;
+use broker_logins::log_in;
 use scram_commands::run;
 use std::alloc::{AllocError, Global};
-use std::io::{BufReader, Result};
+use std::io::{BufRead, BufReader, Result, Write};
 
 /// A run as a paragraph has it.
 #[derive(Drop)]
 struct Run {
-    /// The words of the program.
+    /// The words of the program, its name first.
     words: Vec<String>,
 
     /// The input, and whether it is bytes, as what is printed then is.
     input: Vec<u8>,
     is_binary: bool,
+
+    /// Of which bytes the random bytes are, or none where they count up.
+    random: Vec<u8>,
 
     /// The files before the run: names and texts.
     files: Vec<(String, String)>,
@@ -29,12 +33,26 @@ struct Run {
 /// the paragraph says so, each call fails in turn, and leaves the files as they were, with status 4.
 pub fn check(alloc: Global, paragraph: &str) -> Result<Option<String>> {
     let run = read(alloc, paragraph)?;
-    let (calls, told) = play(alloc, &run, 0)?;
+    if run.is_binary {
+        return play_pieces(alloc, &run);
+    }
+    let (calls, told) = play(alloc, &run, 0, 4096)?;
     if told.as_str() != run.wanted.as_str() {
         return Ok(Some(told));
     }
     if run.fails {
         return fail_each(alloc, &run, calls);
+    }
+    Ok(None)
+}
+
+/// What comes of a run whose input comes in pieces of these lengths, if that is another than is wanted.
+fn play_pieces(alloc: Global, run: &Run) -> Result<Option<String>> {
+    for piece in [1, 7, 4096] {
+        let (_, told) = play(alloc, run, 0, piece)?;
+        if told.as_str() != run.wanted.as_str() {
+            return Ok(Some(told));
+        }
     }
     Ok(None)
 }
@@ -46,7 +64,7 @@ fn fail_each(alloc: Global, run: &Run, calls: u32) -> Result<Option<String>> {
         return Ok(Some("no call\n".to_string(alloc)?));
     }
     for failing in 1..=calls {
-        let (_, told) = play(alloc, run, failing)?;
+        let (_, told) = play(alloc, run, failing, 4096)?;
         if !told.as_str().ends_with(before.as_str()) {
             return Ok(Some(format!(in alloc; "call {failing} fails:\n{told}")?));
         }
@@ -56,7 +74,7 @@ fn fail_each(alloc: Global, run: &Run, calls: u32) -> Result<Option<String>> {
 
 /// A disk with the files of a run, of which a call fails.
 fn disk_of(alloc: Global, run: &Run, failing: u32) -> Result<Disk> {
-    let disk = Disk::new(alloc, failing)?;
+    let disk = Disk::new(alloc, failing, run.random.clone()?)?;
     for (name, text) in &run.files {
         disk.store(name, text.as_bytes())?;
     }
@@ -71,21 +89,27 @@ fn told_before(alloc: Global, run: &Run) -> Result<String> {
     Ok(told)
 }
 
-/// Runs the program with a call that fails: how many calls it made, and what came of it.
-fn play(alloc: Global, run: &Run, failing: u32) -> Result<(u32, String)> {
+/// Runs the program with a call that fails, and an input in pieces of a length: how many calls it made, and what
+/// came of it.
+fn play(alloc: Global, run: &Run, failing: u32, piece: usize) -> Result<(u32, String)> {
     let disk = disk_of(alloc, run, failing)?;
     let mut told = String::new(alloc);
-    play_on(&disk, run, &mut told)?;
+    play_on(&disk, run, piece, &mut told)?;
     disk.tell(&mut told)?;
     Ok((disk.calls(), told))
 }
 
 /// Runs the program, and tells its output, its errors and its status.
-fn play_on(disk: &Disk, asked: &Run, told: &mut String) -> Result<()> {
+fn play_on(disk: &Disk, asked: &Run, piece: usize, told: &mut String) -> Result<()> {
     let alloc = disk.alloc();
     let (mut output, mut errors) = (Vec::new(alloc), Vec::new(alloc));
-    let mut input = BufReader::new(alloc, asked.input.as_slice())?;
-    let status = run(disk, &asked.words, &mut input, &mut output, &mut errors);
+    let mut input = BufReader::with_capacity(alloc, piece, asked.input.as_slice())?;
+    let status = match asked.words.as_slice() {
+        [name, words @ ..] if name.as_str() == "broker" => {
+            serve(disk, words, &mut input, &mut output, &mut errors)?
+        }
+        words => run(disk, words, &mut input, &mut output, &mut errors),
+    };
     if asked.is_binary {
         write!(told, "X {}\n", hex::encode(alloc, output.as_slice())?)?;
     } else {
@@ -94,6 +118,24 @@ fn play_on(disk: &Disk, asked: &Run, told: &mut String) -> Result<()> {
     tell_lines(told, "!", &errors)?;
     write!(told, "= {status}\n")?;
     Ok(())
+}
+
+/// Serves the connections of an input as the program `broker` does by these words, and answers its status.
+fn serve<I: BufRead>(
+    disk: &Disk,
+    words: &[String],
+    input: &mut I,
+    output: &mut Vec<u8>,
+    errors: &mut Vec<u8>,
+) -> Result<u8> {
+    let records = words.first().map_or("", |word| word.as_str());
+    match log_in(disk, records, words.len() > 1, input, output) {
+        Ok((user, wrong)) => {
+            writeln!(errors, "{user:?} logged in, after {wrong} wrong logins")?;
+            Ok(0)
+        }
+        Err(_) => Ok(1),
+    }
 }
 
 /// Tells lines behind a mark.
@@ -117,6 +159,7 @@ fn read(alloc: Global, paragraph: &str) -> Result<Run> {
         words: Vec::new(alloc),
         input: Vec::new(alloc),
         is_binary: false,
+        random: Vec::new(alloc),
         files: Vec::new(alloc),
         wanted: String::new(alloc),
         fails: false,
@@ -138,6 +181,7 @@ fn read_line(alloc: Global, run: &mut Run, line: &str) -> Result<()> {
             run.is_binary = true;
             run.input = hex::decode(alloc, text).unwrap_or(Vec::new(alloc));
         }
+        "r" => run.random = hex::decode(alloc, text).unwrap_or(Vec::new(alloc)),
         "f" => run
             .files
             .push((text.to_string(alloc)?, String::new(alloc)))?,
