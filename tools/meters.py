@@ -27,6 +27,7 @@ import re
 import sys
 import textwrap
 from collections import Counter, defaultdict
+from functools import cached_property, lru_cache
 from pathlib import Path
 
 TOP = Path(__file__).resolve().parent.parent
@@ -103,16 +104,20 @@ class Function:
         self.kit = [(found.start(), re.sub(r"[\s:.]", "", found[0])) for found in KIT.finditer(body)]
         self.loops = [(found.start(), self.loop_end(found)) for found in LOOP.finditer(body)]
 
-    def calls(self, names):
-        """The calls of these names: their place, the type before the name, the name, and whether it is a method's."""
+    @cached_property
+    def calls(self):
+        """What may be a call: its place, the type before the name, the name, and whether it is a method's."""
+        calls = []
         for found in WORD.finditer(self.body):
-            if found[1] not in names:
+            text = self.body[max(0, found.start() - 80):found.start()]
+            if not found[2] and not text.rstrip().endswith("::"):
                 continue
-            before = BEFORE.search(self.body[max(0, found.start() - 80):found.start()])
+            before = BEFORE.search(text)
             method, qualifier = bool(before and before[1]), before[2] or "" if before else ""
             qualifier = self.owner if qualifier == "Self" else qualifier
             if found[2] or qualifier[:1].isupper():
-                yield found.start(), qualifier if qualifier[:1].isupper() else "", found[1], method
+                calls.append((found.start(), qualifier if qualifier[:1].isupper() else "", found[1], method))
+        return calls
 
     def loop_end(self, found):
         """Where a loop ends: at its block's brace, or at the end of a closure's arguments."""
@@ -138,29 +143,36 @@ def functions_of(file, crate, path, text):
                        text[begin:closing(text, begin)], text.count("\n", 0, begin) + 1)
 
 
+@lru_cache(maxsize=None)
+def read(file, text):
+    """The functions of a file, the names of its traits, and what is refused in it alone."""
+    crate, _, path = file.split("/", 3)[1:]
+    code = code_of(text)
+    functions = [*functions_of(file, crate, f"{crate}::{path.removesuffix('.rt').replace('/', '::')}", code)]
+    faults = [f"{file}: another name: {found[0].strip()}" for found in RENAMED.finditer(code)]
+    faults += [f"{file}: a Meter can be copied: {found[0].strip()}" for found in COPIED.finditer(text)]
+    return functions, {*re.findall(r"\b(?:trait|type) (\w+)", code)}, faults
+
+
 class Sources:
     """The functions of the libraries by their texts, and which of them work where no meter is handed in."""
 
     def __init__(self, texts):
         self.functions, self.faults, self.traits = [], [], set()
         for file, text in texts.items():
-            self.read(file, text)
+            functions, traits, faults = read(file, text)
+            self.functions += functions
+            self.traits |= traits
+            self.faults += faults
         self.by_name, self.callers = defaultdict(list), defaultdict(list)
         for function in self.functions:
             self.by_name[function.name].append(function)
         for function in self.functions:
-            for call in function.calls(self.by_name):
-                self.callers[call[2]].append((function, call))
+            for call in function.calls:
+                if call[2] in self.by_name:
+                    self.callers[call[2]].append((function, call))
         self.takers = {function for function in self.functions if function.takes}
         self.unseen = self.reached()
-
-    def read(self, file, text):
-        crate, _, path = file.split("/", 3)[1:]
-        code = code_of(text)
-        self.functions += functions_of(file, crate, f"{crate}::{path.removesuffix('.rt').replace('/', '::')}", code)
-        self.traits |= set(re.findall(r"\b(?:trait|type) (\w+)", code))
-        self.faults += [f"{file}: another name: {found[0].strip()}" for found in RENAMED.finditer(code)]
-        self.faults += [f"{file}: a Meter can be copied: {found[0].strip()}" for found in COPIED.finditer(text)]
 
     def reached(self):
         """The functions that take no meter, and make one, hash, or call one of them."""
