@@ -5,6 +5,7 @@ use crate::calls::{Answer, Call, right, same, stand, take_none, want};
 use crate::handed::{Handed, handed_of, server_ran};
 use crate::scram_servers::{Server, server};
 use fe2o3_sasl::OutOfMemory;
+use fe2o3_sasl::hmac::Meter;
 use fe2o3_sasl::runs::{Event, ServerReply, acceptor_step, run_acceptor, scram_server_run};
 use fe2o3_sasl::sasl_acceptor::{
     SaslAcceptor, SaslAcceptorExt, SaslAnonymousMechanism, SaslPlainMechanism, SaslServerFrame,
@@ -26,7 +27,7 @@ enum Does {
     /// A run over the one body.
     Run,
 
-    /// `on_init` or `on_response` of the body's frame.
+    /// `on_init` or `on_response_metered` of the body's frame.
     Answer,
 
     /// The frame of its mechanisms.
@@ -103,7 +104,10 @@ fn sent(outcome: Result<SaslServerFrame, OutOfMemory>, handed: &Handed) -> Answe
 fn answered<A: SaslAcceptor>(alloc: Global, acceptor: &mut A, handed: &mut Handed) -> Answer {
     match handed.frames.pop() {
         Some(Frame::Init(init)) => sent(acceptor.on_init(alloc, init, &[2; 32]), handed),
-        Some(Frame::Response(response)) => sent(acceptor.on_response(alloc, response), handed),
+        Some(Frame::Response(response)) => {
+            let answer = acceptor.on_response_metered(alloc, response, &mut Meter::new());
+            sent(answer, handed)
+        }
         _ => Answer::Wrong,
     }
 }

@@ -29,10 +29,10 @@ enum Does {
     /// A run over the one body.
     Run,
 
-    /// `on_frame` of the body's frame.
+    /// `on_frame_metered` of the body's frame.
     OnFrame,
 
-    /// `on_view` of the body's view.
+    /// `on_view_metered` of the body's view.
     OnView,
 
     /// The name of the mechanism in the init that is wanted.
@@ -141,7 +141,8 @@ fn negotiated(outcome: Result<Negotiation, ProfileError>, handed: &Handed) -> An
 fn on_frame(alloc: Global, profile: &mut SaslProfile, row: &Row, handed: &mut Handed) -> Answer {
     match handed.frames.pop() {
         Some(frame) => {
-            let answer = profile.on_frame(alloc, frame, row.hostname, &[1; 32]);
+            let mut meter = Meter::new();
+            let answer = profile.on_frame_metered(alloc, frame, row.hostname, &[1; 32], &mut meter);
             negotiated(answer, handed)
         }
         None => Answer::Wrong,
@@ -158,7 +159,9 @@ fn on_view(
 ) -> Answer {
     match view_frame(&event.body) {
         Ok((view, _)) => {
-            negotiated(profile.on_view(alloc, view, row.hostname, &[1; 32]), handed)
+            let mut meter = Meter::new();
+            let answer = profile.on_view_metered(alloc, view, row.hostname, &[1; 32], &mut meter);
+            negotiated(answer, handed)
         }
         Err(_) => Answer::Wrong,
     }
