@@ -18,6 +18,7 @@ check:
 	@tools/progress $$PPID &
 	cd crates/fe2o3_sasl_wire && rt check
 	cd crates/fe2o3_scram && rt check
+	cd crates/fe2o3_sasl_runs && rt check
 	cd crates/fe2o3_sasl && rt check
 	cd crates/fe2o3_sasl_negotiation && rt check
 	for crate in crates/*/; do (cd $$crate && rt fmt) || exit 1; done

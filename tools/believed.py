@@ -1,7 +1,7 @@
 #!/usr/bin/env python3
 """What a reader has to believe of a statement: every definition that it rests on, file by file.
 
-    tools/believed.py [MODULE]      the module defaults to the headline's, Rattle.fe2o3_sasl.specs.Headline
+    tools/believed.py [MODULE]      the module defaults to the headline's, Rattle.fe2o3_sasl_runs.specs.Headline
 
 For each file of specs/: how many lines it has, and how many of its definitions the statements of the
 module reach, with their lines (comments with them; imports, blank lines and what is not reached without).
@@ -11,7 +11,7 @@ import sys
 from pathlib import Path
 
 CRATES = Path(__file__).resolve().parent.parent / "crates"
-LIBRARIES = ("fe2o3_sasl_wire", "fe2o3_scram", "fe2o3_sasl", "fe2o3_sasl_negotiation")
+LIBRARIES = ("fe2o3_sasl_wire", "fe2o3_scram", "fe2o3_sasl_runs", "fe2o3_sasl", "fe2o3_sasl_negotiation")
 HEAD = re.compile(r"(?:abbrev |unfoldable |infix\w* \d+ \S+ )*(?:pub )?(?:record |data )?(\S+)")
 USE = re.compile(r"use ([\w.]+?)(?:\.\{(.*)\})?(?: as (\w+))?$")
 
@@ -66,7 +66,7 @@ def cited(module, text):
 
 
 def main():
-    start = sys.argv[1] if len(sys.argv) > 1 else "Rattle.fe2o3_sasl.specs.Headline"
+    start = sys.argv[1] if len(sys.argv) > 1 else "Rattle.fe2o3_sasl_runs.specs.Headline"
     open_ones = [(start, place) for place in range(len(FILES[start][3]))]
     reached = set()
     while open_ones:

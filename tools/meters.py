@@ -31,7 +31,7 @@ from functools import cached_property, lru_cache
 from pathlib import Path
 
 TOP = Path(__file__).resolve().parent.parent
-LIBRARIES = ("fe2o3_sasl_wire", "fe2o3_scram", "fe2o3_sasl", "fe2o3_sasl_negotiation")
+LIBRARIES = ("fe2o3_sasl_wire", "fe2o3_scram", "fe2o3_sasl_runs", "fe2o3_sasl", "fe2o3_sasl_negotiation")
 LIST = "tools/meters.txt"
 UNSORTED = "# Put each of these under its reason."
 NO_CODE = re.compile(

@@ -9,7 +9,7 @@ import meters
 
 TEXTS = meters.texts_of(meters.TOP)
 LISTED = (meters.TOP / meters.LIST).read_text(encoding="utf-8")
-SCRAM, SASL = "crates/fe2o3_scram/src/", "crates/fe2o3_sasl/src/"
+SCRAM, RUNS, SASL = "crates/fe2o3_scram/src/", "crates/fe2o3_sasl_runs/src/", "crates/fe2o3_sasl/src/"
 CLIENT, FINAL = SCRAM + "scram_client.rt", SCRAM + "scram_messages/client_final.rt"
 PLAIN_OF_CLIENT = "self.compute_client_final_message_metered(alloc, server_first, &mut Meter::new())"
 PLAIN_OF_FINAL = ("self.compute_client_final_message_metered(\n            alloc,\n            client_nonce,\n"
@@ -109,12 +109,12 @@ class Meters(unittest.TestCase):
 
     def test_an_acceptor_that_stretches_before_each_challenge(self):
         old = "let Some(client_first) = &init.initial_response else {"
-        self.refused(["on_init_metered: Meter::new", "on_init_metered: h_i_metered"], SASL + "sasl_acceptor.rt", first(
+        self.refused(["on_init_metered: Meter::new", "on_init_metered: h_i_metered"], RUNS + "sasl_acceptor.rt", first(
             old, 'let _ = ScramVersion::Sha256.h_i_metered(alloc, b"", b"", 4294967295, &mut Meter::new());\n        '))
 
     def test_an_acceptor_that_stretches_by_a_plain_call(self):
         old = "let Some(client_first) = &init.initial_response else {"
-        self.refused(["on_init_metered: h_i"], SASL + "sasl_acceptor.rt", first(
+        self.refused(["on_init_metered: h_i"], RUNS + "sasl_acceptor.rt", first(
             old, 'let _ = ScramVersion::Sha256.h_i(alloc, b"", b"", 4294967295);\n        '))
 
     def test_each_form_of_a_call(self):
@@ -127,7 +127,7 @@ class Meters(unittest.TestCase):
 
     def test_a_profile_that_stretches_before_its_limit(self):
         old = "let Ok(server_first) = str::from_utf8(challenge) else {"
-        self.refused(["answer: h_i"], SASL + "sasl_profile/scram_frames.rt", first(
+        self.refused(["answer: h_i"], RUNS + "sasl_profile/scram_frames.rt", first(
             old, 'let _ = ScramVersion::Sha256.h_i(alloc, b"", b"", 4294967295);\n    '))
 
     def test_an_audit_that_stretches_before_it_looks_at_the_kept_keys(self):

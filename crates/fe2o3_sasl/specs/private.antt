@@ -1,5 +1,4 @@
 -- What contracts of private functions cite. Nobody has to believe it.
-pub mod Writing
 pub mod Receipts
 pub mod ClientReceipts
 pub mod ServerReceipts

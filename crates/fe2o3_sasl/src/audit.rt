@@ -9,8 +9,9 @@
 ghost use Rattle.std.specs.Prelude.{◌≡◌, IfOk, map, false};
 ghost use Rattle.fe2o3_scram.specs.Credentials.{serving};
 ghost use Rattle.fe2o3_scram.specs.ClientSecret.{no_limit};
-ghost use Rattle.fe2o3_sasl.specs.Audit.{AuditsEvents, finding_of};
-ghost use Rattle.fe2o3_sasl.specs.Runs.{given, login_of};
+ghost use Rattle.fe2o3_sasl_runs.specs.Verdicts.{AuditsEvents};
+ghost use Rattle.fe2o3_sasl.specs.Audit.{finding_of};
+ghost use Rattle.fe2o3_sasl_runs.specs.Runs.{given, login_of};
 ghost use Rattle.fe2o3_sasl.specs.declared.audit.AuditError.TheVariants.{OutOfMemory as NoMemory};
 
 mod client_receipts;
@@ -21,8 +22,8 @@ mod server_receipts;
 use crate::audit::client_receipts::{client_is_complete, client_receipts};
 use crate::audit::matching::{match_proofs, match_verifiers};
 use crate::audit::server_receipts::{server_is_complete, server_receipts};
-use crate::events::Event;
-use crate::whole_runs::{scram_client_run_limited, scram_server_run_unbound};
+use fe2o3_sasl_runs::events::Event;
+use fe2o3_sasl_runs::whole_runs::{scram_client_run_limited, scram_server_run_unbound};
 use fe2o3_scram::credentials::ScramCredentialProvider;
 use fe2o3_scram::hmac::ScramVersion;
 use std::alloc::{AllocError, Global};

@@ -3,12 +3,12 @@
 pub use crate::audit::{
     AuditError, Finding, FindingKind, Parameters, Verdict, audit, audit_limited, audit_unbound,
 };
-pub use crate::events::{ClientReply, Event, EventError, ServerReply};
-pub use crate::steps::{
+pub use fe2o3_sasl_runs::events::{ClientReply, Event, EventError, ServerReply};
+pub use fe2o3_sasl_runs::steps::{
     acceptor_body_step, acceptor_step, acceptor_step_metered, profile_body_step, profile_step,
     profile_step_metered,
 };
-pub use crate::whole_runs::{
+pub use fe2o3_sasl_runs::whole_runs::{
     run_acceptor, run_profile, scram_client_run, scram_client_run_limited, scram_server_run,
     scram_server_run_unbound,
 };

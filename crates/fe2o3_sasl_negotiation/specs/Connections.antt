@@ -4,12 +4,12 @@ use Rattle.std.specs.Prelude.{◌≡◌, ◌↔◌, ℕ, ◌+◌, ◌≤◌, Opt
 use Rattle.fe2o3_sasl_wire.specs.declared.amqp_types.SaslCode.TheVariants as outcomes
 use Rattle.fe2o3_scram.specs.Credentials.{Provider}
 use Rattle.fe2o3_scram.specs.ScramServer.{Initial}
-use Rattle.fe2o3_sasl.specs.ClientHistory.{ClientHistory}
-use Rattle.fe2o3_sasl.specs.Events.{Given, Login, ServerSays, Concluded, ClientSays, Reported}
-use Rattle.fe2o3_sasl.specs.Headline.{AnswersOkExactly, ReportsOkExactly, TakenVerifiersAgree}
-use Rattle.fe2o3_sasl.specs.Profiles.{Profile, scram_profile}
-use Rattle.fe2o3_sasl.specs.SaslAcceptor.{Acceptor, ScramAcceptor, acceptor_names, acceptor_machine, acceptor_user}
-use Rattle.fe2o3_sasl.specs.ServerHistory.{ServerHistory, LoggedIn as UserLoggedIn}
+use Rattle.fe2o3_sasl_runs.specs.ClientHistory.{ClientHistory}
+use Rattle.fe2o3_sasl_runs.specs.Events.{Given, Login, ServerSays, Concluded, ClientSays, Reported}
+use Rattle.fe2o3_sasl_runs.specs.Headline.{AnswersOkExactly, ReportsOkExactly, TakenVerifiersAgree}
+use Rattle.fe2o3_sasl_runs.specs.Profiles.{Profile, scram_profile}
+use Rattle.fe2o3_sasl_runs.specs.SaslAcceptor.{Acceptor, ScramAcceptor, acceptor_names, acceptor_machine, acceptor_user}
+use Rattle.fe2o3_sasl_runs.specs.ServerHistory.{ServerHistory, LoggedIn as UserLoggedIn}
 use Rattle.fe2o3_sasl_negotiation.specs.declared.standing.Due.TheVariants.{Header}
 use Rattle.fe2o3_sasl_negotiation.specs.declared.standing.Standing.TheVariants.{Wanting, LoggedIn}
 use Rattle.fe2o3_sasl_negotiation.specs.ClientNegotiation.{ClientAnswers}

@@ -4,9 +4,9 @@ use Rattle.std.specs.Prelude.{◌≡◌, ◌⊎◌, ◌<◌, ◌≤◌, ◌+◌,
 use Rattle.fe2o3_scram.specs.Credentials.{Provider}
 use Rattle.fe2o3_scram.specs.ScramClient.{ClientSide}
 use Rattle.fe2o3_scram.specs.ScramServer.{ServerState}
-use Rattle.fe2o3_sasl.specs.Costs.{acceptor_hmacs}
-use Rattle.fe2o3_sasl.specs.Profiles.{Profile, ScramProfile}
-use Rattle.fe2o3_sasl.specs.SaslAcceptor.{Acceptor, ScramAcceptor, acceptor_names, acceptor_machine}
+use Rattle.fe2o3_sasl_runs.specs.Costs.{acceptor_hmacs}
+use Rattle.fe2o3_sasl_runs.specs.Profiles.{Profile, ScramProfile}
+use Rattle.fe2o3_sasl_runs.specs.SaslAcceptor.{Acceptor, ScramAcceptor, acceptor_names, acceptor_machine}
 use Rattle.fe2o3_sasl_negotiation.specs.declared.standing.Due.{Due}
 use Rattle.fe2o3_sasl_negotiation.specs.ClientNegotiation.{ClientAnswers, ClientCosts}
 use Rattle.fe2o3_sasl_negotiation.specs.Connections.{fresh}

@@ -1,6 +1,6 @@
 -- What holds however the bytes of a connection are cut into calls.
 use Rattle.std.specs.Prelude.{◌≡◌, ◌≢◌, ◌⊎◌, ℕ, Option, List, [], ◌∷◌, ◌++◌, take, drop}
-use Rattle.fe2o3_sasl.specs.SaslAcceptor.{acceptor_names, acceptor_machine}
+use Rattle.fe2o3_sasl_runs.specs.SaslAcceptor.{acceptor_names, acceptor_machine}
 use Rattle.fe2o3_sasl_negotiation.specs.declared.standing.Due.{Due}
 use Rattle.fe2o3_sasl_negotiation.specs.declared.standing.Standing.TheVariants.{Wanting}
 use Rattle.fe2o3_sasl_negotiation.specs.ClientNegotiation.{ClientAnswers}

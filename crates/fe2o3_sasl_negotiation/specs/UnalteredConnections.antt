@@ -4,12 +4,12 @@ use Rattle.std.specs.Prelude.{◌≡◌, ℕ, Some, List, [], ◌++◌}
 use Rattle.fe2o3_sasl_wire.specs.declared.sasl_frames.error.Error.TheVariants as faults
 use Rattle.fe2o3_scram.specs.Credentials.{Provider}
 use Rattle.fe2o3_scram.specs.ScramServer.{Initial}
-use Rattle.fe2o3_sasl.specs.Events.{Login, IsLogin, Frame as FrameFault}
-use Rattle.fe2o3_sasl.specs.ProfileFaults.{client_fault}
-use Rattle.fe2o3_sasl.specs.Profiles.{Profile, scram_profile}
-use Rattle.fe2o3_sasl.specs.SaslAcceptor.{Acceptor, ScramAcceptor, acceptor_names, acceptor_machine, acceptor_user}
-use Rattle.fe2o3_sasl.specs.TwoSides.{sides_of}
-use Rattle.fe2o3_sasl.specs.UnalteredRuns.{HoldsLogin}
+use Rattle.fe2o3_sasl_runs.specs.Events.{Login, IsLogin, Frame as FrameFault}
+use Rattle.fe2o3_sasl_runs.specs.ProfileFaults.{client_fault}
+use Rattle.fe2o3_sasl_runs.specs.Profiles.{Profile, scram_profile}
+use Rattle.fe2o3_sasl_runs.specs.SaslAcceptor.{Acceptor, ScramAcceptor, acceptor_names, acceptor_machine, acceptor_user}
+use Rattle.fe2o3_sasl_runs.specs.TwoSides.{sides_of}
+use Rattle.fe2o3_sasl_runs.specs.UnalteredRuns.{HoldsLogin}
 use Rattle.fe2o3_sasl_negotiation.specs.declared.standing.ClosedBecause.TheVariants.{FrameSize, ReplyTooLarge, Unread, Profile as ProfileRefused}
 use Rattle.fe2o3_sasl_negotiation.specs.declared.standing.Standing.{Standing}
 use Rattle.fe2o3_sasl_negotiation.specs.declared.standing.Standing.TheVariants.{LoggedIn, Closed}

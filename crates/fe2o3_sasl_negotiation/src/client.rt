@@ -1,16 +1,16 @@
 //! The client's side of a connection (AMQP 1.0, part 5, section 5.3.2).
 
 ghost use Rattle.std.specs.Prelude.{◌≡◌, ◌≢◌, ◌<◌, ◌≤◌, ◌^◌, ◌++◌, ℕ, List, Option, [], IfOk, IfErr, OnOk, OnErr, option_map, string_bytes, length, drop, min};
-ghost use Rattle.fe2o3_sasl.specs.Runs.{ProfileSteps, client_answer, client_reply};
-ghost use Rattle.fe2o3_sasl.specs.SaslProfile.{profile_of};
-ghost use Rattle.fe2o3_sasl.specs.Costs.{ProfileStepCosts};
+ghost use Rattle.fe2o3_sasl_runs.specs.Runs.{ProfileSteps, client_answer, client_reply};
+ghost use Rattle.fe2o3_sasl_runs.specs.SaslProfile.{profile_of};
+ghost use Rattle.fe2o3_sasl_runs.specs.Costs.{ProfileStepCosts};
 ghost use Rattle.fe2o3_sasl_negotiation.specs.Framing.{IsPart, IsPart-prop, sasl_header};
 ghost use Rattle.fe2o3_sasl_negotiation.specs.ClientNegotiation.{Opens, Says, Replies, ClientAnswers, ClientReceives, ReplyCosts, UnitCosts, ClientCosts};
 ghost use Rattle.fe2o3_sasl_negotiation.specs.SetDown.{IsKept, side_of};
 ghost use Rattle.fe2o3_sasl_negotiation.specs.private.Units.{Appends};
-ghost use Rattle.fe2o3_sasl.specs.Events.{Reported, Refused};
-ghost use Rattle.fe2o3_sasl.specs.ProfileFaults.{client_fault};
-ghost use Rattle.fe2o3_sasl.specs.declared.sasl_profile.error.ProfileError.TheVariants.{OutOfMemory as ProfileWantsMemory};
+ghost use Rattle.fe2o3_sasl_runs.specs.Events.{Reported, Refused};
+ghost use Rattle.fe2o3_sasl_runs.specs.ProfileFaults.{client_fault};
+ghost use Rattle.fe2o3_sasl_runs.specs.declared.sasl_profile.error.ProfileError.TheVariants.{OutOfMemory as ProfileWantsMemory};
 ghost use Rattle.fe2o3_sasl_wire.specs.FrameView.{shown};
 ghost use Rattle.fe2o3_sasl_negotiation.specs.declared.standing.Due.TheVariants.{Header};
 ghost use Rattle.fe2o3_sasl_negotiation.specs.declared.standing.Standing.TheVariants.{Wanting};
@@ -19,8 +19,9 @@ use crate::framing::{Arrived, MAX_FRAME, Step, end_unit, is_sasl, screen, send, 
 use crate::set_down::{SetDown, TakeUpError};
 use crate::standing::{ClosedBecause, Due, Received, Standing, Turn};
 use bytes::BytesMut;
-use fe2o3_sasl::{ClientReply, Meter, OutOfMemory, ProfileError, SaslProfile, profile_body_step};
+use fe2o3_sasl_runs::{ClientReply, OutOfMemory, ProfileError, SaslProfile, profile_body_step};
 use fe2o3_sasl_wire::{ProtocolHeader, SaslCode};
+use fe2o3_scram::Meter;
 use std::alloc::Global;
 
 /// The client's side of one connection, which logs in by the profile.

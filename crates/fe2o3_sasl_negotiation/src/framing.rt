@@ -11,7 +11,7 @@ ghost use Rattle.fe2o3_sasl_negotiation.specs.declared.standing.Standing.TheVari
 
 use crate::standing::{ClosedBecause, Due, Standing, Turn};
 use bytes::BytesMut;
-use fe2o3_sasl::OutOfMemory;
+use fe2o3_sasl_runs::OutOfMemory;
 use fe2o3_sasl_wire::{FrameView, ProtocolHeader, view_frame};
 
 /// The most bytes of a SASL frame (AMQP 1.0, part 5, section 5.3.1).

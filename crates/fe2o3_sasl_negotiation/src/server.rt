@@ -1,9 +1,9 @@
 //! The server's side of a connection (AMQP 1.0, part 5, section 5.3.2).
 
 ghost use Rattle.std.specs.Prelude.{◌≡◌, ◌≢◌, ◌<◌, ◌≤◌, ◌^◌, ◌++◌, ℕ, List, Option, Some, None, [], IfOk, IfErr, OnOk, OnErr, option_map, length, drop, min};
-ghost use Rattle.fe2o3_sasl.specs.Runs.{AcceptorSteps, server_reply, server_answer};
-ghost use Rattle.fe2o3_sasl.specs.Events.{Failed};
-ghost use Rattle.fe2o3_sasl.specs.Costs.{AcceptorStepCosts};
+ghost use Rattle.fe2o3_sasl_runs.specs.Runs.{AcceptorSteps, server_reply, server_answer};
+ghost use Rattle.fe2o3_sasl_runs.specs.Events.{Failed};
+ghost use Rattle.fe2o3_sasl_runs.specs.Costs.{AcceptorStepCosts};
 ghost use Rattle.fe2o3_sasl_negotiation.specs.Framing.{IsPart, IsPart-prop};
 ghost use Rattle.fe2o3_sasl_negotiation.specs.Negotiations.{Completes, Answer, Receives};
 ghost use Rattle.fe2o3_sasl_negotiation.specs.ServerNegotiation.{offer_body as offer_of, Opens, Says, Replies, ReplyCosts, UnitCosts, ServerAnswers, ServerReceives, ServerCosts};
@@ -17,10 +17,11 @@ use crate::framing::{Arrived, MAX_FRAME, Step, end_unit, is_sasl, screen, send, 
 use crate::set_down::{SetDown, TakeUpError};
 use crate::standing::{ClosedBecause, Due, Received, Standing, Turn};
 use bytes::BytesMut;
-use fe2o3_sasl::{
-    Meter, NamesUser, OutOfMemory, SaslAcceptor, SaslAcceptorExt, ServerReply, acceptor_body_step,
+use fe2o3_sasl_runs::{
+    NamesUser, OutOfMemory, SaslAcceptor, SaslAcceptorExt, ServerReply, acceptor_body_step,
 };
 use fe2o3_sasl_wire::{Error, Frame, FrameCodec, ProtocolHeader, SaslCode};
+use fe2o3_scram::Meter;
 use std::alloc::Global;
 
 /// The server's side of one connection, which logs in by the acceptor.

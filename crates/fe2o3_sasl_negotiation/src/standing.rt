@@ -1,6 +1,6 @@
 //! How a negotiation stands.
 
-use fe2o3_sasl::ProfileError;
+use fe2o3_sasl_runs::ProfileError;
 use fe2o3_sasl_wire::{Error, SaslCode};
 
 /// Why a negotiation is closed.

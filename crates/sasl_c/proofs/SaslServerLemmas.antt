@@ -10,7 +10,7 @@ use Rattle.fe2o3_scram.specs.declared.scram_messages.gs2_header.Gs2Header.TheVar
 use Rattle.fe2o3_scram.specs.Credentials.{Records, VersionedRecord, versioned}
 use Rattle.fe2o3_scram.specs.ScramServer.{ServerState, open_challenge}
 use Rattle.fe2o3_scram.specs.ServerFirst.{Challenge}
-use Rattle.fe2o3_sasl.specs.declared.one_of.Part.{Part}
+use Rattle.fe2o3_sasl_runs.specs.declared.one_of.Part.{Part}
 use Rattle.fe2o3_sasl_negotiation.specs.declared.server.ServerNegotiation.{ServerNegotiation}
 use Rattle.fe2o3_sasl_negotiation.specs.declared.standing.ClosedBecause.{ClosedBecause}
 use Rattle.fe2o3_sasl_negotiation.specs.declared.standing.Standing.{Standing}

@@ -10,7 +10,7 @@ use Rattle.fe2o3_scram.specs.ClientFirst.{ClientFirst, ReadsClientFirst}
 use Rattle.fe2o3_scram.specs.Hmac.{mechanism_name}
 use Rattle.fe2o3_scram.specs.Readings.{IsFirst}
 use Rattle.fe2o3_scram.proofs.lemmas.messages.ClientFirstLemmas.{one_client_first}
-use Rattle.fe2o3_sasl.specs.PlainAuthenticator.{IsTaken, PlainParts, SpellsPlain}
+use Rattle.fe2o3_sasl_runs.specs.PlainAuthenticator.{IsTaken, PlainParts, SpellsPlain}
 use Rattle.fe2o3_sasl_negotiation.specs.declared.set_down.SetDown.{SetDown}
 use Rattle.fe2o3_sasl_negotiation.specs.declared.standing.Due.{Due}
 use Rattle.fe2o3_sasl_negotiation.specs.declared.standing.Due.TheVariants.{Frame}

@@ -7,8 +7,8 @@ use Rattle.fe2o3_scram.specs.declared.scram_messages.error.ServerScramErrorKind.
 use Rattle.std.specs.Prelude.{Result, Ok, Err, IfOk, IfErr}
 use Rattle.fe2o3_sasl_wire.specs.declared.sasl_frames.error.Error.{Error}
 use Rattle.fe2o3_sasl_wire.specs.declared.sasl_frames.error.Error.TheVariants as faults
-use Rattle.fe2o3_sasl.specs.declared.sasl_profile.error.ProfileError.{ProfileError}
-use Rattle.fe2o3_sasl.specs.declared.sasl_profile.error.ProfileError.TheVariants as profile
+use Rattle.fe2o3_sasl_runs.specs.declared.sasl_profile.error.ProfileError.{ProfileError}
+use Rattle.fe2o3_sasl_runs.specs.declared.sasl_profile.error.ProfileError.TheVariants as profile
 use Rattle.sasl_c.specs.Connection.{frame_status, profile_status}
 use Rattle.sasl_c.specs.Status.{client_status, server_status}
 use Rattle.sasl_c.specs.declared.status.Status.TheVariants.{OutOfMemory, RoomTooSmall}

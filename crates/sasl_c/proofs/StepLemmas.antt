@@ -4,11 +4,11 @@ use Rattle.std.proofs.Common.{arith, refl, sym, ap, inl, inr, ◌≡◌, ◌≤�
 use Rattle.std.specs.Prelude.{Option}
 use Rattle.fe2o3_sasl_wire.specs.declared.amqp_types.SaslCode.{SaslCode}
 use Rattle.fe2o3_sasl_wire.specs.declared.amqp_types.SaslCode.TheVariants as outcomes
-use Rattle.fe2o3_sasl.specs.declared.sasl_profile.error.ProfileError.{ProfileError}
-use Rattle.fe2o3_sasl.specs.Events.{Given, ClientSays, Started, Answered, Reported, Refused, ServerSays, Challenged, Concluded, Failed}
-use Rattle.fe2o3_sasl.specs.ProfileFaults.{client_fault}
-use Rattle.fe2o3_sasl.specs.Profiles.{Profile}
-use Rattle.fe2o3_sasl.specs.Runs.{AcceptorSteps, ProfileSteps}
+use Rattle.fe2o3_sasl_runs.specs.declared.sasl_profile.error.ProfileError.{ProfileError}
+use Rattle.fe2o3_sasl_runs.specs.Events.{Given, ClientSays, Started, Answered, Reported, Refused, ServerSays, Challenged, Concluded, Failed}
+use Rattle.fe2o3_sasl_runs.specs.ProfileFaults.{client_fault}
+use Rattle.fe2o3_sasl_runs.specs.Profiles.{Profile}
+use Rattle.fe2o3_sasl_runs.specs.Runs.{AcceptorSteps, ProfileSteps}
 use Rattle.fe2o3_sasl_negotiation.specs.declared.standing.Standing.{Standing}
 use Rattle.fe2o3_sasl_negotiation.specs.declared.standing.Standing.TheVariants.{Wanting}
 use Rattle.sasl_c.specs.declared.client.ScramClient.{ScramClient as ClientStruct}

@@ -3,7 +3,7 @@ use Rattle.std.specs.Prelude.{◌≡◌, ◌≢◌, ◌<◌, ◌⊎◌, ℕ, Opt
 use Rattle.std.specs.Str.{IsUtf8}
 use Rattle.fe2o3_scram.specs.Readings.{IsFirst, NoneHolds}
 use Rattle.fe2o3_scram.specs.ScramClient.{ClientSide}
-use Rattle.fe2o3_sasl.specs.Profiles.{Profile, ScramProfile, PlainProfile, AnonymousProfile, ExternalProfile}
+use Rattle.fe2o3_sasl_runs.specs.Profiles.{Profile, ScramProfile, PlainProfile, AnonymousProfile, ExternalProfile}
 use Rattle.fe2o3_sasl_negotiation.specs.declared.standing.Standing.TheVariants.{Wanting}
 use Rattle.fe2o3_sasl_negotiation.specs.ClientNegotiation.{ClientReceives}
 use Rattle.fe2o3_sasl_negotiation.specs.Framing.{sasl_header}

@@ -12,17 +12,17 @@ use Rattle.fe2o3_scram.specs.Hmac.{mechanism_name}
 use Rattle.fe2o3_scram.specs.Readings.{IsFirst, NoneHolds}
 use Rattle.fe2o3_scram.specs.ScramServer.{ServerState, Initial, ServerFirstSent, open_challenge, served_by, state_in}
 use Rattle.fe2o3_scram.specs.ServerFirst.{Challenge}
-use Rattle.fe2o3_sasl.specs.declared.offers_only.OffersOnly.{OffersOnly}
-use Rattle.fe2o3_sasl.specs.declared.one_of.OneOf.{OneOf}
-use Rattle.fe2o3_sasl.specs.declared.one_of.Part.{Part}
-use Rattle.fe2o3_sasl.specs.declared.one_of.Part.TheVariants.{First}
-use Rattle.fe2o3_sasl.specs.Bodies.{SpellsBody}
-use Rattle.fe2o3_sasl.specs.ExternalAcceptor.{External, external_machine, external_of, external_user}
-use Rattle.fe2o3_sasl.specs.OffersOnly.{Offering, offering_machine, offering_names, offering_of}
-use Rattle.fe2o3_sasl.specs.OneOf.{Parts, both_names, one_of_machine, part_names}
-use Rattle.fe2o3_sasl.specs.OneOfSides.{parts_of}
-use Rattle.fe2o3_sasl.specs.PlainAuthenticator.{IsTaken, PlainParts, PlainServer, SpellsPlain, plain_machine, plain_server}
-use Rattle.fe2o3_sasl.specs.SaslAcceptor.{Acceptor, ScramAcceptor, AnonymousAcceptor, acceptor_machine, acceptor_names, acceptor_user}
+use Rattle.fe2o3_sasl_runs.specs.declared.offers_only.OffersOnly.{OffersOnly}
+use Rattle.fe2o3_sasl_runs.specs.declared.one_of.OneOf.{OneOf}
+use Rattle.fe2o3_sasl_runs.specs.declared.one_of.Part.{Part}
+use Rattle.fe2o3_sasl_runs.specs.declared.one_of.Part.TheVariants.{First}
+use Rattle.fe2o3_sasl_runs.specs.Bodies.{SpellsBody}
+use Rattle.fe2o3_sasl_runs.specs.ExternalAcceptor.{External, external_machine, external_of, external_user}
+use Rattle.fe2o3_sasl_runs.specs.OffersOnly.{Offering, offering_machine, offering_names, offering_of}
+use Rattle.fe2o3_sasl_runs.specs.OneOf.{Parts, both_names, one_of_machine, part_names}
+use Rattle.fe2o3_sasl_runs.specs.OneOfSides.{parts_of}
+use Rattle.fe2o3_sasl_runs.specs.PlainAuthenticator.{IsTaken, PlainParts, PlainServer, SpellsPlain, plain_machine, plain_server}
+use Rattle.fe2o3_sasl_runs.specs.SaslAcceptor.{Acceptor, ScramAcceptor, AnonymousAcceptor, acceptor_machine, acceptor_names, acceptor_user}
 use Rattle.fe2o3_sasl_negotiation.specs.declared.server.ServerNegotiation.{ServerNegotiation}
 use Rattle.fe2o3_sasl_negotiation.specs.declared.standing.Standing.{Standing}
 use Rattle.fe2o3_sasl_negotiation.specs.declared.standing.Standing.TheVariants.{Wanting, LoggedIn, Closed}

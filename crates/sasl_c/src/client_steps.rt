@@ -2,8 +2,8 @@
 
 ghost use Rattle.std.specs.Prelude.{◌≡◌, ◌≢◌, ◌≤◌, ◌^◌, length, option_map, string_bytes, IfOk, IfErr, OnErr, MatchResult};
 ghost use Rattle.fe2o3_sasl_wire.specs.FrameView.{shown};
-ghost use Rattle.fe2o3_sasl.specs.Runs.{client_reply};
-ghost use Rattle.fe2o3_sasl.specs.SaslProfile.{profile_of};
+ghost use Rattle.fe2o3_sasl_runs.specs.Runs.{client_reply};
+ghost use Rattle.fe2o3_sasl_runs.specs.SaslProfile.{profile_of};
 ghost use Rattle.sasl_c.specs.Status.{Answers, FillsWithin};
 ghost use Rattle.sasl_c.specs.Steps.{ClientHides, ClientNotStepped, ClientStepped, ClientSteps, ClientTells, ProfileNotStepped, ProfileStepped, standing_number};
 ghost use Rattle.sasl_c.specs.declared.status.Status.TheVariants.{OutOfMemory as StatusOutOfMemory, RoomTooSmall};
@@ -14,8 +14,8 @@ use crate::connection::of_profile;
 use crate::sasl_client::{SaslLogin, scram_of};
 use crate::status::{Status, number};
 use crate::steps::{behind, has_room, number_of, sendable};
-use fe2o3_sasl::{ClientReply, SaslProfile, profile_body_step};
 use fe2o3_sasl_negotiation::Standing;
+use fe2o3_sasl_runs::{ClientReply, SaslProfile, profile_body_step};
 use fe2o3_scram::Meter;
 use std::alloc::Global;
 

@@ -9,8 +9,8 @@ ghost use Rattle.sasl_c.specs.Connection.{Keeps, closed_status, code_status, due
 
 use crate::arrays::{head, padded};
 use crate::status::Status;
-use fe2o3_sasl::ProfileError;
 use fe2o3_sasl_negotiation::{ClosedBecause, Due, SetDown, Standing, Turn};
+use fe2o3_sasl_runs::ProfileError;
 use fe2o3_sasl_wire::{Error, SaslCode};
 use fe2o3_scram::ScramErrorKind;
 

@@ -1,15 +1,15 @@
 //! The mechanisms of a server beside SCRAM, as one acceptor whose parts do not show (AMQP 1.0, part 5, section 5.3.2).
 
 ghost use Rattle.std.specs.Prelude.{◌≡◌, string_bytes};
-ghost use Rattle.fe2o3_sasl.specs.SaslAcceptor.{AnonymousAcceptor};
+ghost use Rattle.fe2o3_sasl_runs.specs.SaslAcceptor.{AnonymousAcceptor};
 ghost use Rattle.sasl_c.specs.SaslServer.{Others as OtherStates, other_machine, other_names, other_state, other_user, others_of};
 
-use fe2o3_sasl::{
+use fe2o3_sasl_runs::{
     ExternalAcceptor, HasMechanism, NamesUser, OneOf, OutOfMemory, PlainAuthenticator,
-    SaslAcceptor, SaslAnonymousMechanism, SaslServerFrame, ScramCredentials,
+    SaslAcceptor, SaslAnonymousMechanism, SaslServerFrame,
 };
 use fe2o3_sasl_wire::{Array, SaslInit, SaslResponse, Symbol};
-use fe2o3_scram::Meter;
+use fe2o3_scram::{Meter, ScramCredentials};
 use std::alloc::{AllocError, Global};
 
 /// PLAIN over a store, ANONYMOUS and EXTERNAL.

@@ -1,8 +1,8 @@
 //! The client's side of a connection, which stands in a struct between its calls.
 
 ghost use Rattle.std.specs.Prelude.{◌≡◌, ◌≢◌, ◌≤◌, ◌^◌, List, ℕ, Ok, Err, length, option_map, string_bytes, IfOk, IfErr, OnErr, MatchOption};
-ghost use Rattle.fe2o3_sasl.specs.Profiles.{PlainProfile};
-ghost use Rattle.fe2o3_sasl.specs.SaslProfile.{profile_of};
+ghost use Rattle.fe2o3_sasl_runs.specs.Profiles.{PlainProfile};
+ghost use Rattle.fe2o3_sasl_runs.specs.SaslProfile.{profile_of};
 ghost use Rattle.fe2o3_sasl_negotiation.specs.declared.standing.Standing.TheVariants.{Wanting};
 ghost use Rattle.fe2o3_sasl_negotiation.specs.ClientNegotiation.{ClientReceives};
 ghost use Rattle.fe2o3_sasl_negotiation.specs.Sides.{client_side, hostname_in};
@@ -17,8 +17,8 @@ use crate::client::{Login, ScramClient};
 use crate::connection::Connection;
 use crate::status::{Status, number, text};
 use bytes::BytesMut;
-use fe2o3_sasl::SaslProfile;
 use fe2o3_sasl_negotiation::{ClientNegotiation, TakeUpError};
+use fe2o3_sasl_runs::SaslProfile;
 use fe2o3_sasl_wire::ProtocolHeader;
 use fe2o3_scram::Meter;
 use std::alloc::Global;

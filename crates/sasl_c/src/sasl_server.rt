@@ -21,9 +21,9 @@ use crate::records::ScramRecord;
 use crate::server::{ScramServer, server_over};
 use crate::status::{Status, number, text, version_of};
 use bytes::BytesMut;
-use fe2o3_sasl::{NamesUser, OfferError, OffersOnly, OneOf, Part, ScramCredentials};
 use fe2o3_sasl_negotiation::{ServerNegotiation, SetDown, Standing, TakeUpError};
-use fe2o3_scram::{Meter, OpenChallenge, ScramAuthenticator, ScramVersion};
+use fe2o3_sasl_runs::{NamesUser, OfferError, OffersOnly, OneOf, Part};
+use fe2o3_scram::{Meter, OpenChallenge, ScramAuthenticator, ScramCredentials, ScramVersion};
 use std::alloc::Global;
 
 /// What a server offers, and whose record it has: lent for each call.

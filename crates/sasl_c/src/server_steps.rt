@@ -1,8 +1,8 @@
 //! A server's steps over the bodies of frames, for whoever reads and writes the frames.
 
 ghost use Rattle.std.specs.Prelude.{◌≡◌, ◌≢◌, ◌≤◌, ◌^◌, ◌⊎◌, Some, None, length, Ok, Err, IfOk, IfErr, OnErr, MatchResult};
-ghost use Rattle.fe2o3_sasl.specs.Events.{ServerSays};
-ghost use Rattle.fe2o3_sasl.specs.Runs.{AcceptorSteps, server_reply};
+ghost use Rattle.fe2o3_sasl_runs.specs.Events.{ServerSays};
+ghost use Rattle.fe2o3_sasl_runs.specs.Runs.{AcceptorSteps, server_reply};
 ghost use Rattle.fe2o3_sasl_negotiation.specs.ServerNegotiation.{offer_body};
 ghost use Rattle.fe2o3_sasl_negotiation.specs.declared.standing.Turn.TheVariants.{Init, Response};
 ghost use Rattle.sasl_c.specs.SaslServer.{BodyNames, BodyNamesNobody};
@@ -18,8 +18,8 @@ use crate::server_user::body_user;
 use crate::status::{Status, number};
 use crate::steps::{behind, has_room, number_of, sendable};
 use bytes::BytesMut;
-use fe2o3_sasl::{SaslAcceptor, SaslAcceptorExt, ServerReply, acceptor_body_step};
 use fe2o3_sasl_negotiation::{Standing, Turn};
+use fe2o3_sasl_runs::{SaslAcceptor, SaslAcceptorExt, ServerReply, acceptor_body_step};
 use fe2o3_sasl_wire::{Error, Frame, FrameCodec};
 use fe2o3_scram::Meter;
 use std::alloc::Global;

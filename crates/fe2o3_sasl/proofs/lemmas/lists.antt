@@ -1,1 +1,1 @@
-pub mod EachLemmas
+pub mod MemberLemmas

@@ -1,10 +1,1 @@
-pub mod AcceptorReplyLemmas
-pub mod HexEventLemmas
-pub mod HidingReplyLemmas
-pub mod HexTextLemmas
-pub mod LongerRunLemmas
-pub mod ProfileReplyLemmas
 pub mod StepLawLemmas
-pub mod WrittenReplyLemmas
-pub mod WrittenStepLemmas
-pub mod CostLemmas

@@ -1,5 +1,2 @@
-pub mod EqualMessageLemmas
-pub mod HeadlineLemmas
-pub mod MeetingSidesLemmas
 pub mod OneAuditLemmas
 pub mod VerdictLemmas

@@ -9,10 +9,10 @@ use Rattle.fe2o3_scram.specs.Credentials.{Provider, record_at, kept}
 use Rattle.fe2o3_scram.specs.ServerFirst.{challenge_of, challenge_values}
 use Rattle.fe2o3_scram.specs.Texts.{base64_text}
 use Rattle.fe2o3_sasl.specs.declared.audit.server_receipts.challenges.Opened.{Opened}
-use Rattle.fe2o3_sasl.specs.Events.{Given, ServerSays, Challenged, Concluded, Failed}
-use Rattle.fe2o3_sasl.specs.Positions.{IsLastOpen}
-use Rattle.fe2o3_sasl.specs.Bodies.{SpellsBody}
-use Rattle.fe2o3_sasl.specs.ServerHistory.{Challenging, is_challenge, is_ok}
+use Rattle.fe2o3_sasl_runs.specs.Events.{Given, ServerSays, Challenged, Concluded, Failed}
+use Rattle.fe2o3_sasl_runs.specs.Positions.{IsLastOpen}
+use Rattle.fe2o3_sasl_runs.specs.Bodies.{SpellsBody}
+use Rattle.fe2o3_sasl_runs.specs.ServerHistory.{Challenging, is_challenge, is_ok}
 use Rattle.fe2o3_sasl.specs.private.Receipts.{ServerReceipt, OfAccepted, Covers, IsOkReceipt, ConcludesAt}
 
 -- memory was wanting

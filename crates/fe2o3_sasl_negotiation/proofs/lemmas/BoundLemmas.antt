@@ -3,9 +3,9 @@ use Rattle.std.proofs.Common.{◌≡◌, ◌≢◌, ◌⊎◌, ℕ, ◌+◌, ◌
 use Rattle.std.proofs.lemmas.Bool.{cases_lt}
 use Rattle.fe2o3_sasl_wire.specs.declared.amqp_types.SaslCode.TheVariants as outcomes
 use Rattle.fe2o3_sasl_wire.specs.declared.sasl_frames.error.Error.TheVariants as faults
-use Rattle.fe2o3_sasl.specs.Events.{ServerSays, Challenged, Concluded, Failed, ClientSays, Started, Answered, Reported, Refused, NotImplemented, Scram, OtherKeys, Frame as FrameFault, OutOfMemory}
-use Rattle.fe2o3_sasl.specs.Profiles.{Profile}
-use Rattle.fe2o3_sasl.specs.SaslAcceptor.{Acceptor, acceptor_names, acceptor_machine}
+use Rattle.fe2o3_sasl_runs.specs.Events.{ServerSays, Challenged, Concluded, Failed, ClientSays, Started, Answered, Reported, Refused, NotImplemented, Scram, OtherKeys, Frame as FrameFault, OutOfMemory}
+use Rattle.fe2o3_sasl_runs.specs.Profiles.{Profile}
+use Rattle.fe2o3_sasl_runs.specs.SaslAcceptor.{Acceptor, acceptor_names, acceptor_machine}
 use Rattle.fe2o3_sasl_negotiation.specs.declared.standing.ClosedBecause.{ClosedBecause}
 use Rattle.fe2o3_sasl_negotiation.specs.declared.standing.ClosedBecause.TheVariants.{OtherHeader}
 use Rattle.fe2o3_sasl_negotiation.specs.declared.standing.Due.{Due}

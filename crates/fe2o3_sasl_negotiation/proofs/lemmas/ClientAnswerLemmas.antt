@@ -1,12 +1,12 @@
 -- What a client answers.
 use Rattle.std.proofs.Common.{◌≡◌, ℕ, Option, Some, None, List, ◌++◌, drop, refl, ap, inl, inr, Result, Ok, Err, IfOk}
-use Rattle.fe2o3_sasl.specs.Costs.{ProfileStepCosts}
-use Rattle.fe2o3_sasl.specs.Events.{Given, ClientSays, Refused}
-use Rattle.fe2o3_sasl.specs.Profiles.{Profile}
-use Rattle.fe2o3_sasl.specs.ProfileFaults.{client_fault}
-use Rattle.fe2o3_sasl.specs.Runs.{ProfileSteps}
-use Rattle.fe2o3_sasl.specs.declared.events.ClientReply.{ClientReply}
-use Rattle.fe2o3_sasl.specs.declared.sasl_profile.error.ProfileError.{ProfileError}
+use Rattle.fe2o3_sasl_runs.specs.Costs.{ProfileStepCosts}
+use Rattle.fe2o3_sasl_runs.specs.Events.{Given, ClientSays, Refused}
+use Rattle.fe2o3_sasl_runs.specs.Profiles.{Profile}
+use Rattle.fe2o3_sasl_runs.specs.ProfileFaults.{client_fault}
+use Rattle.fe2o3_sasl_runs.specs.Runs.{ProfileSteps}
+use Rattle.fe2o3_sasl_runs.specs.declared.events.ClientReply.{ClientReply}
+use Rattle.fe2o3_sasl_runs.specs.declared.sasl_profile.error.ProfileError.{ProfileError}
 use Rattle.fe2o3_sasl_negotiation.specs.declared.framing.Arrived.TheVariants.{Whole}
 use Rattle.fe2o3_sasl_negotiation.specs.declared.framing.Step.{Step}
 use Rattle.fe2o3_sasl_negotiation.specs.declared.standing.ClosedBecause.{ClosedBecause}

@@ -1,11 +1,11 @@
 -- Every connection of a client is a run of its profile, and of a SCRAM client a history.
 use Rattle.std.proofs.Common.{◌≡◌, ◌⊎◌, ℕ, Option, List, drop, refl, inl, inr, Ok, Err}
 use Rattle.fe2o3_sasl_wire.specs.declared.amqp_types.SaslCode.TheVariants as outcomes
-use Rattle.fe2o3_sasl.specs.Events.{ClientSays, Started, Answered, Reported, Refused as ClientRefused, ClientFault, NotImplemented, Scram, OtherKeys, Frame as FrameFault, OutOfMemory}
-use Rattle.fe2o3_sasl.specs.Profiles.{Profile, scram_profile}
-use Rattle.fe2o3_sasl.specs.Runs.{ProfileSteps}
-use Rattle.fe2o3_sasl.proofs.lemmas.two_sides.HeadlineLemmas.{reports_ok_exactly, taken_verifiers_agree}
-use Rattle.fe2o3_sasl.proofs.lemmas.machines.ClientMachineLemmas.{profile_runs_are_histories}
+use Rattle.fe2o3_sasl_runs.specs.Events.{ClientSays, Started, Answered, Reported, Refused as ClientRefused, ClientFault, NotImplemented, Scram, OtherKeys, Frame as FrameFault, OutOfMemory}
+use Rattle.fe2o3_sasl_runs.specs.Profiles.{Profile, scram_profile}
+use Rattle.fe2o3_sasl_runs.specs.Runs.{ProfileSteps}
+use Rattle.fe2o3_sasl_runs.proofs.lemmas.two_sides.HeadlineLemmas.{reports_ok_exactly, taken_verifiers_agree}
+use Rattle.fe2o3_sasl_runs.proofs.lemmas.machines.ClientMachineLemmas.{profile_runs_are_histories}
 use Rattle.fe2o3_sasl_negotiation.specs.declared.standing.ClosedBecause.{ClosedBecause}
 use Rattle.fe2o3_sasl_negotiation.specs.declared.standing.ClosedBecause.TheVariants.{OtherHeader, OutOfTurn, Refused, Unread}
 use Rattle.fe2o3_sasl_negotiation.specs.declared.standing.Due.TheVariants.{Header, Frame}

@@ -8,13 +8,13 @@ use Rattle.fe2o3_sasl_wire.specs.SaslFrames.{SaslFrame, canonical}
 use Rattle.fe2o3_scram.specs.declared.client_secret.IterationLimits.{IterationLimits}
 use Rattle.fe2o3_scram.specs.ScramClient.{ClientSide}
 use Rattle.fe2o3_scram.proofs.lemmas.texts.DecisionLemmas.{Decided, utf8_or}
-use Rattle.fe2o3_sasl.specs.Bodies.{SpellsBody}
-use Rattle.fe2o3_sasl.specs.Costs.{ProfileCosts, ProfileCostsOf, ProfileStepCosts}
-use Rattle.fe2o3_sasl.specs.Events.{Given, ClientSays, Started, Answered, Reported, Refused as ClientRefused, NotImplemented, Scram, OtherKeys, Frame as FrameFault, OutOfMemory}
-use Rattle.fe2o3_sasl.specs.Profiles.{Profile, ScramProfile}
-use Rattle.fe2o3_sasl.specs.Runs.{ProfileGives, ProfileSteps}
-use Rattle.fe2o3_sasl.proofs.lemmas.frames.SpellingLemmas.{one_spelling}
-use Rattle.fe2o3_sasl.proofs.lemmas.machines.RunCostLemmas.{in_state_costs, step_keeps}
+use Rattle.fe2o3_sasl_runs.specs.Bodies.{SpellsBody}
+use Rattle.fe2o3_sasl_runs.specs.Costs.{ProfileCosts, ProfileCostsOf, ProfileStepCosts}
+use Rattle.fe2o3_sasl_runs.specs.Events.{Given, ClientSays, Started, Answered, Reported, Refused as ClientRefused, NotImplemented, Scram, OtherKeys, Frame as FrameFault, OutOfMemory}
+use Rattle.fe2o3_sasl_runs.specs.Profiles.{Profile, ScramProfile}
+use Rattle.fe2o3_sasl_runs.specs.Runs.{ProfileGives, ProfileSteps}
+use Rattle.fe2o3_sasl_runs.proofs.lemmas.frames.SpellingLemmas.{one_spelling}
+use Rattle.fe2o3_sasl_runs.proofs.lemmas.machines.RunCostLemmas.{in_state_costs, step_keeps}
 use Rattle.fe2o3_sasl_negotiation.specs.declared.standing.ClosedBecause.{ClosedBecause}
 use Rattle.fe2o3_sasl_negotiation.specs.declared.standing.Due.{Due}
 use Rattle.fe2o3_sasl_negotiation.specs.declared.standing.Due.TheVariants.{Header, Frame}

@@ -9,12 +9,12 @@ use Rattle.fe2o3_sasl_wire.specs.SaslFrames as frames
 use Rattle.fe2o3_scram.specs.Credentials.{Provider}
 use Rattle.fe2o3_scram.specs.Hmac.{mechanism_name}
 use Rattle.fe2o3_scram.specs.ScramServer.{Initial}
-use Rattle.fe2o3_sasl.specs.Bodies.{SpellsBody}
-use Rattle.fe2o3_sasl.specs.Events.{Given}
-use Rattle.fe2o3_sasl.specs.Profiles.{Profile}
-use Rattle.fe2o3_sasl.specs.SaslAcceptor.{Acceptor, ScramAcceptor, acceptor_names, acceptor_machine}
-use Rattle.fe2o3_sasl.specs.UnalteredRuns.{Arrives}
-use Rattle.fe2o3_sasl.proofs.lemmas.frames.SpellingLemmas.{one_spelling}
+use Rattle.fe2o3_sasl_runs.specs.Bodies.{SpellsBody}
+use Rattle.fe2o3_sasl_runs.specs.Events.{Given}
+use Rattle.fe2o3_sasl_runs.specs.Profiles.{Profile}
+use Rattle.fe2o3_sasl_runs.specs.SaslAcceptor.{Acceptor, ScramAcceptor, acceptor_names, acceptor_machine}
+use Rattle.fe2o3_sasl_runs.specs.UnalteredRuns.{Arrives}
+use Rattle.fe2o3_sasl_runs.proofs.lemmas.frames.SpellingLemmas.{one_spelling}
 use Rattle.fe2o3_sasl_negotiation.specs.declared.standing.ClosedBecause.TheVariants.{FrameSize, ReplyTooLarge}
 use Rattle.fe2o3_sasl_negotiation.specs.declared.standing.Due.{Due}
 use Rattle.fe2o3_sasl_negotiation.specs.declared.standing.Due.TheVariants.{Header, Frame}

@@ -7,9 +7,9 @@ use Rattle.fe2o3_sasl_wire.specs.SaslFrames as frames
 use Rattle.fe2o3_scram.specs.declared.scram_messages.error.ScramErrorKind.{ScramErrorKind}
 use Rattle.fe2o3_scram.specs.ScramClient.{ClientSide, ClientState, AnswersIn, BelievesIn}
 use Rattle.fe2o3_scram.specs.ScramClient as client_states
-use Rattle.fe2o3_sasl.specs.Events.{Given, ClientSays, Started, Answered, Refused, ClientFault, Frame}
-use Rattle.fe2o3_sasl.specs.Profiles.{Profile, ScramProfile, PlainProfile, AnonymousProfile, ExternalProfile, client_frame, profile_machine}
-use Rattle.fe2o3_sasl.specs.Runs.{Sends, Replies, ProfileSteps}
+use Rattle.fe2o3_sasl_runs.specs.Events.{Given, ClientSays, Started, Answered, Refused, ClientFault, Frame}
+use Rattle.fe2o3_sasl_runs.specs.Profiles.{Profile, ScramProfile, PlainProfile, AnonymousProfile, ExternalProfile, client_frame, profile_machine}
+use Rattle.fe2o3_sasl_runs.specs.Runs.{Sends, Replies, ProfileSteps}
 
 answer_refused : (state : ClientState) (side after : ClientSide) (text : List ℕ) (kind : ScramErrorKind)
     → AnswersIn state side text (Err kind) after → after ≡ side

@@ -2,9 +2,9 @@
 use Rattle.std.proofs.Common.{◌≡◌, ℕ, Option, Some, None, List, ◌++◌, drop, refl, ap, ◌∙◌, subst, inl, inr, append_assoc, Result, Ok, Err, IfOk}
 use Rattle.fe2o3_sasl_wire.specs.declared.sasl_frames.error.Error.{Error}
 use Rattle.fe2o3_sasl_wire.specs.SaslFrames.{SaslFrame}
-use Rattle.fe2o3_sasl.specs.Costs.{AcceptorStepCosts}
-use Rattle.fe2o3_sasl.specs.Events.{Given, ServerSays, Failed}
-use Rattle.fe2o3_sasl.specs.Runs.{AcceptorSteps}
+use Rattle.fe2o3_sasl_runs.specs.Costs.{AcceptorStepCosts}
+use Rattle.fe2o3_sasl_runs.specs.Events.{Given, ServerSays, Failed}
+use Rattle.fe2o3_sasl_runs.specs.Runs.{AcceptorSteps}
 use Rattle.fe2o3_sasl_negotiation.specs.declared.framing.Arrived.TheVariants.{Whole}
 use Rattle.fe2o3_sasl_negotiation.specs.declared.framing.Step.{Step}
 use Rattle.fe2o3_sasl_negotiation.specs.declared.standing.ClosedBecause.{ClosedBecause}

@@ -5,11 +5,11 @@ use Rattle.fe2o3_sasl_wire.specs.declared.sasl_frames.error.Error.{Error}
 use Rattle.fe2o3_sasl_wire.specs.declared.sasl_frames.error.Error.TheVariants as faults
 use Rattle.fe2o3_sasl_wire.specs.SaslFrames.{SaslFrame}
 use Rattle.fe2o3_scram.specs.ScramServer.{Initial}
-use Rattle.fe2o3_sasl.specs.Events.{ServerSays, Challenged, Concluded, Failed}
-use Rattle.fe2o3_sasl.specs.Runs.{AcceptorSteps}
-use Rattle.fe2o3_sasl.specs.SaslAcceptor.{ScramAcceptor, acceptor_names, acceptor_machine}
-use Rattle.fe2o3_sasl.proofs.lemmas.two_sides.HeadlineLemmas.{answers_ok_exactly}
-use Rattle.fe2o3_sasl.proofs.lemmas.machines.ServerMachineLemmas.{acceptor_runs_are_histories, acceptor_runs_name_users}
+use Rattle.fe2o3_sasl_runs.specs.Events.{ServerSays, Challenged, Concluded, Failed}
+use Rattle.fe2o3_sasl_runs.specs.Runs.{AcceptorSteps}
+use Rattle.fe2o3_sasl_runs.specs.SaslAcceptor.{ScramAcceptor, acceptor_names, acceptor_machine}
+use Rattle.fe2o3_sasl_runs.proofs.lemmas.two_sides.HeadlineLemmas.{answers_ok_exactly}
+use Rattle.fe2o3_sasl_runs.proofs.lemmas.machines.ServerMachineLemmas.{acceptor_runs_are_histories, acceptor_runs_name_users}
 use Rattle.fe2o3_sasl_negotiation.specs.declared.standing.ClosedBecause.{ClosedBecause}
 use Rattle.fe2o3_sasl_negotiation.specs.declared.standing.ClosedBecause.TheVariants.{OtherHeader, OutOfTurn, ReplyTooLarge, Refused, Unread}
 use Rattle.fe2o3_sasl_negotiation.specs.declared.standing.Due.TheVariants.{Header, Frame}

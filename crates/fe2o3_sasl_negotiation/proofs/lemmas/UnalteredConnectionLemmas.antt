@@ -13,20 +13,20 @@ use Rattle.fe2o3_scram.specs.Exchanges.{Exchange, first_in, answer_in}
 use Rattle.fe2o3_scram.specs.Hmac.{mechanism_name}
 use Rattle.fe2o3_scram.specs.ScramServer.{Initial}
 use Rattle.fe2o3_scram.specs.Texts.{base64_text}
-use Rattle.fe2o3_sasl.specs.Bodies.{SpellsBody}
-use Rattle.fe2o3_sasl.specs.Events.{Given, Login, IsLogin, ServerSays, Challenged, Concluded, Failed, ClientSays, Started, Answered, Reported, Refused, Frame as FrameFault, OutOfMemory}
-use Rattle.fe2o3_sasl.specs.Profiles.{Profile, scram_profile}
-use Rattle.fe2o3_sasl.specs.Runs.{AcceptorSteps, ProfileSteps, Runs}
-use Rattle.fe2o3_sasl.specs.SaslAcceptor.{Acceptor, ScramAcceptor, acceptor_names, acceptor_machine, acceptor_user}
-use Rattle.fe2o3_sasl.specs.ServerHistory.{final_message, is_ok, is_challenge}
-use Rattle.fe2o3_sasl.specs.Positions.{test_at}
-use Rattle.fe2o3_sasl.specs.TwoSides.{Sides, sides_of, Histories}
-use Rattle.fe2o3_sasl.specs.UnalteredRuns.{Suffices, HoldsLogin, client_body, server_body}
-use Rattle.fe2o3_sasl.proofs.lemmas.frames.SpellingLemmas.{spells_mechanisms, spells_init, spells_challenge, spells_response, spells_outcome}
-use Rattle.fe2o3_sasl.proofs.lemmas.machines.ClientMachineLemmas.{profile_runs_are_histories}
-use Rattle.fe2o3_sasl.proofs.lemmas.machines.ServerMachineLemmas.{acceptor_runs_are_histories, acceptor_runs_name_users}
-use Rattle.fe2o3_sasl.proofs.lemmas.positions.PositionLemmas.{opens_here}
-use Rattle.fe2o3_sasl.proofs.lemmas.unaltered.UnalteredStepLemmas as step
+use Rattle.fe2o3_sasl_runs.specs.Bodies.{SpellsBody}
+use Rattle.fe2o3_sasl_runs.specs.Events.{Given, Login, IsLogin, ServerSays, Challenged, Concluded, Failed, ClientSays, Started, Answered, Reported, Refused, Frame as FrameFault, OutOfMemory}
+use Rattle.fe2o3_sasl_runs.specs.Profiles.{Profile, scram_profile}
+use Rattle.fe2o3_sasl_runs.specs.Runs.{AcceptorSteps, ProfileSteps, Runs}
+use Rattle.fe2o3_sasl_runs.specs.SaslAcceptor.{Acceptor, ScramAcceptor, acceptor_names, acceptor_machine, acceptor_user}
+use Rattle.fe2o3_sasl_runs.specs.ServerHistory.{final_message, is_ok, is_challenge}
+use Rattle.fe2o3_sasl_runs.specs.Positions.{test_at}
+use Rattle.fe2o3_sasl_runs.specs.TwoSides.{Sides, sides_of, Histories}
+use Rattle.fe2o3_sasl_runs.specs.UnalteredRuns.{Suffices, HoldsLogin, client_body, server_body}
+use Rattle.fe2o3_sasl_runs.proofs.lemmas.frames.SpellingLemmas.{spells_mechanisms, spells_init, spells_challenge, spells_response, spells_outcome}
+use Rattle.fe2o3_sasl_runs.proofs.lemmas.machines.ClientMachineLemmas.{profile_runs_are_histories}
+use Rattle.fe2o3_sasl_runs.proofs.lemmas.machines.ServerMachineLemmas.{acceptor_runs_are_histories, acceptor_runs_name_users}
+use Rattle.fe2o3_sasl_runs.proofs.lemmas.positions.PositionLemmas.{opens_here}
+use Rattle.fe2o3_sasl_runs.proofs.lemmas.unaltered.UnalteredStepLemmas as step
 use Rattle.fe2o3_sasl_negotiation.specs.declared.standing.ClosedBecause.TheVariants.{Unread, Profile as ProfileRefused}
 use Rattle.fe2o3_sasl_negotiation.specs.declared.standing.Due.TheVariants.{Header, Frame}
 use Rattle.fe2o3_sasl_negotiation.specs.declared.standing.Due.{Due}

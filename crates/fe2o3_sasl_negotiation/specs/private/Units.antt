@@ -2,7 +2,7 @@
 use Rattle.std.specs.Prelude.{◌≡◌, ◌⊎◌, ℕ, Option, Some, None, List, ◌++◌, take, Ok, Err}
 use Rattle.fe2o3_sasl_wire.specs.declared.sasl_frames.error.Error.{Error}
 use Rattle.fe2o3_sasl_wire.specs.SaslFrames.{SaslFrame}
-use Rattle.fe2o3_sasl.specs.Bodies.{SpellsBody}
+use Rattle.fe2o3_sasl_runs.specs.Bodies.{SpellsBody}
 use Rattle.fe2o3_sasl_negotiation.specs.declared.framing.Arrived.{Arrived}
 use Rattle.fe2o3_sasl_negotiation.specs.declared.framing.Arrived.TheVariants.{Part, Refused, Whole}
 use Rattle.fe2o3_sasl_negotiation.specs.declared.framing.Step.{Step}

@@ -2,7 +2,8 @@
 use Rattle.std.specs.Prelude.{◌≡◌, Bool, true, false, ◌&&◌, List, map}
 use Rattle.std.specs.List.{list_all, list_any}
 use Rattle.fe2o3_scram.specs.Credentials.{serving}
-use Rattle.fe2o3_sasl.specs.Audit.{AuditsEvents, finding_of}
+use Rattle.fe2o3_sasl.specs.Verdicts.{AuditsEvents}
+use Rattle.fe2o3_sasl.specs.Audit.{finding_of}
 use Rattle.fe2o3_sasl.specs.Runs.{given, login_of}
 use Rattle.fe2o3_sasl.specs.declared.audit.Finding.{Finding}
 use Rattle.fe2o3_sasl.specs.declared.audit.FindingKind.{FindingKind}

@@ -1,9 +1,9 @@
 use Rattle.std.proofs.Common.{◌++◌, map, length, ◌∙◌, subst}
 use Rattle.fe2o3_scram.specs.Credentials.{Provider, serving}
 use Rattle.fe2o3_sasl.specs.Audit.{finding_of}
-use Rattle.fe2o3_sasl.specs.Complete.{ClientComplete, ServerComplete}
-use Rattle.fe2o3_sasl.specs.Events.{Login}
-use Rattle.fe2o3_sasl.specs.Runs.{given, client_answer, server_answer, login_of}
+use Rattle.fe2o3_sasl_runs.specs.Complete.{ClientComplete, ServerComplete}
+use Rattle.fe2o3_sasl_runs.specs.Events.{Login}
+use Rattle.fe2o3_sasl_runs.specs.Runs.{given, client_answer, server_answer, login_of}
 use Rattle.fe2o3_sasl.specs.private.Findings.{client_receipt, server_receipt, is_taken, is_shown, verifier_finding, proof_finding, findings_of}
 use Rattle.fe2o3_sasl.specs.private.Receipts.{Covers, IsShownReceipt, IsTakenReceipt, IsOkReceipt, RespondsAt, ReportsAt, ConcludesAt}
 use Rattle.fe2o3_sasl.proofs.lemmas.audit.AuditLemmas.{audits_events}

@@ -13,18 +13,18 @@ use Rattle.fe2o3_scram.specs.ServerFirst.{Challenge, challenge_of, AnswersClient
 use Rattle.fe2o3_scram.proofs.lemmas.messages.ClientFinalLemmas.{names_final_text, one_proof}
 use Rattle.fe2o3_scram.proofs.lemmas.messages.OneValueLemmas.{one_client_first_value}
 use Rattle.fe2o3_scram.proofs.lemmas.texts.PartsLemmas.{pieces, Parts-pieces, one_list_of_parts}
-use Rattle.fe2o3_sasl.specs.Events.{Given, ServerSays, Challenged, Concluded, Failed}
-use Rattle.fe2o3_sasl.specs.Positions.{test_at, IsLastOpen}
-use Rattle.fe2o3_sasl.specs.Bodies.{SpellsBody}
-use Rattle.fe2o3_sasl.specs.ServerHistory.{Challenging, Accepted, AcceptsAt, FitsAsInit, FitsAt, Open, ServerHistory, is_challenge, is_ok}
-use Rattle.fe2o3_sasl.specs.TwoSides.{HasParts}
+use Rattle.fe2o3_sasl_runs.specs.Events.{Given, ServerSays, Challenged, Concluded, Failed}
+use Rattle.fe2o3_sasl_runs.specs.Positions.{test_at, IsLastOpen}
+use Rattle.fe2o3_sasl_runs.specs.Bodies.{SpellsBody}
+use Rattle.fe2o3_sasl_runs.specs.ServerHistory.{Challenging, Accepted, AcceptsAt, FitsAsInit, FitsAt, Open, ServerHistory, is_challenge, is_ok}
+use Rattle.fe2o3_sasl_runs.specs.TwoSides.{HasParts}
 use Rattle.fe2o3_sasl.specs.private.Receipts.{ServerReceipt, OfAccepted, IsOkReceipt, ConcludesAt}
 use Rattle.fe2o3_sasl.specs.private.ServerReceipts.{ServerSoFar, OpenedFor, OkFor, ServerKeeps}
 use Rattle.fe2o3_sasl.proofs.lemmas.audit.CoverLemmas.{covers_skip, covers_push}
-use Rattle.fe2o3_sasl.proofs.lemmas.frames.SpellingLemmas.{one_spelled_frame}
-use Rattle.fe2o3_sasl.proofs.lemmas.histories.OneServerHistoryLemmas.{one_fits}
-use Rattle.fe2o3_sasl.proofs.lemmas.histories.ServerLawLemmas.{ok_accepts, accepted_response}
-use Rattle.fe2o3_sasl.proofs.lemmas.positions.PositionLemmas.{opens_here, was_open, one_open}
+use Rattle.fe2o3_sasl_runs.proofs.lemmas.frames.SpellingLemmas.{one_spelled_frame}
+use Rattle.fe2o3_sasl_runs.proofs.lemmas.histories.OneServerHistoryLemmas.{one_fits}
+use Rattle.fe2o3_sasl_runs.proofs.lemmas.histories.ServerLawLemmas.{ok_accepts, accepted_response}
+use Rattle.fe2o3_sasl_runs.proofs.lemmas.positions.PositionLemmas.{opens_here, was_open, one_open}
 
 -- ---- a first message of so many parts
 

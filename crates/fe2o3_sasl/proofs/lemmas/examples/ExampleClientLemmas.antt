@@ -13,11 +13,11 @@ use Rattle.fe2o3_scram.specs.ServerFinal.{ReadsServerFinal}
 use Rattle.fe2o3_scram.specs.Texts.{joined}
 use Rattle.fe2o3_scram.specs.declared.scram_messages.error.ScramErrorKind.{ScramErrorKind}
 use Rattle.fe2o3_scram.specs.declared.scram_messages.error.ScramErrorKind.TheVariants.{IterationCountTooSmall, OtherKeys as NamesOtherKeys}
-use Rattle.fe2o3_sasl.specs.Bodies.{SpellsBody, carried}
-use Rattle.fe2o3_sasl.specs.ClientHistory.{AnswersAt, IsDue, NonceAt, ReadsChallenge, answer_at, client_at, ends_answer, is_answer, is_start, says_answer, says_start}
-use Rattle.fe2o3_sasl.specs.Events.{Answered, ClientSays, Frame, Given, Login, OtherKeys, Refused, Reported, Started, scram_fault}
-use Rattle.fe2o3_sasl.specs.Positions.{test_at}
-use Rattle.fe2o3_sasl.specs.TwoSides.{client_message, proof_at}
+use Rattle.fe2o3_sasl_runs.specs.Bodies.{SpellsBody, carried}
+use Rattle.fe2o3_sasl_runs.specs.ClientHistory.{AnswersAt, IsDue, NonceAt, ReadsChallenge, answer_at, client_at, ends_answer, is_answer, is_start, says_answer, says_start}
+use Rattle.fe2o3_sasl_runs.specs.Events.{Answered, ClientSays, Frame, Given, Login, OtherKeys, Refused, Reported, Started, scram_fault}
+use Rattle.fe2o3_sasl_runs.specs.Positions.{test_at}
+use Rattle.fe2o3_sasl_runs.specs.TwoSides.{client_message, proof_at}
 use Rattle.fe2o3_sasl.specs.examples.ClientExamples.{FloorsRefuse, HostnamesAreSent, KeysLogIn, OtherKeysLogInLater, asks, is_served, logs_in, made, names_host, other_salt, starts, with_floor, with_hostname, with_keys}
 use Rattle.fe2o3_sasl.specs.examples.Examples.{binds, body_of, both, client_bytes, client_nonce, event_of, login, names, offers, salt, salted, sends_ok, sends_response, server_nonce, unaltered, verifier}
 use Rattle.fe2o3_scram.proofs.lemmas.messages.ServerFirstLemmas.{count_refused, one_has_salt, secret_refused, values_read}
@@ -26,8 +26,8 @@ use Rattle.fe2o3_sasl.proofs.lemmas.examples.ExampleLemmas.{is_unaltered, short_
 use Rattle.fe2o3_sasl.proofs.lemmas.examples.ExampleLoginLemmas.{answer_said, client_history, start_said}
 use Rattle.fe2o3_sasl.proofs.lemmas.examples.ExampleReadingLemmas.{count_passes, count_small, names_salted, nonce_passes, plain_both, plain_salted, reads_values, salt_bytes, salt_passes, signature_read}
 use Rattle.fe2o3_sasl.proofs.lemmas.examples.ExampleTextLemmas.{IsBytes-replicate, user_text, utf8_joined}
-use Rattle.fe2o3_sasl.proofs.lemmas.histories.LongerClientHistoryLemmas.{SaysAt}
-use Rattle.fe2o3_sasl.proofs.lemmas.positions.PositionLemmas.{opens_here, stays_open}
+use Rattle.fe2o3_sasl_runs.proofs.lemmas.histories.LongerClientHistoryLemmas.{SaysAt}
+use Rattle.fe2o3_sasl_runs.proofs.lemmas.positions.PositionLemmas.{opens_here, stays_open}
 
 -- ---- a challenge
 

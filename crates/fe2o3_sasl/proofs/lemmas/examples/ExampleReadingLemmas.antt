@@ -13,9 +13,9 @@ use Rattle.fe2o3_scram.specs.ClientFirst as client_first
 use Rattle.fe2o3_scram.specs.declared.scram_messages.gs2_header.Gs2Header.{Gs2Header}
 use Rattle.fe2o3_scram.specs.declared.scram_messages.gs2_header.Gs2Header.TheVariants.{Unsupported}
 use Rattle.fe2o3_scram.specs.ClientFirst.{ReadsClientFirst}
-use Rattle.fe2o3_sasl.specs.ClientHistory.{client_at, answer_at}
+use Rattle.fe2o3_sasl_runs.specs.ClientHistory.{client_at, answer_at}
 use Rattle.fe2o3_scram.specs.Escape.{escaped}
-use Rattle.fe2o3_sasl.specs.Events.{IsLogin, IsRecord}
+use Rattle.fe2o3_sasl_runs.specs.Events.{IsLogin, IsRecord}
 use Rattle.fe2o3_sasl.specs.examples.Examples.{client_bytes, server_bytes, client_nonce, server_nonce, both, salt, login, stored, names, salted, values, binds, answering, challenging}
 use Rattle.fe2o3_scram.specs.Hmac.{digest, digest_len, hmac_of, exclusive_or}
 use Rattle.fe2o3_scram.specs.Keys.{auth_message}
@@ -25,15 +25,15 @@ use Rattle.fe2o3_scram.specs.Readings.{IsFirst, NoneHolds}
 use Rattle.fe2o3_scram.specs.ServerFirst.{NamesServerFirst, ReadsServerFirst, count_tests, nonce_tests, salt_tests}
 use Rattle.fe2o3_scram.specs.declared.client_secret.IterationLimits.{IterationLimits}
 use Rattle.fe2o3_scram.specs.declared.scram_messages.error.ScramErrorKind.TheVariants.{IterationCountTooSmall}
-use Rattle.fe2o3_sasl.specs.ServerHistory.{first_message}
-use Rattle.fe2o3_sasl.specs.TwoSides.{keys_at, proof_at, client_message}
+use Rattle.fe2o3_sasl_runs.specs.ServerHistory.{first_message}
+use Rattle.fe2o3_sasl_runs.specs.TwoSides.{keys_at, proof_at, client_message}
 use Rattle.fe2o3_scram.proofs.lemmas.texts.AsciiLemmas.{IsUtf8-literal}
 use Rattle.fe2o3_scram.proofs.lemmas.messages.ClientFirstLemmas.{named}
 use Rattle.fe2o3_scram.proofs.lemmas.hashes.DigestLemmas.{length-hmac_of, IsBytes-digest, IsBytes-hmac_of}
 use Rattle.fe2o3_sasl.proofs.lemmas.examples.ExampleTextLemmas.{Plain, plain-literal, plain-append, plain-base64_text, parts_joined, utf8_joined, joined-append, header_text, user_text, count_text, IsBytes-replicate}
 use Rattle.fe2o3_scram.proofs.lemmas.messages.ExchangeLemmas.{IsBytes-literal, IsBytes-exclusive_or, length-exclusive_or, exclusive_or-back, IsCount-decimal, not_extended, final_read, reads_signature}
 use Rattle.fe2o3_scram.proofs.lemmas.messages.ServerFirstLemmas.{values_read, same_nonce, not_too_small, not_too_large}
-use Rattle.fe2o3_sasl.proofs.lemmas.lists.EachLemmas.{each_append}
+use Rattle.fe2o3_sasl_runs.proofs.lemmas.lists.EachLemmas.{each_append}
 
 -- ---- login and record
 

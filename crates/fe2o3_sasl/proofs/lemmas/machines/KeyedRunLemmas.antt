@@ -17,12 +17,12 @@ use Rattle.fe2o3_scram.specs.Laws.{AreKeysOf}
 use Rattle.fe2o3_scram.specs.Passwords.{PasswordText, IsNormal, password_bytes}
 use Rattle.fe2o3_scram.specs.ScramClient.{ClientSide, ClientState, Initial, ClientFirstSent, ClientFinalSent, Complete, AnswersIn, BelievesIn, started}
 use Rattle.fe2o3_scram.proofs.lemmas.messages.KeptKeyLemmas.{keys_stand}
-use Rattle.fe2o3_sasl.specs.Events.{Given, Login, ClientSays, Refused, ClientFault, OtherKeys}
-use Rattle.fe2o3_sasl.specs.Laws.{KeysFit, KeyedRunsAreRuns, KeyedRunsAreHistories}
-use Rattle.fe2o3_sasl.specs.Profiles.{Profile, ScramProfile, StepAllocates, client_frame, profile_machine}
-use Rattle.fe2o3_sasl.specs.Runs.{ProfileGives, ProfileReplies, ProfileSteps, Replies, Runs, Sends}
-use Rattle.fe2o3_sasl.specs.Bodies.{SpellsBody}
-use Rattle.fe2o3_sasl.proofs.lemmas.machines.ClientMachineLemmas.{profile_runs_are_histories}
+use Rattle.fe2o3_sasl_runs.specs.Events.{Given, Login, ClientSays, Refused, ClientFault, OtherKeys}
+use Rattle.fe2o3_sasl_runs.specs.Laws.{KeysFit, KeyedRunsAreRuns, KeyedRunsAreHistories}
+use Rattle.fe2o3_sasl_runs.specs.Profiles.{Profile, ScramProfile, StepAllocates, client_frame, profile_machine}
+use Rattle.fe2o3_sasl_runs.specs.Runs.{ProfileGives, ProfileReplies, ProfileSteps, Replies, Runs, Sends}
+use Rattle.fe2o3_sasl_runs.specs.Bodies.{SpellsBody}
+use Rattle.fe2o3_sasl_runs.proofs.lemmas.machines.ClientMachineLemmas.{profile_runs_are_histories}
 
 module _ (user : List ℕ) (limits : IterationLimits) (keys : ClientKeys) (password : PasswordText)
     (normal : IsNormal password) (are : AreKeysOf keys (password_bytes password)) where

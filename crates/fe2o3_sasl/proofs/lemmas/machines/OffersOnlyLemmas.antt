@@ -7,12 +7,12 @@ use Rattle.fe2o3_sasl_wire.specs.declared.sasl_frames.error.Error.{Error}
 use Rattle.fe2o3_sasl_wire.specs.declared.sasl_frames.error.Error.TheVariants as faults
 use Rattle.fe2o3_sasl_wire.specs.SaslFrames as frames
 use Rattle.fe2o3_sasl_wire.specs.SaslFrames.{SaslFrame, canonical}
-use Rattle.fe2o3_sasl.specs.Bodies.{SpellsBody, carried}
-use Rattle.fe2o3_sasl.specs.Events.{Given, ServerSays, Failed}
-use Rattle.fe2o3_sasl.specs.OffersOnly.{Offering, OfferingReplies, is_passed_on, offering_machine}
-use Rattle.fe2o3_sasl.specs.OneOfLaws.{those, IsRefusal, PassesOn, OfferingRunsPassOn}
-use Rattle.fe2o3_sasl.specs.Runs.{Runs, AcceptorSteps, AcceptorAnswers, AcceptorGives, server_says}
-use Rattle.fe2o3_sasl.specs.SaslAcceptor.{ends_with}
+use Rattle.fe2o3_sasl_runs.specs.Bodies.{SpellsBody, carried}
+use Rattle.fe2o3_sasl_runs.specs.Events.{Given, ServerSays, Failed}
+use Rattle.fe2o3_sasl_runs.specs.OffersOnly.{Offering, OfferingReplies, is_passed_on, offering_machine}
+use Rattle.fe2o3_sasl_runs.specs.OneOfLaws.{those, IsRefusal, PassesOn, OfferingRunsPassOn}
+use Rattle.fe2o3_sasl_runs.specs.Runs.{Runs, AcceptorSteps, AcceptorAnswers, AcceptorGives, server_says}
+use Rattle.fe2o3_sasl_runs.specs.SaslAcceptor.{ends_with}
 use Rattle.fe2o3_sasl.proofs.lemmas.machines.OneOfLemmas.{Machine, auth_is_refusal, unmoved}
 
 -- what is passed on is a step of the acceptor, and the rest is refused

@@ -6,14 +6,14 @@ use Rattle.fe2o3_sasl_wire.specs.declared.sasl_frames.error.Error.{Error}
 use Rattle.fe2o3_sasl_wire.specs.declared.sasl_frames.error.Error.TheVariants as faults
 use Rattle.fe2o3_sasl_wire.specs.SaslFrames as frames
 use Rattle.fe2o3_sasl_wire.specs.SaslFrames.{SaslFrame, canonical}
-use Rattle.fe2o3_sasl.specs.Bodies.{SpellsBody, carried}
-use Rattle.fe2o3_sasl.specs.Events.{Given, ServerSays, Failed}
-use Rattle.fe2o3_sasl.specs.OneOf.{Parts, PartReplies, part_for, one_of_machine}
-use Rattle.fe2o3_sasl.specs.OneOfLaws.{those, to_first, to_second, to_neither, IsRefusal, Splits, OneOfRunsAreSplit}
-use Rattle.fe2o3_sasl.specs.Runs.{Runs, AcceptorSteps, AcceptorAnswers, AcceptorGives, server_says}
-use Rattle.fe2o3_sasl.specs.SaslAcceptor.{ends_with}
-use Rattle.fe2o3_sasl.specs.declared.one_of.Part.{Part}
-use Rattle.fe2o3_sasl.specs.declared.one_of.Part.TheVariants.{First, Second}
+use Rattle.fe2o3_sasl_runs.specs.Bodies.{SpellsBody, carried}
+use Rattle.fe2o3_sasl_runs.specs.Events.{Given, ServerSays, Failed}
+use Rattle.fe2o3_sasl_runs.specs.OneOf.{Parts, PartReplies, part_for, one_of_machine}
+use Rattle.fe2o3_sasl_runs.specs.OneOfLaws.{those, to_first, to_second, to_neither, IsRefusal, Splits, OneOfRunsAreSplit}
+use Rattle.fe2o3_sasl_runs.specs.Runs.{Runs, AcceptorSteps, AcceptorAnswers, AcceptorGives, server_says}
+use Rattle.fe2o3_sasl_runs.specs.SaslAcceptor.{ends_with}
+use Rattle.fe2o3_sasl_runs.specs.declared.one_of.Part.{Part}
+use Rattle.fe2o3_sasl_runs.specs.declared.one_of.Part.TheVariants.{First, Second}
 
 -- a machine
 abbrev pub Machine : Type 0 → Type 1

@@ -8,10 +8,10 @@ use Rattle.fe2o3_sasl_wire.specs.declared.sasl_frames.error.Error.{Error}
 use Rattle.fe2o3_sasl_wire.specs.declared.sasl_frames.error.Error.TheVariants as faults
 use Rattle.fe2o3_sasl_wire.specs.SaslFrames.{canonical, SaslFrame}
 use Rattle.fe2o3_sasl_wire.specs.SaslFrames as frames
-use Rattle.fe2o3_sasl.specs.Events.{Given, ServerSays, Concluded, Failed}
-use Rattle.fe2o3_sasl.specs.MechanismLaws.{SaysOk, PlainRunsNameUsers}
-use Rattle.fe2o3_sasl.specs.Runs.{Runs, AcceptorGives, AcceptorSteps, Sends, server_says}
-use Rattle.fe2o3_sasl.specs.SaslAcceptor.{Acceptor, PlainAcceptor, acceptor_machine, acceptor_user, ends_with}
+use Rattle.fe2o3_sasl_runs.specs.Events.{Given, ServerSays, Concluded, Failed}
+use Rattle.fe2o3_sasl_runs.specs.MechanismLaws.{SaysOk, PlainRunsNameUsers}
+use Rattle.fe2o3_sasl_runs.specs.Runs.{Runs, AcceptorGives, AcceptorSteps, Sends, server_says}
+use Rattle.fe2o3_sasl_runs.specs.SaslAcceptor.{Acceptor, PlainAcceptor, acceptor_machine, acceptor_user, ends_with}
 
 -- ---- one step
 

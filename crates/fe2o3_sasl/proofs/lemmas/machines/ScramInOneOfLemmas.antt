@@ -1,11 +1,11 @@
 -- SCRAM that is one of two acceptors.
 use Rattle.std.proofs.Common.{ℕ, None, List}
 use Rattle.fe2o3_scram.specs.ScramServer as server_states
-use Rattle.fe2o3_sasl.specs.OneOfLaws.{those, to_first, to_second, ScramFirstAnswersOkExactly, ScramSecondAnswersOkExactly}
-use Rattle.fe2o3_sasl.specs.SaslAcceptor.{ScramAcceptor, acceptor_machine, acceptor_names}
+use Rattle.fe2o3_sasl_runs.specs.OneOfLaws.{those, to_first, to_second, ScramFirstAnswersOkExactly, ScramSecondAnswersOkExactly}
+use Rattle.fe2o3_sasl_runs.specs.SaslAcceptor.{ScramAcceptor, acceptor_machine, acceptor_names}
 use Rattle.fe2o3_sasl.proofs.lemmas.machines.OneOfLemmas.{Machine, one_of_runs}
-use Rattle.fe2o3_sasl.proofs.lemmas.machines.ServerMachineLemmas.{acceptor_runs_are_histories}
-use Rattle.fe2o3_sasl.proofs.lemmas.two_sides.HeadlineLemmas.{answers_ok_exactly}
+use Rattle.fe2o3_sasl_runs.proofs.lemmas.machines.ServerMachineLemmas.{acceptor_runs_are_histories}
+use Rattle.fe2o3_sasl_runs.proofs.lemmas.two_sides.HeadlineLemmas.{answers_ok_exactly}
 
 -- it answers Ok exactly as the headline says
 pub scram_first : {T : Type 0} (others : T → List (List ℕ)) (other : Machine T)

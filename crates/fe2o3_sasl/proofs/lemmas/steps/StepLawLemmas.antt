@@ -14,15 +14,15 @@ use Rattle.fe2o3_scram.specs.ScramClient.{ClientSide, BelievesIn}
 use Rattle.fe2o3_scram.specs.ScramServer.{ServerState, ServerFinalSent, ConcludesFrom}
 use Rattle.fe2o3_scram.specs.Logins.{IsSigned}
 use Rattle.fe2o3_scram.proofs.lemmas.messages.LoginLemmas.{accepted_texts_log_in, hidden_text_logs_in, believed_texts_are_signed}
-use Rattle.fe2o3_sasl.specs.Bodies.{SpellsBody, carried}
-use Rattle.fe2o3_sasl.specs.Events.{Given, ServerSays, Concluded, Failed, ClientSays, Reported, Refused, ClientFault, Frame}
-use Rattle.fe2o3_sasl.specs.HidingAcceptor.{with_name}
-use Rattle.fe2o3_sasl.specs.HidingLaws.{HiddenBodyLogsIn, HiddenOksLogIn}
-use Rattle.fe2o3_sasl.specs.PlainAuthenticator.{PlainLogsIn, PlainServer, plain_machine}
-use Rattle.fe2o3_sasl.specs.Profiles.{Profile, ScramProfile, client_frame, profile_machine}
-use Rattle.fe2o3_sasl.specs.Runs.{Replies, Sends, server_says}
-use Rattle.fe2o3_sasl.specs.SaslAcceptor.{Acceptor, AnonymousAcceptor, ScramAcceptor, acceptor_machine, ends_with, server_frame}
-use Rattle.fe2o3_sasl.specs.StepLaws.{BodyLogsIn, OksLogIn, PlainOksLogIn, ReportedOksAreSigned}
+use Rattle.fe2o3_sasl_runs.specs.Bodies.{SpellsBody, carried}
+use Rattle.fe2o3_sasl_runs.specs.Events.{Given, ServerSays, Concluded, Failed, ClientSays, Reported, Refused, ClientFault, Frame}
+use Rattle.fe2o3_sasl_runs.specs.HidingAcceptor.{with_name}
+use Rattle.fe2o3_sasl_runs.specs.HidingLaws.{HiddenBodyLogsIn, HiddenOksLogIn}
+use Rattle.fe2o3_sasl_runs.specs.PlainAuthenticator.{PlainLogsIn, PlainServer, plain_machine}
+use Rattle.fe2o3_sasl_runs.specs.Profiles.{Profile, ScramProfile, client_frame, profile_machine}
+use Rattle.fe2o3_sasl_runs.specs.Runs.{Replies, Sends, server_says}
+use Rattle.fe2o3_sasl_runs.specs.SaslAcceptor.{Acceptor, AnonymousAcceptor, ScramAcceptor, acceptor_machine, ends_with, server_frame}
+use Rattle.fe2o3_sasl_runs.specs.StepLaws.{BodyLogsIn, OksLogIn, PlainOksLogIn, ReportedOksAreSigned}
 
 -- ---- a server
 
@@ -234,7 +234,7 @@ init_is_no_report profile moved next reply mechanism response hostname more is s
     (subst (λ (r : Result SaslFrame ClientFault). Reports profile moved r more next) is said).0
   where
     none : (sent : Option (List ℕ)) → Reported outcomes.Ok more
-        ≢ carried (Refused (Frame faults.TooLarge)) (λ body. Rattle.fe2o3_sasl.specs.Events.Started body) sent
+        ≢ carried (Refused (Frame faults.TooLarge)) (λ body. Rattle.fe2o3_sasl_runs.specs.Events.Started body) sent
     none None same = absurd (cc)
     none (Some other) same = absurd (cc)
 
@@ -245,7 +245,7 @@ response_is_no_report profile moved next reply text more is said =
     (subst (λ (r : Result SaslFrame ClientFault). Reports profile moved r more next) is said).0
   where
     none : (sent : Option (List ℕ)) → Reported outcomes.Ok more
-        ≢ carried (Refused (Frame faults.TooLarge)) (λ body. Rattle.fe2o3_sasl.specs.Events.Answered body) sent
+        ≢ carried (Refused (Frame faults.TooLarge)) (λ body. Rattle.fe2o3_sasl_runs.specs.Events.Answered body) sent
     none None same = absurd (cc)
     none (Some other) same = absurd (cc)
 

@@ -1,14 +1,14 @@
 -- An audit has one answer.
 use Rattle.std.proofs.Common.{◌≡◌, ◌⊎◌, ⊎_elim, ℕ, zero, suc, List, [], ◌∷◌, ◌++◌, map, refl, sym, ap, ◌∙◌, subst, arith, inl, inr}
 use Rattle.std.specs.List.{AllByRecursion, Contains}
-use Rattle.fe2o3_sasl.specs.ClientHistory.{Answering, OpenAnswer, AnswersAt}
-use Rattle.fe2o3_sasl.specs.Events.{ClientSays, ServerSays}
-use Rattle.fe2o3_sasl.specs.Laws.{OneAuditEach}
-use Rattle.fe2o3_sasl.specs.ServerHistory.{Accepted, AcceptsAt}
-use Rattle.fe2o3_sasl.specs.TwoSides.{Sides, sides_of, Takes, Shows}
-use Rattle.fe2o3_sasl.specs.Audit.{Verdict, Finding, FindingKind, place_of, Before, Ascending, Lists, IsVerifierFinding, IsProofFinding, Audits, JudgesVerifier, JudgesProof}
-use Rattle.fe2o3_sasl.proofs.lemmas.histories.OneClientHistoryLemmas.{one_open_answer, one_answers_at, one_client_history}
-use Rattle.fe2o3_sasl.proofs.lemmas.histories.OneServerHistoryLemmas.{one_accepted, one_server_history}
+use Rattle.fe2o3_sasl_runs.specs.ClientHistory.{Answering, OpenAnswer, AnswersAt}
+use Rattle.fe2o3_sasl_runs.specs.Events.{ClientSays, ServerSays}
+use Rattle.fe2o3_sasl_runs.specs.Laws.{OneAuditEach}
+use Rattle.fe2o3_sasl_runs.specs.ServerHistory.{Accepted, AcceptsAt}
+use Rattle.fe2o3_sasl_runs.specs.TwoSides.{Sides, sides_of, Takes, Shows}
+use Rattle.fe2o3_sasl_runs.specs.Verdicts.{Verdict, Finding, FindingKind, place_of, Before, Ascending, Lists, IsVerifierFinding, IsProofFinding, Audits, JudgesVerifier, JudgesProof}
+use Rattle.fe2o3_sasl_runs.proofs.lemmas.histories.OneClientHistoryLemmas.{one_open_answer, one_answers_at, one_client_history}
+use Rattle.fe2o3_sasl_runs.proofs.lemmas.histories.OneServerHistoryLemmas.{one_accepted, one_server_history}
 use Rattle.fe2o3_sasl.proofs.lemmas.two_sides.VerdictLemmas.{one_verdict_each}
 
 -- ---- what a list contains

@@ -6,11 +6,12 @@ ghost use Rattle.fe2o3_scram.specs.ClientFinal.{ClientFinal as Final, HasProof, 
 ghost use Rattle.fe2o3_scram.specs.Keys.{auth_message as auth_message_of, recovered_client_key, server_signature};
 ghost use Rattle.fe2o3_scram.specs.Texts.{base64_text};
 ghost use Rattle.fe2o3_scram.specs.Credentials.{serving};
-ghost use Rattle.fe2o3_sasl.specs.Audit.{AreParameters, parameters_of};
-ghost use Rattle.fe2o3_sasl.specs.Events.{IsRecord};
-ghost use Rattle.fe2o3_sasl.specs.Bodies.{SpellsBody};
-ghost use Rattle.fe2o3_sasl.specs.ServerHistory.{first_message};
-ghost use Rattle.fe2o3_sasl.specs.TwoSides.{HasParts};
+ghost use Rattle.fe2o3_sasl_runs.specs.Verdicts.{AreParameters};
+ghost use Rattle.fe2o3_sasl.specs.Audit.{parameters_of};
+ghost use Rattle.fe2o3_sasl_runs.specs.Events.{IsRecord};
+ghost use Rattle.fe2o3_sasl_runs.specs.Bodies.{SpellsBody};
+ghost use Rattle.fe2o3_sasl_runs.specs.ServerHistory.{first_message};
+ghost use Rattle.fe2o3_sasl_runs.specs.TwoSides.{HasParts};
 ghost use Rattle.fe2o3_sasl.specs.private.Findings.{server_receipt};
 ghost use Rattle.fe2o3_sasl.specs.private.Receipts.{OfAccepted};
 ghost use Rattle.fe2o3_sasl.specs.private.ServerReceipts.{HoldsMessage, OkFor, opened_challenge};

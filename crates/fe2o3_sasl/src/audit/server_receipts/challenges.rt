@@ -3,13 +3,13 @@
 ghost use Rattle.std.specs.Prelude.{ℕ, List, Option, Some, Ok, IfOk, MatchOption, ⊤};
 ghost use Rattle.fe2o3_sasl_wire.specs.SaslFrames.{Init};
 ghost use Rattle.fe2o3_scram.specs.Credentials.{serving};
-ghost use Rattle.fe2o3_sasl.specs.Runs.{given};
-ghost use Rattle.fe2o3_sasl.specs.Bodies.{SpellsBody};
+ghost use Rattle.fe2o3_sasl_runs.specs.Runs.{given};
+ghost use Rattle.fe2o3_sasl_runs.specs.Bodies.{SpellsBody};
 ghost use Rattle.fe2o3_sasl.specs.private.ServerReceipts.{HoldsMessage, OpenedFor, opened_challenge};
 
 use crate::OutOfMemory;
-use crate::events::Event;
 use base64::engine::general_purpose::STANDARD;
+use fe2o3_sasl_runs::events::Event;
 use fe2o3_sasl_wire::{FrameView, view_frame};
 use fe2o3_scram::credentials::{ScramCredentialProvider, StoredPassword};
 use fe2o3_scram::scram_messages::{ClientFirst, ServerFirstMessage};

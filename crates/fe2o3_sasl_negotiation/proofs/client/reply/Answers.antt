@@ -1,8 +1,8 @@
 use Rattle.std.proofs.Common.{Result, Ok, Err, OnErr}
-use Rattle.fe2o3_sasl.specs.Events.{Given}
-use Rattle.fe2o3_sasl.specs.Runs.{client_reply}
-use Rattle.fe2o3_sasl.specs.ProfileFaults.{client_fault}
-use Rattle.fe2o3_sasl.specs.SaslProfile.{profile_of}
+use Rattle.fe2o3_sasl_runs.specs.Events.{Given}
+use Rattle.fe2o3_sasl_runs.specs.Runs.{client_reply}
+use Rattle.fe2o3_sasl_runs.specs.ProfileFaults.{client_fault}
+use Rattle.fe2o3_sasl_runs.specs.SaslProfile.{profile_of}
 use Rattle.fe2o3_sasl_wire.specs.FrameView.{shown}
 use Rattle.fe2o3_sasl_negotiation.specs.declared.standing.Due.TheVariants.{Frame}
 use Rattle.fe2o3_sasl_negotiation.specs.ClientNegotiation.{Replies}

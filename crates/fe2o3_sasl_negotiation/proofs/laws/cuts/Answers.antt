@@ -1,5 +1,5 @@
 use Rattle.std.proofs.Common.{Option, List, ℕ}
-use Rattle.fe2o3_sasl.specs.SaslAcceptor.{acceptor_names, acceptor_machine}
+use Rattle.fe2o3_sasl_runs.specs.SaslAcceptor.{acceptor_names, acceptor_machine}
 use Rattle.fe2o3_sasl_negotiation.specs.ClientNegotiation.{ClientAnswers}
 use Rattle.fe2o3_sasl_negotiation.specs.ServerNegotiation.{ServerAnswers}
 use Rattle.fe2o3_sasl_negotiation.proofs.lemmas.CutLemmas.{cuts_do_not_matter}

@@ -1,7 +1,7 @@
 use Rattle.std.proofs.Common.{drop, inr}
 use Rattle.std.proofs.lemmas.List.{take_rest}
-use Rattle.fe2o3_sasl.specs.Events.{Given}
-use Rattle.fe2o3_sasl.specs.Runs.{server_reply}
+use Rattle.fe2o3_sasl_runs.specs.Events.{Given}
+use Rattle.fe2o3_sasl_runs.specs.Runs.{server_reply}
 use Rattle.fe2o3_sasl_negotiation.specs.declared.standing.Due.TheVariants.{Frame}
 use Rattle.fe2o3_sasl_negotiation.specs.ServerNegotiation.{Replies}
 use Rattle.fe2o3_sasl_negotiation.proofs.lemmas.ReceivingLemmas.{closed_appends}

@@ -1,6 +1,6 @@
 use Rattle.std.specs.Prelude.{option_map, string_bytes}
 use Rattle.fe2o3_sasl_wire.specs.FrameView.{shown}
-use Rattle.fe2o3_sasl.specs.SaslProfile.{profile_of}
+use Rattle.fe2o3_sasl_runs.specs.SaslProfile.{profile_of}
 use Rattle.sasl_c.proofs.StatusLemmas.{err_so, ok_so}
 use Rattle.sasl_c.proofs.StepLemmas.{client_no_hostname, client_no_profile, client_not_stepped, client_stepped, client_steps_short}
 use Rattle.sasl_c.proofs.client_steps.answered.Goals as goal

@@ -1,7 +1,7 @@
 use Rattle.std.proofs.Common.{map, arith}
 use Rattle.fe2o3_scram.specs.Credentials.{serving}
 use Rattle.fe2o3_sasl.specs.private.Findings.{server_receipt}
-use Rattle.fe2o3_sasl.specs.Runs.{given, server_answer}
+use Rattle.fe2o3_sasl_runs.specs.Runs.{given, server_answer}
 use Rattle.fe2o3_sasl.proofs.lemmas.audit.CoverLemmas.{at_index}
 use Rattle.fe2o3_sasl.proofs.lemmas.audit.ServerReceiptLemmas.{server_next, challenge_behind}
 use Rattle.fe2o3_sasl.proofs.audit.server_receipts.server_receipts.Goals as goal

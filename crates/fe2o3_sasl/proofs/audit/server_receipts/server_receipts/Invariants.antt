@@ -2,7 +2,7 @@ use Rattle.std.proofs.Common.{◌≤◌, map}
 use Rattle.fe2o3_scram.specs.Credentials.{serving}
 use Rattle.fe2o3_sasl.specs.private.Findings.{server_receipt}
 use Rattle.fe2o3_sasl.specs.private.ServerReceipts.{ServerSoFar}
-use Rattle.fe2o3_sasl.specs.Runs.{given, server_answer}
+use Rattle.fe2o3_sasl_runs.specs.Runs.{given, server_answer}
 use Rattle.fe2o3_sasl.proofs.audit.server_receipts.server_receipts.Given as goal
 
 abbrev pub invariant-loop-place : goal.invariant-loop-place

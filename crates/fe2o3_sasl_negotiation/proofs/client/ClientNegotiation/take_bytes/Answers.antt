@@ -1,5 +1,5 @@
 use Rattle.std.proofs.Common.{◌≡◌, ℕ, List, sym, ◌∙◌, subst}
-use Rattle.fe2o3_sasl.specs.SaslProfile.{profile_of}
+use Rattle.fe2o3_sasl_runs.specs.SaslProfile.{profile_of}
 use Rattle.fe2o3_sasl_negotiation.specs.Framing.{IsPart}
 use Rattle.fe2o3_sasl_negotiation.proofs.lemmas.ReceivingLemmas.{held_before_unit, same_side}
 use Rattle.fe2o3_sasl_negotiation.proofs.lemmas.ClientAnswerLemmas.{unit_costs}

@@ -1,5 +1,5 @@
 use Rattle.std.proofs.Common.{sym}
-use Rattle.fe2o3_sasl.specs.SaslProfile.{profile_of}
+use Rattle.fe2o3_sasl_runs.specs.SaslProfile.{profile_of}
 use Rattle.fe2o3_sasl_negotiation.specs.Sides.{client_side}
 use Rattle.sasl_c.specs.SaslClient.{Comes, IsProfile}
 use Rattle.sasl_c.proofs.SaslClientLemmas.{shows_side}

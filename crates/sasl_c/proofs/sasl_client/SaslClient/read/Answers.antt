@@ -1,4 +1,4 @@
-use Rattle.fe2o3_sasl.specs.SaslProfile.{profile_of}
+use Rattle.fe2o3_sasl_runs.specs.SaslProfile.{profile_of}
 use Rattle.sasl_c.proofs.SaslClientLemmas.{is_not_kept, no_profile}
 use Rattle.sasl_c.proofs.sasl_client.SaslClient.read.Goals as goal
 

@@ -1,7 +1,7 @@
 use Rattle.std.proofs.Common.{◌≡◌, refl}
 use Rattle.fe2o3_scram.specs.ClientFinal.{client_final_values}
 use Rattle.fe2o3_scram.specs.Keys.{auth_message}
-use Rattle.fe2o3_sasl.specs.ServerHistory.{first_message}
+use Rattle.fe2o3_sasl_runs.specs.ServerHistory.{first_message}
 use Rattle.fe2o3_sasl.specs.private.ServerReceipts.{opened_challenge}
 use Rattle.fe2o3_sasl.proofs.audit.server_receipts.accepted.receipt_of.Goals as goal
 

@@ -5,7 +5,7 @@ use Rattle.fe2o3_scram.specs.ClientFirst.{client_first_values}
 use Rattle.fe2o3_scram.specs.Credentials.{kept, record_at, serving}
 use Rattle.fe2o3_scram.specs.ServerFirst.{AnswersClientFirst, challenge_values}
 use Rattle.fe2o3_scram.proofs.lemmas.texts.Base64Lemmas.{encode_of-standard}
-use Rattle.fe2o3_sasl.specs.Bodies.{SpellsBody}
+use Rattle.fe2o3_sasl_runs.specs.Bodies.{SpellsBody}
 use Rattle.fe2o3_sasl.proofs.lemmas.audit.ServerReceiptLemmas.{challenge_again}
 use Rattle.fe2o3_sasl.proofs.audit.server_receipts.challenges.opened_again.Goals as goal
 

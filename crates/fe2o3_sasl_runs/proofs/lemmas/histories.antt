@@ -1,0 +1,6 @@
+pub mod LongerClientHistoryLemmas
+pub mod LongerServerHistoryLemmas
+pub mod OneClientHistoryLemmas
+pub mod OneServerHistoryLemmas
+pub mod ReportedOkLemmas
+pub mod ServerLawLemmas

@@ -1,0 +1,12 @@
+pub mod ClientMachineLemmas
+pub mod MemoryLemmas
+pub mod OneReplyLemmas
+pub mod ServerMachineLemmas
+pub mod PlainMessageLemmas
+pub mod PlainAuthenticatorLemmas
+pub mod ZeroPartLemmas
+pub mod SomeRunLemmas
+pub mod ResponseCostLemmas
+pub mod RunCostLemmas
+pub mod NameLemmas
+pub mod PolicyLemmas

@@ -1,0 +1,9 @@
+pub mod AcceptorReplyLemmas
+pub mod HexEventLemmas
+pub mod HidingReplyLemmas
+pub mod HexTextLemmas
+pub mod LongerRunLemmas
+pub mod ProfileReplyLemmas
+pub mod WrittenReplyLemmas
+pub mod WrittenStepLemmas
+pub mod CostLemmas

@@ -1,0 +1,3 @@
+pub mod EqualMessageLemmas
+pub mod HeadlineLemmas
+pub mod MeetingSidesLemmas

@@ -1,0 +1,2 @@
+-- What contracts of private functions cite. Nobody has to believe it.
+pub mod Writing
