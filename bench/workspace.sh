@@ -20,8 +20,8 @@ for library in "$@"; do
         cp -a "$from/$part" "$to/$part"
     done
 done
-# (the exports are over the lower three)
-libraries="fe2o3_sasl_wire fe2o3_scram fe2o3_sasl"
+# (the exports are over the lower four)
+libraries="fe2o3_sasl_wire fe2o3_scram fe2o3_sasl_runs fe2o3_sasl"
 
 # lay CRATE FILE..: a crate of these files, of which it has no other.
 lay() {

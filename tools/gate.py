@@ -20,7 +20,36 @@ sys.dont_write_bytecode = True
 import wrong_bodies
 
 COUNT = re.compile(r"(\d+) passed, (\d+) failed")
+# What one check of a crate takes of memory at most, as whole runs of the gate have shown, in bytes.
+NEEDED = 4_000_000_000
 PROVED = re.compile(r"rt: (\w+) (NOT PROVED|proved|is kept)\b")
+
+
+def number(file, pattern=r"(\d+)"):
+    """The number that the file has there, or None where it has none, or there is no such file."""
+    try:
+        with open(file, encoding="utf-8") as it:
+            return int(re.search(pattern, it.read())[1])
+    except (OSError, TypeError):
+        return None
+
+
+def side_by_side():
+    """How many crates `rt ci` proves at a time: one a processor, where memory holds them beside the wrong bodies.
+
+    By itself it counts three to five times as much memory for a large crate as its check takes, so that two such
+    crates keep two processors of four from having anything to do.
+    """
+    group = "/sys/fs/cgroup"
+    free = [1024 * number("/proc/meminfo", r"MemAvailable:\s+(\d+)")]
+    free += [number(f"{group}/memory.max"), number(f"{group}/memory/memory.limit_in_bytes")]
+    processors = len(os.sched_getaffinity(0))
+    for quota, period in [
+        (number(f"{group}/cpu.max", r"^(\d+)"), number(f"{group}/cpu.max", r" (\d+)")),
+        (number(f"{group}/cpu/cpu.cfs_quota_us", r"^(\d+)"), number(f"{group}/cpu/cpu.cfs_period_us")),
+    ]:
+        processors = min(processors, quota // period) if quota and period else processors
+    return max(1, min(processors, min(it for it in free if it) // NEEDED - 1))
 
 
 def counted(name, status, last):
@@ -62,7 +91,8 @@ def main():
         # (the gate waits for the chain of proofs, so that comes first where processors are few)
         turned = ["nice", "-n", "5", sys.executable, "tools/wrong_bodies.py", "--built", built]
         bodies = subprocess.Popen(turned, stdout=told, **how)
-        proofs = subprocess.Popen(["rt", "ci"], stdout=subprocess.PIPE, **how)
+        lanes = {"RT_JOBS": str(side_by_side())} | os.environ
+        proofs = subprocess.Popen(["rt", "ci"], env=lanes, stdout=subprocess.PIPE, **how)
         try:
             last, named = "", deque(maxlen=6)
             for line in proofs.stdout:

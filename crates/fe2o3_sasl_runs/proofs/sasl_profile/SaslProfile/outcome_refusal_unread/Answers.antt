@@ -1,6 +1,6 @@
-use Rattle.fe2o3_sasl.specs.SaslProfile.{profile_of}
-use Rattle.fe2o3_sasl.proofs.lemmas.steps.ProfileReplyLemmas.{unread_outcome}
-use Rattle.fe2o3_sasl.proofs.sasl_profile.SaslProfile.outcome_refusal_unread.Goals as goal
+use Rattle.fe2o3_sasl_runs.specs.SaslProfile.{profile_of}
+use Rattle.fe2o3_sasl_runs.proofs.lemmas.steps.ProfileReplyLemmas.{unread_outcome}
+use Rattle.fe2o3_sasl_runs.proofs.sasl_profile.SaslProfile.outcome_refusal_unread.Goals as goal
 
 pub returns-in-Some : goal.returns-in-Some
 returns-in-Some c = rw c.in-Some.ensures.side c.outcome_refusal_unread.ensures

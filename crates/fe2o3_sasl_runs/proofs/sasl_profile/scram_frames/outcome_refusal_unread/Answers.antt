@@ -1,7 +1,7 @@
 use Rattle.std.proofs.Common.{◌≡◌, rules}
 use Rattle.fe2o3_sasl_wire.specs.declared.amqp_types.SaslCode.TheVariants as outcomes
-use Rattle.fe2o3_sasl.proofs.lemmas.steps.ProfileReplyLemmas.{undue_outcome, outcome_not_text}
-use Rattle.fe2o3_sasl.proofs.sasl_profile.scram_frames.outcome_refusal_unread.Goals as goal
+use Rattle.fe2o3_sasl_runs.proofs.lemmas.steps.ProfileReplyLemmas.{undue_outcome, outcome_not_text}
+use Rattle.fe2o3_sasl_runs.proofs.sasl_profile.scram_frames.outcome_refusal_unread.Goals as goal
 
 pub returns-in-None : goal.returns-in-None
 returns-in-None c =
