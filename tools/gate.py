@@ -21,7 +21,7 @@ import wrong_bodies
 
 COUNT = re.compile(r"(\d+) passed, (\d+) failed")
 # What one check of a crate takes of memory at most, as whole runs of the gate have shown, in bytes.
-NEEDED = 4_000_000_000
+NEEDED = 4_500_000_000
 PROVED = re.compile(r"rt: (\w+) (NOT PROVED|proved|is kept)\b")
 
 
