@@ -1,5 +1,5 @@
 -- The headline theorem, over every list of frame bodies: what every history has. Every run of `scram_server_run` and
--- of `scram_client_run` has it by contract, and `headline` in `laws` has it of the definitions.
+-- of `scram_client_run` has it by contract, and `headline` in `laws` of `fe2o3_sasl` has it of the definitions.
 use Rattle.std.specs.Prelude.{◌≡◌, ◌≢◌, ℕ, ◌<◌, Option, Some, List, slice_get, Ok}
 use Rattle.fe2o3_sasl_wire.specs.declared.amqp_types.SaslCode.TheVariants as outcomes
 use Rattle.fe2o3_sasl_wire.specs.declared.sasl_frames.error.Error.TheVariants as faults

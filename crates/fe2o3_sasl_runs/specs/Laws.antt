@@ -1,4 +1,4 @@
--- What holds of every history, and of every two. Each is the contract of a function of `laws`.
+-- What holds of every history, and of every two. Each is the contract of a function of `laws` of `fe2o3_sasl`.
 use Rattle.std.specs.Prelude.{◌≡◌, ◌≢◌, ◌↔◌, ◌⊎◌, ℕ, suc, ◌<◌, ◌≤◌, Bool, true, false, Option, Some, List, length, take, slice_get, Ok}
 use Rattle.std.specs.List.{Contains, filter}
 use Rattle.fe2o3_sasl_wire.specs.declared.amqp_types.SaslCode.TheVariants as outcomes
