@@ -4,9 +4,9 @@
 Prints what `rt ci` says as it says it, behind it what `tools/wrong_bodies.py` says, and last the sum of what
 both counted, `N passed, M failed`. A library that `rt ci` has proved, or keeps from an earlier run, is handed
 over to the wrong bodies of those above it. `rt ci` proves as many crates at a time as there are processors, or
-as RT_JOBS says. Where it refuses, its last lines, which name what failed, stand
-once more above the sums, since the end of a log is what is read first. The exit status is 0 only where both
-ended with 0 and told their count, and nothing failed.
+as RT_JOBS says. Where it refuses, its last lines, which name what failed, stand once more above the sums, since
+the end of a log is what is read first. The exit status is 0 only where both ended with 0 and told their count,
+and nothing failed.
 """
 import os
 import re
