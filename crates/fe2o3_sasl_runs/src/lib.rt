@@ -1,9 +1,8 @@
-//! Whole logins by SASL over lists of frame bodies, for AMQP 1.0: what stands below `fe2o3_sasl`, whose
-//! modules these are too. Who only speaks SASL names that crate.
+//! Logins by SASL over lists of frame bodies, for AMQP 1.0: the crate below `fe2o3_sasl`, which has all
+//! of this under its own name. Who only speaks SASL names that crate.
 //!
-//! A client takes a [`SaslProfile`], a server a
-//! [`SaslAcceptor`]. [`steps`] answer one body each, [`whole_runs`] a list
-//! of them; the contracts of these state the headline theorem.
+//! A client takes a [`SaslProfile`], a server a [`SaslAcceptor`]. [`steps`] answer one body each, and
+//! [`whole_runs`] a list of them; the contracts of these state the headline theorem.
 #![tactic(auto)]
 
 pub mod client_policy;
