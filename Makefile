@@ -27,7 +27,7 @@ check:
 # circle; who makes a meter of its own or hashes; the programs that the borrow checker has to refuse; then
 # every proof from nothing, the tests and the programs, and beside these the wrong bodies.
 test:
-	@tools/progress $$PPID 60 'a whole run takes more than an hour on 4 processors, and 10,700 s of processor' &
+	@tools/progress $$PPID 60 'a whole run takes 57 min on 4 processors, 79 on 2, and 11,158 s of processor' &
 	sh tools/quoted.sh
 	python3 tools/signatures.py --check
 	python3 tools/header.py --check
