@@ -215,6 +215,15 @@ class WrongBodies(unittest.TestCase):
             gate.hand_over(libraries, folder, f"rt: kept is kept: {by}\n")
             self.assertEqual((os.listdir(f"{folder}/kept"), libraries), (["kept.rlib"], set()))
 
+    def test_how_many_crates_at_a_time(self):
+        self.assertIn(gate.side_by_side(), range(1, len(os.sched_getaffinity(0)) + 1))
+        with tempfile.NamedTemporaryFile("w", encoding="utf-8") as quota:
+            quota.write("max 100000\n")
+            quota.flush()
+            self.assertIsNone(gate.number(quota.name, r"^(\d+)"))
+            self.assertEqual(gate.number(quota.name, r" (\d+)"), 100000)
+        self.assertIsNone(gate.number(quota.name))
+
     def test_the_sum_of_the_gate(self):
         with contextlib.redirect_stdout(io.StringIO()):
             self.assertEqual(gate.counted("rt ci", 0, "3 passed, 0 failed\n"), (3, 0))
