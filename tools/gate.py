@@ -21,8 +21,8 @@ sys.dont_write_bytecode = True
 import wrong_bodies
 
 COUNT = re.compile(r"(\d+) passed, (\d+) failed")
-# What one check of a crate takes of memory at most, as whole runs of the gate have shown, in bytes.
-NEEDED = 4_500_000_000
+# What one check of a crate takes of memory, in bytes: a little more than the most that one took in a whole run.
+NEEDED = 4_700_000_000
 PROVED = re.compile(r"rt: (\w+) (NOT PROVED|proved|is kept)\b")
 
 
@@ -35,12 +35,17 @@ def number(file, pattern=r"(\d+)"):
         return None
 
 
-def side_by_side():
+def side_by_side(processors, memory):
     """How many crates `rt ci` proves at a time: one a processor, where memory holds them beside the wrong bodies.
 
-    By itself it counts three to five times as much memory for a large crate as its check takes, so that two such
-    crates keep two processors of four from having anything to do.
+    By itself it counts up to two and a half times as much memory for a large crate as its check takes, so that a
+    processor or two of four have to wait.
     """
+    return max(1, min(processors, memory // NEEDED - 1))
+
+
+def machine():
+    """The processors and the free memory that the gate may use, those of its control group too."""
     group = "/sys/fs/cgroup"
     free = [1024 * number("/proc/meminfo", r"MemAvailable:\s+(\d+)")]
     free += [number(f"{group}/memory.max"), number(f"{group}/memory/memory.limit_in_bytes")]
@@ -50,7 +55,7 @@ def side_by_side():
         (number(f"{group}/cpu/cpu.cfs_quota_us", r"^(\d+)"), number(f"{group}/cpu/cpu.cfs_period_us")),
     ]:
         processors = min(processors, quota // period) if quota and period else processors
-    return max(1, min(processors, min(it for it in free if it) // NEEDED - 1))
+    return processors, min(it for it in free if it)
 
 
 def counted(name, status, last):
@@ -92,7 +97,7 @@ def main():
         # (the gate waits for the chain of proofs, so that comes first where processors are few)
         turned = ["nice", "-n", "10", sys.executable, "tools/wrong_bodies.py", "--built", built]
         bodies = subprocess.Popen(turned, stdout=told, **how)
-        lanes = {"RT_JOBS": str(side_by_side())} | os.environ
+        lanes = {"RT_JOBS": str(side_by_side(*machine()))} | os.environ
         proofs = subprocess.Popen(["rt", "ci"], env=lanes, stdout=subprocess.PIPE, **how)
         try:
             last, named = "", deque(maxlen=6)

@@ -216,7 +216,9 @@ class WrongBodies(unittest.TestCase):
             self.assertEqual((os.listdir(f"{folder}/kept"), libraries), (["kept.rlib"], set()))
 
     def test_how_many_crates_at_a_time(self):
-        self.assertIn(gate.side_by_side(), range(1, len(os.sched_getaffinity(0)) + 1))
+        enough = 5 * gate.NEEDED
+        self.assertEqual([gate.side_by_side(it, enough) for it in (1, 2, 4, 64)], [1, 2, 4, 4])
+        self.assertEqual([gate.side_by_side(4, it) for it in (enough - 1, 3 * gate.NEEDED, 0)], [3, 2, 1])
         with tempfile.NamedTemporaryFile("w", encoding="utf-8") as quota:
             quota.write("max 100000\n")
             quota.flush()

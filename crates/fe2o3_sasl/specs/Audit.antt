@@ -1,4 +1,4 @@
--- What a finding of the code says, in the words of the findings on two lists of frame bodies.
+-- Which finding (`Verdicts` of `fe2o3_sasl_runs`, the project's own words) a value of the code is.
 use Rattle.std.specs.Prelude.{option_map, string_bytes}
 use Rattle.fe2o3_sasl.specs.declared.audit.Finding as code_finding
 use Rattle.fe2o3_sasl.specs.declared.audit.FindingKind as code_kind

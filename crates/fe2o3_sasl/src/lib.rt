@@ -6,9 +6,10 @@
 //! [`scram_client_run`] and [`scram_server_run`] say what every login over SCRAM has, whatever the
 //! bodies are.
 //!
-//! The modules of `fe2o3_sasl_runs` and of `fe2o3_scram` stand here under their own names, so that
-//! whoever speaks SCRAM over AMQP names this crate alone. Its own are [`audit`], what two lists of
-//! bodies say of the two sides, and [`laws`], what holds of every list of frame bodies.
+//! The modules of `fe2o3_sasl_runs` and of `fe2o3_scram` stand here under their own names, events, steps
+//! and whole runs in [`runs`], so that whoever speaks SCRAM over AMQP names this crate alone. Its own are
+//! [`audit`], what two lists of bodies say of the two sides, and [`laws`], what holds of every list of
+//! frame bodies.
 #![tactic(auto)]
 
 pub mod audit;
