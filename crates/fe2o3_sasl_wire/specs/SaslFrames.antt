@@ -8,8 +8,6 @@ use Rattle.fe2o3_sasl_wire.specs.declared.sasl_frames.error.Error.{Error}
 use Rattle.fe2o3_sasl_wire.specs.declared.sasl_frames.error.Error.TheVariants as faults
 use Rattle.fe2o3_sasl_wire.specs.declared.sasl_frames.forms.Form.{Form}
 use Rattle.fe2o3_sasl_wire.specs.declared.sasl_frames.forms.Form.TheVariants.{Eight, ThirtyTwo}
-use Rattle.fe2o3_sasl_wire.specs.declared.sasl_frames.forms.Kind.{Kind}
-use Rattle.fe2o3_sasl_wire.specs.declared.sasl_frames.forms.Kind.TheVariants as kinds
 
 -- ---- frames
 
@@ -21,29 +19,13 @@ pub data SaslFrame : Type 0 where
   Response : List ℕ → SaslFrame
   Outcome : SaslCode → Option (List ℕ) → SaslFrame
 
--- which of the five a frame is (part 5, section 5.3.3)
-abbrev pub kind_of : SaslFrame → Kind
-kind_of (Mechanisms names) = kinds.Mechanisms
-kind_of (Init mechanism response hostname) = kinds.Init
-kind_of (Challenge bytes) = kinds.Challenge
-kind_of (Response bytes) = kinds.Response
-kind_of (Outcome code bytes) = kinds.Outcome
-
--- the code of a frame's descriptor (part 5, section 5.3.3)
-abbrev pub code_of : Kind → ℕ
-code_of kinds.Mechanisms = 0x40
-code_of kinds.Init = 0x41
-code_of kinds.Challenge = 0x42
-code_of kinds.Response = 0x43
-code_of kinds.Outcome = 0x44
-
--- the name of a frame's descriptor (part 5, section 5.3.3)
-abbrev pub name_of : Kind → List ℕ
-name_of kinds.Mechanisms = codes "amqp:sasl-mechanisms:list"
-name_of kinds.Init = codes "amqp:sasl-init:list"
-name_of kinds.Challenge = codes "amqp:sasl-challenge:list"
-name_of kinds.Response = codes "amqp:sasl-response:list"
-name_of kinds.Outcome = codes "amqp:sasl-outcome:list"
+-- the code and the name of a frame's descriptor (part 5, section 5.3.3)
+abbrev pub descriptor_of : SaslFrame → ℕ × List ℕ
+descriptor_of (Mechanisms names) = (0x40, codes "amqp:sasl-mechanisms:list")
+descriptor_of (Init mechanism response hostname) = (0x41, codes "amqp:sasl-init:list")
+descriptor_of (Challenge bytes) = (0x42, codes "amqp:sasl-challenge:list")
+descriptor_of (Response bytes) = (0x43, codes "amqp:sasl-response:list")
+descriptor_of (Outcome code bytes) = (0x44, codes "amqp:sasl-outcome:list")
 
 -- the number of an outcome's code (part 5, section 5.3.3.6)
 abbrev pub outcome_code : SaslCode → ℕ
@@ -125,16 +107,11 @@ pub record SpellsVariable (short long : ℕ) (bytes b : List ℕ) : Type 0 where
 abbrev pub SpellsSymbol : List ℕ → List ℕ → Type 0
 SpellsSymbol bytes b = IsAscii bytes × SpellsVariable 0xa3 0xb3 bytes b
 
--- a symbol as an element of an array, without its constructor (part 1, section 1.2.4)
-pub record IsElement (form : Form) (symbol : List ℕ) : Type 0 where
-  pub ascii : IsAscii symbol
-  pub fits : length symbol < limit form
-
 -- an array of symbols; the constructor of the elements stands also where there are none (part 1, section 1.6.24)
 pub record SpellsArray (symbols : List (List ℕ)) (b : List ℕ) : Type 0 where
   pub form : Form
   pub inner : Form
-  pub each : AllByRecursion (IsElement inner) symbols
+  pub each : AllByRecursion (λ symbol. IsAscii symbol × (length symbol < limit inner)) symbols
   pub size : length (array_body form inner symbols) < limit form
   pub count : length symbols < limit form
   pub whole : b ≡ sized 0xe0 0xf0 form (array_body form inner symbols)
@@ -168,29 +145,24 @@ SpellsItems (field ∷ fields) count items =
     ⊎ ((before : ℕ) × (item : List ℕ) × (others : List ℕ) × (count ≡ suc before) × (items ≡ item ++ others)
     × SpellsField field item × SpellsItems fields before others)
 
--- the code as smallulong or as ulong, or the name as a symbol (part 1, sections 1.4 and 1.6.6)
-abbrev pub SpellsDescriptor : Kind → List ℕ → Type 0
-SpellsDescriptor kind b =
-    (b ≡ 0x53 ∷ code_of kind ∷ []) ⊎ ((b ≡ 0x80 ∷ to_be_bytes w64 (code_of kind)) ⊎ SpellsSymbol (name_of kind) b)
+-- a descriptor: its code as smallulong or as ulong, or its name as a symbol (part 1, sections 1.4 and 1.6.6)
+abbrev pub SpellsDescriptor : ℕ × List ℕ → List ℕ → Type 0
+SpellsDescriptor descriptor b =
+    (b ≡ 0x53 ∷ descriptor.0 ∷ []) ⊎ ((b ≡ 0x80 ∷ to_be_bytes w64 descriptor.0) ⊎ SpellsSymbol descriptor.1 b)
 
--- a described list: a zero byte, the descriptor, and the list of the fields (part 1, sections 1.2 and 1.4)
-pub record SpellsValue (frame : SaslFrame) (b : List ℕ) : Type 0 where
+-- a body without its size: data offset 2, type 1, two bytes of any value (part 5, section 5.3.1), and a described list:
+-- a zero byte, the descriptor, and the list of the fields (part 1, sections 1.2 and 1.4)
+pub record Spells (frame : SaslFrame) (b : List ℕ) : Type 0 where
+  pub third : ℕ
+  pub fourth : ℕ
   pub descriptor : List ℕ
   pub count : ℕ
   pub items : List ℕ
   pub fields : List ℕ
-  pub described : SpellsDescriptor (kind_of frame) descriptor
+  pub described : SpellsDescriptor (descriptor_of frame) descriptor
   pub each : SpellsItems (fields_of frame) count items
   pub listed : SpellsList count items fields
-  pub whole : b ≡ 0 ∷ descriptor ++ fields
-
--- a body without its size: data offset 2, type 1, two bytes of any value, and a described list (part 5, section 5.3.1)
-pub record Spells (frame : SaslFrame) (b : List ℕ) : Type 0 where
-  pub third : ℕ
-  pub fourth : ℕ
-  pub value : List ℕ
-  pub spelled : SpellsValue frame value
-  pub whole : b ≡ 2 ∷ 1 ∷ third ∷ fourth ∷ value
+  pub whole : b ≡ 2 ∷ 1 ∷ third ∷ fourth ∷ 0 ∷ descriptor ++ fields
 
 -- ---- what a body is read as
 
@@ -229,26 +201,19 @@ shortest n = if nat_lt n 256 then Eight else ThirtyTwo
 abbrev pub compact : ℕ → ℕ → (Form → List ℕ) → List ℕ
 compact short long body = let form = shortest (length (body Eight)) in sized short long form (body form)
 
--- a binary, a string or a symbol in the form of its length (part 1, section 1.2.2)
-abbrev pub canonical_variable : ℕ → ℕ → List ℕ → List ℕ
-canonical_variable short long bytes = compact short long (λ form. bytes)
-
 -- the form of the elements: one byte where each symbol has at most 255 bytes (part 1, section 1.2.4)
 abbrev pub inner_form : List (List ℕ) → Form
 inner_form names = if list_all (λ name. nat_lt (length name) 256) names then Eight else ThirtyTwo
 
--- a list of symbols is always an array (part 1, section 1.2.4)
-abbrev pub canonical_array : List (List ℕ) → List ℕ
-canonical_array names = compact 0xe0 0xf0 (λ form. array_body form (inner_form names) names)
-
--- a field that is written (part 1, section 1.6)
+-- a field that is written: a binary, a string or a symbol in the form of its length, and a list of symbols always as an
+-- array (part 1, sections 1.2.2, 1.2.4 and 1.6)
 abbrev pub canonical_field : Field → List ℕ
 canonical_field Null = 0x40 ∷ []
 canonical_field (Ubyte n) = 0x50 ∷ n ∷ []
-canonical_field (Binary bytes) = canonical_variable 0xa0 0xb0 bytes
-canonical_field (Text bytes) = canonical_variable 0xa1 0xb1 bytes
-canonical_field (Symbol bytes) = canonical_variable 0xa3 0xb3 bytes
-canonical_field (Symbols names) = canonical_array names
+canonical_field (Binary bytes) = compact 0xa0 0xb0 (λ form. bytes)
+canonical_field (Text bytes) = compact 0xa1 0xb1 (λ form. bytes)
+canonical_field (Symbol bytes) = compact 0xa3 0xb3 (λ form. bytes)
+canonical_field (Symbols names) = compact 0xe0 0xf0 (λ form. array_body form (inner_form names) names)
 
 -- a field before those that are written: a null with none behind it is left out (part 1, section 1.4)
 abbrev pub with_field : Field → List Field → List Field
@@ -260,22 +225,13 @@ abbrev pub written : List Field → List Field
 written [] = []
 written (field ∷ fields) = with_field field (written fields)
 
--- the items of a frame's list (part 1, section 1.4)
-abbrev pub items_of : SaslFrame → List ℕ
-items_of frame = flat_map canonical_field (written (fields_of frame))
-
--- how many items there are (part 1, section 1.4)
-abbrev pub count_of : SaslFrame → ℕ
-count_of frame = length (written (fields_of frame))
-
--- a list with a size and a count (part 1, section 1.2.3)
-abbrev pub canonical_list : ℕ → List ℕ → List ℕ
-canonical_list count items = compact 0xc0 0xd0 (λ form. list_body form count items)
-
--- the body (part 5, section 5.3.1), its code as smallulong; none where a size, so the list's, has more than 32 bits
+-- the body (part 5, section 5.3.1): its code as smallulong, and the count and the items of its fields as one list (part 1,
+-- section 1.2.3); none where a size, so the list's, has more than 32 bits
 unfoldable pub canonical : SaslFrame → Option (List ℕ)
-canonical frame = if nat_lt (length (list_body ThirtyTwo (count_of frame) (items_of frame))) (2 ^ 32)
-    then Some (2 ∷ 1 ∷ 0 ∷ 0 ∷ 0 ∷ 0x53 ∷ code_of (kind_of frame) ∷ canonical_list (count_of frame) (items_of frame))
+canonical frame = let fields = written (fields_of frame) in
+    let list : Form → List ℕ = λ form. list_body form (length fields) (flat_map canonical_field fields) in
+    if nat_lt (length (list ThirtyTwo)) (2 ^ 32)
+    then Some (2 ∷ 1 ∷ 0 ∷ 0 ∷ 0 ∷ 0x53 ∷ (descriptor_of frame).0 ∷ compact 0xc0 0xd0 list)
     else None
 
 -- a field's symbols are ASCII and its string is UTF-8 (part 1, sections 1.6.20 and 1.6.21)

@@ -1,5 +1,6 @@
 -- What only private contracts and the laws of impls cite. Nobody has to believe these to believe a public contract.
 pub mod Fields
+pub mod Kinds
 pub mod Reading
 pub mod Sameness
 pub mod Writing

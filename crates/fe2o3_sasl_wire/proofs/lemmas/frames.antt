@@ -3,3 +3,4 @@ pub mod BodyAnswerLemmas
 pub mod FrameTextLemmas
 pub mod LawLemmas
 pub mod PrefixLemmas
+pub mod ValueLemmas

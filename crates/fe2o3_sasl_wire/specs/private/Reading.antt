@@ -10,7 +10,8 @@ use Rattle.fe2o3_sasl_wire.specs.declared.sasl_frames.forms.Form.{Form}
 use Rattle.fe2o3_sasl_wire.specs.declared.sasl_frames.forms.Form.TheVariants.{Eight, ThirtyTwo}
 use Rattle.fe2o3_sasl_wire.specs.declared.sasl_frames.forms.Kind.{Kind}
 use Rattle.fe2o3_sasl_wire.specs.declared.sasl_frames.forms.Kind.TheVariants as kinds
-use Rattle.fe2o3_sasl_wire.specs.SaslFrames.{SaslFrame, Mechanisms, Init, Challenge, Response, Outcome, name_of}
+use Rattle.fe2o3_sasl_wire.specs.SaslFrames.{SaslFrame, Mechanisms, Init, Challenge, Response, Outcome}
+use Rattle.fe2o3_sasl_wire.specs.private.Kinds.{name_of}
 
 -- the next step, where there is a value
 infixl 10 ◌>>=◌

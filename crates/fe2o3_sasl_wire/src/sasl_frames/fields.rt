@@ -2,7 +2,9 @@
 
 ghost use Rattle.std.specs.Prelude.{◌≡◌, ◌≤◌, ◌<◌, ◌+◌, ◌^◌, ◌-◌, ◌++◌, length, map, min, option_map, string_bytes};
 ghost use Rattle.std.specs.List.{flat_map, AllByRecursion};
-ghost use Rattle.fe2o3_sasl_wire.specs.SaslFrames.{code_of, kind_of, fields_of, optional, Binary as BinaryField, Text as TextField, canonical_field, count_of, IsText};
+ghost use Rattle.fe2o3_sasl_wire.specs.SaslFrames.{fields_of, optional, Binary as BinaryField, Text as TextField, canonical_field, IsText};
+ghost use Rattle.fe2o3_sasl_wire.specs.private.Kinds.{code_of, kind_of};
+ghost use Rattle.fe2o3_sasl_wire.specs.private.Writing.{count_of};
 ghost use Rattle.fe2o3_sasl_wire.specs.AmqpTypes.{binary_bytes};
 ghost use Rattle.fe2o3_sasl_wire.specs.Owned.{owned_frame};
 ghost use Rattle.fe2o3_sasl_wire.specs.private.Fields.{shown_field, filled};

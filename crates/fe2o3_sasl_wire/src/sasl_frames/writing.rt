@@ -2,8 +2,8 @@
 
 ghost use Rattle.std.specs.Prelude.{◌≡◌, ◌≤◌, ◌<◌, ◌+◌, ◌^◌, ◌-◌, ◌++◌, ◌∷◌, [], length, min, IsAscii};
 ghost use Rattle.std.specs.List.{AllByRecursion};
-ghost use Rattle.fe2o3_sasl_wire.specs.SaslFrames.{choice, limit, number, content, shortest, inner_form, canonical_variable, canonical_array};
-ghost use Rattle.fe2o3_sasl_wire.specs.private.Writing.{width, elements};
+ghost use Rattle.fe2o3_sasl_wire.specs.SaslFrames.{choice, limit, number, content, shortest, inner_form};
+ghost use Rattle.fe2o3_sasl_wire.specs.private.Writing.{canonical_variable, canonical_array, width, elements};
 
 use crate::amqp_types::Symbol;
 use crate::sasl_frames::forms::{

@@ -6,8 +6,8 @@ use Rattle.std.proofs.lemmas.List.{length-append}
 use Rattle.fe2o3_sasl_wire.specs.declared.amqp_types.SaslCode.TheVariants as outcomes
 use Rattle.fe2o3_sasl_wire.specs.declared.sasl_frames.forms.Form.{Form}
 use Rattle.fe2o3_sasl_wire.specs.declared.sasl_frames.forms.Form.TheVariants.{Eight, ThirtyTwo}
-use Rattle.fe2o3_sasl_wire.specs.SaslFrames.{ReadsBody, canonical, canonical_variable, items_of, shortest, HasTexts, SaslFrame}
-use Rattle.fe2o3_sasl_wire.specs.private.Writing.{width}
+use Rattle.fe2o3_sasl_wire.specs.SaslFrames.{ReadsBody, canonical, shortest, HasTexts, SaslFrame}
+use Rattle.fe2o3_sasl_wire.specs.private.Writing.{canonical_variable, items_of, width}
 use Rattle.fe2o3_sasl_wire.specs.SaslFrames as frames
 use Rattle.fe2o3_sasl_wire.proofs.lemmas.writing.CanonicalSpellsLemmas.{length-content}
 use Rattle.fe2o3_sasl_wire.proofs.lemmas.writing.BodyPartsLemmas.{has_body}

@@ -10,6 +10,7 @@ use Rattle.fe2o3_sasl_wire.proofs.lemmas.reading.StepLemmas.{IsBytes-drop}
 use Rattle.fe2o3_sasl_wire.proofs.lemmas.reading.ReadFramesAreSpelledLemmas.{value_takes}
 use Rattle.fe2o3_sasl_wire.proofs.lemmas.reading.SpelledFramesAreReadLemmas.{value_again}
 use Rattle.fe2o3_sasl_wire.proofs.lemmas.frames.PrefixLemmas.{no_spelling_begins_another}
+use Rattle.fe2o3_sasl_wire.proofs.lemmas.frames.ValueLemmas.{value_of, spelled_value, spells_with}
 
 -- four bytes stand before the value, and they are those of a SASL frame
 pub record StartsSoundly (bytes : List ℕ) : Type 0 where
@@ -36,7 +37,7 @@ begins_read (a ∷ b ∷ x ∷ y ∷ bytes) frame rest fits start read =
     let here : take n body ≡ front = ap (take n) whole ∙ take_at front rest n (omega (arith, len)) in
     record {
       within = omega (arith, len);
-      spelled = record { third = x; fourth = y; value = value.front; spelled = value.spelled; whole = here };
+      spelled = spells_with frame x y value.front (take n body) value.spelled here;
     }
 
 -- the rest lies within the bytes
@@ -56,7 +57,8 @@ read_back : (bytes : List ℕ) (frame : SaslFrame) (n : ℕ) → Begins bytes fr
 read_back bytes frame n begins =
     let spelled = begins.spelled in
     let rest = drop n bytes in
-    let whole : bytes ≡ 2 ∷ 1 ∷ spelled.third ∷ spelled.fourth ∷ (spelled.value ++ rest) =
+    let value = value_of frame (take n bytes) spelled in
+    let whole : bytes ≡ 2 ∷ 1 ∷ spelled.third ∷ spelled.fourth ∷ (value ++ rest) =
     sym (take-append-drop n bytes) ∙ ap (λ (front : List ℕ). front ++ rest) spelled.whole in
     record {
       start = record {
@@ -67,7 +69,7 @@ read_back bytes frame n begins =
       rest = rest;
       read =
           ap (λ (body : List ℕ). value_at (drop 4 body)) whole
-          ∙ value_again frame spelled.value rest spelled.spelled;
+          ∙ value_again frame value rest (spelled_value frame (take n bytes) spelled);
     }
 
 is_none : {A : Type 0} {o : Option A} {x : A} → o ≡ None → o ≡ Some x → ⊥

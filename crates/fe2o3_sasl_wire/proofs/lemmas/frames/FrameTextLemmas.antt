@@ -4,7 +4,8 @@ use Rattle.std.specs.Prelude.{IsAscii}
 use Rattle.std.specs.List.{AllByRecursion}
 use Rattle.fe2o3_sasl_wire.specs.declared.sasl_frames.forms.Form.{Form}
 use Rattle.fe2o3_sasl_wire.specs.declared.sasl_frames.fields.Field.{Field as HeldField}
-use Rattle.fe2o3_sasl_wire.specs.SaslFrames.{SaslFrame, Field, Null, Ubyte, Binary, Text, Symbol, Symbols, fields_of, with_field, written, IsElement, SpellsField, SpellsItems, Spells, IsText, HasTexts}
+use Rattle.fe2o3_sasl_wire.specs.SaslFrames.{SaslFrame, Field, Null, Ubyte, Binary, Text, Symbol, Symbols, fields_of, with_field, written, SpellsField, SpellsItems, Spells, IsText, HasTexts}
+use Rattle.fe2o3_sasl_wire.specs.private.Kinds.{IsElement}
 use Rattle.fe2o3_sasl_wire.specs.private.Fields.{shown_field}
 use Rattle.fe2o3_sasl_wire.proofs.lemmas.writing.BodyPartsLemmas.{Keeps, kept_fields}
 
@@ -13,7 +14,7 @@ use Rattle.fe2o3_sasl_wire.proofs.lemmas.writing.BodyPartsLemmas.{Keeps, kept_fi
 ascii_elements : (form : Form) (names : List (List ℕ)) → AllByRecursion (IsElement form) names
     → AllByRecursion IsAscii names
 ascii_elements form [] each = tt
-ascii_elements form (name ∷ names) each = (each.0.ascii, ascii_elements form names each.1)
+ascii_elements form (name ∷ names) each = (each.0.0, ascii_elements form names each.1)
 
 spelled_text : (field : Field) (item : List ℕ) → SpellsField field item → IsText field
 spelled_text Null item s = tt
@@ -45,7 +46,7 @@ spelled_items (field ∷ fields) count items s =
 
 -- a frame that a body spells has texts
 pub spelled_has_texts : (frame : SaslFrame) (body : List ℕ) → Spells frame body → HasTexts frame
-spelled_has_texts frame body s = spelled_items (fields_of frame) s.spelled.count s.spelled.items s.spelled.each
+spelled_has_texts frame body s = spelled_items (fields_of frame) s.count s.items s.each
 
 -- ---- frames that are written
 

@@ -46,7 +46,7 @@ spelled_mechanisms_are_ascii (Challenge bytes) body s = tt
 spelled_mechanisms_are_ascii (Response bytes) body s = tt
 spelled_mechanisms_are_ascii (Outcome code bytes) body s = tt
 spelled_mechanisms_are_ascii (Init mechanism response hostname) body s =
-    elim s.spelled.each [ inl none ↦ absurd (not_null mechanism none.0.0) | inr some ↦ some.5.0 ]
+    elim s.each [ inl none ↦ absurd (not_null mechanism none.0.0) | inr some ↦ some.5.0 ]
 
 same_id : (left right : ProtocolId) → id_byte left ≡ id_byte right → left ≡ right
 same_id Amqp Amqp same = refl

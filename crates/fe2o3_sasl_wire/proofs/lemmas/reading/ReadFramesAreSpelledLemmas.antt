@@ -8,7 +8,8 @@ use Rattle.std.proofs.lemmas.List.{take-append-drop, length-take, nil_from_lengt
 use Rattle.std.proofs.lemmas.Nat.{be_bytes_8}
 use Rattle.fe2o3_sasl_wire.specs.declared.sasl_frames.forms.Kind.{Kind}
 use Rattle.fe2o3_sasl_wire.specs.declared.sasl_frames.forms.Kind.TheVariants as kinds
-use Rattle.fe2o3_sasl_wire.specs.SaslFrames.{IsBytes, limit, choice, content, SpellsSymbol, list_body, SpellsList, SaslFrame, Mechanisms, Init, Challenge, Response, Outcome, kind_of, code_of, name_of, outcome_code, Field, Null, Ubyte, Binary, Text, Symbol, Symbols, optional, fields_of, SpellsField, SpellsItems, SpellsDescriptor, SpellsValue}
+use Rattle.fe2o3_sasl_wire.specs.SaslFrames.{IsBytes, limit, choice, content, SpellsSymbol, list_body, SpellsList, SaslFrame, Mechanisms, Init, Challenge, Response, Outcome, outcome_code, Field, Null, Ubyte, Binary, Text, Symbol, Symbols, optional, fields_of, SpellsField, SpellsItems}
+use Rattle.fe2o3_sasl_wire.specs.private.Kinds.{kind_of, code_of, name_of, SpellsValue, SpellsKind}
 use Rattle.fe2o3_sasl_wire.specs.private.Fields.{AllNull}
 use Rattle.fe2o3_sasl_wire.specs.private.Reading.{◌>>=◌, byte_at, eight_at, number_at, content_at, form_at, symbol_at, string_at, symbols_at, code_at, Items, required, null_at, unless_null, optional_at, ended, binary_at, fields_at, sized_at, list_at, kind_of_code, kind_of_name, descriptor_at, value_at}
 use Rattle.fe2o3_sasl_wire.proofs.lemmas.reading.StepLemmas.{IsBytes-drop, IsBytes-take, IsBytes-tail, bind_some, unless_some, when_some, chosen, first_passed, some_is, Reads}
@@ -268,7 +269,7 @@ eight_takes bytes taken fits e =
     (sym (ap (λ (t : List ℕ). t ++ drop 8 bytes) back ∙ take-append-drop 8 bytes), IsBytes-drop 8 bytes fits)
 
 abbrev IsDescribed : List ℕ → Kind × List ℕ → Type 0
-IsDescribed bytes y = Reads (SpellsDescriptor y.0) bytes y.1
+IsDescribed bytes y = Reads (SpellsKind y.0) bytes y.1
 
 short_takes : (constructor : ℕ) (bytes : List ℕ) (taken : Kind × List ℕ) → IsBytes bytes → constructor ≡ 0x53
     → (byte_at bytes >>= λ n. kind_of_code n.0 >>= λ kind. Some (kind, n.1)) ≡ Some taken

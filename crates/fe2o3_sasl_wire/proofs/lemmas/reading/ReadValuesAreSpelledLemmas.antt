@@ -11,7 +11,8 @@ use Rattle.fe2o3_sasl_wire.specs.declared.amqp_types.SaslCode.{SaslCode}
 use Rattle.fe2o3_sasl_wire.specs.declared.amqp_types.SaslCode.TheVariants as sasl_codes
 use Rattle.fe2o3_sasl_wire.specs.declared.sasl_frames.forms.Form.{Form}
 use Rattle.fe2o3_sasl_wire.specs.declared.sasl_frames.forms.Form.TheVariants.{Eight, ThirtyTwo}
-use Rattle.fe2o3_sasl_wire.specs.SaslFrames.{IsBytes, limit, number, choice, content, SpellsVariable, IsElement, array_body, outcome_code, Ubyte, Binary, Text, Symbol, Symbols, SpellsField}
+use Rattle.fe2o3_sasl_wire.specs.SaslFrames.{IsBytes, limit, number, choice, content, SpellsVariable, array_body, outcome_code, Ubyte, Binary, Text, Symbol, Symbols, SpellsField}
+use Rattle.fe2o3_sasl_wire.specs.private.Kinds.{IsElement}
 use Rattle.fe2o3_sasl_wire.specs.private.Writing.{elements}
 use Rattle.fe2o3_sasl_wire.specs.private.Reading.{◌>>=◌, byte_at, four_at, number_at, content_at, form_at, variable_at, is_ascii, element_at, symbol_at, string_at, elements_at, array_at, one_at, symbols_at, sasl_code, code_at, binary_at}
 use Rattle.fe2o3_sasl_wire.proofs.lemmas.reading.TextLemmas.{IsAscii-from_is_ascii}
@@ -160,7 +161,7 @@ element_takes form bytes taken fits e =
     let c = content_takes form bytes a.0 fits a.1 in
     let made : TakesElement form bytes a.0.0 a.0.1 = record {
       parts = c.parts;
-      element = record { ascii = IsAscii-from_is_ascii a.0.0 g.0; fits = c.fits };
+      element = (IsAscii-from_is_ascii a.0.0 g.0, c.fits);
       rest_fits = c.rest_fits;
     } in
     subst (λ (y : List ℕ × List ℕ). TakesElement form bytes y.0 y.1) (some_is a.0 taken g.1) made
@@ -176,7 +177,7 @@ symbol_takes bytes taken fits e =
     let c = element_takes b.0 a.0.1 taken first.1 b.2 in
     record {
       front = choice 0xa3 0xb3 b.0 ∷ content b.0 taken.0;
-      spelled = (c.element.ascii, record { form = b.0; fits = c.element.fits; whole = refl });
+      spelled = (c.element.0, record { form = b.0; fits = c.element.1; whole = refl });
       parts =
           first.0 ∙ ap (λ (k : ℕ). k ∷ a.0.1) (form_takes 0xa3 0xb3 a.0.0 b.0 b.1)
           ∙ ap (λ (t : List ℕ). choice 0xa3 0xb3 b.0 ∷ t) c.parts;
@@ -297,7 +298,7 @@ one_reads form constructor bytes taken fits e h =
     let t = element_takes form bytes a.0 fits a.1 in
     let made : Reads (SpellsField (Symbols (a.0.0 ∷ []))) (constructor ∷ bytes) a.0.1 = record {
       front = choice 0xa3 0xb3 form ∷ content form a.0.0;
-      spelled = inl (a.0.0, refl, (t.element.ascii, record { form = form; fits = t.element.fits; whole = refl }));
+      spelled = inl (a.0.0, refl, (t.element.0, record { form = form; fits = t.element.1; whole = refl }));
       parts = ap (λ (k : ℕ). k ∷ bytes) e ∙ ap (λ (r : List ℕ). choice 0xa3 0xb3 form ∷ r) t.parts;
       rest_fits = t.rest_fits;
     } in

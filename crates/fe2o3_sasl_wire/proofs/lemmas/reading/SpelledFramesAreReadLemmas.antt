@@ -8,7 +8,8 @@ use Rattle.fe2o3_sasl_wire.specs.declared.sasl_frames.forms.Form.{Form}
 use Rattle.fe2o3_sasl_wire.specs.declared.sasl_frames.forms.Form.TheVariants.{Eight, ThirtyTwo}
 use Rattle.fe2o3_sasl_wire.specs.declared.sasl_frames.forms.Kind.{Kind}
 use Rattle.fe2o3_sasl_wire.specs.declared.sasl_frames.forms.Kind.TheVariants as kinds
-use Rattle.fe2o3_sasl_wire.specs.SaslFrames.{limit, choice, content, SpellsVariable, list_body, SpellsList, SaslFrame, Mechanisms, Init, Challenge, Response, Outcome, kind_of, code_of, name_of, outcome_code, Field, Null, Ubyte, Binary, Text, Symbol, Symbols, optional, fields_of, SpellsField, SpellsItems, SpellsDescriptor, SpellsValue}
+use Rattle.fe2o3_sasl_wire.specs.SaslFrames.{limit, choice, content, SpellsVariable, list_body, SpellsList, SaslFrame, Mechanisms, Init, Challenge, Response, Outcome, outcome_code, Field, Null, Ubyte, Binary, Text, Symbol, Symbols, optional, fields_of, SpellsField, SpellsItems}
+use Rattle.fe2o3_sasl_wire.specs.private.Kinds.{kind_of, code_of, name_of, SpellsValue, SpellsKind}
 use Rattle.fe2o3_sasl_wire.specs.private.Fields.{AllNull}
 use Rattle.fe2o3_sasl_wire.specs.private.Reading.{eight_at, symbol_at, string_at, symbols_at, code_at, Items, required, null_at, optional_at, ended, binary_at, fields_at, list_at, kind_of_code, kind_of_name, descriptor_at, value_at}
 use Rattle.fe2o3_sasl_wire.proofs.lemmas.reading.SpelledValuesAreReadLemmas.{number_again, content_again, binary_again, string_again, symbol_again, symbols_again, code_again}
@@ -224,7 +225,7 @@ unfolding descriptor_at
 named_step kind Eight rest e = rw (e, name_again kind) refl
 named_step kind ThirtyTwo rest e = rw (e, name_again kind) refl
 
-descriptor_again : (kind : Kind) (spelling rest : List ℕ) → SpellsDescriptor kind spelling
+descriptor_again : (kind : Kind) (spelling rest : List ℕ) → SpellsKind kind spelling
     → descriptor_at (spelling ++ rest) ≡ Some (kind, rest)
 descriptor_again kind spelling rest (inl e) = rw e (short_descriptor kind rest)
 descriptor_again kind spelling rest (inr (inl e)) = rw e (long_descriptor kind rest)

@@ -11,7 +11,8 @@ use Rattle.fe2o3_sasl_wire.specs.declared.amqp_types.SaslCode.{SaslCode}
 use Rattle.fe2o3_sasl_wire.specs.declared.amqp_types.SaslCode.TheVariants as sasl_codes
 use Rattle.fe2o3_sasl_wire.specs.declared.sasl_frames.forms.Form.{Form}
 use Rattle.fe2o3_sasl_wire.specs.declared.sasl_frames.forms.Form.TheVariants.{Eight, ThirtyTwo}
-use Rattle.fe2o3_sasl_wire.specs.SaslFrames.{limit, number, choice, content, SpellsVariable, SpellsSymbol, IsElement, array_body, outcome_code, Ubyte, Symbols, SpellsField}
+use Rattle.fe2o3_sasl_wire.specs.SaslFrames.{limit, number, choice, content, SpellsVariable, SpellsSymbol, array_body, outcome_code, Ubyte, Symbols, SpellsField}
+use Rattle.fe2o3_sasl_wire.specs.private.Kinds.{IsElement}
 use Rattle.fe2o3_sasl_wire.specs.private.Writing.{elements}
 use Rattle.fe2o3_sasl_wire.specs.private.Reading.{number_at, content_at, form_at, variable_at, element_at, symbol_at, string_at, elements_at, array_at, one_at, symbols_at, code_at, binary_at}
 use Rattle.fe2o3_sasl_wire.proofs.lemmas.reading.TextLemmas.{is_ascii-from_IsAscii}
@@ -79,7 +80,7 @@ string_again value spelling rest s =
 element_again : (form : Form) (value rest : List ℕ) → IsElement form value
     → element_at form (content form value ++ rest) ≡ Some (value, rest)
 unfolding element_at
-element_again form value rest s = rw (content_again form value rest s.fits, is_ascii-from_IsAscii value s.ascii) refl
+element_again form value rest s = rw (content_again form value rest s.1, is_ascii-from_IsAscii value s.0) refl
 
 -- a symbol that is spelled is read back, whatever follows it
 pub symbol_again : (value spelling rest : List ℕ) → SpellsSymbol value spelling
@@ -90,7 +91,7 @@ symbol_again value spelling rest s =
       s.1.whole,
       symbol_form s.1.form,
       element_again s.1.form value rest
-          (record { ascii = s.0; fits = s.1.fits }),
+          (s.0, s.1.fits),
     ) refl
 
 elements_again : (form : Form) (xs : List (List ℕ)) (rest : List ℕ) → AllByRecursion (IsElement form) xs
@@ -143,7 +144,7 @@ many_again xs rest ThirtyTwo inner each size count = array_again xs rest ThirtyT
 pub symbols_again : (xs : List (List ℕ)) (spelling rest : List ℕ) → SpellsField (Symbols xs) spelling
     → symbols_at (spelling ++ rest) ≡ Some (xs, rest)
 symbols_again xs spelling rest (inl one) =
-    rw one.2.1.whole (single_again xs one.0 rest one.2.1.form one.1 (record { ascii = one.2.0; fits = one.2.1.fits }))
+    rw one.2.1.whole (single_again xs one.0 rest one.2.1.form one.1 (one.2.0, one.2.1.fits))
 symbols_again xs spelling rest (inr s) = rw s.whole (many_again xs rest s.form s.inner s.each s.size s.count)
 
 code_of_again : (code : SaslCode) (rest : List ℕ) → code_at (0x50 ∷ outcome_code code ∷ rest) ≡ Some (code, rest)

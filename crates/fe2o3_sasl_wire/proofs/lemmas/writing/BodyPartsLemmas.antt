@@ -6,8 +6,10 @@ use Rattle.std.proofs.lemmas.Bool.{lt-ltb, le-ltb}
 use Rattle.fe2o3_sasl_wire.specs.declared.sasl_frames.forms.Form.{Form}
 use Rattle.fe2o3_sasl_wire.specs.declared.sasl_frames.forms.Form.TheVariants.{Eight, ThirtyTwo}
 use Rattle.fe2o3_sasl_wire.specs.declared.sasl_frames.fields.Field.{Field as HeldField}
-use Rattle.fe2o3_sasl_wire.specs.private.Writing.{width, list_form}
-use Rattle.fe2o3_sasl_wire.specs.SaslFrames.{number, choice, list_body, SaslFrame, kind_of, code_of, fields_of, Field, Null, Ubyte, Binary, Text, Symbol, Symbols, shortest, canonical_field, with_field, written, items_of, count_of, canonical_list, canonical, AppendsCanonical}
+use Rattle.fe2o3_sasl_wire.specs.private.Writing.{width, list_form, items_of, count_of, canonical_list}
+use Rattle.fe2o3_sasl_wire.proofs.lemmas.frames.ValueLemmas.{code_is}
+use Rattle.fe2o3_sasl_wire.specs.SaslFrames.{number, choice, list_body, SaslFrame, fields_of, Field, Null, Ubyte, Binary, Text, Symbol, Symbols, shortest, canonical_field, with_field, written, canonical, AppendsCanonical}
+use Rattle.fe2o3_sasl_wire.specs.private.Kinds.{kind_of, code_of}
 use Rattle.fe2o3_sasl_wire.specs.private.Fields.{shown_field, filled}
 use Rattle.fe2o3_sasl_wire.proofs.lemmas.writing.CanonicalSpellsLemmas.{length-list_body}
 
@@ -97,7 +99,7 @@ body_in_parts frame form n size len_is fits form_is size_is =
     let small : length (list_body Eight count items) ≡ 1 + n = omega (arith, length-list_body Eight count items) in
     let list_form_is : list_form count items ≡ form = ap shortest small ∙ sym form_is in
     let parts = list_parts form count size items list_form_is (omega arith) in
-    rw (written_so, parts) refl
+    rw (written_so, parts, code_is frame) refl
 
 -- a frame whose items fit in a list has a canonical body
 pub has_body : (frame : SaslFrame) (n : ℕ) → n ≡ length (items_of frame) → 4 + n < 2 ^ 32 → IsSome (canonical frame)

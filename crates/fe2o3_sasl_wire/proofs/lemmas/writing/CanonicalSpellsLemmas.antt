@@ -7,8 +7,10 @@ use Rattle.std.proofs.lemmas.List.{length-append}
 use Rattle.fe2o3_sasl_wire.specs.declared.sasl_frames.forms.Form.{Form}
 use Rattle.fe2o3_sasl_wire.specs.declared.sasl_frames.forms.Form.TheVariants.{Eight, ThirtyTwo}
 use Rattle.fe2o3_sasl_wire.specs.private.Fields.{AllNull}
-use Rattle.fe2o3_sasl_wire.specs.private.Writing.{width, elements, all_short, array_form, list_form}
-use Rattle.fe2o3_sasl_wire.specs.SaslFrames.{limit, number, choice, content, SpellsVariable, IsElement, array_body, SpellsArray, list_body, SpellsSized, SaslFrame, kind_of, code_of, Field, Null, Ubyte, Binary, Text, Symbol, Symbols, fields_of, SpellsField, SpellsItems, SpellsValue, Spells, shortest, canonical_variable, inner_form, canonical_array, canonical_field, with_field, written, items_of, count_of, canonical_list, canonical, IsText, HasTexts}
+use Rattle.fe2o3_sasl_wire.specs.private.Writing.{width, elements, all_short, array_form, list_form, canonical_variable, canonical_array, items_of, count_of, canonical_list}
+use Rattle.fe2o3_sasl_wire.proofs.lemmas.frames.ValueLemmas.{code_is, spells_with}
+use Rattle.fe2o3_sasl_wire.specs.SaslFrames.{descriptor_of, limit, number, choice, content, SpellsVariable, array_body, SpellsArray, list_body, SpellsSized, SaslFrame, Field, Null, Ubyte, Binary, Text, Symbol, Symbols, fields_of, SpellsField, SpellsItems, Spells, shortest, inner_form, canonical_field, with_field, written, canonical, IsText, HasTexts}
+use Rattle.fe2o3_sasl_wire.specs.private.Kinds.{IsElement, kind_of, code_of, SpellsValue}
 use Rattle.fe2o3_sasl_wire.proofs.lemmas.reading.StepLemmas.{when_some, some_is}
 
 length-number : (form : Form) (n : ℕ) → length (number form n) ≡ width form
@@ -40,7 +42,7 @@ short_elements : (names : List (List ℕ)) → AllByRecursion IsAscii names → 
 short_elements [] ascii e = tt
 short_elements (name ∷ names) ascii e =
     let p = and_parts (ltb (length name) 256) (all_short names) e in
-    (record { ascii = ascii.0; fits = ltb-true (length name) 256 p.0 }, short_elements names ascii.1 p.1)
+    ((ascii.0, ltb-true (length name) 256 p.0), short_elements names ascii.1 p.1)
 
 long_elements : (names : List (List ℕ)) → AllByRecursion IsAscii names → length (elements ThirtyTwo names) < 2 ^ 32
     → AllByRecursion (IsElement ThirtyTwo) names
@@ -48,7 +50,7 @@ long_elements [] ascii lt = tt
 long_elements (name ∷ names) ascii lt =
     let len = length-append (content ThirtyTwo name) (elements ThirtyTwo names) in
     let first = length-content ThirtyTwo name in
-    (record { ascii = ascii.0; fits = omega arith }, long_elements names ascii.1 (omega arith))
+    ((ascii.0, omega arith), long_elements names ascii.1 (omega arith))
 
 -- there are no more names than bytes of their elements
 pub few_names : (inner : Form) (names : List (List ℕ)) → length names ≤ length (elements inner names)
@@ -263,7 +265,8 @@ canonical_spells frame b texts e =
     let count = count_of frame in
     let items = items_of frame in
     let value : List ℕ = 0 ∷ (0x53 ∷ code_of (kind_of frame) ∷ []) ++ canonical_list count items in
-    let g = when_some (ltb (length (list_body ThirtyTwo count items)) (2 ^ 32)) (Some (2 ∷ 1 ∷ 0 ∷ 0 ∷ value)) b e in
+    let g = when_some (ltb (length (list_body ThirtyTwo count items)) (2 ^ 32))
+    (Some (2 ∷ 1 ∷ 0 ∷ 0 ∷ 0 ∷ 0x53 ∷ (descriptor_of frame).0 ∷ canonical_list count items)) b e in
     let lt : length (list_body ThirtyTwo count items) < 2 ^ 32 = ltb-true _ _ g.0 in
     let body = length-list_body ThirtyTwo count items in
     let spelled : SpellsValue frame value = record {
@@ -276,10 +279,6 @@ canonical_spells frame b texts e =
       listed = inr (sized_in (list_form count items) count items refl lt (few_items (written (fields_of frame))));
       whole = refl;
     } in
-    record {
-      third = 0;
-      fourth = 0;
-      value = value;
-      spelled = spelled;
-      whole = sym (some_is (2 ∷ 1 ∷ 0 ∷ 0 ∷ value) b g.1);
-    }
+    let code = ap (λ (n : ℕ). 2 ∷ 1 ∷ 0 ∷ 0 ∷ 0 ∷ 0x53 ∷ n ∷ canonical_list count items) (code_is frame) in
+    spells_with frame 0 0 value b spelled
+    (sym (some_is (2 ∷ 1 ∷ 0 ∷ 0 ∷ 0 ∷ 0x53 ∷ (descriptor_of frame).0 ∷ canonical_list count items) b g.1) ∙ code)

@@ -6,8 +6,8 @@ use Rattle.std.proofs.lemmas.List.{length-append}
 use Rattle.fe2o3_sasl_wire.specs.declared.sasl_frames.forms.Form.{Form}
 use Rattle.fe2o3_sasl_wire.specs.declared.sasl_frames.forms.Form.TheVariants.{Eight, ThirtyTwo}
 use Rattle.fe2o3_sasl_wire.specs.declared.sasl_frames.fields.Field.{Field as HeldField}
-use Rattle.fe2o3_sasl_wire.specs.private.Writing.{width, elements, all_short, array_form}
-use Rattle.fe2o3_sasl_wire.specs.SaslFrames.{limit, content, shortest, inner_form, canonical_array, canonical_field}
+use Rattle.fe2o3_sasl_wire.specs.private.Writing.{width, elements, all_short, array_form, canonical_array}
+use Rattle.fe2o3_sasl_wire.specs.SaslFrames.{limit, content, shortest, inner_form, canonical_field}
 use Rattle.fe2o3_sasl_wire.specs.private.Fields.{shown_field}
 use Rattle.fe2o3_sasl_wire.proofs.lemmas.writing.CanonicalSpellsLemmas.{length-content, few_names, small_array}
 

@@ -1,8 +1,8 @@
 use Rattle.std.proofs.Common.{◌≡◌, ◌+◌, ◌++◌, length, ap, refl, ◌∙◌, arith}
 use Rattle.std.specs.List.{flat_map}
 use Rattle.std.proofs.lemmas.Result.{err_from_is_err_and}
-use Rattle.fe2o3_sasl_wire.specs.private.Writing.{width}
-use Rattle.fe2o3_sasl_wire.specs.SaslFrames.{number, canonical_field, items_of}
+use Rattle.fe2o3_sasl_wire.specs.private.Writing.{width, items_of}
+use Rattle.fe2o3_sasl_wire.specs.SaslFrames.{number, canonical_field}
 use Rattle.fe2o3_sasl_wire.specs.Owned.{owned_frame}
 use Rattle.fe2o3_sasl_wire.proofs.lemmas.writing.BodyPartsLemmas.{Keeps, kept_fields, kept_count, kept_len, no_body, body_in_parts, has_body, appends}
 use Rattle.fe2o3_sasl_wire.proofs.lemmas.frames.FrameTextLemmas.{kept_texts}
