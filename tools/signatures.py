@@ -325,6 +325,9 @@ class Library:
                 trait = match[1].split("::")[-1] if "<" not in match[1] else match[1]
                 if match[2] == item.name and trait != "Model" and trait not in found:
                     found.append(trait)
+            elif match := re.match(r"impl From<(\w+)> for (\W.*)", head):
+                if match[1] == item.name:
+                    found.append(f"Into<{match[2]}>")
         return comment_lines(f"It is {', '.join(sorted(found))}.") if found else []
 
     def methods(self, item):
