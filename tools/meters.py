@@ -4,24 +4,27 @@
     tools/meters.py             compares the sources with tools/meters.txt
     tools/meters.py --list      prints that list as the sources would have it, under the reasons that it has
 
-It reads the .rt files of src/ of the three libraries, without comments, strings, attributes, contracts and
-ghost code. The list has a line `PLACE: USE, USE` for each function that has uses, with the type of its impl. A
-use is
+It reads the .rt files of src/ of LIBRARIES, without comments, strings, attributes, contracts and ghost code.
+The list has a line `PLACE: USE, USE` for each function that has uses, with the type of its impl. A use is
 
     Meter::new      the making of a meter, by that call or by a literal
-    NAME            the call of a function that takes a meter, in one that makes one;
+    NAME            the call of a function that takes a meter, in one that makes one, or in UNCOUNTED, the
+                    libraries whose contracts do not count what a meter does;
                     of a function that takes none, and makes one, hashes, or calls one that does;
                     or a name of the kit's hashes
+    NAME as a value such a free function, named and not called
 
-with ` in a loop` behind it where it stands in `for`, `while`, `loop` or a closure, and ` x2` where there are two.
-It fails on a use, or a number of them, that the list does not have; on one of the list that is not there; on
-another name for what it looks for (`as`, `type`); and on a Meter that is a constant or can be copied.
+with ` in a loop` after it inside a `for`, `while`, `loop` or closure, and ` x2` where there are two. It fails on
+a use, or a number of them, that the list does not have; on one of the list that is not there; on another name
+for a meter or a hash (`as`, `type`); on what is exported by another name; on a function that is a constant; and
+on a Meter that is a constant or can be copied.
 
-Calls are found by name: `.name(` is every method of that name, `Type::name` those of the type, or every one
-where it is a trait or one letter, `name(` every free function. So it refuses more than it has to. It does not
-see the arguments of a call, nor in what order or on which branch it stands (an allowed call that is made where
-it was spared before is not seen), a free function that is handed on as a value, code that a macro makes, a hash
-that is written out by hand, nor a loop around a metered call on the caller's meter, which its contract counts.
+Functions are found by name: `.name(` is every method of that name, `Type::name`, called or not, those of the
+type, or every one where it is a trait or one letter, and `name` the free function of its file, of the file's
+imports or of the path before it. So it refuses more than it has to. It does not see the arguments of a call, nor
+in what order or on which branch it is made (an allowed call that is made where it was spared before is not
+seen), code that a macro makes, a hash that is written out by hand, nor, outside UNCOUNTED, a loop around a
+metered call on the caller's meter, which its contract counts.
 """
 import re
 import sys
@@ -29,16 +32,20 @@ import textwrap
 from collections import Counter, defaultdict
 from functools import cached_property, lru_cache
 from pathlib import Path
+from typing import NamedTuple
+
+from scopes import brackets, closing, locals_of
 
 TOP = Path(__file__).resolve().parent.parent
-LIBRARIES = ("fe2o3_sasl_wire", "fe2o3_scram", "fe2o3_sasl_runs", "fe2o3_sasl", "fe2o3_sasl_negotiation")
+LIBRARIES = ("fe2o3_sasl_wire", "fe2o3_scram", "fe2o3_sasl_runs", "fe2o3_sasl", "fe2o3_sasl_negotiation",
+             "sasl_c")
+UNCOUNTED = ("sasl_c",)
 LIST = "tools/meters.txt"
 UNSORTED = "# Put each of these under its reason."
 NO_CODE = re.compile(
     r"""//[^\n]*|/\*.*?\*/|b?'(?:\\.[^']*|[^'\\])'|b?"(?:\\.|[^"\\])*"|#!?\[[^\n]*?\]\n|\bghost use\b[^;]*;""", re.S)
 GHOST = re.compile(r"\bghost\s+\w+\s*[=:]\s*(?=\{)|\bghost\s*(?=\{)"
                    r"|^[ \t]*(?:ensures|requires|invariant|decreases|terminates|proof)(?:[ \t]+\w+)?\s*(?=\{)", re.M)
-BRACKET = re.compile(r"[({\[]|[)}\]]|;")
 HEAD = re.compile(r"\bfn\s+(\w+)")
 IMPL = re.compile(r"^(?:impl|(?:pub(?:\(\w+\))? )?trait)\b([^{;]*)\{", re.M)
 LOOP = re.compile(r"\b(?:for|while|loop)\b|(?<=[(,])\s*(?:move\s*)?\|[^|]*\|")
@@ -46,25 +53,18 @@ MAKES = re.compile(r"\bMeter\s*>?\s*::\s*(?:new|default)\b|\bMeter\s*\{")
 OWN = re.compile(r"\bSelf\s*(?:\{|::\s*(?:new|default)\b)")
 KIT = re.compile(r"\bsha[12]\s*::|(?<!::)\bSha(?:1|256|512)\b|\.\s*(?:update|finalize)(?=\s*\()")
 WORD = re.compile(r"\b([a-z_]\w*)\s*(\(|::\s*<)?")
+USE = re.compile(r"\buse\b([^;]*);")
+ALIAS = re.compile(r"\b(\w+)\s+as\s+(?!_\b)(\w+)")
+HEADED = re.compile(r"\bfn\s*$")
+NO_VALUE = re.compile(r"\s*(?:!(?!=)|::?)")
 BEFORE = re.compile(r"(\.)\s*$|(\w+)(?:\s*::\s*<[^()]*?>)?\s*>?\s*::\s*$")
-RENAMED = re.compile(r"^[ \t]*(?:pub )?use\b[^;]*?\b(?!AllocError\b)([A-Z]\w+|sha[12])\s+as\s+\w"
-                     r"|\btype\s+\w+[^;=]*=[^;]*\b(?:Meter|[Ss]ha\d+|Digest|Hasher|HmacKey|PaddedKey)\b", re.M)
+LOOKED_FOR = r"\b(?:Meter|[Ss]ha\d+|Digest|Hasher|HmacKey|PaddedKey)\b"
+RENAMED = re.compile(rf"^[ \t]*use\b[^;]*?{LOOKED_FOR}\s+as\s+\w|\btype\s+\w+[^;=]*=[^;]*{LOOKED_FOR}"
+                     r"|^[ \t]*pub(?:\([\w ]+\))? use\b[^;]*?\b(?!AllocError\b)\w+\s+as\s+\w", re.M)
+CONSTANT = re.compile(r"^[ \t]*(?:pub(?:\([\w ]+\))? )?(?:const|static)\s+\w+\s*:[^=;]*\bfn\b", re.M)
 COPIED = re.compile(r"derive\([^)]*(?:Clone|Copy|Default)[^)]*\)\]\s*(?:pub\s+)?struct Meter\b"
                     r"|\bimpl\s+(?:Clone|Copy|Default)\s+for\s+Meter\b"
                     r"|^[ \t]*(?:pub(?:\(\w+\))? )?(?:const|static)\s+\w+\s*:[^=;]*\bMeter\b", re.M)
-
-
-def brackets(text, at):
-    """The brackets and semicolons behind a place, each with the depth behind it."""
-    depth = 0
-    for found in BRACKET.finditer(text, at):
-        depth += {"(": 1, "{": 1, "[": 1, ";": 0}.get(found[0], -1)
-        yield found, depth
-
-
-def closing(text, at):
-    """The place behind the bracket that closes the one at a place."""
-    return next((found.end() for found, depth in brackets(text, at) if depth == 0), len(text))
 
 
 def code_of(text):
@@ -75,6 +75,11 @@ def code_of(text):
         pieces += [text[at:found.start()], "\n" * text.count("\n", found.start(), end)]
         at = end
     return "".join(pieces) + text[at:]
+
+
+def within(at, parts):
+    """Whether a place is in one of these parts."""
+    return any(start <= at < end for start, end in parts)
 
 
 def owner_of(head):
@@ -92,13 +97,28 @@ def body_of(text, at):
     return end.start() if end and end[0] == "{" else None
 
 
-class Function:
-    """A function with a body."""
+class Call(NamedTuple):
+    """A call of a function, or its name as a value, with the type or the module before it."""
+    at: int
+    name: str
+    type: str
+    module: str
+    method: bool
+    value: bool
 
-    def __init__(self, file, crate, place, owner, name, head, body, line):
-        self.file, self.crate, self.place, self.owner, self.name = file, crate, place, owner, name
+
+class Function:
+    """A function with a body, and the names that its file imports."""
+
+    def __init__(self, file, imports, crate, place, owner, name, head, body, line):
+        self.file, self.imports, self.crate = file, imports, crate
+        self.place, self.owner, self.name = place, owner, name
         self.body, self.line, arguments = body, line, head.split("->")[0]
-        self.takes, self.of_self = bool(re.search(r"\bMeter\b", arguments)), bool(re.search(r"\bself\b", arguments))
+        self.takes = bool(re.search(r"\bMeter\b", arguments))
+        self.of_self = bool(re.search(r"\bself\b", arguments))
+        self.locals = defaultdict(list)
+        for local, start, end in locals_of(arguments, body):
+            self.locals[local].append((start, end))
         own = OWN.finditer(body) if owner == "Meter" else ()
         self.makes = [found.start() for places in (MAKES.finditer(body), own) for found in places]
         self.kit = [(found.start(), re.sub(r"[\s:.]", "", found[0])) for found in KIT.finditer(body)]
@@ -106,17 +126,18 @@ class Function:
 
     @cached_property
     def calls(self):
-        """What may be a call: its place, the type before the name, the name, and whether it is a method's."""
-        calls = []
+        """What may be a call, or the name of a function as a value."""
+        calls, uses = [], [found.span() for found in USE.finditer(self.body)]
         for found in WORD.finditer(self.body):
             text = self.body[max(0, found.start() - 80):found.start()]
-            if not found[2] and not text.rstrip().endswith("::"):
-                continue
             before = BEFORE.search(text)
-            method, qualifier = bool(before and before[1]), before[2] or "" if before else ""
-            qualifier = self.owner if qualifier == "Self" else qualifier
-            if found[2] or qualifier[:1].isupper():
-                calls.append((found.start(), qualifier if qualifier[:1].isupper() else "", found[1], method))
+            method, path = bool(before and before[1]), before[2] or "" if before else ""
+            path = self.owner if path == "Self" else path
+            of_type, value = path[:1].isupper(), not found[2]
+            if value and not of_type and (method or NO_VALUE.match(self.body, found.end(1)) or HEADED.search(text)
+                                          or within(found.start(), [*uses, *self.locals[found[1]] * (not path)])):
+                continue
+            calls.append(Call(found.start(), found[1], path * of_type, path * (not of_type), method, value))
         return calls
 
     def loop_end(self, found):
@@ -126,12 +147,13 @@ class Function:
         return closing(self.body, self.body.find("{", found.end()))
 
     def use(self, at, name):
-        looped = any(start < at < end for start, end in self.loops)
-        return self.place, name + " in a loop" * looped, f"{self.file}:{self.line + self.body.count(chr(10), 0, at)}"
+        line = self.line + self.body.count("\n", 0, at)
+        return self.place, name + " in a loop" * within(at, self.loops), f"{self.file}:{line}"
 
 
 def functions_of(file, crate, path, text):
     """The functions of a file."""
+    imports = frozenset(word for found in USE.finditer(text) for word in re.findall(r"\w+|\*", found[1]))
     impls = [(found.start(), closing(text, found.end() - 1), owner_of(found[1])) for found in IMPL.finditer(text)]
     for found in HEAD.finditer(text):
         begin = body_of(text, found.end())
@@ -139,7 +161,7 @@ def functions_of(file, crate, path, text):
             continue
         owner = next((name for start, stop, name in impls if start < found.start() < stop), "")
         place = "::".join(part for part in (path, owner, found[1]) if part)
-        yield Function(file, crate, place, owner, found[1], text[found.end():begin],
+        yield Function(file, imports, crate, place, owner, found[1], text[found.end():begin],
                        text[begin:closing(text, begin)], text.count("\n", 0, begin) + 1)
 
 
@@ -147,15 +169,18 @@ def functions_of(file, crate, path, text):
 def read(file, text):
     """The functions of a file, the names of its traits, and what is refused in it alone."""
     crate, _, path = file.split("/", 3)[1:]
-    code = code_of(text)
+    code, faults = code_of(text), []
+    for what, pattern in (("another name", RENAMED), ("a function that is a constant", CONSTANT)):
+        faults += [f"{file}: {what}: {found[0].strip()}" for found in pattern.finditer(code)]
+    for name, alias in [pair for found in USE.finditer(code) for pair in ALIAS.findall(found[1])]:
+        code = re.sub(rf"\b{alias}\b", name, code)
     functions = [*functions_of(file, crate, f"{crate}::{path.removesuffix('.rt').replace('/', '::')}", code)]
-    faults = [f"{file}: another name: {found[0].strip()}" for found in RENAMED.finditer(code)]
     faults += [f"{file}: a Meter can be copied: {found[0].strip()}" for found in COPIED.finditer(text)]
     return functions, {*re.findall(r"\b(?:trait|type) (\w+)", code)}, faults
 
 
 class Sources:
-    """The functions of the libraries by their texts, and which of them work where no meter is handed in."""
+    """The functions of the libraries by their texts, and which of them work where they take no meter."""
 
     def __init__(self, texts):
         self.functions, self.faults, self.traits = [], [], set()
@@ -169,8 +194,8 @@ class Sources:
             self.by_name[function.name].append(function)
         for function in self.functions:
             for call in function.calls:
-                if call[2] in self.by_name:
-                    self.callers[call[2]].append((function, call))
+                if call.name in self.by_name:
+                    self.callers[call.name].append((function, call))
         self.takers = {function for function in self.functions if function.takes}
         self.unseen = self.reached()
 
@@ -188,13 +213,15 @@ class Sources:
 
     def is_of(self, caller, call, callee):
         """Whether a call of its name may be one of a function."""
-        _, qualifier, _, method = call
         if LIBRARIES.index(caller.crate) < LIBRARIES.index(callee.crate):
             return False
-        if not callee.owner or not method and not qualifier:
-            return not callee.owner and not method and not qualifier
-        any_type = len(qualifier) == 1 or qualifier in self.traits
-        return callee.of_self if method else any_type or qualifier == callee.owner
+        if not callee.owner:
+            near = caller.file == callee.file or call.module or not caller.imports.isdisjoint((callee.name, "*"))
+            return bool(near) and not call.method and not call.type
+        if call.method:
+            return callee.of_self
+        any_type = len(call.type) == 1 or call.type in self.traits
+        return bool(call.type) and (any_type or call.type == callee.owner)
 
     def uses(self):
         """Each use that has to stand in the list: its function, its name, and its file and line."""
@@ -203,9 +230,11 @@ class Sources:
             yield from (function.use(at, name) for at, name in function.kit)
         for name, calls in self.callers.items():
             for caller, call in calls:
-                pinned = self.unseen | self.takers if caller.makes else self.unseen
+                all_takers = caller.makes or caller.crate in UNCOUNTED
+                pinned = self.unseen | self.takers if all_takers else self.unseen
                 if any(callee in pinned and self.is_of(caller, call, callee) for callee in self.by_name[name]):
-                    yield caller.use(call[0], f"{call[1]}::{name}" if len(call[1]) > 1 else name)
+                    as_value = " as a value" * (call.value and not call.type)
+                    yield caller.use(call.at, (f"{call.type}::" if len(call.type) > 1 else "") + name + as_value)
 
 
 def found_in(sources):

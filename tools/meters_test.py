@@ -10,6 +10,8 @@ import meters
 TEXTS = meters.texts_of(meters.TOP)
 LISTED = (meters.TOP / meters.LIST).read_text(encoding="utf-8")
 SCRAM, RUNS, SASL = "crates/fe2o3_scram/src/", "crates/fe2o3_sasl_runs/src/", "crates/fe2o3_sasl/src/"
+C_FINAL, C_CONNECTION = "crates/sasl_c/src/client_final.rt", "crates/sasl_c/src/sasl_server.rt"
+C_KEYS, C_RECORDS = "crates/sasl_c/src/keys.rt", "crates/sasl_c/src/records.rt"
 CLIENT, FINAL = SCRAM + "scram_client.rt", SCRAM + "scram_messages/client_final.rt"
 PLAIN_OF_CLIENT = "self.compute_client_final_message_metered(alloc, server_first, &mut Meter::new())"
 PLAIN_OF_FINAL = ("self.compute_client_final_message_metered(\n            alloc,\n            client_nonce,\n"
@@ -25,6 +27,9 @@ fn unlimited(scram: ScramVersion, alloc: Global, nonce: &str, secret: ClientSecr
 def first(old, new):
     """An edit that puts something before a text."""
     return old, new + old
+
+
+IMPORT = first("use crate::hmac::{Meter, ScramVersion};", "use crate::hmac::hasher::digest_of;\n")
 
 
 class Meters(unittest.TestCase):
@@ -99,7 +104,7 @@ class Meters(unittest.TestCase):
 
     def test_a_hash_for_each_iteration(self):
         work = "for _ in 0..self.iterations() { digest_of(self.scram_version(), b\"\"); }\n        "
-        self.refused(["answer: digest_of in a loop"], FINAL,
+        self.refused(["answer: digest_of in a loop"], FINAL, IMPORT,
                      first("let proof = self.client_proof(&auth_message, meter);", work))
 
     def test_a_server_that_signs_before_its_tests(self):
@@ -133,6 +138,82 @@ class Meters(unittest.TestCase):
     def test_an_audit_that_stretches_before_it_looks_at_the_kept_keys(self):
         work = "let _ = words.version.h_i(alloc, words.password.as_bytes(), &first.salt, first.iterations)?;\n    "
         self.refused(["keys_of: h_i x2"], SASL + "audit/client_receipts.rt", first("if let Some(last) = kept {", work))
+
+    def test_a_digest_as_a_value(self):
+        """The name of a function that is a value, and what is a local of its name."""
+        before, loop = "let salted_password = self.salted_password(", "for _ in 0..9 { stretch(b\"\"); }\n"
+        for value in ("digest_of", "crate::hmac::hasher::digest_of", "{ let digest_of = digest_of; digest_of }",
+                      "match first { digest_of => 0 }; let stretch = digest_of",
+                      "if let digest_of = 0 { digest_of } else { digest_of }", "(|digest_of| digest_of, digest_of).1"):
+            with self.subTest(value):
+                self.refused(["keys_of: digest_of as a value(?: in a loop)?"], FINAL, IMPORT,
+                             first(before, f"let stretch = {value}; {loop}        "))
+        for no_value in ("let digest_of = 0; digest_of", "match first { digest_of => digest_of }",
+                         "Hash { digest_of: 0 }.digest_of", "for digest_of in 0..1 { digest_of; }"):
+            with self.subTest(no_value):
+                self.assertEqual(self.faults(FINAL, IMPORT, first(before, f"{no_value};\n        ")), [])
+
+    def test_a_digest_as_a_value_in_a_loop(self):
+        work = "for _ in 0..first.iterations { twice(digest_of); }\n        "
+        self.refused(["keys_of: digest_of as a value in a loop"], FINAL, IMPORT,
+                     first("let salted_password = self.salted_password(", work))
+
+    def test_other_names_of_a_digest(self):
+        renamed = ("use crate::hmac::{Meter, ScramVersion};",
+                   "use crate::hmac::{Meter, ScramVersion};\nuse crate::hmac::hasher::digest_of as plain;")
+        self.refused(["keys_of: digest_of as a value", "keys_of: digest_of"], FINAL, renamed, first(
+            "let salted_password = self.salted_password(", "let stretch = plain; plain(*self, b\"\");\n        "))
+        exported = (renamed[0], renamed[1].replace("use crate::hmac::hasher", "pub(crate) use crate::hmac::hasher"))
+        self.assertIn("another name", "\n".join(self.faults(FINAL, exported)))
+        constant = first("impl ScramClientKeys {", "const H: fn(ScramVersion, &[u8]) -> Digest = digest_of;\n\n")
+        self.assertIn("a function that is a constant", "\n".join(self.faults(FINAL, IMPORT, constant)))
+
+    def test_an_answer_for_c_before_there_is_room(self):
+        """An export, and what it calls, that makes its answer on a meter of its own before it looks for the room."""
+        early = "let Ok(text) = str::from_utf8(server_first) else { return 0 };\n    " \
+                "let _ = answered(alloc, login, client, text, &mut Meter::new());\n    "
+        self.refused(["fe2o3_scram_client_final: Meter::new x2", "fe2o3_scram_client_final: answered"], C_FINAL,
+                     first("let mut meter = Meter::new();", early))
+        self.refused(["answer: Meter::new", "answer: answered x2"], C_FINAL, first(
+            "let suffices = server_first.len() + ANSWER_MORE;", early.replace("return 0", "return Ok(())")))
+
+    def test_an_answer_for_c_before_its_limit(self):
+        stretched = "let _ = version.answer_server_first(alloc, nonce, secret, server_first, bare.as_slice()," \
+                    " IterationLimits::none(), &mut Meter::new());\n    "
+        self.refused(["answered_by: Meter::new", "answered_by: answer_server_first x2"], C_FINAL,
+                     first("match version.answer_server_first(", stretched))
+
+    def test_an_answer_for_c_that_is_made_twice(self):
+        """The contracts of the library for C do not count what is done on the meter of an export."""
+        again = "let _ = answered(alloc, login, client, text, meter);\n    "
+        self.refused(["answer: answered x2"], C_FINAL,
+                     first("let answer = answered(alloc, login, client, text, meter)?;", again))
+
+    def test_a_connection_for_c_before_there_is_room(self):
+        step = "let _ = received(alloc, host, server, bytes, nonce, &mut Meter::new());\n    "
+        self.refused(["fe2o3_sasl_server_receive: Meter::new x2", "fe2o3_sasl_server_receive: received"], C_CONNECTION,
+                     first("let mut meter = Meter::new();", step))
+        self.refused(["receive: Meter::new", "receive: received x2"], C_CONNECTION,
+                     first("if out.len() < SENT_MOST {", step))
+
+    def test_a_step_for_c_before_there_is_room(self):
+        for side, call in (("server", "answered(alloc, host, server, body, nonce, &mut Meter::new())"),
+                           ("client", "answered(alloc, login, client, body, nonce, &mut Meter::new())")):
+            path, export = f"crates/sasl_c/src/{side}_steps.rt", f"fe2o3_sasl_{side}_step"
+            step = f"let _ = {call};\n    "
+            with self.subTest(export):
+                self.refused([f"{export}: Meter::new x2", f"{export}: answered"], path,
+                             first("let mut meter = Meter::new();", step))
+                self.refused(["step: Meter::new", "step: answered x2"], path, first("has_room(out, len)?;", step))
+
+    def test_keys_and_passwords_for_c_that_are_stretched_twice(self):
+        again = "let _ = ScramClientKeys::from_prepared_password(alloc, version, password, salt, iterations," \
+                " &mut Meter::new());\n    "
+        self.refused(["made: Meter::new x2", "made: ScramClientKeys::from_prepared_password x2"], C_KEYS,
+                     first("let mut meter = Meter::new();", again))
+        verified = "number(verify(alloc, kept, PasswordForm::Typed, password))"
+        self.refused(["fe2o3_scram_record_verify: verify x2"], C_RECORDS,
+                     first(verified, f"let _ = {verified};\n    "))
 
     def test_what_it_does_not_see(self):
         """An audit that never takes the kept keys makes no call that it did not make before."""
