@@ -7,12 +7,12 @@ ghost use Rattle.fe2o3_sasl.specs.examples.ClientExamples.{FloorsRefuse, Hostnam
 ghost use Rattle.fe2o3_sasl.specs.examples.Examples.{PremisesCanBeMet, RefusalsAreUnaltered, ShiftedTextsPass};
 ghost use Rattle.fe2o3_sasl.specs.examples.MemoryExamples.{AcceptorsAskForNone, AskForNone, OwnedAskForNone, ServersWantNone, ClientsWantNone};
 ghost use Rattle.fe2o3_sasl_runs.specs.Profiles.{StepAllocates, ViewAllocates};
-ghost use Rattle.fe2o3_sasl_runs.specs.Headline.{EveryServer, EveryClient, AnswersOkExactly, ReportsOkExactly, TakenVerifiersAgree};
+ghost use Rattle.fe2o3_sasl_runs.specs.Headline.{AnswersOkExactly, ReportsOkExactly, TakenVerifiersAgree};
 ghost use Rattle.fe2o3_sasl_runs.specs.CostLaws.{ServerRunsCost, ClientRunsCost};
 ghost use Rattle.fe2o3_sasl_runs.specs.OneOfLaws.{OneOfRunsAreSplit, ScramFirstAnswersOkExactly, ScramSecondAnswersOkExactly, OfferingRunsPassOn};
 ghost use Rattle.fe2o3_sasl_runs.specs.HidingLaws.{HiddenRunsAreRuns, HiddenRunsAreHistories, NobodyIsMet, HiddenOksLogIn};
 ghost use Rattle.fe2o3_sasl_runs.specs.StepLaws.{OksLogIn, PlainOksLogIn, ReportedOksAreSigned};
-ghost use Rattle.fe2o3_sasl_runs.specs.Laws.{OneServerHistory, OneClientHistory, SomeServerHistory, SomeClientHistory, AcceptorRunsAreHistories, AcceptorRunsNameUsers, AgreedUsersAreNamed, ProfileRunsAreHistories, KeyedRunsAreRuns, KeyedRunsAreHistories, OksWithinChallenges, RepeatedResponsesAreRefused, OneResponseOneNonce, RefusalsLeaveOpen, PositionsAreUsedOnce, EqualMessagesAgree, NoShortExtensions, TakenVerifiersAreJudged, ShownProofsAreJudged, OneVerdictEach, OneAuditEach, RepeatedClientPositions, RepeatedServerPositions, RepeatedClientFindings, RepeatedServerFindings, ClientsLogIn, ServersLogIn, ServersWantMemory, ClientsWantMemory, ProfilesWantMemory};
+ghost use Rattle.fe2o3_sasl_runs.specs.Laws.{EveryServer, EveryClient, OneServerHistory, OneClientHistory, SomeServerHistory, SomeClientHistory, AcceptorRunsAreHistories, AcceptorRunsNameUsers, AgreedUsersAreNamed, ProfileRunsAreHistories, KeyedRunsAreRuns, KeyedRunsAreHistories, OksWithinChallenges, RepeatedResponsesAreRefused, OneResponseOneNonce, RefusalsLeaveOpen, PositionsAreUsedOnce, EqualMessagesAgree, NoShortExtensions, TakenVerifiersAreJudged, ShownProofsAreJudged, OneVerdictEach, OneAuditEach, RepeatedClientPositions, RepeatedServerPositions, RepeatedClientFindings, RepeatedServerFindings, ClientsLogIn, ServersLogIn, ServersWantMemory, ClientsWantMemory, ProfilesWantMemory};
 
 use fe2o3_sasl_runs::one_of::HasMechanism;
 pub use fe2o3_scram::laws::{

@@ -4,14 +4,14 @@ use Rattle.std.specs.Prelude.{◌≡◌, ◌≢◌, ℕ, ◌<◌, Option, Some, 
 use Rattle.fe2o3_sasl_wire.specs.declared.amqp_types.SaslCode.TheVariants as outcomes
 use Rattle.fe2o3_sasl_wire.specs.declared.sasl_frames.error.Error.TheVariants as faults
 use Rattle.fe2o3_sasl_wire.specs.SaslFrames as frames
-use Rattle.fe2o3_sasl_runs.specs.ClientHistory.{Answering, answer_at, OpenAnswer, ClientHistory}
+use Rattle.fe2o3_sasl_runs.specs.ClientHistory.{Answering, answer_at, OpenAnswer}
 use Rattle.fe2o3_scram.specs.Credentials.{Provider}
 use Rattle.fe2o3_sasl_runs.specs.Events.{Given, Login, IsRecord, ServerSays, Concluded, Failed, ClientSays, Reported, Refused, OutOfMemory}
 use Rattle.fe2o3_sasl_runs.specs.Positions.{IsLastOpen}
 use Rattle.fe2o3_scram.specs.ServerFinal.{ReadsServerFinal}
 use Rattle.fe2o3_sasl_runs.specs.Bodies.{SpellsBody}
 use Rattle.fe2o3_sasl_runs.specs.ServerHistory.{Accepted, AcceptsAt, ServerHistory, is_challenge, is_ok, says_ok}
-use Rattle.fe2o3_sasl_runs.specs.TwoSides.{Sides, sides_of, Takes, Agree, MessagesCollide, client_message, server_message, keys_at}
+use Rattle.fe2o3_sasl_runs.specs.TwoSides.{Sides, Takes, Agree, MessagesCollide, client_message, server_message, keys_at}
 
 -- what a server answers Ok to, exactly
 pub record AnswersOkExactly (provider : Provider) (events : List Given) (replies : List ServerSays) : Type 0 where
@@ -55,16 +55,7 @@ pub record VerifierAgrees (sides : Sides) (m : ℕ) (accepted : Accepted) : Type
 abbrev pub TakenVerifiersAgree : Login → List Given → List ClientSays → Type 0
 TakenVerifiersAgree login events replies = (provider : Provider) (server_events : List Given)
     (server_replies : List ServerSays) (m n : ℕ) (accepted : Accepted)
-    → let sides = sides_of login events replies provider server_events server_replies in
+    → let sides : Sides = record { login = login; client_events = events; client_replies = replies;
+    provider = provider; server_events = server_events; server_replies = server_replies } in
     ServerHistory provider server_events server_replies → IsRecord accepted.challenge.stored
     → Takes sides m n accepted → VerifierAgrees sides m accepted
-
--- every server history has this
-abbrev pub EveryServer : (Provider → List Given → List ServerSays → Type 0) → Type 0
-EveryServer Has = (provider : Provider) (events : List Given) (replies : List ServerSays)
-    → ServerHistory provider events replies → Has provider events replies
-
--- every client history has this
-abbrev pub EveryClient : (Login → List Given → List ClientSays → Type 0) → Type 0
-EveryClient Has = (login : Login) (events : List Given) (replies : List ClientSays)
-    → ClientHistory login events replies → Has login events replies

@@ -20,10 +20,20 @@ use Rattle.fe2o3_sasl_runs.specs.Bodies.{SpellsBody}
 use Rattle.fe2o3_sasl_runs.specs.ServerHistory.{Challenging, Accepted, AcceptsAt, LoggedIn, Open, ServerHistory, is_challenge, is_ok, full_nonce, says_auth}
 use Rattle.fe2o3_scram.specs.ScramServer as server_states
 use Rattle.fe2o3_sasl_runs.specs.TwoSides.{Sides, Histories, Takes, Shows, Agree, HasParts, IsPlainInit, client_message, server_message}
-use Rattle.fe2o3_sasl_runs.specs.Headline.{VerifierAgrees, EveryServer, EveryClient}
+use Rattle.fe2o3_sasl_runs.specs.Headline.{VerifierAgrees}
 use Rattle.fe2o3_sasl_runs.specs.UnalteredRuns.{ClientLogsIn, ServerLogsIn}
 use Rattle.fe2o3_sasl_runs.specs.Verdicts.{Parameters, Verdict, Agreed, JudgesVerifier, JudgesProof, Finding, Audits, AuditsEvents}
 use Rattle.fe2o3_sasl_runs.specs.Complete.{ClientComplete, ServerComplete}
+
+-- every server history has this
+abbrev pub EveryServer : (Provider → List Given → List ServerSays → Type 0) → Type 0
+EveryServer Has = (provider : Provider) (events : List Given) (replies : List ServerSays)
+    → ServerHistory provider events replies → Has provider events replies
+
+-- every client history has this
+abbrev pub EveryClient : (Login → List Given → List ClientSays → Type 0) → Type 0
+EveryClient Has = (login : Login) (events : List Given) (replies : List ClientSays)
+    → ClientHistory login events replies → Has login events replies
 
 -- a history without want of memory is a function of the events
 abbrev pub OneServerHistory : Type 0

@@ -1,13 +1,13 @@
 -- What a SCRAM server answers to a list of frame bodies (RFC 5802, section 5; AMQP 1.0, part 5, section 5.3.2).
 -- Nothing here is a state: what is open is a position in the list.
-use Rattle.std.specs.Prelude.{◌≡◌, ◌⊎◌, ℕ, Bool, true, false, Some, None, List, length, slice_get, Result, Ok, Err}
+use Rattle.std.specs.Prelude.{◌≡◌, ◌⊎◌, ℕ, Bool, true, false, Some, None, List, ◌++◌, length, slice_get, Result, Ok, Err}
 use Rattle.fe2o3_sasl_wire.specs.declared.amqp_types.SaslCode.TheVariants as outcomes
 use Rattle.fe2o3_sasl_wire.specs.declared.sasl_frames.error.Error.{Error}
 use Rattle.fe2o3_sasl_wire.specs.declared.sasl_frames.error.Error.TheVariants as faults
 use Rattle.fe2o3_sasl_wire.specs.SaslFrames.{canonical, SaslFrame}
 use Rattle.fe2o3_sasl_wire.specs.SaslFrames as frames
 use Rattle.fe2o3_scram.specs.Texts.{base64_text}
-use Rattle.fe2o3_scram.specs.ServerFirst.{challenge_of}
+use Rattle.fe2o3_scram.specs.ServerFirst.{server_first_of}
 use Rattle.fe2o3_scram.specs.ClientFirst.{ClientFirst, ReadsClientFirst}
 use Rattle.fe2o3_scram.specs.Credentials.{Record, Provider, record_at}
 use Rattle.fe2o3_sasl_runs.specs.Bodies.{SpellsBody, carried}
@@ -17,8 +17,8 @@ use Rattle.fe2o3_sasl_runs.specs.Positions.{OpenBy}
 use Rattle.fe2o3_scram.specs.ClientFinal.{Server, server_of, ClientFinal, ReadsClientFinal}
 use Rattle.fe2o3_scram.specs.ServerFinal.{server_final_of}
 
--- what the challenge `challenge_of` is made of: the client-first message that it answers, the nonce that the server
--- adds, and the user's record
+-- what a challenge is made of: the client-first message that it answers, the nonce that the server adds, and the user's
+-- record
 pub record Challenging : Type 0 where
   pub client : ClientFirst
   pub nonce : List ℕ
@@ -26,11 +26,11 @@ pub record Challenging : Type 0 where
 
 -- its nonce of both sides
 abbrev pub full_nonce : Challenging → List ℕ
-full_nonce challenge = (challenge_of challenge.client challenge.nonce challenge.stored).nonce
+full_nonce challenge = challenge.client.nonce ++ challenge.nonce
 
 -- its server-first message
 abbrev pub first_message : Challenging → List ℕ
-first_message challenge = (challenge_of challenge.client challenge.nonce challenge.stored).first
+first_message challenge = server_first_of (full_nonce challenge) challenge.stored
 
 -- what a response to it is read against
 abbrev pub server_at : Provider → Challenging → Server

@@ -11,7 +11,8 @@ use Rattle.fe2o3_scram.specs.declared.scram_messages.error.ScramErrorKind.{Scram
 use Rattle.fe2o3_sasl_runs.specs.ClientHistory.{ClientHistory, OpenAnswer, IsDue, ClientAnswers, ClientAllocates, ReadsOutcome}
 use Rattle.fe2o3_scram.specs.Credentials.{Provider}
 use Rattle.fe2o3_sasl_runs.specs.Events.{Given, Login, IsRecord, ServerSays, Concluded, Failed, ClientSays, Reported, Refused, OutOfMemory, scram_fault}
-use Rattle.fe2o3_sasl_runs.specs.Headline.{AnswersOkExactly, SignedAt, ReportsOkExactly, VerifierAgrees, TakenVerifiersAgree, EveryServer, EveryClient}
+use Rattle.fe2o3_sasl_runs.specs.Headline.{AnswersOkExactly, SignedAt, ReportsOkExactly, VerifierAgrees, TakenVerifiersAgree}
+use Rattle.fe2o3_sasl_runs.specs.Laws.{EveryServer, EveryClient}
 use Rattle.fe2o3_sasl_runs.specs.Positions.{test_at}
 use Rattle.fe2o3_sasl_runs.specs.Bodies.{SpellsBody}
 use Rattle.fe2o3_sasl_runs.specs.ServerHistory.{Challenging, Accepted, FitsAsResponse, AcceptsAt, Open, ServerAnswers, ServerAllocates, ServerHistory, says_ok, is_ok}
