@@ -2,7 +2,6 @@
 -- and signatures).
 use Rattle.std.specs.Prelude.{◌≡◌, ◌≢◌, ℕ, Some, List, length, slice_get}
 use Rattle.fe2o3_sasl_wire.specs.declared.amqp_types.SaslCode.TheVariants as outcomes
-use Rattle.fe2o3_scram.specs.declared.hmac.ScramVersion.{ScramVersion}
 use Rattle.fe2o3_scram.specs.ClientFinal.{keys_for, without_proof}
 use Rattle.fe2o3_scram.specs.declared.scram_messages.gs2_header.Gs2Header.TheVariants.{Unsupported}
 use Rattle.fe2o3_scram.specs.ClientFirst.{client_first_bare}
@@ -100,14 +99,10 @@ pub record Agree (login : Login) (provider : Provider) (answer : Answering) (acc
   pub salt : IsPlainInit accepted → answer.first.salt ≡ accepted.challenge.stored.salt
   pub count : IsPlainInit accepted → answer.first.count ≡ accepted.challenge.stored.count
 
--- two texts that differ have one HMAC value, each under its key: a collision
-pub record MacCollision (version : ScramVersion) (key text other_key other_text : List ℕ) : Type 0 where
-  pub differ : text ≢ other_text
-  pub one : hmac_of version key text ≡ hmac_of version other_key other_text
-
--- the AuthMessages differ, and their HMAC values under these keys are one
-abbrev pub MessagesCollide : Sides → Answering → Accepted → List ℕ → List ℕ → Type 0
-MessagesCollide sides answer accepted client_key server_key =
-    let version = (keys_at sides.login answer).version in
-    (version ≡ sides.provider.version)
-    × MacCollision version client_key (client_message sides.login answer) server_key (server_message accepted)
+-- at one version the AuthMessages differ, and have one HMAC value, each under its key: a collision
+pub record MessagesCollide (sides : Sides) (answer : Answering) (accepted : Accepted) (client_key server_key : List ℕ)
+    : Type 0 where
+  pub version : (keys_at sides.login answer).version ≡ sides.provider.version
+  pub differ : client_message sides.login answer ≢ server_message accepted
+  pub one : hmac_of (keys_at sides.login answer).version client_key (client_message sides.login answer)
+      ≡ hmac_of (keys_at sides.login answer).version server_key (server_message accepted)

@@ -156,10 +156,11 @@ proof_judged sides answer accepted shown =
             refl,
             refl,
             refl,
-            (
-              shown.met.version,
-              record { differ = differ; one = one_mac sides answer accepted shown stored recovers },
-            ),
+            record {
+              version = shown.met.version;
+              differ = differ;
+              one = one_mac sides answer accepted shown stored recovers;
+            },
           ),
         )
 

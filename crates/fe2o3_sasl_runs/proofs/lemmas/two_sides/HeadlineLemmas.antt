@@ -158,7 +158,7 @@ verifier_agrees sides m n accepted histories kept takes =
       answer = taken.0;
       opened = taken.1;
       agrees = λ same. agree sides taken.0 accepted meets same;
-      collides = λ differ. (taken.2.0, record { differ = differ; one = taken.2.1 });
+      collides = λ differ. record { version = taken.2.0; differ = differ; one = taken.2.1 };
     }
 
 pub taken_verifiers_agree : EveryClient TakenVerifiersAgree
