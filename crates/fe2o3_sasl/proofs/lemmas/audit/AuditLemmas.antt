@@ -62,7 +62,7 @@ module _ (sides : Sides) (answer : Answering) (accepted : Accepted) (client : Cl
       ∙ agreed_is user nonce parameters is
   verifier_is (SameMac client_key client_text server_key server_text) is =
       ap (λ v. cond v (agreed_on server) (SameMac client.server_key client.message server.server_key server.message))
-      (not_same client.message server.message (λ e. is.4.1.differ (sym a.message ∙ (e ∙ b.message))))
+      (not_same client.message server.message (λ e. is.4.differ (sym a.message ∙ (e ∙ b.message))))
       ∙ (λ i. one_mac_of ((a.server_key ∙ sym is.0) i) ((a.message ∙ sym is.1) i) ((b.server_key ∙ sym is.2) i)
       ((b.message ∙ sym is.3) i))
   verifier_is (SameHash client_key recovered) is = absurd is
@@ -100,7 +100,7 @@ module _ (sides : Sides) (answer : Answering) (accepted : Accepted) (client : Cl
   proof_is (SameMac client_key client_text server_key server_text) is =
       one_key (SameMac client_key client_text server_key server_text) (a.stored_key ∙ (is.0 ∙ sym b.stored_key))
       (ap (λ v. behind_key v (same client.client_key server.recovered))
-      (not_same client.message server.message (λ e. is.6.1.differ (sym a.message ∙ (e ∙ b.message))))
+      (not_same client.message server.message (λ e. is.6.differ (sym a.message ∙ (e ∙ b.message))))
       ∙ (ap (behind_key false) (same_of client.client_key server.recovered (a.client_key ∙ (is.1 ∙ sym b.recovered)))
       ∙ (λ i. one_mac_of ((b.stored_key ∙ sym is.2) i) ((a.message ∙ sym is.3) i) ((b.stored_key ∙ sym is.4) i)
       ((b.message ∙ sym is.5) i))))

@@ -210,10 +210,10 @@ module _ (sides : Sides) (answer : Answering) (accepted : Accepted) where
   one_verifier_verdict : (verdict other : Verdict) → JudgesVerifier sides answer accepted verdict
       → JudgesVerifier sides answer accepted other → verdict ≡ other
   one_verifier_verdict (Agreed a b c) (Agreed d e f) is too = same_agreement a b c d e f is too
-  one_verifier_verdict (Agreed a b c) (SameMac d e f g) is too = absurd (too.4.1.differ is.0)
+  one_verifier_verdict (Agreed a b c) (SameMac d e f g) is too = absurd (too.4.differ is.0)
   one_verifier_verdict (Agreed a b c) (SameHash d e) is too = absurd too
   one_verifier_verdict (Agreed a b c) OtherKey is too = absurd too
-  one_verifier_verdict (SameMac a b c d) (Agreed e f g) is too = absurd (is.4.1.differ too.0)
+  one_verifier_verdict (SameMac a b c d) (Agreed e f g) is too = absurd (is.4.differ too.0)
   one_verifier_verdict (SameMac a b c d) (SameMac e f g h) is too =
       λ i. two_texts ((is.0 ∙ sym too.0) i) ((is.1 ∙ sym too.1) i) ((is.2 ∙ sym too.2) i) ((is.3 ∙ sym too.3) i)
   one_verifier_verdict (SameMac a b c d) (SameHash e f) is too = absurd too
@@ -224,10 +224,10 @@ module _ (sides : Sides) (answer : Answering) (accepted : Accepted) where
   one_proof_verdict : (verdict other : Verdict) → JudgesProof sides answer accepted verdict
       → JudgesProof sides answer accepted other → verdict ≡ other
   one_proof_verdict (Agreed a b c) (Agreed d e f) is too = same_agreement a b c d e f is.1 too.1
-  one_proof_verdict (Agreed a b c) (SameMac d e f g) is too = absurd (too.6.1.differ is.1.0)
+  one_proof_verdict (Agreed a b c) (SameMac d e f g) is too = absurd (too.6.differ is.1.0)
   one_proof_verdict (Agreed a b c) (SameHash d e) is too = absurd (too.1 is.1.0)
   one_proof_verdict (Agreed a b c) OtherKey is too = absurd (too is.0)
-  one_proof_verdict (SameMac a b c d) (Agreed e f g) is too = absurd (is.6.1.differ too.1.0)
+  one_proof_verdict (SameMac a b c d) (Agreed e f g) is too = absurd (is.6.differ too.1.0)
   one_proof_verdict (SameMac a b c d) (SameMac e f g h) is too =
       λ i. two_texts ((is.2 ∙ sym too.2) i) ((is.3 ∙ sym too.3) i) ((is.4 ∙ sym too.4) i) ((is.5 ∙ sym too.5) i)
   one_proof_verdict (SameMac a b c d) (SameHash e f) is too = absurd (too.5.differ (too.2 ∙ (is.1 ∙ sym too.3)))
