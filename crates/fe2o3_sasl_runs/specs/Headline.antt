@@ -53,9 +53,7 @@ pub record VerifierAgrees (sides : Sides) (m : ℕ) (accepted : Accepted) : Type
 
 -- of the verifiers that the client took: each that a server issued, of whatever provider and history
 abbrev pub TakenVerifiersAgree : Login → List Given → List ClientSays → Type 0
-TakenVerifiersAgree login events replies = (provider : Provider) (server_events : List Given)
-    (server_replies : List ServerSays) (m n : ℕ) (accepted : Accepted)
-    → let sides : Sides = record { login = login; client_events = events; client_replies = replies;
-    provider = provider; server_events = server_events; server_replies = server_replies } in
-    ServerHistory provider server_events server_replies → IsRecord accepted.challenge.stored
+TakenVerifiersAgree login events replies = (sides : Sides) (m n : ℕ) (accepted : Accepted) → sides.login ≡ login
+    → sides.client_events ≡ events → sides.client_replies ≡ replies
+    → ServerHistory sides.provider sides.server_events sides.server_replies → IsRecord accepted.challenge.stored
     → Takes sides m n accepted → VerifierAgrees sides m accepted

@@ -14,7 +14,7 @@ use Rattle.fe2o3_sasl_runs.specs.Bodies.{SpellsBody, carried}
 use Rattle.fe2o3_sasl_runs.specs.Events.{Given, ServerSays, Challenged, Concluded, Failed}
 use Rattle.fe2o3_scram.specs.Hmac.{mechanism_name}
 use Rattle.fe2o3_sasl_runs.specs.Positions.{OpenBy}
-use Rattle.fe2o3_scram.specs.ClientFinal.{Server, server_of, ClientFinal, ReadsClientFinal}
+use Rattle.fe2o3_scram.specs.ClientFinal.{Server, ClientFinal, ReadsClientFinal}
 use Rattle.fe2o3_scram.specs.ServerFinal.{server_final_of}
 
 -- what a challenge is made of: the client-first message that it answers, the nonce that the server adds, and the user's
@@ -34,8 +34,14 @@ first_message challenge = server_first_of (full_nonce challenge) challenge.store
 
 -- what a response to it is read against
 abbrev pub server_at : Provider → Challenging → Server
-server_at provider challenge = server_of provider.version challenge.client.header challenge.client.bare
-    (first_message challenge) (full_nonce challenge) challenge.stored
+server_at provider challenge = record {
+  version = provider.version;
+  header = challenge.client.header;
+  bare = challenge.client.bare;
+  first = first_message challenge;
+  nonce = full_nonce challenge;
+  stored = challenge.stored;
+}
 
 -- the frame, with the event's nonce, fits as init: it names the mechanism, and its response is a client-first
 -- message of a user who has a record

@@ -21,14 +21,10 @@ use Rattle.fe2o3_scram.specs.Credentials.{Record}
 use Rattle.fe2o3_scram.specs.Hmac.{digest_len}
 use Rattle.fe2o3_scram.specs.Readings.{IsFirst, NoneHolds, Reads}
 
--- client-final-message-without-proof (RFC 5802, section 7): the GS2 header in base64 and the nonce of both sides
-abbrev pub without_proof_behind : Gs2Header → List ℕ → List ℕ
-without_proof_behind header nonce =
-    joined ((codes "c=" ++ base64_text (header_text header)) ∷ (codes "r=" ++ nonce) ∷ [])
-
--- the same of a client that cannot bind a channel
+-- client-final-message-without-proof of a client that cannot bind a channel (RFC 5802, section 7): its GS2 header in
+-- base64 and the nonce of both sides
 abbrev pub without_proof : List ℕ → List ℕ
-without_proof nonce = without_proof_behind Unsupported nonce
+without_proof nonce = joined ((codes "c=" ++ base64_text (header_text Unsupported)) ∷ (codes "r=" ++ nonce) ∷ [])
 
 -- client-final-message (RFC 5802, section 7): what stands before the proof, and the proof
 abbrev pub client_final_of : List ℕ → List ℕ → List ℕ
@@ -85,27 +81,24 @@ abbrev pub client_final_values : CodeClientFinal → ClientFinal
 client_final_values final = record { without = final.without_proof.now; proof = final.proof.items }
 
 -- what a server holds against a client-final message (RFC 5802, section 5): its version, the client's GS2 header, the
--- two messages before, the nonce of both sides, and the keys of the record
+-- two messages before, the nonce of both sides, and the user's record
 pub record Server : Type 0 where
   pub version : ScramVersion
   pub header : Gs2Header
   pub bare : List ℕ
   pub first : List ℕ
   pub nonce : List ℕ
-  pub stored_key : List ℕ
-  pub server_key : List ℕ
+  pub stored : Record
 
--- the same of a challenge, and of a stored password of its user
+-- these values
 abbrev pub server_of : ScramVersion → Gs2Header → List ℕ → List ℕ → List ℕ → Record → Server
 server_of version header bare first nonce stored = record {
   version = version;
   header = header;
   bare = bare;
   first = first;
-  nonce =
-      nonce;
-  stored_key = stored.stored_key;
-  server_key = stored.server_key;
+  nonce = nonce;
+  stored = stored;
 }
 
 -- the first part is this channel binding (RFC 5802, section 5.1)
@@ -118,12 +111,12 @@ HasProof text final = IsBytes final.proof × LastPart text final.without (codes 
 
 -- the key that the proof gives away, where it meets the stored key (RFC 5802, section 3)
 abbrev pub recovered_key : Server → ClientFinal → List ℕ
-recovered_key server final = recovered_client_key server.version server.stored_key final.proof
+recovered_key server final = recovered_client_key server.version server.stored.stored_key final.proof
     (auth_message server.bare server.first final.without)
 
 -- the proof meets the stored key (RFC 5802, section 3)
 abbrev pub Meets : Server → ClientFinal → Type 0
-Meets server final = MeetsStoredKey server.version server.stored_key final.proof
+Meets server final = MeetsStoredKey server.version server.stored.stored_key final.proof
     (auth_message server.bare server.first final.without)
 
 -- the message repeats the GS2 header in place of a channel binding, and names the nonce of both sides and these values

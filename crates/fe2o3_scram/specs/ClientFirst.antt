@@ -26,13 +26,9 @@ abbrev pub TakesHeader : Bool → Gs2Header → Type 0
 TakesHeader unbound Unsupported = Unit {0}
 TakesHeader unbound Unoffered = T unbound
 
--- client-first-message (RFC 5802, section 7), behind a GS2 header
-abbrev pub client_first_behind : Gs2Header → List ℕ → List ℕ → List ℕ
-client_first_behind header username nonce = header_text header ++ client_first_bare username nonce
-
--- the same of a client that cannot bind a channel
+-- client-first-message of a client that cannot bind a channel (RFC 5802, section 7)
 abbrev pub client_first : List ℕ → List ℕ → List ℕ
-client_first username nonce = client_first_behind Unsupported username nonce
+client_first username nonce = header_text Unsupported ++ client_first_bare username nonce
 
 -- what a client-first message names (RFC 5802, section 7): its GS2 header, the user, the client's nonce, and the
 -- message without its GS2 header

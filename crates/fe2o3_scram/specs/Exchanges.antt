@@ -1,12 +1,12 @@
 -- An exchange of the four messages (RFC 5802, section 5) in which each arrives as it was sent.
-use Rattle.std.specs.Prelude.{ℕ, List, Bool, ◌++◌, ◌≡◌, ◌≢◌, ◌⊎◌, ◌≤◌, ◌<◌, ◌^◌, Ok}
+use Rattle.std.specs.Prelude.{ℕ, List, [], ◌∷◌, codes, Bool, ◌++◌, ◌≡◌, ◌≢◌, ◌⊎◌, ◌≤◌, ◌<◌, ◌^◌, Ok}
 use Rattle.std.specs.Str.{IsUtf8}
 use Rattle.base64.specs.GeneralPurpose.{IsBytes}
 use Rattle.fe2o3_scram.specs.declared.hmac.ScramVersion.{ScramVersion}
 use Rattle.fe2o3_scram.specs.ServerFirst.{client_of, server_first_of, ServerFirst, ReadsServerFirst}
-use Rattle.fe2o3_scram.specs.ClientFinal.{Answer, answer_by, keys_for, without_proof_behind, Server, server_of, ClientFinal, ReadsClientFinal}
+use Rattle.fe2o3_scram.specs.ClientFinal.{Answer, answer_by, keys_for, Server, server_of, ClientFinal, ReadsClientFinal}
 use Rattle.fe2o3_scram.specs.declared.scram_messages.gs2_header.Gs2Header.{Gs2Header}
-use Rattle.fe2o3_scram.specs.ClientFirst.{TakesHeader, client_first_bare, client_first_behind, ReadsClientFirst}
+use Rattle.fe2o3_scram.specs.ClientFirst.{TakesHeader, client_first_bare, header_text, ReadsClientFirst}
 use Rattle.fe2o3_scram.specs.ClientKeys.{keys_of}
 use Rattle.fe2o3_scram.specs.ClientSecret.{Secret, Password, Keys, Both}
 use Rattle.fe2o3_scram.specs.declared.client_secret.IterationLimits.{IterationLimits}
@@ -15,7 +15,7 @@ use Rattle.fe2o3_scram.specs.Keys.{auth_message, client_key, client_proof}
 use Rattle.fe2o3_scram.specs.Pbkdf2Hi.{salted_of}
 use Rattle.fe2o3_scram.specs.ServerFinal.{server_final_of, ReadsServerFinal}
 use Rattle.fe2o3_scram.specs.Passwords.{IsNormal, password_bytes}
-use Rattle.fe2o3_scram.specs.Texts.{NoComma}
+use Rattle.fe2o3_scram.specs.Texts.{NoComma, base64_text, joined}
 
 -- a client's secret opens the record of a password with this salt and this count (RFC 5802, section 3): it is that
 -- password, in normal form, or its keys with that salt and that count; where it is both, the password is what
@@ -58,6 +58,16 @@ pub record IsSound (x : Exchange) : Type 0 where
   pub client_plain : NoComma x.client_nonce
   pub server_plain : NoComma x.server_nonce
 
+-- client-first-message with a GS2 header (RFC 5802, section 7)
+abbrev pub client_first_with : Gs2Header → List ℕ → List ℕ → List ℕ
+client_first_with header username nonce = header_text header ++ client_first_bare username nonce
+
+-- client-final-message-without-proof with a GS2 header (RFC 5802, section 7): that in base64, and the nonce of both
+-- sides
+abbrev pub without_proof_with : Gs2Header → List ℕ → List ℕ
+without_proof_with header nonce =
+    joined ((codes "c=" ++ base64_text (header_text header)) ∷ (codes "r=" ++ nonce) ∷ [])
+
 -- the nonce of both sides
 abbrev pub nonce_in : Exchange → List ℕ
 nonce_in x = x.client_nonce ++ x.server_nonce
@@ -81,7 +91,7 @@ named_in x = record { nonce = nonce_in x; salt = x.salt; count = x.count }
 -- the client's last message, and the signature that it waits for
 abbrev pub answer_in : Exchange → Answer
 answer_in x = answer_by (keys_for x.version x.secret (named_in x)) (bare_in x) (first_in x)
-    (without_proof_behind x.header (nonce_in x))
+    (without_proof_with x.header (nonce_in x))
 
 -- what the server holds against the client's last message
 abbrev pub server_in : Exchange → Server
@@ -90,15 +100,15 @@ server_in x = server_of x.version x.header (bare_in x) (first_in x) (nonce_in x)
 -- what that message names
 abbrev pub final_in : Exchange → ClientFinal
 final_in x = record {
-  without = without_proof_behind x.header (nonce_in x);
+  without = without_proof_with x.header (nonce_in x);
   proof =
       client_proof x.version (client_key x.version (salted_of x.version x.password x.salt x.count))
-      (auth_message (bare_in x) (first_in x) (without_proof_behind x.header (nonce_in x)));
+      (auth_message (bare_in x) (first_in x) (without_proof_with x.header (nonce_in x)));
 }
 
 -- each side accepts what the other wrote (RFC 5802, section 5)
 pub record Succeeds (x : Exchange) : Type 0 where
-  pub client_first : ReadsClientFirst x.unbound (client_first_behind x.header x.user x.client_nonce)
+  pub client_first : ReadsClientFirst x.unbound (client_first_with x.header x.user x.client_nonce)
       (Ok (record { header = x.header; user = x.user; nonce = x.client_nonce; bare = bare_in x }))
   pub server_first : ReadsServerFirst (client_of x.client_nonce x.secret x.limits) (first_in x) (Ok (named_in x))
   pub client_final : ReadsClientFinal (server_in x) (answer_in x).message (Ok (final_in x))

@@ -14,7 +14,7 @@ use Rattle.fe2o3_scram.specs.declared.scram_messages.error.ScramErrorKind.TheVar
 -- server-final-message (RFC 5802, section 7): the ServerSignature
 abbrev pub server_final_of : Server → ClientFinal → List ℕ
 server_final_of server final = codes "v=" ++ base64_text
-    (server_signature server.version server.server_key (auth_message server.bare server.first final.without))
+    (server_signature server.version server.stored.server_key (auth_message server.bare server.first final.without))
 
 -- what the server answers to a client-final message (RFC 5802, section 5): the first refusal, or the server-final
 -- message

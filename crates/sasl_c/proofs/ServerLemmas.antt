@@ -107,9 +107,9 @@ failed unbound kept nonce text store state next why status held gives other =
 short_final : (server : Server) (text message : List ℕ) → AnswersClientFinal server text (Ok message)
     → length message ≤ 90
 short_final server text message held =
-    let signature = server_signature server.version server.server_key
+    let signature = server_signature server.version server.stored.server_key
     (auth_message server.bare server.first held.0.without) in
-    let long = short server.version (length signature) (length-hmac_of server.version server.server_key _) in
+    let long = short server.version (length signature) (length-hmac_of server.version server.stored.server_key _) in
     omega (
       arith,
       ap length held.2,

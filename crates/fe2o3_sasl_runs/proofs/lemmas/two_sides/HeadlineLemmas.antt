@@ -162,7 +162,9 @@ verifier_agrees sides m n accepted histories kept takes =
     }
 
 pub taken_verifiers_agree : EveryClient TakenVerifiersAgree
-taken_verifiers_agree login events replies history provider server_events server_replies m n accepted server kept
-    takes =
-    verifier_agrees (sides_of login events replies provider server_events server_replies) m n accepted
-    (record { client = history; server = server }) kept takes
+taken_verifiers_agree login events replies history sides m n accepted login_is events_are replies_are server kept takes =
+    let client : ClientHistory sides.login sides.client_events sides.client_replies =
+    subst (λ l. ClientHistory l sides.client_events sides.client_replies) (sym login_is)
+    (subst (λ e. ClientHistory login e sides.client_replies) (sym events_are)
+    (subst (λ r. ClientHistory login events r) (sym replies_are) history)) in
+    verifier_agrees sides m n accepted (record { client = client; server = server }) kept takes

@@ -11,12 +11,12 @@ use Rattle.std.proofs.lemmas.Nat.{xor_of_8}
 use Rattle.std.proofs.lemmas.Str.{IsUtf8-append}
 use Rattle.base64.specs.GeneralPurpose.{IsBytes}
 use Rattle.fe2o3_scram.specs.Texts.{base64_text, IsCount, NoComma, Parts, Part, joined}
-use Rattle.fe2o3_scram.specs.ClientFinal.{Answer, answer_by, fit, keys_for, without_proof_behind, client_final_of, Server, ClientFinal, Meets, ReadsClientFinal}
+use Rattle.fe2o3_scram.specs.ClientFinal.{Answer, answer_by, fit, keys_for, client_final_of, Server, ClientFinal, Meets, ReadsClientFinal}
 use Rattle.fe2o3_scram.specs.declared.scram_messages.gs2_header.Gs2Header.{Gs2Header}
 use Rattle.fe2o3_scram.specs.declared.scram_messages.gs2_header.Gs2Header.TheVariants.{Unsupported, Unoffered}
-use Rattle.fe2o3_scram.specs.ClientFirst.{client_first_bare, client_first_behind, header_text, ReadsClientFirst}
+use Rattle.fe2o3_scram.specs.ClientFirst.{client_first_bare, header_text, ReadsClientFirst}
 use Rattle.fe2o3_scram.specs.Escape.{escaped}
-use Rattle.fe2o3_scram.specs.Exchanges.{Exchange, IsSound, Opens, Succeeds, nonce_in, bare_in, first_in, named_in, server_in, final_in, answer_in}
+use Rattle.fe2o3_scram.specs.Exchanges.{Exchange, IsSound, Opens, Succeeds, nonce_in, bare_in, first_in, named_in, server_in, final_in, answer_in, client_first_with, without_proof_with}
 use Rattle.fe2o3_scram.specs.Hmac.{digest, digest_len, exclusive_or}
 use Rattle.fe2o3_scram.specs.Keys.{auth_message, client_key, client_signature, stored_key, client_proof}
 use Rattle.fe2o3_scram.specs.Pbkdf2Hi.{salted_of}
@@ -126,14 +126,14 @@ header_bytes Unsupported = IsBytes-literal (codes "n,,") refl
 header_bytes Unoffered = IsBytes-literal (codes "y,,") refl
 
 reads_client_first : (x : Exchange) → IsSound x
-    → ReadsClientFirst x.unbound (client_first_behind x.header x.user x.client_nonce)
+    → ReadsClientFirst x.unbound (client_first_with x.header x.user x.client_nonce)
     (Ok (record { header = x.header; user = x.user; nonce = x.client_nonce; bare = bare_in x }))
 reads_client_first x sound =
     let parts = two_parts (codes "n=" ++ escaped x.user) (codes "r=" ++ x.client_nonce)
     (part_of (codes "n=") (escaped x.user) refl (no_comma-escaped x.user))
     (part_of (codes "r=") x.client_nonce refl sound.client_plain) in
     let utf8 = header_utf8 x.header (bare_in x) (bare_text x.user x.client_nonce sound.user sound.client_text) in
-    named x.unbound x.header (client_first_behind x.header x.user x.client_nonce) (bare_in x) utf8 sound.header refl
+    named x.unbound x.header (client_first_with x.header x.user x.client_nonce) (bare_in x) utf8 sound.header refl
     (escaped x.user) x.user x.client_nonce
     (_, parts, refl) refl (_, parts, refl)
 
@@ -187,11 +187,11 @@ opened version (Both own keys) password salt count nonce opens = go (fit keys fi
 abbrev made_in : Exchange → Answer
 made_in x =
     answer_by (keys_of x.version x.password x.salt x.count) (bare_in x) (first_in x)
-    (without_proof_behind x.header (nonce_in x))
+    (without_proof_with x.header (nonce_in x))
 
 pub answered : (x : Exchange) → IsSound x → answer_in x ≡ made_in x
 answered x sound =
-    ap (λ (keys : ClientKeys). answer_by keys (bare_in x) (first_in x) (without_proof_behind x.header (nonce_in x)))
+    ap (λ (keys : ClientKeys). answer_by keys (bare_in x) (first_in x) (without_proof_with x.header (nonce_in x)))
     (opened x.version x.secret x.password x.salt x.count (nonce_in x) sound.opens).0
 
 reads_server_first : (x : Exchange) → IsSound x
@@ -244,9 +244,9 @@ final_parts c r p plain too also = record {
 }
 
 final_text : (header : Gs2Header) (nonce proof : List ℕ) → IsUtf8 nonce
-    → IsUtf8 (client_final_of (without_proof_behind header nonce) proof)
+    → IsUtf8 (client_final_of (without_proof_with header nonce) proof)
 final_text header nonce proof utf8 =
-    IsUtf8-append (without_proof_behind header nonce) (codes ",p=" ++ base64_text proof)
+    IsUtf8-append (without_proof_with header nonce) (codes ",p=" ++ base64_text proof)
     (IsUtf8-append (codes "c=" ++ base64_text (header_text header)) (codes ",r=" ++ nonce)
     (utf8_behind (codes "c=") (base64_text (header_text header)) refl (IsUtf8-base64_text (header_text header)))
     (utf8_behind (codes ",r=") nonce refl utf8))
@@ -272,14 +272,14 @@ final_read server text final utf8 names = (
 
 reads_final : (server : Server) (proof : List ℕ) → NoComma server.nonce → IsUtf8 server.nonce → IsBytes proof
     → length proof ≡ digest_len server.version → Meets server
-    (record { without = without_proof_behind server.header server.nonce; proof = proof })
-    → ReadsClientFinal server (client_final_of (without_proof_behind server.header server.nonce) proof)
-    (Ok (record { without = without_proof_behind server.header server.nonce; proof = proof }))
+    (record { without = without_proof_with server.header server.nonce; proof = proof })
+    → ReadsClientFinal server (client_final_of (without_proof_with server.header server.nonce) proof)
+    (Ok (record { without = without_proof_with server.header server.nonce; proof = proof }))
 reads_final server proof plain utf8 bytes sized meets =
     let header = server.header in
     let nonce = server.nonce in
-    let text = client_final_of (without_proof_behind header nonce) proof in
-    let final : ClientFinal = record { without = without_proof_behind header nonce; proof = proof } in
+    let text = client_final_of (without_proof_with header nonce) proof in
+    let final : ClientFinal = record { without = without_proof_with header nonce; proof = proof } in
     let last = part_of (codes "p=") (base64_text proof) refl (no_comma-base64_text proof) in
     let parts = final_parts (codes "c=" ++ base64_text (header_text header)) (codes "r=" ++ nonce)
     (codes "p=" ++ base64_text proof) (part_of (codes "c=") (base64_text (header_text header)) refl
@@ -298,7 +298,7 @@ reads_client_final : (x : Exchange) → IsSound x → ReadsClientFinal (server_i
 reads_client_final x sound =
     let v = x.version in
     let salted = salted_of v x.password x.salt x.count in
-    let auth = auth_message (bare_in x) (first_in x) (without_proof_behind x.header (nonce_in x)) in
+    let auth = auth_message (bare_in x) (first_in x) (without_proof_with x.header (nonce_in x)) in
     let key = client_key v salted in
     let mac = client_signature v (stored_key v key) auth in
     let key_long : length key ≡ digest_len v = length-hmac_of v salted (codes "Client Key") in

@@ -320,7 +320,7 @@ some_client_final server text = go (some_final_text server.header server.nonce t
     go (Err fault, reads) = (Err fault, inl reads)
     go (Ok final, reads) = elim (same_number_or (length final.proof) (digest_len server.version)) [
       | inr other ↦ (Err XorLengthMismatch, inr (final, reads, inl (other, refl)))
-      | inl sized ↦ elim (same_or (digest server.version (recovered_key server final)) server.stored_key) [
+      | inl sized ↦ elim (same_or (digest server.version (recovered_key server final)) server.stored.stored_key) [
         | inl meets ↦ (Ok final, (reads, sized, meets))
         | inr fails ↦
             (Err AuthenticationFailed, inr (final, reads, inr ((λ other. other sized), inl (fails, refl))))
