@@ -57,13 +57,15 @@ pub fn one_answer_each()
     ensures signature { OneSignature }
 {}
 
-/// What an accepted message means to its caller: a server accepts a client-final message only where a
-/// challenge is open and the proof meets the record of its user, whom it then names, also one that hides
-/// unknown users; and a client believes a server-final message only on the signature of the answer that it
-/// waits on. A caller's own proof cites them from `proofs/lemmas/messages/LoginLemmas.antt`. And where a
-/// client believed the message by which a server accepted, both agree on version, user name and client nonce
-/// (and, where the client-first message had two parts, on the nonce of both sides, salt and count), or their
-/// own differing AuthMessages share one HMAC value.
+/// States what an accepted message means. A server accepts a client-final message only if a challenge
+/// is open and the proof meets the record of its user, whom it then names; a server with mock
+/// authentication too. A client accepts a server-final message only with the signature of the answer
+/// that it waits for. A caller's own proof cites these from `proofs/lemmas/messages/LoginLemmas.antt`.
+///
+/// If a client accepted the message by which a server accepted, both agree on version, user name and
+/// client nonce, or their own differing AuthMessages share one HMAC value. They agree on the nonce of
+/// both sides, salt and count if the client-first message had two parts, or if one side received no
+/// attribute that RFC 5802 defines in the place of an extension; in the second case also on the header.
 pub fn accepted_messages()
     ensures server { AcceptedTextsLogIn }
     ensures hiding { HiddenTextsLogIn }

@@ -2,7 +2,7 @@
 
 ghost use Rattle.std.specs.Prelude.{◌≡◌, ◌≤◌, ◌^◌, IfOk, OnErr, false, true, option_map};
 ghost use Rattle.fe2o3_scram.specs.ScramServer.{provider_in, served_by, state_in, unbound_in, Initial, ServerFirstSent, ServerFinalSent, logged_in, ChallengesFrom, ConcludesFrom, FinalCostsFrom, ReachesBase64In, state_of};
-ghost use Rattle.fe2o3_scram.specs.ServerFirst.{Challenge, ReachesChallenge};
+ghost use Rattle.fe2o3_scram.specs.ServerFirst.{Challenge, ReachesChallenge, challenge_values};
 ghost use Rattle.fe2o3_scram.specs.Readings.{Gives};
 
 pub mod hiding;
@@ -75,6 +75,38 @@ impl ScramAuthenticatorState {
             other => other,
         }
     }
+}
+
+/// Returns the message of a challenge, and the state in which the challenge is open. No store is a
+/// parameter, so that what memory is asked for does not depend on one.
+fn opened(
+    alloc: Global,
+    server_first: ServerFirstMessage<'_>,
+) -> Result<(Vec<u8>, ScramAuthenticatorState), OutOfMemory>
+    ensures message { IfOk result (λ made. made.0.items ≡ (challenge_values server_first.entry).first) }
+    ensures state { IfOk result (λ made. state_of made.1 ≡ ServerFirstSent (challenge_values server_first.entry)) }
+{
+    let ServerFirstMessage {
+        username,
+        header,
+        client_first_message_bare,
+        client_server_nonce,
+        message,
+    } = server_first;
+    let username = username.into_owned(alloc)?;
+    let client_first_message_bare = Bytes::copy_from_slice(
+        alloc,
+        client_first_message_bare.as_bytes(),
+    )?;
+    let answer = message.to_vec(alloc)?;
+    let state = ScramAuthenticatorState::ServerFirstSent {
+        username,
+        header,
+        client_first_message_bare,
+        client_server_nonce,
+        server_first_message: message,
+    };
+    Ok((answer, state))
 }
 
 /// A server over a store of credentials. A client-first message opens a challenge, in place of an
@@ -171,26 +203,8 @@ impl<C: ScramCredentialProvider> ScramAuthenticator<C> {
         else {
             return Ok(None);
         };
-        let ServerFirstMessage {
-            username,
-            header,
-            client_first_message_bare,
-            client_server_nonce,
-            message,
-        } = server_first;
-        let username = username.into_owned(alloc)?;
-        let client_first_message_bare = Bytes::copy_from_slice(
-            alloc,
-            client_first_message_bare.as_bytes(),
-        )?;
-        let answer = message.to_vec(alloc)?;
-        self.state = ScramAuthenticatorState::ServerFirstSent {
-            username,
-            header,
-            client_first_message_bare,
-            client_server_nonce,
-            server_first_message: message,
-        };
+        let (answer, state) = opened(alloc, server_first)?;
+        self.state = state;
         Ok(Some(answer))
     }
 

@@ -1,6 +1,6 @@
 //! The records of several users, of several versions, as a provider of each version.
 
-ghost use Rattle.std.specs.Prelude.{◌≡◌, ◌++◌, ◌∷◌, [], IfOk, OnErr, OnOk, map, nat_eq};
+ghost use Rattle.std.specs.Prelude.{◌≡◌, ◌≢◌, ◌++◌, ◌∷◌, [], IfOk, OnErr, OnOk, map, nat_eq};
 ghost use Rattle.std.specs.Borrow.{Bor};
 ghost use Rattle.std.specs.Cmp.Lexicographic.{pointwise};
 ghost use Rattle.std.specs.String.{string_bytes};
@@ -137,13 +137,14 @@ impl MixedCredentials {
         }
     }
 
-    /// The records of the name, which is plain, and not escaped, for whatever version, in their order.
-    /// Each user's name is compared.
+    /// Returns the records of the name, for every version, in their order. The name is plain, and not
+    /// escaped. Each user's name is compared.
     ///
-    /// `OutOfMemory` is the only refusal.
+    /// The only error is `OutOfMemory`, for a name that has a record.
     pub fn records(&self, username: &str) -> Result<Vec<&ScramRecord>, OutOfMemory>
-        ensures { IfOk result (λ found. map (λ (kept : Bor VersionedRecord). kept.now) found.items
+        ensures found { IfOk result (λ found. map (λ (kept : Bor VersionedRecord). kept.now) found.items
             ≡ records_named self.now username.now) }
+        ensures memory { OnErr result (records_named self.now username.now ≢ []) }
     {
         let mut found = Vec::new(self.alloc);
         for user in self.in_order.iter() {

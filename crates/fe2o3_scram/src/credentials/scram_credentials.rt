@@ -1,6 +1,6 @@
 //! The records of several users as a provider.
 
-ghost use Rattle.std.specs.Prelude.{◌≡◌, ◌≢◌, ◌↔◌, ◌++◌, [], ◌∷◌, IfOk, OnErr, OnOk, is_some, option_map};
+ghost use Rattle.std.specs.Prelude.{◌≡◌, ◌≢◌, ◌↔◌, ◌++◌, [], ◌∷◌, IfOk, OnErr, OnOk, is_some, option_map, true};
 ghost use Rattle.std.specs.String.{string_bytes};
 ghost use Rattle.fe2o3_scram.specs.Credentials.{record_at, records_with, records_without, versioned};
 ghost use Rattle.fe2o3_scram.specs.declared.credentials.scram_credentials.AddRecordError.TheVariants.{OutOfMemory as OutOfMemoryError};
@@ -130,13 +130,12 @@ impl ScramCredentials {
         Ok(())
     }
 
-    /// Puts this record in the place of the one that counts for the name, and says whether there
-    /// was one; where there was none, nothing changes. The name is plain, and not escaped. The
-    /// others stay as they were, in their order, those of the same name too. Names are compared up
-    /// to the first of this one.
+    /// Replaces the record that counts for the name, and returns whether there was one. An unknown
+    /// name changes nothing. The name is plain, and not escaped. The other records stay, in their
+    /// order, also further ones of the name. Names are compared up to the first of this one.
     ///
-    /// Refused are, in this order: `VersionMismatch` where the record is for another version, and
-    /// `OutOfMemory`. A refusal leaves the store as it was.
+    /// The errors are, in this order: `VersionMismatch` if the record is for another version, and
+    /// `OutOfMemory`, only for a name that has a record. An error leaves the store as it was.
     #[tactic(auto, using(crate::proofs::lemmas::providers::ByNameLemmas::with_nobody))]
     pub fn replace(&mut self, username: &str, kept: ScramRecord) -> Result<bool, AddRecordError>
         ensures ok { IfOk result (λ found.
@@ -148,25 +147,27 @@ impl ScramCredentials {
         ensures mismatch { (result ≡ Err AddRecordError.VersionMismatch)
             ↔ (kept.version ≢ self.old.version) }
         ensures err { OnErr result (self.new ≡ self.old) }
+        ensures memory { result ≡ Err AddRecordError.OutOfMemory
+            → is_some (record_at self.old.records username.now) ≡ true }
     {
         if *kept.scram_version() != self.scram_version {
             return Err(AddRecordError::VersionMismatch);
         }
-        if !self.has(username) {
-            return Ok(false);
+        let found = self.has(username);
+        if found {
+            if let Some(shared) = &mut self.users {
+                Arc::make_mut(shared)?.replace(self.alloc, username, kept)?;
+            }
         }
-        if let Some(shared) = &mut self.users {
-            Arc::make_mut(shared)?.replace(self.alloc, username, kept)?;
-        }
-        Ok(true)
+        Ok(found)
     }
 
-    /// Takes out every record of the name, so that no later one comes to count, and says whether
-    /// there was one. The name is plain, and not escaped. The others stay, in their order. Each
-    /// user's name is compared where there is one to take out.
+    /// Removes every record of the name, so that none of them counts later, and returns whether there
+    /// was one. The name is plain, and not escaped. The other records stay, in their order. Each
+    /// user's name is compared where there is one to remove.
     ///
-    /// Refused is `OutOfMemory`, only where the users are shared, since memory is asked for only to
-    /// copy them. A refusal leaves the store as it was.
+    /// The only error is `OutOfMemory`, for a name that has a record, in a store whose users are
+    /// shared: memory is asked for only to copy them. An error leaves the store as it was.
     #[tactic(auto, using(crate::proofs::lemmas::providers::ByNameLemmas::without_nobody))]
     pub fn remove(&mut self, username: &str) -> Result<bool, OutOfMemory>
         ensures ok { IfOk result (λ found.
@@ -176,6 +177,7 @@ impl ScramCredentials {
               records = records_without self.old.records username.now;
             })) }
         ensures err { OnErr result (self.new ≡ self.old) }
+        ensures memory { OnErr result (is_some (record_at self.old.records username.now) ≡ true) }
     {
         if !self.has(username) {
             return Ok(false);
