@@ -1,7 +1,9 @@
 -- The profiles and frames that the code's values are, and the addresses that give a profile.
-use Rattle.std.specs.Prelude.{◌≢◌, [], string_bytes}
+use Rattle.std.specs.Prelude.{◌≢◌, [], Option, Some, None, string_bytes}
 use Rattle.fe2o3_sasl_wire.specs.AmqpTypes.{init_frame, response_frame, outcome_frame}
 use Rattle.fe2o3_sasl_wire.specs.SaslFrames.{SaslFrame}
+use Rattle.fe2o3_scram.specs.declared.hmac.ScramVersion.{ScramVersion}
+use Rattle.fe2o3_scram.specs.declared.hmac.ScramVersion.TheVariants.{Sha1, Sha256, Sha512}
 use Rattle.fe2o3_sasl_runs.specs.declared.sasl_profile.error.UrlError.{UrlError}
 use Rattle.fe2o3_sasl_runs.specs.declared.sasl_profile.error.UrlError.TheVariants as url_faults
 use Rattle.fe2o3_sasl_runs.specs.declared.sasl_profile.Negotiation.{Negotiation}
@@ -19,6 +21,13 @@ profile_of profiles.External = ExternalProfile
 profile_of (profiles.ScramSha1 scram) = ScramProfile scram
 profile_of (profiles.ScramSha256 scram) = ScramProfile scram
 profile_of (profiles.ScramSha512 scram) = ScramProfile scram
+
+-- the version of SCRAM that a profile's variant names (RFC 5802, section 4), if it is of SCRAM
+abbrev pub variant_version : SaslProfile → Option ScramVersion
+variant_version (profiles.ScramSha1 scram) = Some Sha1
+variant_version (profiles.ScramSha256 scram) = Some Sha256
+variant_version (profiles.ScramSha512 scram) = Some Sha512
+variant_version profile = None
 
 -- the frame that a profile answers with
 abbrev pub negotiated_frame : Negotiation → SaslFrame

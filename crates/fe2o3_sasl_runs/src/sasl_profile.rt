@@ -14,7 +14,7 @@ ghost use Rattle.fe2o3_sasl_runs.specs.Profiles.{ScramProfile, PlainProfile, scr
 ghost use Rattle.fe2o3_sasl_runs.specs.Events.{Scram};
 ghost use Rattle.fe2o3_sasl_runs.specs.ProfileFaults.{answered, client_fault};
 ghost use Rattle.fe2o3_sasl_runs.specs.Runs.{login_of};
-ghost use Rattle.fe2o3_sasl_runs.specs.SaslProfile.{RefusesUrl, HasCredentials, negotiated_frame, profile_of};
+ghost use Rattle.fe2o3_sasl_runs.specs.SaslProfile.{RefusesUrl, HasCredentials, negotiated_frame, profile_of, variant_version};
 ghost use Rattle.fe2o3_sasl_runs.specs.private.Writing.{AnswersAlways, RefusesAlways};
 
 mod error;
@@ -124,12 +124,15 @@ impl SaslProfile {
         ))
     }
 
-    /// The client of a profile of SCRAM, and `None` of another profile.
+    /// Returns the client of a SCRAM profile, and `None` of another profile. The variant of the profile names the
+    /// version of that client.
     pub fn scram_client(&self) -> Option<&ScramClient>
         ensures state { MatchOption result (profile_state (profile_of self.now) ≡ Initial)
             (λ client. profile_state (profile_of self.now) ≡ client.now.state) }
         ensures side { MatchOption result (is_scram (profile_of self.now) ≡ false)
             (λ client. profile_of self.now ≡ ScramProfile client.now) }
+        ensures version { MatchOption result (variant_version self.now ≡ None)
+            (λ client. variant_version self.now ≡ Some client.now.version) }
     {
         match self {
             SaslProfile::Anonymous | SaslProfile::Plain { .. } | SaslProfile::External => None,

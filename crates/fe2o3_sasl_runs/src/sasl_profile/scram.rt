@@ -8,7 +8,7 @@ ghost use Rattle.fe2o3_scram.specs.Passwords.{Typed, Prepared};
 ghost use Rattle.fe2o3_scram.specs.ScramClient.{Initial, login_keys, with_limits};
 ghost use Rattle.fe2o3_sasl_runs.specs.Profiles.{ScramProfile, scram_profile};
 ghost use Rattle.fe2o3_sasl_runs.specs.Runs.{login_of};
-ghost use Rattle.fe2o3_sasl_runs.specs.SaslProfile.{profile_of};
+ghost use Rattle.fe2o3_sasl_runs.specs.SaslProfile.{profile_of, variant_version};
 
 use super::SaslProfile;
 use fe2o3_scram::client_keys::ScramClientKeys;
@@ -77,16 +77,20 @@ pub struct SaslScram<V: OfVersion> {
 }
 
 impl<V: OfVersion> Model for SaslScram<V> {
+    ghost use Rattle.std.specs.Prelude.{◌≡◌};
     ghost use Rattle.fe2o3_scram.specs.ScramClient.{ClientSide};
 
     ghost Value = { ClientSide };
 
     ghost view = { λ scram. scram.client };
+
+    ghost invariant = { λ scram. scram.client.version ≡ V.version };
 }
 
 impl<V: OfVersion> SaslScram<V> {
-    /// The profile of this client.
+    /// Returns the profile of a client of this version.
     pub(super) fn of(client: ScramClient) -> Self
+        requires { client.version ≡ V.version }
         ensures { result ≡ client }
     {
         Self {
@@ -241,9 +245,10 @@ impl<V: OfVersion> fmt::Debug for SaslScram<V> {
 }
 
 impl SaslProfile {
-    /// SCRAM by this client, of the client's version.
+    /// Returns the SCRAM profile of this client, in the variant of the client's version.
     pub(crate) fn scram_of(client: ScramClient) -> SaslProfile
-        ensures { profile_of result ≡ ScramProfile client }
+        ensures profile { profile_of result ≡ ScramProfile client }
+        ensures variant { variant_version result ≡ Some client.version }
     {
         match client.version() {
             ScramVersion::Sha1 => SaslProfile::ScramSha1(SaslScramSha1::of(client)),

@@ -27,6 +27,7 @@ pub(super) fn first_message(
     ensures ok { IfOk result (λ message.
         Some (binary_bytes message) ≡ initial_response (ScramProfile client.old) nonce.now) }
     ensures started { OnOk result (ScramProfile client.new ≡ after_init (ScramProfile client.old) nonce.now) }
+    ensures version { client.new.version ≡ client.old.version }
     ensures err { OnErr result (client.new ≡ client.old) }
 {
     let mut next = client.clone()?;
@@ -86,6 +87,7 @@ pub(super) fn answer(
     requires { meter.old ≤ 2 ^ 63 }
     ensures answer { AnswersAlways (ScramProfile client.old) (Challenge challenge.now)
         (answered response_frame result) (ScramProfile client.new) }
+    ensures version { client.new.version ≡ client.old.version }
     ensures err { OnErr result (client.new ≡ client.old) }
     ensures cost { ProfileCosts (Challenge challenge.now) (ScramProfile client.old) result meter.old meter.new }
 {
@@ -110,6 +112,7 @@ pub(super) fn believe(
     ensures answer { (hostname : Option (List ℕ)) (nonce : List ℕ) → ProfileAnswers FrameAllocates
         (ScramProfile client.old) hostname nonce (outcome_frame outcome.now) (answered (λ _. outcome_frame outcome.now) result)
         (ScramProfile client.new) }
+    ensures version { client.new.version ≡ client.old.version }
     ensures err { OnErr result (client.new ≡ client.old) }
 {
     if outcome.code != SaslCode::Ok {

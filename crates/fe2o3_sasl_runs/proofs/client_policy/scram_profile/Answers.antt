@@ -11,6 +11,6 @@ returns-in-Some c =
     let client = c.in-Some.client in
     let by = limited client c.with_least_iterations-client.result c.with_iteration_limit-client.result c.args.limits
     c.with_least_iterations-client.ensures c.with_iteration_limit-client.ensures in
-    ap (λ (profile : Profile). Some profile) (c.scram_of.ensures ∙ ap (λ (side : ClientSide). ScramProfile side) by)
+    ap (λ (profile : Profile). Some profile) (c.scram_of.ensures.profile ∙ ap (λ (side : ClientSide). ScramProfile side) by)
     ∙ scram_by_client c.args.limits c.args.username.now c.args.version
     (secret_for c.args.version (secret_of c.args.secret.now)) client (sym c.in-Some.is ∙ c.in_ok-client.ensures)
