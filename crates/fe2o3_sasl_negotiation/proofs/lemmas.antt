@@ -5,11 +5,13 @@ pub mod ClientAnswerLemmas
 pub mod RefusalLemmas
 pub mod CutLemmas
 pub mod UnitLemmas
-pub mod ConnectionLemmas
 pub mod KindLemmas
+pub mod PieceLemmas
+pub mod ConnectionLemmas
 pub mod JoinedSideLemmas
 pub mod ServerConnectionLemmas
 pub mod ClientConnectionLemmas
+pub mod LoginLemmas
 pub mod UnalteredConnectionLemmas
 pub mod CostLemmas
 pub mod ServerCostLemmas

@@ -1,40 +1,193 @@
--- The headline theorem over the bytes of a connection: what every connection of a SCRAM server and of a SCRAM client
--- has, however its bytes are handed in. Each is the contract of a clause of `laws::connections`.
-use Rattle.std.specs.Prelude.{◌≡◌, ◌↔◌, ℕ, ◌+◌, ◌≤◌, Option, Some, List, [], ◌∷◌, ◌++◌, length, drop, slice_get}
+-- What a side of a connection makes of the bytes that arrive, in whatever pieces (AMQP 1.0, part 5, section 5.3.2). Each
+-- law is the contract of a clause of `laws::connections`.
+use Rattle.std.specs.Prelude.{◌≡◌, ◌≢◌, ◌⊎◌, ◌↔◌, ℕ, ◌+◌, ◌<◌, ◌≤◌, Option, Some, List, [], ◌∷◌, ◌++◌, length, replicate, flat_map, slice_get, Result, Ok, Err}
 use Rattle.fe2o3_sasl_wire.specs.declared.amqp_types.SaslCode.TheVariants as outcomes
-use Rattle.fe2o3_scram.specs.Credentials.{Provider}
-use Rattle.fe2o3_scram.specs.ScramServer.{Initial}
-use Rattle.fe2o3_sasl_runs.specs.ClientHistory.{ClientHistory}
-use Rattle.fe2o3_sasl_runs.specs.Events.{Given, Login, ServerSays, Concluded, ClientSays, Reported}
-use Rattle.fe2o3_sasl_runs.specs.Headline.{AnswersOkExactly, ReportsOkExactly, TakenVerifiersAgree}
-use Rattle.fe2o3_sasl_runs.specs.Profiles.{Profile, scram_profile}
-use Rattle.fe2o3_sasl_runs.specs.SaslAcceptor.{Acceptor, ScramAcceptor, acceptor_names, acceptor_machine, acceptor_user}
-use Rattle.fe2o3_sasl_runs.specs.ServerHistory.{ServerHistory, LoggedIn as UserLoggedIn}
-use Rattle.fe2o3_sasl_negotiation.specs.declared.standing.Due.TheVariants.{Header}
-use Rattle.fe2o3_sasl_negotiation.specs.declared.standing.Standing.TheVariants.{Wanting, LoggedIn}
+use Rattle.fe2o3_sasl_wire.specs.declared.sasl_frames.error.Error.{Error}
+use Rattle.fe2o3_sasl_wire.specs.SaslFrames.{SaslFrame, IsBytes}
+use Rattle.fe2o3_sasl_runs.specs.Bodies.{SpellsBody}
+use Rattle.fe2o3_sasl_runs.specs.Events.{Given, ServerSays, Concluded, ClientSays, Reported}
+use Rattle.fe2o3_sasl_runs.specs.Profiles.{Profile}
+use Rattle.fe2o3_sasl_runs.specs.Runs.{Runs, AcceptorSteps, ProfileSteps}
+use Rattle.fe2o3_sasl_negotiation.specs.declared.standing.ClosedBecause.{ClosedBecause}
+use Rattle.fe2o3_sasl_negotiation.specs.declared.standing.ClosedBecause.TheVariants.{FrameSize, OtherHeader, OutOfTurn, ReplyTooLarge, Unread}
+use Rattle.fe2o3_sasl_negotiation.specs.declared.standing.Due.TheVariants.{Header, Frame}
+use Rattle.fe2o3_sasl_negotiation.specs.declared.standing.Standing.{Standing}
+use Rattle.fe2o3_sasl_negotiation.specs.declared.standing.Standing.TheVariants.{Wanting, LoggedIn, Closed}
+use Rattle.fe2o3_sasl_negotiation.specs.declared.standing.Turn.{Turn}
+use Rattle.fe2o3_sasl_negotiation.specs.declared.standing.Turn.TheVariants as turns
 use Rattle.fe2o3_sasl_negotiation.specs.ClientNegotiation.{ClientAnswers}
-use Rattle.fe2o3_sasl_negotiation.specs.Framing.{sasl_header, size_of}
+use Rattle.fe2o3_sasl_negotiation.specs.ClientNegotiation as of_client
+use Rattle.fe2o3_sasl_negotiation.specs.Framing.{sasl_header, framed, size_of, Fits, IsPart}
 use Rattle.fe2o3_sasl_negotiation.specs.Laws.{Call, Calls}
-use Rattle.fe2o3_sasl_negotiation.specs.Negotiations.{Side}
-use Rattle.fe2o3_sasl_negotiation.specs.ServerNegotiation.{ServerAnswers}
+use Rattle.fe2o3_sasl_negotiation.specs.Negotiations.{Side, Answer, IsInTurn}
+use Rattle.fe2o3_sasl_negotiation.specs.ServerNegotiation.{offer_body, ServerAnswers}
+use Rattle.fe2o3_sasl_negotiation.specs.ServerNegotiation as of_server
+
+-- ---- the bytes that arrive
+
+-- some bytes of a stream, and a nonce
+pub record Piece : Type 0 where
+  pub bytes : List ℕ
+  pub nonce : List ℕ
+
+-- all bytes of these pieces, in order
+abbrev pub bytes_of : List Piece → List ℕ
+bytes_of pieces = flat_map (λ (piece : Piece). piece.bytes) pieces
+
+-- the nonce of the piece in which byte number n arrives, counted from 0
+abbrev pub NonceAt : List Piece → ℕ → List ℕ → Type 0
+NonceAt pieces n nonce =
+    slice_get (flat_map (λ (piece : Piece). replicate (length piece.bytes) piece.nonce) pieces) n ≡ Some nonce
+
+-- the frames of these bodies, one after the other (part 2, section 2.3.1)
+abbrev pub frames_of : List Given → List ℕ
+frames_of events = flat_map (λ (event : Given). framed event.body) events
+
+-- the body spells a frame of this turn
+abbrev pub SpellsTurn : Turn → List ℕ → Type 0
+SpellsTurn turn body = (frame : SaslFrame) × SpellsBody body (Ok frame) × IsInTurn turn frame
+
+-- one body for each of the first turns, in order, the first after `at` bytes of the stream: each frame has an allowed
+-- size and is of its turn, and its nonce is that of the piece in which its last byte arrives
+abbrev pub AreFrames : List Piece → ℕ → ℕ → List Turn → List Given → Type 0
+AreFrames pieces limit at turns [] = Unit {0}
+AreFrames pieces limit at [] (event ∷ events) = ⊥
+AreFrames pieces limit at (turn ∷ turns) (event ∷ events) = let size = length event.body + 4 in
+    Fits limit size × SpellsTurn turn event.body × NonceAt pieces (at + (length event.body + 3)) event.nonce
+    × AreFrames pieces limit (at + size) turns events
+
+-- why a body is not answered where a frame of this turn is due: it is not read, or it is a frame out of turn
+abbrev pub Unanswered : Turn → Result SaslFrame Error → ClosedBecause → Type 0
+Unanswered turn (Err fault) why = why ≡ Unread fault
+Unanswered turn (Ok frame) why = ¬ IsInTurn turn frame × (why ≡ OutOfTurn)
+
+-- bytes after the last answered frame, where one of this turn is due: the side waits while they are a part of a frame,
+-- and closes at a size that no frame may have, and at a whole frame that is not answered
+abbrev pub LeftOver : Turn → ℕ → List ℕ → Standing → Type 0
+LeftOver turn limit tail standing =
+    (IsPart (Frame turn) limit tail × (standing ≡ Wanting))
+    ⊎ ((length tail ≡ 4) × ¬ Fits limit (size_of tail) × (standing ≡ Closed FrameSize))
+    ⊎ ((body : List ℕ) × (spelled : Result SaslFrame Error) × (why : ClosedBecause) × (tail ≡ framed body)
+    × Fits limit (length body + 4) × SpellsBody body spelled × Unanswered turn spelled why × (standing ≡ Closed why))
+
+-- ---- what is sent
+
+-- what a side sends with these replies, one for each of the first turns, and how the last reply leaves it. `Says` gives
+-- that for one reply. Before the first reply the side waits for a frame of the first turn, and every reply but the last
+-- is sent and leaves it waiting
+abbrev pub Replied : {A : Type 0} → (A → Turn → Answer → Type 0) → List Turn → List A → Answer → Type 0
+Replied Says [] replies answer = ⊥
+Replied Says (turn ∷ turns) [] answer = answer ≡ record { sent = []; standing = Wanting; due = Frame turn }
+Replied Says (turn ∷ turns) (says ∷ []) answer = Says says turn answer
+Replied Says (turn ∷ turns) (says ∷ next ∷ replies) answer =
+    (first : Answer) × (rest : Answer) × Says says turn first × (first.standing ≡ Wanting)
+    × Replied Says turns (next ∷ replies) rest × (answer ≡ record rest { sent = first.sent ++ rest.sent })
+
+-- a side after the header of the other side, over all bytes that it has taken: every frame up to the one that ended the
+-- negotiation is answered, in a run over the bodies
+pub record Negotiated {S A : Type 0} (Steps : S → Given → A → S → Type 0) (Says : A → Turn → Answer → Type 0)
+    (turns : List Turn) (limit : ℕ) (state : S) (pieces : List Piece) (taken sent : List ℕ) (last : Side S) : Type 0
+  where
+    pub events : List Given
+    pub replies : List A
+    pub answer : Answer
+    pub tail : List ℕ
+    pub carried : taken ≡ sasl_header ++ (frames_of events ++ tail)
+    pub frames : AreFrames pieces limit 8 turns events
+    pub run : Runs Steps state events replies last.state
+    pub replied : Replied Says turns replies answer
+    pub sends : sent ≡ answer.sent
+    -- the last reply leaves it waiting for a frame, or has ended it, and then nothing after that frame is taken
+    pub ends : ((turn : Turn) × (answer.standing ≡ Wanting) × (answer.due ≡ Frame turn)
+        × LeftOver turn limit tail last.standing)
+        ⊎ ((answer.standing ≢ Wanting) × (last.standing ≡ answer.standing) × (tail ≡ []))
+    -- while it waits it holds the part of a frame that has come
+    pub waits : last.standing ≡ Wanting → last
+        ≡ record { standing = Wanting; due = answer.due; limit = limit; held = tail; state = last.state }
+
+-- one of a server: an init is due, and after one challenge a response
+abbrev pub ServerNegotiated : {S : Type 0} → (S → List ℕ → SaslFrame → SaslFrame → S → Type 0) → ℕ → S → List Piece
+    → List ℕ → List ℕ → Side S → Type 0
+ServerNegotiated machine limit state pieces taken sent last =
+    Negotiated (AcceptorSteps machine) of_server.Says (turns.Init ∷ turns.Response ∷ []) limit state pieces taken sent last
+
+-- and of a client: a list of mechanisms is due, then a challenge or at once an outcome, and after a challenge an outcome
+abbrev pub ClientNegotiated : Option (List ℕ) → ℕ → Profile → List Piece → List ℕ → List ℕ → Side Profile → Type 0
+ClientNegotiated hostname limit profile pieces taken sent last =
+    Negotiated (ProfileSteps hostname) of_client.Says (turns.Mechanisms ∷ turns.Challenge ∷ turns.Outcome ∷ []) limit
+    profile pieces taken sent last
+
+-- ---- from the first byte
 
 -- a side before its first byte
 abbrev pub fresh : {S : Type 0} → ℕ → S → Side S
 fresh limit state = record { standing = Wanting; due = Header; limit = limit; held = []; state = state }
 
--- the bytes are frames of these bodies, one after another: each has four bytes of size, which counts the whole frame,
--- and a body (AMQP 1.0, part 2, section 2.3.1)
-abbrev pub AreFrames : List ℕ → List Given → Type 0
-AreFrames bytes [] = bytes ≡ []
-AreFrames bytes (event ∷ events) = (frame : List ℕ) × (rest : List ℕ) × (bytes ≡ frame ++ rest)
-    × (size_of frame ≡ length frame) × (event.body ≡ drop 4 frame) × AreFrames rest events
+-- less than a header has come, and is held (part 2, section 2.2)
+abbrev pub IsHeaderPart : {S : Type 0} → ℕ → S → List ℕ → List ℕ → Side S → Type 0
+IsHeaderPart limit state taken sent last = (length taken < 8) × (sent ≡ []) × (last ≡ record (fresh limit state) { held = taken })
 
--- the stream is the header of SASL, the frames of these bodies, and what follows (part 5, section 5.3.2); where it has
--- another header there are no bodies
-abbrev pub Carries : List ℕ → List Given → Type 0
-Carries stream [] = Unit {0}
-Carries stream (event ∷ events) = (frames : List ℕ) × (rest : List ℕ) × (stream ≡ sasl_header ++ (frames ++ rest))
-    × AreFrames frames (event ∷ events)
+-- it has closed at a header of another protocol or version
+abbrev pub IsOtherHeader : {S : Type 0} → S → List ℕ → Side S → Type 0
+IsOtherHeader state taken last = (length taken ≡ 8) × (taken ≢ sasl_header) × (last.standing ≡ Closed OtherHeader)
+    × (last.state ≡ state)
+
+-- the list of mechanisms is in no frame of 512 bytes
+abbrev pub OffersNone : List (List ℕ) → Type 0
+OffersNone names = (body : List ℕ) → offer_body names ≡ Some body → 512 < length body + 4
+
+-- a server's side, from a fresh one of this limit whose acceptor has these names and this machine and is in this state:
+-- it has taken these bytes, which arrived in these pieces, and sent these. It answers the header of SASL by its own and
+-- its mechanisms, and another by its own
+abbrev pub ServerConnection : {S : Type 0} → (S → List (List ℕ)) → (S → List ℕ → SaslFrame → SaslFrame → S → Type 0)
+    → ℕ → S → List Piece → List ℕ → List ℕ → Side S → Type 0
+ServerConnection names machine limit state pieces taken sent last =
+    IsHeaderPart limit state taken sent last
+    ⊎ (IsOtherHeader state taken last × (sent ≡ sasl_header))
+    ⊎ ((taken ≡ sasl_header) × OffersNone (names state) × (sent ≡ sasl_header)
+    × (last.standing ≡ Closed ReplyTooLarge) × (last.state ≡ state))
+    ⊎ ((offer : List ℕ) × (out : List ℕ) × (offer_body (names state) ≡ Some offer) × (length offer + 4 ≤ 512)
+    × (sent ≡ sasl_header ++ (framed offer ++ out)) × ServerNegotiated machine limit state pieces taken out last)
+
+-- and a client's side, from a fresh one whose profile is this: what it sends comes after its own header, and nothing is
+-- sent for the server's
+abbrev pub ClientConnection : Option (List ℕ) → ℕ → Profile → List Piece → List ℕ → List ℕ → Side Profile → Type 0
+ClientConnection hostname limit profile pieces taken sent last =
+    IsHeaderPart limit profile taken sent last
+    ⊎ (IsOtherHeader profile taken last × (sent ≡ []))
+    ⊎ ClientNegotiated hostname limit profile pieces taken sent last
+
+-- ---- the laws
+
+-- the pieces that calls take: each at most as long as what its call was handed, with the nonce of that call
+abbrev pub ArePieces : List Call → List Piece → Type 0
+ArePieces [] [] = Unit {0}
+ArePieces (call ∷ calls) (piece ∷ pieces) =
+    (length piece.bytes ≤ call.handed) × (piece.nonce ≡ call.nonce) × ArePieces calls pieces
+ArePieces calls pieces = ⊥
+
+-- every server, of whatever acceptor, limit, calls and bytes
+abbrev pub ServersConnect : {S : Type 0} → (S → List (List ℕ)) → (S → List ℕ → SaslFrame → SaslFrame → S → Type 0)
+    → Type 0
+ServersConnect {S} names machine = (limit : ℕ) (state : S) (calls : List Call) (stream sent rest : List ℕ)
+    (last : Side S) → IsBytes stream
+    → Calls (ServerAnswers names machine) (fresh limit state) calls stream sent last rest
+    → (pieces : List Piece) × ArePieces calls pieces × (stream ≡ bytes_of pieces ++ rest)
+    × ServerConnection names machine limit state pieces (bytes_of pieces) sent last
+
+-- and every client, of whatever profile and hostname
+abbrev pub ClientsConnect : Type 0
+ClientsConnect = (hostname : Option (List ℕ)) (limit : ℕ) (profile : Profile) (calls : List Call)
+    (stream sent rest : List ℕ) (last : Side Profile) → IsBytes stream
+    → Calls (ClientAnswers hostname) (fresh limit profile) calls stream sent last rest
+    → (pieces : List Piece) × ArePieces calls pieces × (stream ≡ bytes_of pieces ++ rest)
+    × ClientConnection hostname limit profile pieces (bytes_of pieces) sent last
+
+-- the last of the replies is such
+abbrev pub LastReply : {A : Type 0} → (A → Type 0) → List A → Type 0
+LastReply Is [] = ⊥
+LastReply Is (says ∷ []) = Is says
+LastReply Is (says ∷ next ∷ replies) = LastReply Is (next ∷ replies)
 
 -- what a server says is an outcome Ok, in a frame of at most 512 bytes (part 5, section 5.3.1)
 abbrev pub IsOkSent : ServerSays → Type 0
@@ -44,39 +197,15 @@ IsOkSent says = (body : List ℕ) × (says ≡ Concluded outcomes.Ok body) × (l
 abbrev pub IsOkReported : ClientSays → Type 0
 IsOkReported says = (more : Option (List ℕ)) × (says ≡ Reported outcomes.Ok more)
 
--- one of the replies is such
-abbrev pub SomeReply : {A : Type 0} → (A → Type 0) → List A → Type 0
-SomeReply {A} Is replies = (n : ℕ) × (says : A) × (slice_get replies n ≡ Some says) × Is says
+-- a server has logged its client in exactly where its last reply is an Ok that it sent
+abbrev pub ServersLogIn : {S : Type 0} → (S → List ℕ → SaslFrame → SaslFrame → S → Type 0) → Type 0
+ServersLogIn {S} machine = (limit : ℕ) (state : S) (pieces : List Piece) (taken sent : List ℕ) (last : Side S)
+    (negotiated : ServerNegotiated machine limit state pieces taken sent last)
+    → (last.standing ≡ LoggedIn) ↔ LastReply IsOkSent negotiated.replies
 
--- a connection of a SCRAM server over this stream: the bodies of its frames are answered as in a history, and it has
--- logged in exactly where an Ok was sent, and by it whom the history says
-pub record ServerConnects (provider : Provider) (stream : List ℕ) (events : List Given) (replies : List ServerSays)
-    (last : Side Acceptor) : Type 0 where
-  pub carried : Carries stream events
-  pub history : ServerHistory provider events replies
-  pub exactly : AnswersOkExactly provider events replies
-  pub logged_in : (last.standing ≡ LoggedIn) ↔ SomeReply IsOkSent replies
-  pub user : (user : List ℕ) → (acceptor_user last.state ≡ Some user)
-      ↔ UserLoggedIn provider events replies (length replies) user
-
--- a connection of a SCRAM client: it has logged in exactly where it reports an Ok, and so believes the server
-pub record ClientConnects (login : Login) (stream : List ℕ) (events : List Given) (replies : List ClientSays)
-    (last : Side Profile) : Type 0 where
-  pub carried : Carries stream events
-  pub history : ClientHistory login events replies
-  pub exactly : ReportsOkExactly login events replies
-  pub agreement : TakenVerifiersAgree login events replies
-  pub logged_in : (last.standing ≡ LoggedIn) ↔ SomeReply IsOkReported replies
-
--- every server of SCRAM, of whatever limit, calls and bytes
-abbrev pub ServersConnect : Type 0
-ServersConnect = (provider : Provider) (limit : ℕ) (calls : List Call) (stream sent rest : List ℕ)
-    (last : Side Acceptor) → let first = fresh limit (ScramAcceptor provider Initial) in
-    Calls (ServerAnswers acceptor_names acceptor_machine) first calls stream sent last rest
-    → (events : List Given) × (replies : List ServerSays) × ServerConnects provider stream events replies last
-
--- and every client of SCRAM
-abbrev pub ClientsConnect : Type 0
-ClientsConnect = (login : Login) (limit : ℕ) (calls : List Call) (stream sent rest : List ℕ) (last : Side Profile)
-    → Calls (ClientAnswers login.hostname) (fresh limit (scram_profile login)) calls stream sent last rest
-    → (events : List Given) × (replies : List ClientSays) × ClientConnects login stream events replies last
+-- and a client has logged in exactly where its last reply reports an Ok
+abbrev pub ClientsLogIn : Type 0
+ClientsLogIn = (hostname : Option (List ℕ)) (limit : ℕ) (profile : Profile) (pieces : List Piece)
+    (taken sent : List ℕ) (last : Side Profile)
+    (negotiated : ClientNegotiated hostname limit profile pieces taken sent last)
+    → (last.standing ≡ LoggedIn) ↔ LastReply IsOkReported negotiated.replies

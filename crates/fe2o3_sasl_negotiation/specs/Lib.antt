@@ -6,6 +6,7 @@ pub mod ClientNegotiation
 pub mod Sides
 pub mod Laws
 pub mod Connections
+pub mod ScramConnections
 pub mod UnalteredConnections
 pub mod private
 pub mod CostLaws

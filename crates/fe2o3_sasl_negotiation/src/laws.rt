@@ -1,10 +1,13 @@
 //! Laws of the definitions. A function with an empty body says nothing but its contract: a statement about
 //! every list of bytes, which the check has proved.
 
-ghost use Rattle.fe2o3_sasl_negotiation.specs.Connections.{ServersConnect, ClientsConnect};
+ghost use Rattle.fe2o3_sasl_negotiation.specs.Connections.{ServersConnect, ClientsConnect, ServersLogIn, ClientsLogIn};
 ghost use Rattle.fe2o3_sasl_negotiation.specs.CostLaws.{ServersCost, ClientsCost, ServersAreBounded, ClientsAreBounded};
 ghost use Rattle.fe2o3_sasl_negotiation.specs.Laws.{ServerCutsDoNotMatter, ClientCutsDoNotMatter};
+ghost use Rattle.fe2o3_sasl_negotiation.specs.ScramConnections.{ScramServersServe, ScramClientsLogIn};
 ghost use Rattle.fe2o3_sasl_negotiation.specs.UnalteredConnections.{JoinedSidesLogIn};
+
+use fe2o3_sasl_runs::NamesUser;
 
 /// However a stream of bytes is cut into calls, what they take of it is answered as it would be as a whole,
 /// unit by unit, each with the nonce of the call that completes it. So any two divisions of a stream give
@@ -14,14 +17,21 @@ pub fn cuts()
     ensures client { ClientCutsDoNotMatter }
 {}
 
-/// The headline theorem over the bytes of a connection, in whatever calls they are handed in: a SCRAM server
-/// has logged a client in exactly where it sent an Ok, which it answers only to a response that fits its open
-/// challenge and whose proof meets the stored key; a SCRAM client has logged in exactly where it reports an Ok,
-/// on the signature of its open answered challenge; and of each verifier that a client took and a server issued,
-/// both sides agree, or their own AuthMessages share one HMAC value.
-pub fn connections()
-    ensures server { ServersConnect }
+/// The headline theorem over the bytes of a connection, in whatever calls they are passed. A server of any acceptor and a
+/// client of any profile answer every frame up to the one that ends the negotiation, in a run over the bodies: each
+/// frame with the nonce of the call that completes it. What each side sends is the header, the list of mechanisms and
+/// the frames of its replies, and how it ends is what its last reply says. It has logged in exactly where that reply is
+/// an Ok. A SCRAM server answers Ok only to a response that fits its open challenge and whose proof meets the stored
+/// key, and names the user of that challenge; a SCRAM client reports Ok only on the signature of its open answered
+/// challenge; and of each verifier that a client took and a server issued, both sides agree, or their own AuthMessages
+/// share one HMAC value.
+pub fn connections<A: NamesUser>()
+    ensures server { ServersConnect A.names A.machine }
     ensures client { ClientsConnect }
+    ensures server_logged_in { ServersLogIn A.machine }
+    ensures client_logged_in { ClientsLogIn }
+    ensures scram_server { ScramServersServe }
+    ensures scram_client { ScramClientsLogIn }
 {}
 
 /// An honest client and an honest server that are joined both log in, in whatever pieces their bytes arrive, and

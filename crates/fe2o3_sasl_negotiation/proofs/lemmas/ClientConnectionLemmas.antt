@@ -1,101 +1,168 @@
--- Every connection of a client is a run of its profile, and of a SCRAM client a history.
-use Rattle.std.proofs.Common.{◌≡◌, ◌⊎◌, ℕ, Option, List, drop, refl, inl, inr, Ok, Err}
+-- Every connection of a client is a run of its profile over the bodies of the server's frames.
+use Rattle.std.proofs.Common.{◌≡◌, ◌≢◌, ℕ, ◌-◌, ◌<◌, Option, List, [], ◌∷◌, ◌++◌, length, take, refl, sym, ap, ◌∙◌, subst, inl, inr, arith}
+use Rattle.std.proofs.lemmas.List.{length-take-le, take_all}
+use Rattle.bytes.proofs.Ranges.{take-append_past}
 use Rattle.fe2o3_sasl_wire.specs.declared.amqp_types.SaslCode.TheVariants as outcomes
-use Rattle.fe2o3_sasl_runs.specs.Events.{ClientSays, Started, Answered, Reported, Refused as ClientRefused, ClientFault, NotImplemented, Scram, OtherKeys, Frame as FrameFault, OutOfMemory}
-use Rattle.fe2o3_sasl_runs.specs.Profiles.{Profile, scram_profile}
+use Rattle.fe2o3_sasl_wire.specs.SaslFrames.{IsBytes}
+use Rattle.fe2o3_sasl_runs.specs.Events.{ClientSays, Started, Answered, Reported, Refused as ClientRefused, NotImplemented, Scram, OtherKeys, Frame as FrameFault, OutOfMemory}
+use Rattle.fe2o3_sasl_runs.specs.Profiles.{Profile}
 use Rattle.fe2o3_sasl_runs.specs.Runs.{ProfileSteps}
-use Rattle.fe2o3_sasl_runs.proofs.lemmas.two_sides.HeadlineLemmas.{reports_ok_exactly, taken_verifiers_agree}
-use Rattle.fe2o3_sasl_runs.proofs.lemmas.machines.ClientMachineLemmas.{profile_runs_are_histories}
-use Rattle.fe2o3_sasl_negotiation.specs.declared.standing.ClosedBecause.{ClosedBecause}
-use Rattle.fe2o3_sasl_negotiation.specs.declared.standing.ClosedBecause.TheVariants.{OtherHeader, OutOfTurn, Refused, Unread}
-use Rattle.fe2o3_sasl_negotiation.specs.declared.standing.Due.TheVariants.{Header, Frame}
-use Rattle.fe2o3_sasl_negotiation.specs.declared.standing.Standing.TheVariants.{Wanting, Closed}
+use Rattle.fe2o3_sasl_negotiation.specs.declared.standing.ClosedBecause.TheVariants.{OtherHeader}
+use Rattle.fe2o3_sasl_negotiation.specs.declared.standing.Due.TheVariants.{Frame}
+use Rattle.fe2o3_sasl_negotiation.specs.declared.standing.Standing.{Standing}
+use Rattle.fe2o3_sasl_negotiation.specs.declared.standing.Standing.TheVariants.{Wanting, LoggedIn, Closed}
 use Rattle.fe2o3_sasl_negotiation.specs.declared.standing.Turn.{Turn}
 use Rattle.fe2o3_sasl_negotiation.specs.declared.standing.Turn.TheVariants as turns
-use Rattle.fe2o3_sasl_negotiation.specs.ClientNegotiation.{Says, ClientAnswers}
-use Rattle.fe2o3_sasl_negotiation.specs.Connections.{IsOkReported, ClientsConnect}
-use Rattle.fe2o3_sasl_negotiation.specs.Framing.{sasl_header}
-use Rattle.fe2o3_sasl_negotiation.specs.Negotiations.{Answer}
-use Rattle.fe2o3_sasl_negotiation.proofs.lemmas.ConnectionLemmas.{Kind, connected}
-use Rattle.fe2o3_sasl_negotiation.proofs.lemmas.KindLemmas.{standing_of, due_of, goes_on, closes_kind}
+use Rattle.fe2o3_sasl_negotiation.specs.ClientNegotiation.{Opens, Says, ClientAnswers}
+use Rattle.fe2o3_sasl_negotiation.specs.Connections.{Piece, ClientConnection, ClientsConnect, fresh}
+use Rattle.fe2o3_sasl_negotiation.specs.Negotiations.{Side, Answer, Receives, ReceivesAt}
+use Rattle.fe2o3_sasl_negotiation.proofs.lemmas.ConnectionLemmas.{closed_is_not_wanting, logged_in_is_not_wanting, NextNonces, opened, negotiated_call, negotiated_more, rests_there, connected}
+use Rattle.fe2o3_sasl_negotiation.proofs.lemmas.KindLemmas.{standing_of, closes_waits_not, sends_goes_on}
 
-started_is_no_ok : (body : List ℕ) → ¬ IsOkReported (Started body)
-started_is_no_ok body (more, same) = cc
+-- an init leaves a client waiting for a challenge, and a response for an outcome
+says_first : (says : ClientSays) (answer : Answer) → Says says turns.Mechanisms answer → answer.standing ≡ Wanting
+    → answer.due ≡ Frame turns.Challenge
+says_first (Started body) answer sends waits = sends_goes_on body turns.Challenge answer sends waits
+says_first (Answered body) answer is waits = absurd (closes_waits_not _ _ answer is waits)
+says_first (Reported outcomes.Ok more) answer is waits =
+    absurd (logged_in_is_not_wanting (sym (standing_of answer _ is) ∙ waits))
+says_first (Reported outcomes.Auth more) answer is waits = absurd (closes_waits_not _ _ answer is waits)
+says_first (Reported outcomes.Sys more) answer is waits = absurd (closes_waits_not _ _ answer is waits)
+says_first (Reported outcomes.SysPerm more) answer is waits = absurd (closes_waits_not _ _ answer is waits)
+says_first (Reported outcomes.SysTemp more) answer is waits = absurd (closes_waits_not _ _ answer is waits)
+says_first (ClientRefused OutOfMemory) answer never waits = absurd never
+says_first (ClientRefused NotImplemented) answer closed waits = absurd (closes_waits_not _ _ answer closed.2 waits)
+says_first (ClientRefused (Scram fault)) answer closed waits = absurd (closes_waits_not _ _ answer closed.2 waits)
+says_first (ClientRefused OtherKeys) answer closed waits = absurd (closes_waits_not _ _ answer closed.2 waits)
+says_first (ClientRefused (FrameFault fault)) answer closed waits = absurd (closes_waits_not _ _ answer closed.2 waits)
 
-answered_is_no_ok : (body : List ℕ) → ¬ IsOkReported (Answered body)
-answered_is_no_ok body (more, same) = cc
+says_next : (says : ClientSays) (answer : Answer) → Says says turns.Challenge answer → answer.standing ≡ Wanting
+    → answer.due ≡ Frame turns.Outcome
+says_next (Started body) answer is waits = absurd (closes_waits_not _ _ answer is waits)
+says_next (Answered body) answer sends waits = sends_goes_on body turns.Outcome answer sends waits
+says_next (Reported outcomes.Ok more) answer is waits =
+    absurd (logged_in_is_not_wanting (sym (standing_of answer _ is) ∙ waits))
+says_next (Reported outcomes.Auth more) answer is waits = absurd (closes_waits_not _ _ answer is waits)
+says_next (Reported outcomes.Sys more) answer is waits = absurd (closes_waits_not _ _ answer is waits)
+says_next (Reported outcomes.SysPerm more) answer is waits = absurd (closes_waits_not _ _ answer is waits)
+says_next (Reported outcomes.SysTemp more) answer is waits = absurd (closes_waits_not _ _ answer is waits)
+says_next (ClientRefused OutOfMemory) answer never waits = absurd never
+says_next (ClientRefused NotImplemented) answer closed waits = absurd (closes_waits_not _ _ answer closed.2 waits)
+says_next (ClientRefused (Scram fault)) answer closed waits = absurd (closes_waits_not _ _ answer closed.2 waits)
+says_next (ClientRefused OtherKeys) answer closed waits = absurd (closes_waits_not _ _ answer closed.2 waits)
+says_next (ClientRefused (FrameFault fault)) answer closed waits = absurd (closes_waits_not _ _ answer closed.2 waits)
 
-refused_is_no_ok : (fault : ClientFault) → ¬ IsOkReported (ClientRefused fault)
-refused_is_no_ok fault (more, same) = cc
+says_last : (says : ClientSays) (answer : Answer) → Says says turns.Outcome answer → answer.standing ≢ Wanting
+says_last (Started body) answer is waits = closes_waits_not _ _ answer is waits
+says_last (Answered body) answer is waits = closes_waits_not _ _ answer is waits
+says_last (Reported outcomes.Ok more) answer is waits =
+    logged_in_is_not_wanting (sym (standing_of answer _ is) ∙ waits)
+says_last (Reported outcomes.Auth more) answer is waits = closes_waits_not _ _ answer is waits
+says_last (Reported outcomes.Sys more) answer is waits = closes_waits_not _ _ answer is waits
+says_last (Reported outcomes.SysPerm more) answer is waits = closes_waits_not _ _ answer is waits
+says_last (Reported outcomes.SysTemp more) answer is waits = closes_waits_not _ _ answer is waits
+says_last (ClientRefused OutOfMemory) answer never waits = never
+says_last (ClientRefused NotImplemented) answer closed waits = closes_waits_not _ _ answer closed.2 waits
+says_last (ClientRefused (Scram fault)) answer closed waits = closes_waits_not _ _ answer closed.2 waits
+says_last (ClientRefused OtherKeys) answer closed waits = closes_waits_not _ _ answer closed.2 waits
+says_last (ClientRefused (FrameFault fault)) answer closed waits = closes_waits_not _ _ answer closed.2 waits
 
--- what a client's answer is
-kind : (says : ClientSays) (turn : Turn) (answer : Answer) → Says says turn answer → Kind (IsOkReported says) answer
-kind (Started body) turns.Mechanisms answer sends =
-    goes_on body turns.Challenge answer _ (started_is_no_ok body) sends
-kind (Started body) turns.Init answer is = closes_kind OutOfTurn _ answer _ (started_is_no_ok body) is
-kind (Started body) turns.Challenge answer is = closes_kind OutOfTurn _ answer _ (started_is_no_ok body) is
-kind (Started body) turns.Response answer is = closes_kind OutOfTurn _ answer _ (started_is_no_ok body) is
-kind (Started body) turns.Outcome answer is = closes_kind OutOfTurn _ answer _ (started_is_no_ok body) is
-kind (Answered body) turns.Challenge answer sends =
-    goes_on body turns.Outcome answer _ (answered_is_no_ok body) sends
-kind (Answered body) turns.Mechanisms answer is = closes_kind OutOfTurn _ answer _ (answered_is_no_ok body) is
-kind (Answered body) turns.Init answer is = closes_kind OutOfTurn _ answer _ (answered_is_no_ok body) is
-kind (Answered body) turns.Response answer is = closes_kind OutOfTurn _ answer _ (answered_is_no_ok body) is
-kind (Answered body) turns.Outcome answer is = closes_kind OutOfTurn _ answer _ (answered_is_no_ok body) is
-kind (Reported outcomes.Ok more) turn answer same = inr (inr (standing_of answer _ same, (more, refl)))
-kind (Reported outcomes.Auth more) turn answer same =
-    closes_kind (Refused outcomes.Auth) _ answer _ (λ ok. let apart = ok.1 in absurd (cc)) same
-kind (Reported outcomes.Sys more) turn answer same =
-    closes_kind (Refused outcomes.Sys) _ answer _ (λ ok. let apart = ok.1 in absurd (cc)) same
-kind (Reported outcomes.SysPerm more) turn answer same =
-    closes_kind (Refused outcomes.SysPerm) _ answer _ (λ ok. let apart = ok.1 in absurd (cc)) same
-kind (Reported outcomes.SysTemp more) turn answer same =
-    closes_kind (Refused outcomes.SysTemp) _ answer _ (λ ok. let apart = ok.1 in absurd (cc)) same
-kind (ClientRefused OutOfMemory) turn answer never = absurd never
-kind (ClientRefused NotImplemented) turn answer closed =
-    closes_kind _ _ answer _ (refused_is_no_ok NotImplemented) closed.2
-kind (ClientRefused (Scram fault)) turn answer closed =
-    closes_kind _ _ answer _ (refused_is_no_ok (Scram fault)) closed.2
-kind (ClientRefused OtherKeys) turn answer closed = closes_kind _ _ answer _ (refused_is_no_ok OtherKeys) closed.2
-kind (ClientRefused (FrameFault fault)) turn answer closed =
-    closes_kind _ _ answer _ (refused_is_no_ok (FrameFault fault)) closed.2
+module _ (hostname : Option (List ℕ)) (limit : ℕ) (profile : Profile) (pieces : List Piece) where
+  abbrev Is : List ℕ → List ℕ → Side Profile → Type 0
+  Is taken sent last = ClientConnection hostname limit profile pieces taken sent last
 
-module _ (hostname : Option (List ℕ)) where
-  frame_case : (turn : Turn) (profile next : Profile) (nonce unit : List ℕ) (answer : Answer)
-      → ClientAnswers hostname (Frame turn) profile nonce unit answer next
-      → ((why : ClosedBecause) × (answer.standing ≡ Closed why) × (next ≡ profile))
-      ⊎ ((says : ClientSays)
-      × ProfileSteps hostname profile (record { body = drop 4 unit; nonce = nonce }) says next
-      × Kind (IsOkReported says) answer)
-  frame_case turn profile next nonce unit answer (Err fault, spells, closed) =
-      inl (Unread fault, standing_of answer _ closed.0, closed.1)
-  frame_case turn profile next nonce unit answer (Ok frame, spells, inl out) =
-      inl (OutOfTurn, standing_of answer _ out.1, out.2)
-  frame_case turn profile next nonce unit answer (Ok frame, spells, inr asks) =
-      inr (asks.1.0, asks.1.1, kind asks.1.0 turn answer asks.1.2)
+  abbrev seen : List Turn
+  seen = turns.Mechanisms ∷ turns.Challenge ∷ turns.Outcome ∷ []
 
-  header_case : (profile next : Profile) (nonce unit : List ℕ) (answer : Answer)
-      → ClientAnswers hostname Header profile nonce unit answer next
-      → (next ≡ profile) × (((why : ClosedBecause) × (answer.standing ≡ Closed why))
-      ⊎ ((turn : Turn) × (unit ≡ sasl_header) × (answer.standing ≡ Wanting) × (answer.due ≡ Frame turn)))
-  header_case profile next nonce unit answer (inl other, kept) =
-      (kept, inl (OtherHeader, standing_of answer _ other.1))
-  header_case profile next nonce unit answer (inr opens, kept) =
-      (kept, inr (turns.Mechanisms, opens.0, standing_of answer _ opens.1, due_of answer _ opens.1))
+  header_call : (taken bytes nonce first : List ℕ) (k : ℕ) (next : Side Profile) → length taken < 8
+      → ReceivesAt Wanting (ClientAnswers hostname) (record (fresh limit profile) { held = taken }) bytes nonce k first
+      next → Is (taken ++ take k bytes) first next
+  header_call taken bytes nonce first k next few (inl (part, waits)) =
+      let all : k ≡ length bytes = waits.0 in
+      let is : take k bytes ≡ bytes = take_all k bytes (omega (arith, all)) in
+      subst (λ (l : List ℕ). Is (taken ++ l) first next) (sym is) (inl (part, waits.1, waits.2))
+  header_call taken bytes nonce first k next few (inr (inl refused)) = absurd refused.0
+  header_call taken bytes nonce first k next few (inr (inr (answer, moved, whole, answers, ends))) =
+      go answers.0
+    where
+      come : taken ++ take k bytes ≡ take 8 (taken ++ bytes)
+      come = let all : k ≡ 8 - length taken = ends.0 in
+          sym (take-append_past taken bytes k 8 (omega (arith, few, all)))
+
+      go : Opens (take 8 (taken ++ bytes)) answer → Is (taken ++ take k bytes) first next
+      go (inl other) = inr (inl (
+        (
+          ap length come ∙ length-take-le 8 (taken ++ bytes) whole,
+          (λ header. other.0 (sym come ∙ header)),
+          ap (λ (s : Side Profile). s.standing) ends.2 ∙ standing_of answer _ other.1,
+          ap (λ (s : Side Profile). s.state) ends.2 ∙ answers.1,
+        ),
+        ends.1 ∙ ap (λ (a : Answer). a.sent) other.1,
+      ))
+      go (inr opens) =
+          let nothing : first ≡ [] = ends.1 ∙ ap (λ (a : Answer). a.sent) opens.1 in
+          subst (λ (l : List ℕ). Is (taken ++ take k bytes) l next) (sym nothing)
+          (inr (inr (opened (ClientAnswers hostname) (ProfileSteps hostname) Says seen (says_first, (says_next, says_last))
+          (λ turn s n nonce unit a h. h) limit profile pieces (taken ++ take k bytes) turns.Mechanisms
+          (turns.Challenge ∷ turns.Outcome ∷ []) next refl (come ∙ opens.0)
+          (ends.2 ∙ (ap (λ (a : Answer). record {
+            standing = a.standing;
+            due = a.due;
+            limit = limit;
+            held = [];
+            state = moved;
+          }) opens.1 ∙ ap (λ (p : Profile). record {
+            standing = Wanting;
+            due = Frame turns.Mechanisms;
+            limit = limit;
+            held = [];
+            state = p;
+          }) answers.1)))))
+
+  call_at : (standing : Standing) (taken sent : List ℕ) (side next : Side Profile) (bytes nonce first : List ℕ) (k : ℕ)
+      → side.standing ≡ standing → Is taken sent side → IsBytes (taken ++ bytes)
+      → NextNonces pieces (length taken) k nonce
+      → ReceivesAt standing (ClientAnswers hostname) side bytes nonce k first next
+      → Is (taken ++ take k bytes) (sent ++ first) next
+  call_at LoggedIn taken sent side next bytes nonce first k at is are_bytes nonces rests =
+      rests_there Is taken sent bytes first k side next is rests
+  call_at (Closed why) taken sent side next bytes nonce first k at is are_bytes nonces rests =
+      rests_there Is taken sent bytes first k side next is rests
+  call_at Wanting taken sent side next bytes nonce first k at (inl (few, nothing, same)) are_bytes nonces receives =
+      subst (λ (l : List ℕ). Is (taken ++ take k bytes) (l ++ first) next) (sym nothing)
+      (header_call taken bytes nonce first k next few
+      (subst (λ (s : Side Profile). ReceivesAt Wanting (ClientAnswers hostname) s bytes nonce k first next) same receives))
+  call_at Wanting taken sent side next bytes nonce first k at (inr (inl other)) are_bytes nonces receives =
+      absurd (closed_is_not_wanting OtherHeader (sym other.0.2 ∙ at))
+  call_at Wanting taken sent side next bytes nonce first k at (inr (inr negotiated)) are_bytes nonces receives =
+      inr (inr (negotiated_call (ClientAnswers hostname) (ProfileSteps hostname) Says seen
+      (says_first, (says_next, says_last)) (λ turn s n nonce unit a h. h) limit profile pieces taken sent side next bytes
+      nonce first k negotiated at are_bytes nonces receives))
+
+  pub client_call : (taken sent : List ℕ) (side next : Side Profile) (bytes nonce first : List ℕ) (k : ℕ)
+      → Is taken sent side → IsBytes (taken ++ bytes) → NextNonces pieces (length taken) k nonce
+      → Receives (ClientAnswers hostname) side bytes nonce k first next
+      → Is (taken ++ take k bytes) (sent ++ first) next
+  client_call taken sent side next bytes nonce first k is are_bytes nonces receives =
+      call_at side.standing taken sent side next bytes nonce first k refl is are_bytes nonces receives
+
+  pub client_fresh : Is [] [] (fresh limit profile)
+  client_fresh = inl (omega arith, refl, refl)
+
+  grows : (more : List Piece) (taken sent : List ℕ) (side : Side Profile) → Is taken sent side
+      → ClientConnection hostname limit profile (pieces ++ more) taken sent side
+  grows more taken sent side (inl part) = inl part
+  grows more taken sent side (inr (inl other)) = inr (inl other)
+  grows more taken sent side (inr (inr negotiated)) =
+      inr (inr (negotiated_more (ClientAnswers hostname) (ProfileSteps hostname) Says seen
+      (says_first, (says_next, says_last)) (λ turn s n nonce unit a h. h) limit profile pieces more taken sent side
+      negotiated))
 
 pub clients_connect : ClientsConnect
-clients_connect login limit calls stream sent rest last made =
-    let (events, replies, runs, carries, logged) =
-    connected (ClientAnswers login.hostname) (ProfileSteps login.hostname) IsOkReported (frame_case login.hostname)
-    (header_case login.hostname) limit (scram_profile login) calls stream sent rest last made in
-    let history = profile_runs_are_histories login events replies last.state runs in (
-      events,
-      replies,
-      record {
-        carried = carries;
-        history = history;
-        exactly = reports_ok_exactly login events replies history;
-        agreement = taken_verifiers_agree login events replies history;
-        logged_in = logged;
-      },
-    )
+clients_connect hostname limit profile calls stream sent rest last are_bytes made =
+    connected (ClientAnswers hostname)
+    (λ pieces taken out side. ClientConnection hostname limit profile pieces taken out side)
+    (λ pieces taken out side next bytes nonce first k is fine nonces receives.
+    client_call hostname limit profile pieces taken out side next bytes nonce first k is fine nonces receives)
+    (λ pieces more taken out side is. grows hostname limit profile pieces more taken out side is)
+    (fresh limit profile) last calls stream sent rest (client_fresh hostname limit profile []) are_bytes made

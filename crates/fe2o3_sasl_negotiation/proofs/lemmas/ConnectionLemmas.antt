@@ -1,341 +1,468 @@
--- What the bytes of a connection come to: a run over the bodies of its frames.
-use Rattle.std.proofs.Common.{◌≡◌, ◌≢◌, ◌↔◌, ◌⊎◌, ℕ, zero, suc, ◌+◌, ◌-◌, ◌≤◌, Some, List, [], ◌∷◌, ◌++◌, length, take, drop, refl, sym, ap, ◌∙◌, subst, inl, inr, append_assoc, arith}
+-- One call more of a side that has seen the header of SASL: its frames so far, and those that the call completes.
+use Rattle.std.proofs.Common.{◌≡◌, ◌≢◌, ◌⊎◌, ℕ, ◌+◌, ◌-◌, ◌<◌, ◌≤◌, Some, List, [], ◌∷◌, ◌++◌, length, take, drop, refl, sym, ap, ◌∙◌, subst, inl, inr, append_assoc, arith, length-append, Result, Ok, Err}
 use Rattle.std.specs.Prelude.{slice_get}
-use Rattle.std.proofs.lemmas.List.{length-take-le, take-append-drop}
-use Rattle.std.proofs.Math.Seq.{drop-append-add}
+use Rattle.std.proofs.lemmas.Grind.{flat_map-append}
+use Rattle.std.proofs.lemmas.List.{append-nil, length-take, length-take-le, take-take, take_all, take-append-drop, drop_at}
+use Rattle.bytes.proofs.Ranges.{take-append_past}
+use Rattle.fe2o3_sasl_wire.specs.declared.sasl_frames.error.Error.{Error}
+use Rattle.fe2o3_sasl_wire.specs.SaslFrames.{SaslFrame, IsBytes}
+use Rattle.fe2o3_sasl_wire.proofs.lemmas.reading.StepLemmas.{IsBytes-take, IsBytes-drop}
+use Rattle.fe2o3_sasl_runs.specs.Bodies.{SpellsBody}
 use Rattle.fe2o3_sasl_runs.specs.Events.{Given}
 use Rattle.fe2o3_sasl_runs.specs.Runs.{Runs}
 use Rattle.fe2o3_sasl_negotiation.specs.declared.standing.ClosedBecause.{ClosedBecause}
+use Rattle.fe2o3_sasl_negotiation.specs.declared.standing.ClosedBecause.TheVariants.{FrameSize, OutOfTurn, Unread}
 use Rattle.fe2o3_sasl_negotiation.specs.declared.standing.Due.{Due}
-use Rattle.fe2o3_sasl_negotiation.specs.declared.standing.Due.TheVariants.{Header, Frame}
+use Rattle.fe2o3_sasl_negotiation.specs.declared.standing.Due.TheVariants.{Frame}
 use Rattle.fe2o3_sasl_negotiation.specs.declared.standing.Standing.{Standing}
 use Rattle.fe2o3_sasl_negotiation.specs.declared.standing.Standing.TheVariants.{Wanting, LoggedIn, Closed}
 use Rattle.fe2o3_sasl_negotiation.specs.declared.standing.Turn.{Turn}
-use Rattle.fe2o3_sasl_negotiation.specs.Connections.{AreFrames, Carries, SomeReply, fresh}
-use Rattle.fe2o3_sasl_negotiation.specs.Framing.{sasl_header, size_of, unit_size, IsPart, IsWhole}
-use Rattle.fe2o3_sasl_negotiation.specs.Laws.{Call, Calls, Negotiates}
-use Rattle.fe2o3_sasl_negotiation.specs.Negotiations.{Side, Answer}
-use Rattle.fe2o3_sasl_negotiation.proofs.lemmas.FramingLemmas.{size_of-append}
-use Rattle.fe2o3_sasl_negotiation.proofs.lemmas.CutLemmas.{nothing_is_part, EndsUnit, ended_stays, unit_of_call, unit_within, cuts_do_not_matter}
+use Rattle.fe2o3_sasl_negotiation.specs.Connections.{Piece, bytes_of, NonceAt, frames_of, SpellsTurn, AreFrames, LeftOver, Unanswered, Replied, Negotiated, ArePieces}
+use Rattle.fe2o3_sasl_negotiation.specs.Framing.{sasl_header, framed, size_of, Fits, unit_size, IsPart, IsRefused, IsWhole}
+use Rattle.fe2o3_sasl_negotiation.specs.Laws.{Call, Calls}
+use Rattle.fe2o3_sasl_negotiation.specs.Negotiations.{Side, Answer, AnswersTo, Ends, Rests, Waits, Receives, ReceivesAt, closes}
+use Rattle.fe2o3_sasl_negotiation.proofs.lemmas.CutLemmas.{nothing_is_part, refused_long, whole_long}
+use Rattle.fe2o3_sasl_negotiation.proofs.lemmas.FramingLemmas.{size_of-append, part_is_shorter, refused_is_short}
+use Rattle.fe2o3_sasl_negotiation.proofs.lemmas.PieceLemmas.{nonce_of_piece, is_framed, frames_of-more, frames_of_more, one_frame_more, IsChain, due_after, one_reply_more, as_many, one_step_more}
 
 -- the three standings are three
-logged_in_is_not_wanting : LoggedIn ≢ Wanting
+pub logged_in_is_not_wanting : LoggedIn ≢ Wanting
 logged_in_is_not_wanting same = cc
 
-closed_is_not_wanting : (why : ClosedBecause) → Closed why ≢ Wanting
+pub closed_is_not_wanting : (why : ClosedBecause) → Closed why ≢ Wanting
 closed_is_not_wanting why same = cc
 
-closed_is_not_logged_in : (why : ClosedBecause) → Closed why ≢ LoggedIn
+pub closed_is_not_logged_in : (why : ClosedBecause) → Closed why ≢ LoggedIn
 closed_is_not_logged_in why same = cc
 
--- what an answer to a frame is to its side: it goes on, or closes, or has logged in, and that exactly on an Ok
-abbrev pub Kind : Type 0 → Answer → Type 0
-Kind Is answer =
-    ((turn : Turn) × (answer.standing ≡ Wanting) × (answer.due ≡ Frame turn) × ¬ Is)
-    ⊎ (((why : ClosedBecause) × (answer.standing ≡ Closed why) × ¬ Is)
-    ⊎ ((answer.standing ≡ LoggedIn) × Is))
+-- a side that waits for a frame of this turn, of which these bytes have come
+abbrev pub holding : {S : Type 0} → Turn → ℕ → List ℕ → S → Side S
+holding turn limit tail state =
+    record { standing = Wanting; due = Frame turn; limit = limit; held = tail; state = state }
 
--- the bytes begin with the frames of these bodies
-abbrev Begins : List ℕ → List Given → Type 0
-Begins come events = (frames : List ℕ) × (rest : List ℕ) × (come ≡ frames ++ rest) × AreFrames frames events
+-- the body of the frame with which these bytes begin
+abbrev pub first_body : List ℕ → List ℕ
+first_body come = drop 4 (take (size_of come) come)
 
--- a frame in front of others
-one_more : (turn : Turn) (limit : ℕ) (come : List ℕ) (event : Given) (events : List Given) (n : ℕ)
-    → IsWhole (Frame turn) limit come → n ≡ size_of come → event.body ≡ drop 4 (take n come)
-    → Begins (drop n come) events → Begins come (event ∷ events)
-one_more turn limit come event events n whole is body (frames, rest, same, are) =
-    let within : size_of come ≤ length come = whole.1 in
-    let eight : 8 ≤ size_of come = whole.0.0 in
-    let count : length (take n come) ≡ n = length-take-le n come (omega (arith, is, within)) in
-    let size : size_of (take n come) ≡ size_of come =
-    sym (size_of-append (take n come) (drop n come) (omega (arith, is, eight, count)))
-    ∙ ap size_of (take-append-drop n come) in (
-      take n come ++ frames,
-      rest,
-      sym (take-append-drop n come) ∙ (ap (λ l. take n come ++ l) same
-          ∙ sym (append_assoc (take n come) frames rest)),
-      (take n come, frames, refl, size ∙ (sym is ∙ sym count), body, are),
-    )
+-- the nonce of the next bytes of a stream
+abbrev pub NextNonces : List Piece → ℕ → ℕ → List ℕ → Type 0
+NextNonces pieces at k nonce = (i : ℕ) → i < k → NonceAt pieces (at + i) nonce
 
--- what was held and n - length held bytes more are taken away
-taken_away : (held bytes : List ℕ) (n taken : ℕ) → length held ≤ n → taken ≡ n - length held
-    → drop n (held ++ bytes) ≡ drop taken bytes
-taken_away held bytes n taken short is =
-    ap (λ k. drop k (held ++ bytes)) (sum n taken (length held) short is) ∙ drop-append-add held bytes taken
-  where
-    sum : (n taken len : ℕ) → len ≤ n → taken ≡ n - len → n ≡ len + taken
-    sum n taken len short is = omega arith
-
--- frames behind the header, and more behind them
-carried : (events : List Given) (stream frames rest : List ℕ) → stream ≡ sasl_header ++ (frames ++ rest)
-    → AreFrames frames events → Carries stream events
-carried [] stream frames rest same are = tt
-carried (event ∷ events) stream frames rest same are = (frames, rest, same, are)
-
-carried_more : (events : List Given) (stream more : List ℕ) → Carries stream events → Carries (stream ++ more) events
-carried_more [] stream more carries = tt
-carried_more (event ∷ events) stream more (frames, rest, same, are) = (
-  frames,
-  rest ++ more,
-  ap (λ l. l ++ more) same ∙ (append_assoc sasl_header (frames ++ rest) more
-      ∙ ap (λ l. sasl_header ++ l) (append_assoc frames rest more)),
-  are,
-)
-
--- no reply, and one
-no_reply : {A : Type 0} (Is : A → Type 0) → ¬ SomeReply Is []
-no_reply {A} Is (n, says, at, is) = absurd (none n says at)
-  where
-    none : (n : ℕ) (says : A) → slice_get {X = A} [] n ≡ Some says → ⊥
-    none n says at = cc
-
-reply_of_more : {A : Type 0} (Is : A → Type 0) (says : A) (replies : List A) → ¬ Is says
-    → SomeReply Is (says ∷ replies) → SomeReply Is replies
-reply_of_more {A} Is says replies other (zero, found, at, is) =
-    let same : says ≡ found = cc in absurd (other (subst Is (sym same) is))
-reply_of_more Is says replies other (suc n, found, at, is) = (n, found, at, is)
-
-module _ {S A : Type 0} (Answers : Due → S → List ℕ → List ℕ → Answer → S → Type 0) (Step : S → Given → A → S → Type 0)
-    (Is : A → Type 0)
-    (frame_case : (turn : Turn) (state next : S) (nonce unit : List ℕ) (answer : Answer)
+module _ {S A : Type 0} (Answers : Due → S → List ℕ → List ℕ → Answer → S → Type 0) (Steps : S → Given → A → S → Type 0)
+    (Says : A → Turn → Answer → Type 0) (turns : List Turn) (chain : IsChain Says turns)
+    (asks : (turn : Turn) (state next : S) (nonce unit : List ℕ) (answer : Answer)
     → Answers (Frame turn) state nonce unit answer next
-    → ((why : ClosedBecause) × (answer.standing ≡ Closed why) × (next ≡ state))
-    ⊎ ((says : A) × Step state (record { body = drop 4 unit; nonce = nonce }) says next × Kind (Is says) answer))
-    (header_case : (state next : S) (nonce unit : List ℕ) (answer : Answer) → Answers Header state nonce unit answer next
-    → (next ≡ state) × (((why : ClosedBecause) × (answer.standing ≡ Closed why))
-    ⊎ ((turn : Turn) × (unit ≡ sasl_header) × (answer.standing ≡ Wanting) × (answer.due ≡ Frame turn)))) where
-  -- what a side has come to behind bytes that begin with a frame
-  abbrev Told : S → List ℕ → Side S → Type 0
-  Told state come last = (events : List Given) × (replies : List A) × Runs Step state events replies last.state
-      × Begins come events × ((last.standing ≡ LoggedIn) ↔ SomeReply Is replies)
+    → (spelled : Result SaslFrame Error) × SpellsBody (drop 4 unit) spelled
+    × AnswersTo (λ (a : Answer) (s : S). (says : A) × Steps state (record { body = drop 4 unit; nonce = nonce }) says s
+    × Says says turn a) turn state spelled answer next) where
+  module _ (limit : ℕ) (state mid : S) (pieces : List Piece) (taken sent tail : List ℕ) (events : List Given)
+      (replies : List A) (before : Answer) (turn : Turn)
+      (carried : taken ≡ sasl_header ++ (frames_of events ++ tail)) (frames : AreFrames pieces limit 8 turns events)
+      (run : Runs Steps state events replies mid) (replied : Replied Says turns replies before)
+      (sends : sent ≡ before.sent) (wants : before.standing ≡ Wanting) (due : before.due ≡ Frame turn)
+      (part : IsPart (Frame turn) limit tail) where
+    abbrev Goes : List ℕ → List ℕ → Side S → Type 0
+    Goes more first next = Negotiated Steps Says turns limit state pieces (taken ++ more) (sent ++ first) next
 
-  -- nothing was asked of the machine, and the side is not logged in
-  told_nothing : (state : S) (come : List ℕ) (last : Side S) (standing : Standing) → last.state ≡ state
-      → last.standing ≡ standing → standing ≢ LoggedIn → Told state come last
-  told_nothing state come last standing same is other = (
-    [],
-    [],
-    (refl, same),
-    ([], come, refl, refl),
-    ((λ logged. absurd (other (sym is ∙ logged))), (λ some. absurd (no_reply Is some))),
-  )
+    -- nothing more is answered
+    stays : (more : List ℕ) (next : Side S) → LeftOver turn limit (tail ++ more) next.standing → next.state ≡ mid
+        → (next.standing ≡ Wanting → next ≡ record {
+          standing = Wanting;
+          due = before.due;
+          limit = limit;
+          held = tail ++ more;
+          state = next.state;
+        }) → Goes more [] next
+    stays more next left same waits = record {
+      events = events;
+      replies = replies;
+      answer = before;
+      tail = tail ++ more;
+      carried = ap (λ l. l ++ more) carried ∙ (append_assoc sasl_header (frames_of events ++ tail) more
+          ∙ ap (λ l. sasl_header ++ l) (append_assoc (frames_of events) tail more));
+      frames = frames;
+      run = subst (λ (s : S). Runs Steps state events replies s) (sym same) run;
+      replied = replied;
+      sends = append-nil sent ∙ sends;
+      ends = inl (turn, wants, due, left);
+      waits = waits;
+    }
 
-  -- a frame is answered, and the side goes on
-  told_more : (turn : Turn) (limit : ℕ) (state next : S) (come : List ℕ) (event : Given) (says : A) (last : Side S)
-      (n : ℕ) → IsWhole (Frame turn) limit come → n ≡ size_of come → event.body ≡ drop 4 (take n come)
-      → Step state event says next → ¬ Is says → Told next (drop n come) last → Told state come last
-  told_more turn limit state next come event says last n whole is body steps other
-      (events, replies, runs, begins, logged) = (
-        event ∷ events,
-        says ∷ replies,
-        (says, next, replies, steps, refl, runs),
-        one_more turn limit come event events n whole is body begins,
-        (
-          (λ in_. let some = logged.0 in_ in (suc some.0, some.1, some.2, some.3)),
-          (λ some. logged.1 (reply_of_more Is says replies other some)),
-        ),
-      )
+    closes_here : (more first : List ℕ) (next : Side S) (why : ClosedBecause) → first ≡ []
+        → next.standing ≡ Closed why → next.state ≡ mid → LeftOver turn limit (tail ++ more) (Closed why)
+        → Goes more first next
+    closes_here more first next why nothing closed same left =
+        subst (λ (l : List ℕ). Goes more l next) (sym nothing)
+        (stays more next (subst (λ (s : Standing). LeftOver turn limit (tail ++ more) s) (sym closed) left) same
+        (λ waits. absurd (closed_is_not_wanting why (sym closed ∙ waits))))
 
-  -- a frame is answered, and that was the last
-  told_last : (turn : Turn) (limit : ℕ) (state next : S) (come : List ℕ) (event : Given) (says : A) (last : Side S)
-      (n : ℕ) → IsWhole (Frame turn) limit come → n ≡ size_of come → event.body ≡ drop 4 (take n come)
-      → Step state event says next → last.state ≡ next
-      → ((last.standing ≡ LoggedIn) × Is says) ⊎ (((last.standing ≡ LoggedIn) → ⊥) × ¬ Is says) → Told state come last
-  told_last turn limit state next come event says last n whole is body steps same ends = (
-    event ∷ [],
-    says ∷ [],
-    (says, next, [], steps, refl, (refl, same)),
-    one_more turn limit come event [] n whole is body ([], drop n come, refl, refl),
-    go ends,
-  )
+    -- the bytes that complete n of a unit
+    completes : (bytes : List ℕ) (n k : ℕ) → length tail ≤ n → k ≡ n - length tail
+        → tail ++ take k bytes ≡ take n (tail ++ bytes)
+    completes bytes n k few is = sym (take-append_past tail bytes k n (omega (arith, few, is)))
+
+    -- a part of a frame
+    part_call : (bytes first : List ℕ) (k : ℕ) (next : Side S) → IsPart (Frame turn) limit (tail ++ bytes)
+        → Waits (holding turn limit tail mid) bytes k first next → Goes (take k bytes) first next
+    part_call bytes first k next is_part (all, nothing, same) =
+        subst (λ (l : List ℕ). Goes l first next) (sym (take_all k bytes (omega (arith, all))))
+        (subst (λ (l : List ℕ). Goes bytes l next) (sym nothing)
+        (stays bytes next (inl (is_part, ap (λ (s : Side S). s.standing) same)) (ap (λ (s : Side S). s.state) same)
+        (λ _. subst (λ (s : Side S). s ≡ record {
+          standing = Wanting;
+          due = before.due;
+          limit = limit;
+          held = tail ++ bytes;
+          state = s.state;
+        }) (sym same) (ap (λ (d : Due). record {
+          standing = Wanting;
+          due = d;
+          limit = limit;
+          held = tail ++ bytes;
+          state = mid;
+        }) (sym due)))))
+
+    -- a size that no frame may have
+    refused_call : (bytes first : List ℕ) (k : ℕ) (next : Side S) → IsRefused (Frame turn) limit (tail ++ bytes)
+        → Ends (holding turn limit tail mid) 4 (closes FrameSize (Frame turn)) mid k first next
+        → Goes (take k bytes) first next
+    refused_call bytes first k next refused (all, nothing, same) =
+        let few : length tail < 4 = refused_is_short (Frame turn) limit tail bytes part refused in
+        let four : length (take 4 (tail ++ bytes)) ≡ 4 = length-take-le 4 (tail ++ bytes) refused.0 in
+        let size : size_of (take 4 (tail ++ bytes)) ≡ size_of (tail ++ bytes) =
+        sym (size_of-append (take 4 (tail ++ bytes)) (drop 4 (tail ++ bytes)) (omega (arith, four)))
+        ∙ ap size_of (take-append-drop 4 (tail ++ bytes)) in
+        let come = completes bytes 4 k (omega (arith, few)) all in
+        closes_here (take k bytes) first next FrameSize nothing (ap (λ (s : Side S). s.standing) same)
+        (ap (λ (s : Side S). s.state) same)
+        (inr (inl (
+          ap length come ∙ four,
+          λ (fits : Fits limit (size_of (tail ++ take k bytes))).
+              refused.1 (subst (λ (n : ℕ). Fits limit n) (ap size_of come ∙ size) fits),
+          refl,
+        )))
+
+    -- a whole frame
+    module _ (bytes nonce first : List ℕ) (k : ℕ) (next : Side S) (answer : Answer) (moved : S)
+        (are_bytes : IsBytes (tail ++ bytes)) (nonces : NextNonces pieces (length taken) k nonce)
+        (whole : IsWhole (Frame turn) limit (tail ++ bytes))
+        (ends : Ends (holding turn limit tail mid) (size_of (tail ++ bytes)) answer moved k first next) where
+      abbrev unit : List ℕ
+      unit = take (size_of (tail ++ bytes)) (tail ++ bytes)
+
+      abbrev event : Given
+      event = record { body = drop 4 unit; nonce = nonce }
+
+      short : length tail < size_of (tail ++ bytes)
+      short = part_is_shorter (Frame turn) limit tail bytes part whole
+
+      count : length unit ≡ size_of (tail ++ bytes)
+      count = length-take-le (size_of (tail ++ bytes)) (tail ++ bytes) whole.1
+
+      come : tail ++ take k bytes ≡ unit
+      come = let few = short in completes bytes (size_of (tail ++ bytes)) k (omega (arith, few)) ends.0
+
+      eight : 8 ≤ size_of (tail ++ bytes)
+      eight = whole.0.0
+
+      size : size_of unit ≡ size_of (tail ++ bytes)
+      size = let n = count in let e = eight in
+          sym (size_of-append unit (drop (size_of (tail ++ bytes)) (tail ++ bytes)) (omega (arith, n, e)))
+          ∙ ap size_of (take-append-drop (size_of (tail ++ bytes)) (tail ++ bytes))
+
+      is : unit ≡ framed (drop 4 unit)
+      is = let n = count in let e = eight in
+          is_framed limit unit (IsBytes-take (size_of (tail ++ bytes)) (tail ++ bytes) are_bytes) (count ∙ sym size)
+          (omega (arith, n, e))
+
+      body_count : length (drop 4 unit) + 4 ≡ size_of (tail ++ bytes)
+      body_count = let n = count in let e = eight in
+          let four : length (take 4 unit) ≡ 4 = length-take-le 4 unit (omega (arith, n, e)) in
+          let all : length (take 4 unit ++ drop 4 unit) ≡ length (take 4 unit) + length (drop 4 unit) =
+          length-append (take 4 unit) (drop 4 unit) in
+          let same : length (take 4 unit ++ drop 4 unit) ≡ length unit = ap length (take-append-drop 4 unit) in
+          omega (arith, four, all, same, n)
+
+      fits : Fits limit (length (drop 4 unit) + 4)
+      fits = subst (λ (n : ℕ). Fits limit n) (sym body_count) whole.0
+
+      -- which is not answered
+      not_answered : (spelled : Result SaslFrame Error) (why : ClosedBecause) → SpellsBody (drop 4 unit) spelled
+          → Unanswered turn spelled why → answer ≡ closes why (Frame turn) → moved ≡ mid → Goes (take k bytes) first next
+      not_answered spelled why spells unanswered closed kept =
+          closes_here (take k bytes) first next why (ends.1 ∙ ap (λ (a : Answer). a.sent) closed)
+          (ap (λ (s : Side S). s.standing) ends.2 ∙ ap (λ (a : Answer). a.standing) closed)
+          (ap (λ (s : Side S). s.state) ends.2 ∙ kept)
+          (inr (inr (drop 4 unit, spelled, why, come ∙ is, fits, spells, unanswered, refl)))
+
+      -- where its last byte stands
+      place : (a b : ℕ) → length taken ≡ 8 + (a + length tail) → length (drop 4 unit) ≡ b
+          → length taken + (k - 1) ≡ 8 + (a + (b + 3))
+      place a b all same =
+          let n = body_count in let few = short in let e = eight in
+          let c : k ≡ size_of (tail ++ bytes) - length tail = ends.0 in omega (arith, all, same, n, few, e, c)
+
+      count_taken : length taken ≡ 8 + (length (frames_of events) + length tail)
+      count_taken = ap length carried ∙ (length-append sasl_header (frames_of events ++ tail)
+          ∙ ap (λ n. 8 + n) (length-append (frames_of events) tail))
+
+      nonce_is : NonceAt pieces (8 + (length (frames_of events) + (length (drop 4 unit) + 3))) nonce
+      nonce_is = subst (λ (n : ℕ). NonceAt pieces n nonce)
+          (place (length (frames_of events)) (length (drop 4 unit)) count_taken refl)
+          (nonces (k - 1) (let few = short in
+          let c : k ≡ size_of (tail ++ bytes) - length tail = ends.0 in omega (arith, few, c)))
+
+      -- which is answered
+      answered : (frame : SaslFrame) (says : A) → SpellsBody (drop 4 unit) (Ok frame) → SpellsTurn turn (drop 4 unit)
+          → Steps mid event says moved → Says says turn answer → Goes (take k bytes) first next
+      answered frame says spells in_turn steps said = record {
+        events = events ++ event ∷ [];
+        replies = replies ++ says ∷ [];
+        answer = after;
+        tail = [];
+        carried = ap (λ l. l ++ take k bytes) carried
+            ∙ (append_assoc sasl_header (frames_of events ++ tail) (take k bytes)
+            ∙ ap (λ l. sasl_header ++ l) (append_assoc (frames_of events) tail (take k bytes)
+            ∙ (ap (λ l. frames_of events ++ l) (come ∙ is)
+            ∙ (sym (frames_of-more events event) ∙ sym (append-nil (frames_of (events ++ event ∷ [])))))));
+        frames = one_frame_more pieces limit 8 turns events turn event frames at fits in_turn nonce_is;
+        run = subst (λ (s : S). Runs Steps state (events ++ event ∷ []) (replies ++ says ∷ []) s)
+            (sym (ap (λ (s : Side S). s.state) ends.2))
+            (one_step_more Steps state events replies mid event says moved run steps);
+        replied = more;
+        sends = ap (λ l. l ++ first) sends ∙ ap (λ l. before.sent ++ l) ends.1;
+        ends = go answer.standing refl;
+        waits = λ waiting. ap (λ (s : Side S). record s { state = next.state }) ends.2
+            ∙ ap (λ (s : Standing). record {
+              standing = s;
+              due = answer.due;
+              limit = limit;
+              held = [];
+              state = next.state;
+            }) (sym standing_is ∙ waiting);
+      }
+        where
+          after : Answer
+          after = record answer { sent = before.sent ++ answer.sent }
+
+          more : Replied Says turns (replies ++ says ∷ []) (record answer { sent = before.sent ++ answer.sent })
+          more = one_reply_more Says turns replies before answer turn says chain replied wants due said
+
+          at : slice_get turns (length events) ≡ Some turn
+          at =
+              let (other, same, here) = due_after Says turns replies before chain replied wants in
+              let one : other ≡ turn = (let two : Frame other ≡ Frame turn = sym same ∙ due in cc) in
+              subst (λ (n : ℕ). slice_get turns n ≡ Some turn) (as_many Steps state mid events replies run)
+              (subst (λ (t : Turn). slice_get turns (length replies) ≡ Some t) one here)
+
+          standing_is : next.standing ≡ answer.standing
+          standing_is = ap (λ (s : Side S). s.standing) ends.2
+
+          go : (standing : Standing) → answer.standing ≡ standing
+              → ((turn : Turn) × (answer.standing ≡ Wanting) × (answer.due ≡ Frame turn)
+              × LeftOver turn limit [] next.standing)
+              ⊎ ((answer.standing ≢ Wanting) × (next.standing ≡ answer.standing) × (◌≡◌ {A = List ℕ} [] []))
+          go Wanting w =
+              let (other, same, here) = due_after Says turns (replies ++ says ∷ [])
+              (record answer { sent = before.sent ++ answer.sent }) chain more w in
+              inl (other, w, same, inl (nothing_is_part (Frame other) limit, standing_is ∙ w))
+          go LoggedIn w = inr ((λ waits. logged_in_is_not_wanting (sym w ∙ waits)), standing_is, refl)
+          go (Closed why) w = inr ((λ waits. closed_is_not_wanting why (sym w ∙ waits)), standing_is, refl)
+
+    -- a call
+    pub one_call : (bytes nonce first : List ℕ) (k : ℕ) (next : Side S) → IsBytes (tail ++ bytes)
+        → NextNonces pieces (length taken) k nonce
+        → ReceivesAt Wanting Answers (holding turn limit tail mid) bytes nonce k first next
+        → Goes (take k bytes) first next
+    one_call bytes nonce first k next are_bytes nonces (inl (is_part, waits)) = part_call bytes first k next is_part waits
+    one_call bytes nonce first k next are_bytes nonces (inr (inl (refused, ends))) =
+        refused_call bytes first k next refused ends
+    one_call bytes nonce first k next are_bytes nonces (inr (inr (answer, moved, whole, answers, ends))) =
+        go (asks turn mid moved nonce (take (size_of (tail ++ bytes)) (tail ++ bytes)) answer answers)
+      where
+        go : (spelled : Result SaslFrame Error) × SpellsBody (first_body (tail ++ bytes)) spelled
+            × AnswersTo (λ (a : Answer) (s : S). (says : A)
+            × Steps mid (record { body = first_body (tail ++ bytes); nonce = nonce }) says s
+            × Says says turn a) turn mid spelled answer moved → Goes (take k bytes) first next
+        go (Err fault, spells, closed) =
+            not_answered bytes nonce first k next answer moved are_bytes nonces whole ends (Err fault) (Unread fault)
+            spells refl closed.0 closed.1
+        go (Ok frame, spells, inl out) =
+            not_answered bytes nonce first k next answer moved are_bytes nonces whole ends (Ok frame) OutOfTurn spells
+            (out.0, refl) out.1 out.2
+        go (Ok frame, spells, inr asked) =
+            answered bytes nonce first k next answer moved are_bytes nonces whole ends frame asked.1.0 spells
+            (frame, spells, asked.0) asked.1.1 asked.1.2
+
+  -- a side that waits for a header has seen the one of SASL
+  pub opened : (limit : ℕ) (state : S) (pieces : List Piece) (taken : List ℕ) (turn : Turn) (others : List Turn)
+      (next : Side S) → turns ≡ turn ∷ others → taken ≡ sasl_header → next ≡ holding turn limit [] state
+      → Negotiated Steps Says turns limit state pieces taken [] next
+  opened limit state pieces taken turn others next are header same = record {
+    events = [];
+    replies = [];
+    answer = record { sent = []; standing = Wanting; due = Frame turn };
+    tail = [];
+    carried = header;
+    frames = tt;
+    run = (refl, ap (λ (s : Side S). s.state) same);
+    replied = subst (λ (t : List Turn). Replied Says t [] (record { sent = []; standing = Wanting; due = Frame turn }))
+        (sym are) refl;
+    sends = refl;
+    ends = inl (turn, refl, refl, inl (nothing_is_part (Frame turn) limit, ap (λ (s : Side S). s.standing) same));
+    waits = λ _. subst (λ (s : Side S). s ≡ holding turn limit [] s.state) (sym same) refl;
+  }
+
+  -- a call to a side that has seen it
+  pub negotiated_call : (limit : ℕ) (state : S) (pieces : List Piece) (taken sent : List ℕ) (side next : Side S)
+      (bytes nonce first : List ℕ) (k : ℕ) → Negotiated Steps Says turns limit state pieces taken sent side
+      → side.standing ≡ Wanting → IsBytes (taken ++ bytes) → NextNonces pieces (length taken) k nonce
+      → ReceivesAt Wanting Answers side bytes nonce k first next
+      → Negotiated Steps Says turns limit state pieces (taken ++ take k bytes) (sent ++ first) next
+  negotiated_call limit state pieces taken sent side next bytes nonce first k n waits are_bytes nonces receives =
+      go n.ends
     where
-      go : ((last.standing ≡ LoggedIn) × Is says) ⊎ (((last.standing ≡ LoggedIn) → ⊥) × ¬ Is says)
-          → (last.standing ≡ LoggedIn) ↔ SomeReply Is (says ∷ [])
-      go (inl ok) = ((λ _. (0, says, refl, ok.1)), (λ _. ok.0))
-      go (inr closed) = (
-        (λ logged. absurd (closed.0 logged)),
-        (λ some. absurd (no_reply Is (reply_of_more Is says [] closed.1 some))),
-      )
+      left_bytes : IsBytes (n.tail ++ bytes)
+      left_bytes =
+          let front = sasl_header ++ frames_of n.events in
+          let same : taken ++ bytes ≡ front ++ (n.tail ++ bytes) =
+          ap (λ l. l ++ bytes) n.carried ∙ (ap (λ l. l ++ bytes) (sym (append_assoc sasl_header (frames_of n.events) n.tail))
+          ∙ append_assoc front n.tail bytes) in
+          subst (λ (l : List ℕ). IsBytes l) (drop_at front (n.tail ++ bytes) (length front) refl)
+          (IsBytes-drop (length front) (front ++ (n.tail ++ bytes)) (subst (λ (l : List ℕ). IsBytes l) same are_bytes))
 
-  -- the frames of a side that wants one
-  abbrev AreTold : List (List ℕ) → Type 0
-  AreTold nonces = (side last : Side S) (turn : Turn) (bytes sent : List ℕ) → side.standing ≡ Wanting
-      → side.due ≡ Frame turn → IsPart side.due side.limit side.held
-      → Negotiates Answers side nonces bytes sent last → Told side.state (side.held ++ bytes) last
+      at : (turn : Turn) → n.answer.due ≡ Frame turn → side ≡ holding turn limit n.tail side.state
+      at turn due = n.waits waits ∙ ap (λ (d : Due). record {
+        standing = Wanting;
+        due = d;
+        limit = limit;
+        held = n.tail;
+        state = side.state;
+      }) due
 
-  -- a whole frame of such a side
-  told_whole : (nonces : List (List ℕ)) → AreTold nonces → (side next last : Side S) (turn : Turn)
-      (bytes nonce behind : List ℕ) (taken n : ℕ) (answer : Answer) (state : S) → side.due ≡ Frame turn
-      → IsWhole (Frame turn) side.limit (side.held ++ bytes) → n ≡ size_of (side.held ++ bytes)
-      → length side.held ≤ n → taken ≡ n - length side.held
-      → Answers (Frame turn) side.state nonce (take n (side.held ++ bytes)) answer state
-      → next ≡ record { standing = answer.standing; due = answer.due; limit = side.limit; held = []; state = state }
-      → Negotiates Answers next nonces (drop taken bytes) behind last
-      → Told side.state (side.held ++ bytes) last
-  told_whole nonces others side next last turn bytes nonce behind taken n answer state due whole is short count answers same
-      more = go (frame_case turn side.state state nonce (take n (side.held ++ bytes)) answer answers)
-    where
-      standing_is : next.standing ≡ answer.standing
-      standing_is = ap (λ (s : Side S). s.standing) same
+      left : (turn : Turn) → n.answer.standing ≡ Wanting → n.answer.due ≡ Frame turn
+          → LeftOver turn limit n.tail side.standing
+          → Negotiated Steps Says turns limit state pieces (taken ++ take k bytes) (sent ++ first) next
+      left turn wants due (inl part) =
+          one_call limit state side.state pieces taken sent n.tail n.events n.replies n.answer turn n.carried n.frames
+          n.run n.replied n.sends wants due part.0 bytes nonce first k next left_bytes nonces
+          (subst (λ (s : Side S). ReceivesAt Wanting Answers s bytes nonce k first next) (at turn due) receives)
+      left turn wants due (inr (inl size)) = absurd (closed_is_not_wanting FrameSize (sym size.2 ∙ waits))
+      left turn wants due (inr (inr frame)) = absurd (closed_is_not_wanting frame.2 (sym frame.7 ∙ waits))
 
-      state_is : next.state ≡ state
-      state_is = ap (λ (s : Side S). s.state) same
+      go : ((turn : Turn) × (n.answer.standing ≡ Wanting) × (n.answer.due ≡ Frame turn)
+          × LeftOver turn limit n.tail side.standing)
+          ⊎ ((n.answer.standing ≢ Wanting) × (side.standing ≡ n.answer.standing) × (n.tail ≡ []))
+          → Negotiated Steps Says turns limit state pieces (taken ++ take k bytes) (sent ++ first) next
+      go (inl waiting) = left waiting.0 waiting.1 waiting.2 waiting.3
+      go (inr ended) = absurd (ended.0 (sym ended.1 ∙ waits))
 
-      stays : next.standing ≢ Wanting → last ≡ next
-      stays ended = ended_stays Answers next last nonces (drop taken bytes) behind next.standing refl ended more
+  -- the nonces stay where more pieces follow
+  pub negotiated_more : (limit : ℕ) (state : S) (pieces more : List Piece) (taken sent : List ℕ) (side : Side S)
+      → Negotiated Steps Says turns limit state pieces taken sent side
+      → Negotiated Steps Says turns limit state (pieces ++ more) taken sent side
+  negotiated_more limit state pieces more taken sent side n = record {
+    events = n.events;
+    replies = n.replies;
+    answer = n.answer;
+    tail = n.tail;
+    carried = n.carried;
+    frames = frames_of_more pieces more limit 8 turns n.events n.frames;
+    run = n.run;
+    replied = n.replied;
+    sends = n.sends;
+    ends = n.ends;
+    waits = n.waits;
+  }
 
-      go : ((why : ClosedBecause) × (answer.standing ≡ Closed why) × (state ≡ side.state))
-          ⊎ ((says : A) × Step side.state (record { body = drop 4 (take n (side.held ++ bytes)); nonce = nonce }) says state
-          × Kind (Is says) answer) → Told side.state (side.held ++ bytes) last
-      go (inl closed) =
-          let at = stays (λ w. closed_is_not_wanting closed.0 (sym closed.1 ∙ (sym standing_is ∙ w))) in
-          told_nothing side.state (side.held ++ bytes) last (Closed closed.0)
-          (ap (λ (s : Side S). s.state) at ∙ (state_is ∙ closed.2))
-          (ap (λ (s : Side S). s.standing) at ∙ (standing_is ∙ closed.1)) (closed_is_not_logged_in closed.0)
-      go (inr (says, steps, inl goes)) =
-          let event : Given = record { body = drop 4 (take n (side.held ++ bytes)); nonce = nonce } in
-          let empty = subst (λ (s : Side S). IsPart s.due s.limit s.held) (sym same)
-          (nothing_is_part answer.due side.limit) in
-          let rest = others next last goes.0 (drop taken bytes) behind (standing_is ∙ goes.1)
-          (ap (λ (s : Side S). s.due) same ∙ goes.2) empty more in
-          let here = subst (λ (s : S). Told s (next.held ++ drop taken bytes) last) state_is rest in
-          let left : next.held ++ drop taken bytes ≡ drop n (side.held ++ bytes) =
-          ap (λ (s : Side S). s.held ++ drop taken bytes) same
-          ∙ sym (taken_away side.held bytes n taken short count) in
-          told_more turn side.limit side.state state (side.held ++ bytes) event says last n whole is refl steps goes.3
-          (subst (λ (l : List ℕ). Told state l last) left here)
-      go (inr (says, steps, inr (inl closed))) =
-          let event : Given = record { body = drop 4 (take n (side.held ++ bytes)); nonce = nonce } in
-          let at = stays (λ w. closed_is_not_wanting closed.0 (sym closed.1 ∙ (sym standing_is ∙ w))) in
-          told_last turn side.limit side.state state (side.held ++ bytes) event says last n whole is refl steps
-          (ap (λ (s : Side S). s.state) at ∙ state_is)
-          (inr (
-            (λ logged. closed_is_not_logged_in closed.0
-                (sym closed.1 ∙ (sym standing_is ∙ (sym (ap (λ (s : Side S). s.standing) at) ∙ logged)))),
-            closed.2,
-          ))
-      go (inr (says, steps, inr (inr ok))) =
-          let event : Given = record { body = drop 4 (take n (side.held ++ bytes)); nonce = nonce } in
-          let at = stays (λ w. logged_in_is_not_wanting (sym ok.0 ∙ (sym standing_is ∙ w))) in
-          told_last turn side.limit side.state state (side.held ++ bytes) event says last n whole is refl steps
-          (ap (λ (s : Side S). s.state) at ∙ state_is)
-          (inl (ap (λ (s : Side S). s.standing) at ∙ (standing_is ∙ ok.0), ok.1))
+-- ---- calls
 
-  -- a unit of such a side
-  told_unit : (nonces : List (List ℕ)) → AreTold nonces → (side next last : Side S) (turn : Turn)
-      (bytes nonce first behind : List ℕ) (taken n : ℕ) → side.due ≡ Frame turn
-      → EndsUnit Answers side (side.held ++ bytes) nonce n taken first next
-      → (length side.held ≤ n) × (n ≤ length (side.held ++ bytes)) × (taken ≡ n - length side.held)
-      → Negotiates Answers next nonces (drop taken bytes) behind last → Told side.state (side.held ++ bytes) last
-  told_unit nonces others side next last turn bytes nonce first behind taken n due (inl refused) within more =
-      let closes = sym (ap (λ (s : Side S). s.standing) refused.2.2) in
-      let same : last ≡ next = ended_stays Answers next last nonces (drop taken bytes) behind next.standing refl
-      (λ is. closed_is_not_wanting _ (closes ∙ is)) more in
-      told_nothing side.state (side.held ++ bytes) last next.standing
-      (ap (λ (s : Side S). s.state) same ∙ ap (λ (s : Side S). s.state) refused.2.2)
-      (ap (λ (s : Side S). s.standing) same) (λ is. closed_is_not_logged_in _ (closes ∙ is))
-  told_unit nonces others side next last turn bytes nonce first behind taken n due (inr whole) within more =
-      told_whole nonces others side next last turn bytes nonce behind taken n whole.0 whole.1 due
-      (subst (λ (d : Due). IsWhole d side.limit (side.held ++ bytes)) due whole.2)
-      (whole.3 ∙ ap (λ (d : Due). unit_size d (side.held ++ bytes)) due) within.0 within.2
-      (subst (λ (d : Due). Answers d side.state nonce (take n (side.held ++ bytes)) whole.0 whole.1) due whole.4)
-      whole.5.2 more
+-- a call takes no more than it is handed
+taken_within : {S : Type 0} (Answers : Due → S → List ℕ → List ℕ → Answer → S → Type 0) (side next : Side S)
+    (bytes nonce first : List ℕ) (k : ℕ) (standing : Standing)
+    → ReceivesAt standing Answers side bytes nonce k first next → k ≤ length bytes
+taken_within Answers side next bytes nonce first k Wanting (inl waits) =
+    let all : k ≡ length bytes = waits.1.0 in omega (arith, all)
+taken_within Answers side next bytes nonce first k Wanting (inr (inl refused)) =
+    let four = refused_long side.due side.limit (side.held ++ bytes) refused.0 in
+    let is : k ≡ 4 - length side.held = refused.1.0 in
+    omega (arith, four, is, length-append side.held bytes)
+taken_within Answers side next bytes nonce first k Wanting (inr (inr whole)) =
+    let long = whole_long side.due side.limit (side.held ++ bytes) whole.2 in
+    let is : k ≡ unit_size side.due (side.held ++ bytes) - length side.held = whole.4.0 in
+    omega (arith, long, is, length-append side.held bytes)
+taken_within Answers side next bytes nonce first k LoggedIn rests = let is : k ≡ 0 = rests.0 in omega (arith, is)
+taken_within Answers side next bytes nonce first k (Closed why) rests = let is : k ≡ 0 = rests.0 in omega (arith, is)
 
-  told : (nonces : List (List ℕ)) → AreTold nonces
-  told [] side last turn bytes sent wanting due part (nothing, inl stops) =
-      told_nothing side.state (side.held ++ bytes) last Wanting (ap (λ (s : Side S). s.state) stops.2)
-      (ap (λ (s : Side S). s.standing) stops.2 ∙ wanting) (λ same. logged_in_is_not_wanting (sym same))
-  told [] side last turn bytes sent wanting due part (nothing, inr stops) = absurd (stops.0 wanting)
-  told (nonce ∷ nonces) side last turn bytes sent wanting due part
-      (taken, first, next, behind, wants, no_part, receives, more, all) =
-      let unit = unit_of_call Answers side next bytes nonce first taken wanting no_part receives in
-      told_unit nonces (told nonces) side next last turn bytes nonce first behind taken unit.0 due unit.1
-      (unit_within Answers side next bytes nonce first unit.0 taken part unit.1) more
+-- a call to a side at its end
+pub rests_there : {S : Type 0} (Is : List ℕ → List ℕ → Side S → Type 0) (taken sent bytes first : List ℕ) (k : ℕ)
+    (side next : Side S) → Is taken sent side → Rests side k first next → Is (taken ++ take k bytes) (sent ++ first) next
+rests_there {S} Is taken sent bytes first k side next is (none, nothing, same) =
+    subst (λ (n : ℕ). Is (taken ++ take n bytes) (sent ++ first) next) (sym none)
+    (subst (λ (l : List ℕ). Is (taken ++ take 0 bytes) (sent ++ l) next) (sym nothing)
+    (subst (λ (s : Side S). Is (taken ++ take 0 bytes) (sent ++ []) s) (sym same)
+    (subst (λ (l : List ℕ). Is l (sent ++ []) side) (sym (append-nil taken))
+    (subst (λ (l : List ℕ). Is taken l side) (sym (append-nil sent)) is))))
 
-  -- ---- from the first byte
+bytes_of-more : (pieces : List Piece) (piece : Piece) → bytes_of (pieces ++ piece ∷ []) ≡ bytes_of pieces ++ piece.bytes
+bytes_of-more pieces piece =
+    flat_map-append (λ (p : Piece). p.bytes) pieces (piece ∷ []) ∙ ap (λ l. bytes_of pieces ++ l) (append-nil piece.bytes)
 
-  -- what a connection has come to over a stream
-  abbrev pub Connected : S → List ℕ → Side S → Type 0
-  Connected state stream last = (events : List Given) × (replies : List A) × Runs Step state events replies last.state
-      × Carries stream events × ((last.standing ≡ LoggedIn) ↔ SomeReply Is replies)
-
-  unconnected : (state : S) (stream : List ℕ) (last : Side S) (standing : Standing) → last.state ≡ state
-      → last.standing ≡ standing → standing ≢ LoggedIn → Connected state stream last
-  unconnected state stream last standing same is other = (
+module _ {S : Type 0} (Answers : Due → S → List ℕ → List ℕ → Answer → S → Type 0)
+    (Is : List Piece → List ℕ → List ℕ → Side S → Type 0)
+    (one_more : (pieces : List Piece) (taken sent : List ℕ) (side next : Side S) (bytes nonce first : List ℕ) (k : ℕ)
+    → Is pieces taken sent side → IsBytes (taken ++ bytes) → NextNonces pieces (length taken) k nonce
+    → Receives Answers side bytes nonce k first next → Is pieces (taken ++ take k bytes) (sent ++ first) next)
+    (grows : (pieces more : List Piece) (taken sent : List ℕ) (side : Side S) → Is pieces taken sent side
+    → Is (pieces ++ more) taken sent side) where
+  in_calls : (calls : List Call) (done : List Piece) (side last : Side S) (stream before sent rest : List ℕ)
+      → Is done (bytes_of done) before side → IsBytes (bytes_of done ++ stream)
+      → Calls Answers side calls stream sent last rest
+      → (pieces : List Piece) × ArePieces calls pieces × (stream ≡ bytes_of pieces ++ rest)
+      × Is (done ++ pieces) (bytes_of (done ++ pieces)) (before ++ sent) last
+  in_calls [] done side last stream before sent rest is are_bytes (nothing, same, left) = (
     [],
-    [],
-    (refl, same),
     tt,
-    ((λ logged. absurd (other (sym is ∙ logged))), (λ some. absurd (no_reply Is some))),
+    sym left,
+    subst (λ (p : List Piece). Is p (bytes_of p) (before ++ sent) last) (sym (append-nil done))
+        (subst (λ (l : List ℕ). Is done (bytes_of done) l last) (sym (ap (λ l. before ++ l) nothing ∙ append-nil before))
+        (subst (λ (s : Side S). Is done (bytes_of done) before s) (sym same) is)),
   )
-
-  -- behind a header
-  behind_header : (nonces : List (List ℕ)) (limit n taken : ℕ) (state moved : S) (next last : Side S)
-      (bytes nonce behind : List ℕ) (answer : Answer) → n ≡ 8 → taken ≡ n
-      → Answers Header state nonce (take n bytes) answer moved
-      → next ≡ record { standing = answer.standing; due = answer.due; limit = limit; held = []; state = moved }
-      → Negotiates Answers next nonces (drop taken bytes) behind last → Connected state bytes last
-  behind_header nonces limit n taken state moved next last bytes nonce behind answer eight all answers same more =
-      go (header_case state moved nonce (take n bytes) answer answers)
-    where
-      standing_is : next.standing ≡ answer.standing
-      standing_is = ap (λ (s : Side S). s.standing) same
-
-      state_is : next.state ≡ moved
-      state_is = ap (λ (s : Side S). s.state) same
-
-      go : (moved ≡ state) × (((why : ClosedBecause) × (answer.standing ≡ Closed why))
-          ⊎ ((turn : Turn) × (take n bytes ≡ sasl_header) × (answer.standing ≡ Wanting) × (answer.due ≡ Frame turn)))
-          → Connected state bytes last
-      go (kept, inl closed) =
-          let at = ended_stays Answers next last nonces (drop taken bytes) behind next.standing refl
-          (λ w. closed_is_not_wanting closed.0 (sym closed.1 ∙ (sym standing_is ∙ w))) more in
-          unconnected state bytes last (Closed closed.0) (ap (λ (s : Side S). s.state) at ∙ (state_is ∙ kept))
-          (ap (λ (s : Side S). s.standing) at ∙ (standing_is ∙ closed.1)) (closed_is_not_logged_in closed.0)
-      go (kept, inr opens) =
-          let empty = subst (λ (s : Side S). IsPart s.due s.limit s.held) (sym same)
-          (nothing_is_part answer.due limit) in
-          let (events, replies, runs, begins, logged) = told nonces next last opens.0 (drop taken bytes) behind
-          (standing_is ∙ opens.2) (ap (λ (s : Side S). s.due) same ∙ opens.3) empty more in
-          let left : next.held ++ drop taken bytes ≡ drop n bytes =
-          ap (λ (s : Side S). s.held ++ drop taken bytes) same ∙ ap (λ k. drop k bytes) all in (
-            events,
-            replies,
-            subst (λ (s : S). Runs Step s events replies last.state) (state_is ∙ kept) runs,
-            carried events bytes begins.0 begins.1
-                (sym (take-append-drop n bytes) ∙ (ap (λ l. l ++ drop n bytes) opens.1
-                ∙ ap (λ l. sasl_header ++ l) (sym left ∙ begins.2))) begins.3,
-            logged,
-          )
-
-  -- bytes as a whole
-  whole_connection : (nonces : List (List ℕ)) (limit : ℕ) (state : S) (bytes sent : List ℕ) (last : Side S)
-      → Negotiates Answers (fresh limit state) nonces bytes sent last → Connected state bytes last
-  whole_connection [] limit state bytes sent last (nothing, inl stops) =
-      unconnected state bytes last Wanting (ap (λ (s : Side S). s.state) stops.2)
-      (ap (λ (s : Side S). s.standing) stops.2) (λ same. logged_in_is_not_wanting (sym same))
-  whole_connection [] limit state bytes sent last (nothing, inr stops) = absurd (stops.0 refl)
-  whole_connection (nonce ∷ nonces) limit state bytes sent last
-      (taken, first, next, behind, wants, no_part, receives, more, all) =
-      go (unit_of_call Answers (fresh limit state) next bytes nonce first taken refl no_part receives)
-    where
-      go : (n : ℕ) × EndsUnit Answers (fresh limit state) bytes nonce n taken first next → Connected state bytes last
-      go (n, inl refused) = absurd refused.0
-      go (n, inr whole) =
-          behind_header nonces limit n taken state whole.1 next last bytes nonce behind whole.0 whole.3
-          (let count : taken ≡ n - 0 = whole.5.0 in omega arith) whole.4 whole.5.2 more
-
-  -- and in calls
-  pub connected : (limit : ℕ) (state : S) (calls : List Call) (stream sent rest : List ℕ) (last : Side S)
-      → Calls Answers (fresh limit state) calls stream sent last rest → Connected state stream last
-  connected limit state calls stream sent rest last made =
-      let cut = cuts_do_not_matter Answers (fresh limit state) last calls stream sent rest
-      (nothing_is_part Header limit) made in
-      let (events, replies, runs, carries, logged) =
-      whole_connection cut.1 limit state cut.0 sent last cut.3 in (
-        events,
-        replies,
-        runs,
-        subst (λ (l : List ℕ). Carries l events) (sym cut.2) (carried_more events cut.0 rest carries),
-        logged,
+  in_calls (call ∷ calls) done side last stream before sent rest is are_bytes
+      (k, first, next, behind, receives, more, all) =
+      let handed = take call.handed stream in
+      let within : k ≤ length handed = taken_within Answers side next handed call.nonce first k side.standing receives in
+      let few : k ≤ call.handed = omega (arith, within, length-take call.handed stream) in
+      let piece : Piece = record { bytes = take k handed; nonce = call.nonce } in
+      let front : take k handed ≡ take k stream = take-take k call.handed stream few in
+      let count : length piece.bytes ≡ k = length-take-le k handed within in
+      let parts : piece.bytes ++ drop k stream ≡ stream = ap (λ l. l ++ drop k stream) front ∙ take-append-drop k stream in
+      let now = bytes_of-more done piece in
+      let all_bytes : (bytes_of done ++ piece.bytes) ++ drop k stream ≡ bytes_of done ++ stream =
+      append_assoc (bytes_of done) piece.bytes (drop k stream) ∙ ap (λ l. bytes_of done ++ l) parts in
+      let handed_bytes : IsBytes (bytes_of done ++ handed) =
+      subst (λ (l : List ℕ). IsBytes l) (take-append_past (bytes_of done) stream call.handed
+      (length (bytes_of done) + call.handed) refl)
+      (IsBytes-take (length (bytes_of done) + call.handed) (bytes_of done ++ stream) are_bytes) in
+      let step = one_more (done ++ piece ∷ []) (bytes_of done) before side next handed call.nonce first k
+      (grows done (piece ∷ []) (bytes_of done) before side is) handed_bytes
+      (λ i small. nonce_of_piece done [] piece i (omega (arith, small, count))) receives in
+      let (pieces, are, same, last_is) = in_calls calls (done ++ piece ∷ []) next last (drop k stream) (before ++ first)
+      behind rest (subst (λ (l : List ℕ). Is (done ++ piece ∷ []) l (before ++ first) next) (sym now) step)
+      (subst (λ (l : List ℕ). IsBytes (l ++ drop k stream)) (sym now)
+      (subst (λ (l : List ℕ). IsBytes l) (sym all_bytes) are_bytes)) more in (
+        piece ∷ pieces,
+        (omega (arith, few, count), refl, are),
+        sym parts ∙ (ap (λ l. piece.bytes ++ l) same ∙ sym (append_assoc piece.bytes (bytes_of pieces) rest)),
+        subst (λ (p : List Piece). Is p (bytes_of p) (before ++ sent) last) (append_assoc done (piece ∷ []) pieces)
+            (subst (λ (l : List ℕ). Is ((done ++ piece ∷ []) ++ pieces) (bytes_of ((done ++ piece ∷ []) ++ pieces)) l last)
+            (append_assoc before first behind ∙ ap (λ l. before ++ l) (sym all)) last_is),
       )
+
+  -- and from the first byte
+  pub connected : (side last : Side S) (calls : List Call) (stream sent rest : List ℕ) → Is [] [] [] side → IsBytes stream
+      → Calls Answers side calls stream sent last rest
+      → (pieces : List Piece) × ArePieces calls pieces × (stream ≡ bytes_of pieces ++ rest)
+      × Is pieces (bytes_of pieces) sent last
+  connected side last calls stream sent rest is are_bytes made =
+      in_calls calls [] side last stream [] sent rest is are_bytes made

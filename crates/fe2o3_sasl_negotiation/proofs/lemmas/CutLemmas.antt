@@ -83,7 +83,7 @@ pub refused_is_no_part : (due : Due) (limit : ℕ) (come : List ℕ) → IsRefus
 refused_is_no_part Header limit come refused part = refused
 refused_is_no_part (Frame turn) limit come refused part = refused.1 (part refused.0).0
 
-refused_long : (due : Due) (limit : ℕ) (come : List ℕ) → IsRefused due limit come → 4 ≤ length come
+pub refused_long : (due : Due) (limit : ℕ) (come : List ℕ) → IsRefused due limit come → 4 ≤ length come
 refused_long Header limit come refused = absurd refused
 refused_long (Frame turn) limit come refused = refused.0
 

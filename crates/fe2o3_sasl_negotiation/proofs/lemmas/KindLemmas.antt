@@ -1,34 +1,37 @@
--- What an answer is to its side, where it sends a body or closes.
-use Rattle.std.proofs.Common.{◌≡◌, ℕ, List, ap, inl, inr}
+-- How an answer leaves its side.
+use Rattle.std.proofs.Common.{◌≡◌, ◌≢◌, ℕ, List, sym, ap, ◌∙◌, inl, inr}
 use Rattle.fe2o3_sasl_negotiation.specs.declared.standing.ClosedBecause.{ClosedBecause}
 use Rattle.fe2o3_sasl_negotiation.specs.declared.standing.ClosedBecause.TheVariants.{ReplyTooLarge}
 use Rattle.fe2o3_sasl_negotiation.specs.declared.standing.Due.{Due}
 use Rattle.fe2o3_sasl_negotiation.specs.declared.standing.Due.TheVariants.{Frame}
+use Rattle.fe2o3_sasl_negotiation.specs.declared.standing.Standing.{Standing}
 use Rattle.fe2o3_sasl_negotiation.specs.declared.standing.Standing.TheVariants.{Wanting, Closed}
 use Rattle.fe2o3_sasl_negotiation.specs.declared.standing.Turn.{Turn}
 use Rattle.fe2o3_sasl_negotiation.specs.Negotiations.{Answer, Sends, closes}
-use Rattle.fe2o3_sasl_negotiation.proofs.lemmas.ConnectionLemmas.{Kind}
 
--- how an answer stands, and what is due behind it
+-- how an answer stands, and what is due after it
 pub standing_of : (answer other : Answer) → answer ≡ other → answer.standing ≡ other.standing
 standing_of answer other same = ap (λ (a : Answer). a.standing) same
 
 pub due_of : (answer other : Answer) → answer ≡ other → answer.due ≡ other.due
 due_of answer other same = ap (λ (a : Answer). a.due) same
 
--- what is sent and is no Ok goes on or closes
-pub goes_on : (body : List ℕ) (turn : Turn) (answer : Answer) (Is : Type 0) → ¬ Is
-    → Sends body Wanting (Frame turn) answer → Kind Is answer
-goes_on body turn answer Is other (inl (fits, same)) =
-    inl (turn, standing_of answer _ same, due_of answer _ same, other)
-goes_on body turn answer Is other (inr (long, same)) =
-    inr (inl (ReplyTooLarge, standing_of answer _ same, other))
+-- an answer that closes does not wait
+pub closes_waits_not : (why : ClosedBecause) (due : Due) (answer : Answer) → answer ≡ closes why due
+    → answer.standing ≢ Wanting
+closes_waits_not why due answer is waits = apart (sym (standing_of answer _ is) ∙ waits)
+  where
+    apart : Closed why ≡ Wanting → ⊥
+    apart same = cc
 
-pub stops : (body : List ℕ) (why : ClosedBecause) (due : Due) (answer : Answer) (Is : Type 0) → ¬ Is
-    → Sends body (Closed why) due answer → Kind Is answer
-stops body why due answer Is other (inl (fits, same)) = inr (inl (why, standing_of answer _ same, other))
-stops body why due answer Is other (inr (long, same)) = inr (inl (ReplyTooLarge, standing_of answer _ same, other))
+-- one that sends a body and goes on, waits for the next turn
+pub sends_goes_on : (body : List ℕ) (turn : Turn) (answer : Answer) → Sends body Wanting (Frame turn) answer
+    → answer.standing ≡ Wanting → answer.due ≡ Frame turn
+sends_goes_on body turn answer (inl (fits, is)) waits = due_of answer _ is
+sends_goes_on body turn answer (inr (long, is)) waits = due_of answer _ is
 
-pub closes_kind : (why : ClosedBecause) (due : Due) (answer : Answer) (Is : Type 0) → ¬ Is → answer ≡ closes why due
-    → Kind Is answer
-closes_kind why due answer Is other same = inr (inl (why, standing_of answer _ same, other))
+-- and one that ends with it, does not wait
+pub sends_ends : (body : List ℕ) (standing : Standing) (due : Due) (answer : Answer) → standing ≢ Wanting
+    → Sends body standing due answer → answer.standing ≢ Wanting
+sends_ends body standing due answer ended (inl (fits, is)) waits = ended (sym (standing_of answer _ is) ∙ waits)
+sends_ends body standing due answer ended (inr (long, is)) waits = closes_waits_not ReplyTooLarge due answer is waits

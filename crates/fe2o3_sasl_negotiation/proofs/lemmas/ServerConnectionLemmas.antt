@@ -1,124 +1,235 @@
--- Every connection of a server is a run of its acceptor, and of a SCRAM server a history.
-use Rattle.std.proofs.Common.{◌≡◌, ◌⊎◌, ℕ, ◌+◌, ◌<◌, ◌≤◌, Option, Some, None, List, length, drop, refl, ap, ◌∙◌, inl, inr, arith, Ok, Err}
+-- Every connection of a server is a run of its acceptor over the bodies of its frames.
+use Rattle.std.proofs.Common.{◌≡◌, ◌≢◌, ℕ, ◌+◌, ◌-◌, ◌<◌, ◌≤◌, Option, Some, None, List, [], ◌∷◌, ◌++◌, length, take, refl, sym, ap, ◌∙◌, subst, inl, inr, append_assoc, arith}
+use Rattle.std.proofs.lemmas.List.{append-nil, length-take-le, take_all}
+use Rattle.bytes.proofs.Ranges.{take-append_past}
 use Rattle.fe2o3_sasl_wire.specs.declared.amqp_types.SaslCode.TheVariants as outcomes
-use Rattle.fe2o3_sasl_wire.specs.declared.sasl_frames.error.Error.{Error}
 use Rattle.fe2o3_sasl_wire.specs.declared.sasl_frames.error.Error.TheVariants as faults
-use Rattle.fe2o3_sasl_wire.specs.SaslFrames.{SaslFrame}
-use Rattle.fe2o3_scram.specs.ScramServer.{Initial}
+use Rattle.fe2o3_sasl_wire.specs.SaslFrames.{SaslFrame, IsBytes}
 use Rattle.fe2o3_sasl_runs.specs.Events.{ServerSays, Challenged, Concluded, Failed}
 use Rattle.fe2o3_sasl_runs.specs.Runs.{AcceptorSteps}
-use Rattle.fe2o3_sasl_runs.specs.SaslAcceptor.{ScramAcceptor, acceptor_names, acceptor_machine}
-use Rattle.fe2o3_sasl_runs.proofs.lemmas.two_sides.HeadlineLemmas.{answers_ok_exactly}
-use Rattle.fe2o3_sasl_runs.proofs.lemmas.machines.ServerMachineLemmas.{acceptor_runs_are_histories, acceptor_runs_name_users}
-use Rattle.fe2o3_sasl_negotiation.specs.declared.standing.ClosedBecause.{ClosedBecause}
-use Rattle.fe2o3_sasl_negotiation.specs.declared.standing.ClosedBecause.TheVariants.{OtherHeader, OutOfTurn, ReplyTooLarge, Refused, Unread}
+use Rattle.fe2o3_sasl_negotiation.specs.declared.standing.ClosedBecause.TheVariants.{OtherHeader, ReplyTooLarge, Refused}
+use Rattle.fe2o3_sasl_negotiation.specs.declared.standing.Due.{Due}
 use Rattle.fe2o3_sasl_negotiation.specs.declared.standing.Due.TheVariants.{Header, Frame}
-use Rattle.fe2o3_sasl_negotiation.specs.declared.standing.Standing.TheVariants.{Wanting, Closed}
+use Rattle.fe2o3_sasl_negotiation.specs.declared.standing.Standing.{Standing}
+use Rattle.fe2o3_sasl_negotiation.specs.declared.standing.Standing.TheVariants.{Wanting, LoggedIn, Closed}
 use Rattle.fe2o3_sasl_negotiation.specs.declared.standing.Turn.{Turn}
 use Rattle.fe2o3_sasl_negotiation.specs.declared.standing.Turn.TheVariants as turns
-use Rattle.fe2o3_sasl_negotiation.specs.Connections.{IsOkSent, ServersConnect}
-use Rattle.fe2o3_sasl_negotiation.specs.Framing.{sasl_header}
-use Rattle.fe2o3_sasl_negotiation.specs.Negotiations.{Answer}
-use Rattle.fe2o3_sasl_negotiation.specs.ServerNegotiation.{offer_body, Offers, Says, ServerAnswers}
-use Rattle.fe2o3_sasl_negotiation.proofs.lemmas.ConnectionLemmas.{Kind, connected}
-use Rattle.fe2o3_sasl_negotiation.proofs.lemmas.KindLemmas.{standing_of, due_of, goes_on, stops, closes_kind}
+use Rattle.fe2o3_sasl_negotiation.specs.Connections.{Piece, OffersNone, ServerConnection, ServersConnect, fresh}
+use Rattle.fe2o3_sasl_negotiation.specs.Framing.{sasl_header, framed}
+use Rattle.fe2o3_sasl_negotiation.specs.Negotiations.{Side, Answer, Receives, ReceivesAt}
+use Rattle.fe2o3_sasl_negotiation.specs.ServerNegotiation.{offer_body, Offers, Opens, Says, ServerAnswers}
+use Rattle.fe2o3_sasl_negotiation.proofs.lemmas.ConnectionLemmas.{closed_is_not_wanting, logged_in_is_not_wanting, NextNonces, opened, negotiated_call, negotiated_more, rests_there, connected}
+use Rattle.fe2o3_sasl_negotiation.proofs.lemmas.KindLemmas.{standing_of, closes_waits_not, sends_goes_on, sends_ends}
 
-challenge_is_no_ok : (body : List ℕ) → ¬ IsOkSent (Challenged body)
-challenge_is_no_ok body (other, same, fits) = cc
+-- a challenge leaves a server waiting for a response, and no other reply leaves it waiting
+says_next : (says : ServerSays) (answer : Answer) → Says says turns.Init answer → answer.standing ≡ Wanting
+    → answer.due ≡ Frame turns.Response
+says_next (Challenged body) answer sends waits = sends_goes_on body turns.Response answer sends waits
+says_next (Concluded outcomes.Ok body) answer sends waits =
+    absurd (sends_ends body LoggedIn (Frame turns.Init) answer logged_in_is_not_wanting sends waits)
+says_next (Concluded outcomes.Auth body) answer sends waits =
+    absurd (sends_ends body _ (Frame turns.Init) answer (closed_is_not_wanting (Refused outcomes.Auth)) sends waits)
+says_next (Concluded outcomes.Sys body) answer sends waits =
+    absurd (sends_ends body _ (Frame turns.Init) answer (closed_is_not_wanting (Refused outcomes.Sys)) sends waits)
+says_next (Concluded outcomes.SysPerm body) answer sends waits =
+    absurd (sends_ends body _ (Frame turns.Init) answer (closed_is_not_wanting (Refused outcomes.SysPerm)) sends waits)
+says_next (Concluded outcomes.SysTemp body) answer sends waits =
+    absurd (sends_ends body _ (Frame turns.Init) answer (closed_is_not_wanting (Refused outcomes.SysTemp)) sends waits)
+says_next (Failed faults.OutOfMemory) answer never waits = absurd never
+says_next (Failed faults.DecodeError) answer is waits = absurd (closes_waits_not _ _ answer is waits)
+says_next (Failed faults.NotImplemented) answer is waits = absurd (closes_waits_not _ _ answer is waits)
+says_next (Failed faults.TooLarge) answer is waits = absurd (closes_waits_not _ _ answer is waits)
 
-fault_is_no_ok : (fault : Error) → ¬ IsOkSent (Failed fault)
-fault_is_no_ok fault (other, same, fits) = cc
+says_last : (says : ServerSays) (answer : Answer) → Says says turns.Response answer → answer.standing ≢ Wanting
+says_last (Challenged body) answer is waits = closes_waits_not _ _ answer is waits
+says_last (Concluded outcomes.Ok body) answer sends waits =
+    sends_ends body LoggedIn (Frame turns.Response) answer logged_in_is_not_wanting sends waits
+says_last (Concluded outcomes.Auth body) answer sends waits =
+    sends_ends body _ (Frame turns.Response) answer (closed_is_not_wanting (Refused outcomes.Auth)) sends waits
+says_last (Concluded outcomes.Sys body) answer sends waits =
+    sends_ends body _ (Frame turns.Response) answer (closed_is_not_wanting (Refused outcomes.Sys)) sends waits
+says_last (Concluded outcomes.SysPerm body) answer sends waits =
+    sends_ends body _ (Frame turns.Response) answer (closed_is_not_wanting (Refused outcomes.SysPerm)) sends waits
+says_last (Concluded outcomes.SysTemp body) answer sends waits =
+    sends_ends body _ (Frame turns.Response) answer (closed_is_not_wanting (Refused outcomes.SysTemp)) sends waits
+says_last (Failed faults.OutOfMemory) answer never waits = never
+says_last (Failed faults.DecodeError) answer is waits = closes_waits_not _ _ answer is waits
+says_last (Failed faults.NotImplemented) answer is waits = closes_waits_not _ _ answer is waits
+says_last (Failed faults.TooLarge) answer is waits = closes_waits_not _ _ answer is waits
 
--- what a server's answer is
-kind : (says : ServerSays) (turn : Turn) (answer : Answer) → Says says turn answer → Kind (IsOkSent says) answer
-kind (Challenged body) turns.Init answer sends = goes_on body turns.Response answer _ (challenge_is_no_ok body) sends
-kind (Challenged body) turns.Mechanisms answer is = closes_kind OutOfTurn _ answer _ (challenge_is_no_ok body) is
-kind (Challenged body) turns.Challenge answer is = closes_kind OutOfTurn _ answer _ (challenge_is_no_ok body) is
-kind (Challenged body) turns.Response answer is = closes_kind OutOfTurn _ answer _ (challenge_is_no_ok body) is
-kind (Challenged body) turns.Outcome answer is = closes_kind OutOfTurn _ answer _ (challenge_is_no_ok body) is
-kind (Concluded outcomes.Ok body) turn answer (inl (fits, same)) =
-    inr (inr (standing_of answer _ same, (body, refl, fits)))
-kind (Concluded outcomes.Ok body) turn answer (inr (long, same)) =
-    inr (inl (ReplyTooLarge, standing_of answer _ same, (λ ok. too_long body ok.0 ok.1 ok.2 long)))
-  where
-    too_long : (body other : List ℕ) → Concluded outcomes.Ok body ≡ Concluded outcomes.Ok other
-        → length other + 4 ≤ 512 → ¬ (512 < length body + 4)
-    too_long body other same fits long =
-        let one : body ≡ other = cc in omega (arith, long, fits, ap length one)
-kind (Concluded outcomes.Auth body) turn answer sends =
-    stops body (Refused outcomes.Auth) _ answer _ (λ ok. let apart = ok.1 in absurd (cc)) sends
-kind (Concluded outcomes.Sys body) turn answer sends =
-    stops body (Refused outcomes.Sys) _ answer _ (λ ok. let apart = ok.1 in absurd (cc)) sends
-kind (Concluded outcomes.SysPerm body) turn answer sends =
-    stops body (Refused outcomes.SysPerm) _ answer _ (λ ok. let apart = ok.1 in absurd (cc)) sends
-kind (Concluded outcomes.SysTemp body) turn answer sends =
-    stops body (Refused outcomes.SysTemp) _ answer _ (λ ok. let apart = ok.1 in absurd (cc)) sends
-kind (Failed faults.OutOfMemory) turn answer never = absurd never
-kind (Failed faults.DecodeError) turn answer is = closes_kind _ _ answer _ (fault_is_no_ok faults.DecodeError) is
-kind (Failed faults.NotImplemented) turn answer is = closes_kind _ _ answer _ (fault_is_no_ok faults.NotImplemented) is
-kind (Failed faults.TooLarge) turn answer is = closes_kind _ _ answer _ (fault_is_no_ok faults.TooLarge) is
+module _ {S : Type 0} (names : S → List (List ℕ)) (machine : S → List ℕ → SaslFrame → SaslFrame → S → Type 0)
+    (limit : ℕ) (state : S) (pieces : List Piece) where
+  abbrev Is : List ℕ → List ℕ → Side S → Type 0
+  Is taken sent last = ServerConnection names machine limit state pieces taken sent last
 
-module _ {S : Type 0} (names : S → List (List ℕ)) (machine : S → List ℕ → SaslFrame → SaslFrame → S → Type 0) where
-  frame_case : (turn : Turn) (state next : S) (nonce unit : List ℕ) (answer : Answer)
-      → ServerAnswers names machine (Frame turn) state nonce unit answer next
-      → ((why : ClosedBecause) × (answer.standing ≡ Closed why) × (next ≡ state))
-      ⊎ ((says : ServerSays)
-      × AcceptorSteps machine state (record { body = drop 4 unit; nonce = nonce }) says next
-      × Kind (IsOkSent says) answer)
-  frame_case turn state next nonce unit answer (Err fault, spells, closed) =
-      inl (Unread fault, standing_of answer _ closed.0, closed.1)
-  frame_case turn state next nonce unit answer (Ok frame, spells, inl out) =
-      inl (OutOfTurn, standing_of answer _ out.1, out.2)
-  frame_case turn state next nonce unit answer (Ok frame, spells, inr asks) =
-      inr (asks.1.0, asks.1.1, kind asks.1.0 turn answer asks.1.2)
+  abbrev seen : List Turn
+  seen = turns.Init ∷ turns.Response ∷ []
 
-  offers_case : (offer : Option (List ℕ)) (first : Answer) → Offers offer first
-      → ((why : ClosedBecause) × (first.standing ≡ Closed why))
-      ⊎ ((first.standing ≡ Wanting) × (first.due ≡ Frame turns.Init))
-  offers_case (Some body) first (inl (fits, same)) = inr (standing_of first _ same, due_of first _ same)
-  offers_case (Some body) first (inr (long, same)) = inl (ReplyTooLarge, standing_of first _ same)
-  offers_case None first same = inl (ReplyTooLarge, standing_of first _ same)
+  -- ---- the header
 
-  header_case : (state next : S) (nonce unit : List ℕ) (answer : Answer)
-      → ServerAnswers names machine Header state nonce unit answer next
-      → (next ≡ state) × (((why : ClosedBecause) × (answer.standing ≡ Closed why))
-      ⊎ ((turn : Turn) × (unit ≡ sasl_header) × (answer.standing ≡ Wanting) × (answer.due ≡ Frame turn)))
-  header_case state next nonce unit answer (inl other, kept) = (kept, inl (OtherHeader, standing_of answer _ other.1))
-  header_case state next nonce unit answer (inr opens, kept) = (
-    kept,
-    go (offers_case (offer_body (names state))
-        opens.1.0 opens.1.1),
-  )
+  module _ (taken bytes first : List ℕ) (k : ℕ) (next : Side S) (answer : Answer) (moved : S)
+      (come : taken ++ take k bytes ≡ take 8 (taken ++ bytes)) (whole : 8 ≤ length (taken ++ bytes))
+      (kept : moved ≡ state) (sends : first ≡ answer.sent)
+      (same : next ≡ record { standing = answer.standing; due = answer.due; limit = limit; held = []; state = moved }) where
+    state_is : next.state ≡ state
+    state_is = ap (λ (s : Side S). s.state) same ∙ kept
+
+    other_header : take 8 (taken ++ bytes) ≢ sasl_header
+        → answer ≡ record { sent = sasl_header ++ []; standing = Closed OtherHeader; due = Header }
+        → Is (taken ++ take k bytes) first next
+    other_header other is = inr (inl (
+      (
+        ap length come ∙ length-take-le 8 (taken ++ bytes) whole,
+        (λ header. other (sym come ∙ header)),
+        ap (λ (s : Side S). s.standing) same ∙ standing_of answer _ is,
+        state_is,
+      ),
+      sends ∙ (ap (λ (a : Answer). a.sent) is ∙ append-nil sasl_header),
+    ))
+
+    -- no frame for the mechanisms
+    offers_none : (due : Due) → take 8 (taken ++ bytes) ≡ sasl_header → OffersNone (names state)
+        → answer ≡ record { sent = sasl_header ++ []; standing = Closed ReplyTooLarge; due = due }
+        → Is (taken ++ take k bytes) first next
+    offers_none due header none is = inr (inr (inl (
+      come ∙ header,
+      none,
+      sends ∙ (ap (λ (a : Answer). a.sent) is ∙ append-nil sasl_header),
+      ap (λ (s : Side S). s.standing) same ∙ standing_of answer _ is,
+      state_is,
+    )))
+
+    -- the mechanisms
+    offers : (offer : Option (List ℕ)) (one : Answer) → offer_body (names state) ≡ offer
+        → take 8 (taken ++ bytes) ≡ sasl_header → Offers offer one
+        → answer ≡ record one { sent = sasl_header ++ one.sent } → Is (taken ++ take k bytes) first next
+    offers None one is header closed all =
+        offers_none Header header (λ body some. absurd (none body (sym is ∙ some)))
+        (all ∙ ap (λ (a : Answer). record a { sent = sasl_header ++ a.sent }) closed)
+      where
+        none : (body : List ℕ) → None ≡ Some body → ⊥
+        none body same = cc
+    offers (Some body) one is header (inr (long, closed)) all =
+        offers_none (Frame turns.Init) header
+        (λ other some. let l = long in let e : body ≡ other = one_body other (sym is ∙ some) in
+        subst (λ (b : List ℕ). 512 < length b + 4) e l)
+        (all ∙ ap (λ (a : Answer). record a { sent = sasl_header ++ a.sent }) closed)
+      where
+        one_body : (other : List ℕ) → Some body ≡ Some other → body ≡ other
+        one_body other same = cc
+    offers (Some body) one is header (inl (fits, opens)) all =
+        let here : answer ≡ record { sent = sasl_header ++ framed body; standing = Wanting; due = Frame turns.Init } =
+        all ∙ ap (λ (a : Answer). record a { sent = sasl_header ++ a.sent }) opens in
+        inr (inr (inr (
+          body,
+          [],
+          is,
+          fits,
+          sends ∙ (ap (λ (a : Answer). a.sent) here ∙ ap (λ l. sasl_header ++ l) (sym (append-nil (framed body)))),
+          opened (ServerAnswers names machine) (AcceptorSteps machine) Says seen (says_next, says_last)
+              (λ turn s n nonce unit a h. h) limit state pieces (taken ++ take k bytes) turns.Init (turns.Response ∷ [])
+              next refl (come ∙ header)
+              (same ∙ (ap (λ (a : Answer). record {
+                standing = a.standing;
+                due = a.due;
+                limit = limit;
+                held = [];
+                state = moved;
+              }) here ∙ ap (λ (s : S). record {
+                standing = Wanting;
+                due = Frame turns.Init;
+                limit = limit;
+                held = [];
+                state = s;
+              }) kept)),
+        )))
+
+  header_call : (taken bytes nonce first : List ℕ) (k : ℕ) (next : Side S) → length taken < 8
+      → ReceivesAt Wanting (ServerAnswers names machine) (record (fresh limit state) { held = taken }) bytes nonce k first
+      next → Is (taken ++ take k bytes) first next
+  header_call taken bytes nonce first k next few (inl (part, waits)) =
+      let all : k ≡ length bytes = waits.0 in
+      let is : take k bytes ≡ bytes = take_all k bytes (omega (arith, all)) in
+      subst (λ (l : List ℕ). Is (taken ++ l) first next) (sym is) (inl (part, waits.1, waits.2))
+  header_call taken bytes nonce first k next few (inr (inl refused)) = absurd refused.0
+  header_call taken bytes nonce first k next few (inr (inr (answer, moved, whole, answers, ends))) =
+      go answers.0
     where
-      first : Answer
-      first = opens.1.0
+      come : taken ++ take k bytes ≡ take 8 (taken ++ bytes)
+      come = let all : k ≡ 8 - length taken = ends.0 in
+          sym (take-append_past taken bytes k 8 (omega (arith, few, all)))
 
-      go : ((why : ClosedBecause) × (opens.1.0.standing ≡ Closed why))
-          ⊎ ((opens.1.0.standing ≡ Wanting) × (opens.1.0.due ≡ Frame turns.Init))
-          → ((why : ClosedBecause) × (answer.standing ≡ Closed why))
-          ⊎ ((turn : Turn) × (unit ≡ sasl_header) × (answer.standing ≡ Wanting) × (answer.due ≡ Frame turn))
-      go (inl closed) = inl (closed.0, standing_of answer _ opens.1.2 ∙ closed.1)
-      go (inr wants) = inr (
-        turns.Init,
-        opens.0,
-        standing_of answer _ opens.1.2 ∙ wants.0,
-        due_of answer _ opens.1.2 ∙ wants.1,
-      )
+      go : Opens (names state) (take 8 (taken ++ bytes)) answer → Is (taken ++ take k bytes) first next
+      go (inl other) =
+          other_header taken bytes first k next answer moved come whole answers.1 ends.1 ends.2 other.0 other.1
+      go (inr opens) =
+          offers taken bytes first k next answer moved come whole answers.1 ends.1 ends.2 (offer_body (names state)) opens.1.0
+          refl opens.0 opens.1.1 opens.1.2
 
-pub servers_connect : ServersConnect
-servers_connect provider limit calls stream sent rest last made =
-    let (events, replies, runs, carries, logged) =
-    connected (ServerAnswers acceptor_names acceptor_machine) (AcceptorSteps acceptor_machine) IsOkSent
-    (frame_case acceptor_names acceptor_machine) (header_case acceptor_names acceptor_machine) limit
-    (ScramAcceptor provider Initial) calls stream sent rest last made in
-    let history = acceptor_runs_are_histories provider events replies last.state runs in (
-      events,
-      replies,
-      record {
-        carried = carries;
-        history = history;
-        exactly = answers_ok_exactly provider events replies history;
-        logged_in = logged;
-        user = λ user. acceptor_runs_name_users provider events replies last.state user runs;
-      },
-    )
+  -- ---- a call
+
+  call_at : (standing : Standing) (taken sent : List ℕ) (side next : Side S) (bytes nonce first : List ℕ) (k : ℕ)
+      → side.standing ≡ standing → Is taken sent side → IsBytes (taken ++ bytes)
+      → NextNonces pieces (length taken) k nonce
+      → ReceivesAt standing (ServerAnswers names machine) side bytes nonce k first next
+      → Is (taken ++ take k bytes) (sent ++ first) next
+  call_at LoggedIn taken sent side next bytes nonce first k at is are_bytes nonces rests =
+      rests_there Is taken sent bytes first k side next is rests
+  call_at (Closed why) taken sent side next bytes nonce first k at is are_bytes nonces rests =
+      rests_there Is taken sent bytes first k side next is rests
+  call_at Wanting taken sent side next bytes nonce first k at (inl (few, nothing, same)) are_bytes nonces receives =
+      subst (λ (l : List ℕ). Is (taken ++ take k bytes) (l ++ first) next) (sym nothing)
+      (header_call taken bytes nonce first k next few
+      (subst (λ (s : Side S). ReceivesAt Wanting (ServerAnswers names machine) s bytes nonce k first next) same receives))
+  call_at Wanting taken sent side next bytes nonce first k at (inr (inl other)) are_bytes nonces receives =
+      absurd (closed_is_not_wanting OtherHeader (sym other.0.2 ∙ at))
+  call_at Wanting taken sent side next bytes nonce first k at (inr (inr (inl none))) are_bytes nonces receives =
+      absurd (closed_is_not_wanting ReplyTooLarge (sym none.3 ∙ at))
+  call_at Wanting taken sent side next bytes nonce first k at
+      (inr (inr (inr (offer, out, is, fits, all, negotiated)))) are_bytes nonces receives =
+      inr (inr (inr (
+        offer,
+        out ++ first,
+        is,
+        fits,
+        ap (λ l. l ++ first) all ∙ (append_assoc sasl_header (framed offer ++ out) first
+            ∙ ap (λ l. sasl_header ++ l) (append_assoc (framed offer) out first)),
+        negotiated_call (ServerAnswers names machine) (AcceptorSteps machine) Says seen (says_next, says_last)
+            (λ turn s n nonce unit a h. h) limit state pieces taken out side next bytes nonce first k negotiated at
+            are_bytes nonces receives,
+      )))
+
+  pub server_call : (taken sent : List ℕ) (side next : Side S) (bytes nonce first : List ℕ) (k : ℕ) → Is taken sent side
+      → IsBytes (taken ++ bytes) → NextNonces pieces (length taken) k nonce
+      → Receives (ServerAnswers names machine) side bytes nonce k first next
+      → Is (taken ++ take k bytes) (sent ++ first) next
+  server_call taken sent side next bytes nonce first k is are_bytes nonces receives =
+      call_at side.standing taken sent side next bytes nonce first k refl is are_bytes nonces receives
+
+  pub server_fresh : Is [] [] (fresh limit state)
+  server_fresh = inl (omega arith, refl, refl)
+
+  grows : (more : List Piece) (taken sent : List ℕ) (side : Side S) → Is taken sent side
+      → ServerConnection names machine limit state (pieces ++ more) taken sent side
+  grows more taken sent side (inl part) = inl part
+  grows more taken sent side (inr (inl other)) = inr (inl other)
+  grows more taken sent side (inr (inr (inl none))) = inr (inr (inl none))
+  grows more taken sent side (inr (inr (inr (offer, out, is, fits, all, negotiated)))) = inr (inr (inr (
+    offer,
+    out,
+    is,
+    fits,
+    all,
+    negotiated_more (ServerAnswers names machine) (AcceptorSteps machine) Says seen (says_next, says_last)
+        (λ turn s n nonce unit a h. h) limit state pieces more taken out side negotiated,
+  )))
+
+pub servers_connect : {S : Type 0} (names : S → List (List ℕ)) (machine : S → List ℕ → SaslFrame → SaslFrame → S → Type 0)
+    → ServersConnect names machine
+servers_connect names machine limit state calls stream sent rest last are_bytes made =
+    connected (ServerAnswers names machine)
+    (λ pieces taken out side. ServerConnection names machine limit state pieces taken out side)
+    (λ pieces taken out side next bytes nonce first k is fine nonces receives.
+    server_call names machine limit state pieces taken out side next bytes nonce first k is fine nonces receives)
+    (λ pieces more taken out side is. grows names machine limit state pieces more taken out side is)
+    (fresh limit state) last calls stream sent rest (server_fresh names machine limit state []) are_bytes made
