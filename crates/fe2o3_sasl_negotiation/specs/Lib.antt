@@ -9,3 +9,4 @@ pub mod Connections
 pub mod UnalteredConnections
 pub mod private
 pub mod CostLaws
+pub mod Memory
