@@ -18,3 +18,4 @@ pub mod ServerCostLemmas
 pub mod ClientCostLemmas
 pub mod BoundLemmas
 pub mod CompletedLemmas
+pub mod MemoryLemmas

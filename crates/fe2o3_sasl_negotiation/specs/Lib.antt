@@ -10,3 +10,4 @@ pub mod ScramConnections
 pub mod UnalteredConnections
 pub mod private
 pub mod CostLaws
+pub mod Memory

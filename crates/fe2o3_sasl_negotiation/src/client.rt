@@ -1,13 +1,13 @@
 //! The client's side of a connection (AMQP 1.0, part 5, section 5.3.2).
 
-ghost use Rattle.std.specs.Prelude.{◌≡◌, ◌≢◌, ◌<◌, ◌≤◌, ◌^◌, ◌++◌, ℕ, List, Option, [], IfOk, IfErr, OnOk, OnErr, option_map, string_bytes, length, drop, min};
+ghost use Rattle.std.specs.Prelude.{◌≡◌, ◌≢◌, ◌<◌, ◌≤◌, ◌^◌, ◌++◌, ℕ, List, Option, [], None, IfOk, IfErr, OnOk, OnErr, option_map, string_bytes, length, drop, min};
 ghost use Rattle.fe2o3_sasl_runs.specs.Runs.{ProfileSteps, client_answer, client_reply};
 ghost use Rattle.fe2o3_sasl_runs.specs.SaslProfile.{profile_of};
 ghost use Rattle.fe2o3_sasl_runs.specs.Costs.{ProfileStepCosts};
 ghost use Rattle.fe2o3_sasl_negotiation.specs.Framing.{IsPart, IsPart-prop, sasl_header};
 ghost use Rattle.fe2o3_sasl_negotiation.specs.ClientNegotiation.{Opens, Says, Replies, ClientAnswers, ClientReceives, ReplyCosts, UnitCosts, ClientCosts};
 ghost use Rattle.fe2o3_sasl_negotiation.specs.SetDown.{IsKept, side_of};
-ghost use Rattle.fe2o3_sasl_negotiation.specs.private.Units.{Appends};
+ghost use Rattle.fe2o3_sasl_negotiation.specs.private.Units.{Appends, Screens, ClientUnitAsks};
 ghost use Rattle.fe2o3_sasl_runs.specs.Events.{Reported, Refused};
 ghost use Rattle.fe2o3_sasl_runs.specs.ProfileFaults.{client_fault};
 ghost use Rattle.fe2o3_sasl_runs.specs.declared.sasl_profile.error.ProfileError.TheVariants.{OutOfMemory as ProfileWantsMemory};
@@ -116,6 +116,7 @@ fn reply(
         out.old.items out.new.items step) }
     ensures unsent { OnErr result (out.new.items ≡ out.old.items) }
     ensures unchanged { OnErr result (profile_of profile.new ≡ profile_of profile.old) }
+    ensures memory { OnErr result (Screens turn body.now None) }
     ensures cost { ReplyCosts turn (profile_of profile.old) (record { body = body.now; nonce = nonce.now })
         meter.old meter.new }
 {
@@ -146,6 +147,7 @@ fn answer(
         (profile_of profile.old) nonce.now unit.now answer (profile_of profile.new)) out.old.items out.new.items step) }
     ensures unsent { OnErr result (out.new.items ≡ out.old.items) }
     ensures unchanged { OnErr result (profile_of profile.new ≡ profile_of profile.old) }
+    ensures memory { OnErr result (ClientUnitAsks due unit.now) }
     ensures cost { UnitCosts due (profile_of profile.old) nonce.now unit.now meter.old meter.new }
 {
     match due {
@@ -174,6 +176,7 @@ fn shown_name(hostname: &Option<String>) -> Option<&str>
 }
 
 impl ClientNegotiation {
+    ghost use Rattle.fe2o3_sasl_negotiation.specs.Memory.{client_room, HasRoom, ClientAsks};
     ghost use Rattle.fe2o3_sasl_negotiation.specs.Sides.{client_side, hostname_in};
 
     /// The client's side of a new connection, by a profile that no connection has used, with the hostname that
@@ -280,12 +283,14 @@ impl ClientNegotiation {
         Ok(())
     }
 
-    /// Takes bytes as they came, to the end of the header or of the frame that is due, at least one of those
-    /// that are handed in while more are wanted, and appends what is to be sent to `out`. The nonce is the
-    /// frame's that these bytes complete: hand in fresh random bytes with each call. OutOfMemory changes
-    /// nothing but the meter: the same bytes can be handed in again. Once the client is logged in and once
-    /// the negotiation is closed, nothing is taken, sent or changed. The meter, of at most 2^63, counts the
-    /// HMAC values.
+    /// Takes the received bytes up to the end of the header or frame that is due, and appends what is to be sent to
+    /// `out`. While more bytes are wanted, a call takes one at least. The nonce belongs to the frame that these bytes
+    /// complete: pass fresh random bytes with each call. The meter, of at most 2^63, counts the HMAC values.
+    ///
+    /// Once the client is logged in or the negotiation is closed, nothing is taken, sent or changed, and no memory is
+    /// asked for. Otherwise a call asks for room for the longest unit, once for a connection, and for its answer to a
+    /// frame in turn.
+    /// `OutOfMemory` changes nothing but the meter: the same bytes can be passed again.
     pub fn receive(
         &mut self,
         alloc: Global,
@@ -305,12 +310,16 @@ impl ClientNegotiation {
         ensures unsent { OnErr result (out.new.items ≡ out.old.items) }
         ensures unchanged { OnErr result (client_side self.new ≡ client_side self.old) }
         ensures hostname { hostname_in self.new ≡ hostname_in self.old }
+        ensures memory { OnErr result (ClientAsks (client_room self.old) (client_side self.old) bytes.now) }
+        ensures room { OnOk result ((client_side self.old).standing ≡ Wanting
+            → HasRoom (client_room self.new) (client_side self.old)) }
+        ensures room_stays { client_room self.old ≤ client_room self.new }
         ensures cost { ClientCosts (client_side self.old) bytes.now nonce.now meter.old meter.new }
     {
         self.take_bytes(alloc, bytes, nonce, meter, out)
     }
 
-    /// What `receive` does.
+    /// Does what `receive` promises.
     fn take_bytes(
         &mut self,
         alloc: Global,
@@ -327,6 +336,10 @@ impl ClientNegotiation {
         ensures unsent { OnErr result (out.new.items ≡ out.old.items) }
         ensures unchanged { OnErr result (client_side self.new ≡ client_side self.old) }
         ensures hostname { hostname_in self.new ≡ hostname_in self.old }
+        ensures memory { OnErr result (ClientAsks (client_room self.old) (client_side self.old) bytes.now) }
+        ensures room { OnOk result ((client_side self.old).standing ≡ Wanting
+            → HasRoom (client_room self.new) (client_side self.old)) }
+        ensures room_stays { client_room self.old ≤ client_room self.new }
         ensures cost { ClientCosts (client_side self.old) bytes.now nonce.now meter.old meter.new }
     {
         let Standing::Wanting = self.standing else {

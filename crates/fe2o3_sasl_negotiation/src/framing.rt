@@ -1,7 +1,7 @@
 //! Headers and frames as they come, in whatever pieces, and as they are sent (AMQP 1.0, part 2, sections 2.2
 //! and 2.3.1).
 
-ghost use Rattle.std.specs.Prelude.{◌≡◌, ◌↔◌, ◌+◌, ◌-◌, ◌<◌, ◌≤◌, ◌++◌, ◌⊎◌, true, ℕ, [], length, take, drop, IfOk, OnOk, OnErr, MatchOption, vec_len};
+ghost use Rattle.std.specs.Prelude.{◌≡◌, ◌↔◌, ◌+◌, ◌-◌, ◌<◌, ◌≤◌, ◌++◌, ◌⊎◌, true, ℕ, [], length, take, drop, IfOk, OnOk, OnErr, MatchOption, vec_len, vec_capacity, max};
 ghost use Rattle.fe2o3_sasl_wire.specs.FrameView.{viewed_frame};
 ghost use Rattle.fe2o3_sasl_negotiation.specs.Framing.{sasl_header, size_of, Fits, IsPart};
 ghost use Rattle.fe2o3_sasl_negotiation.specs.Negotiations.{IsInTurn, Sends, closes};
@@ -57,6 +57,8 @@ fn keep(held: &mut Vec<u8>, bytes: &[u8], n: usize) -> Result<(), OutOfMemory>
     requires { vec_len held.old ≤ n }
     ensures ok { OnOk result (held.new.items ≡ take n (held.old.items ++ bytes.now)) }
     ensures err { OnErr result (held.new.items ≡ held.old.items) }
+    ensures memory { OnErr result (vec_capacity held.old < n) }
+    ensures capacity { vec_capacity held.old ≤ vec_capacity held.new }
 {
     let missing = (n - held.len()).min(bytes.len());
     held.extend_from_slice(&bytes[..missing])
@@ -79,6 +81,8 @@ fn take_header(held: &mut Vec<u8>, bytes: &[u8]) -> Result<Arrived, OutOfMemory>
     ensures ok { IfOk result (λ arrived. (limit : ℕ)
         → Takes Header limit (held.old.items ++ bytes.now) arrived held.new.items) }
     ensures err { OnErr result (held.new.items ≡ held.old.items) }
+    ensures memory { OnErr result (vec_capacity held.old < 8) }
+    ensures capacity { vec_capacity held.old ≤ vec_capacity held.new }
 {
     keep(held, bytes, 8)?;
     if held.len() < 8 {
@@ -96,6 +100,8 @@ fn take_size(held: &mut Vec<u8>, bytes: &[u8]) -> Result<usize, OutOfMemory>
     ensures four { OnOk result (length held.new.items < 4 → held.new.items ≡ held.old.items ++ bytes.now) }
     ensures no_more { OnOk result ((held.new.items ≡ held.old.items) ⊎ (length held.new.items ≤ 4)) }
     ensures err { OnErr result (held.new.items ≡ held.old.items) }
+    ensures memory { OnErr result (vec_capacity held.old < 4) }
+    ensures capacity { vec_capacity held.old ≤ vec_capacity held.new }
 {
     let had = held.len();
     if had >= 4 {
@@ -116,6 +122,8 @@ fn take_frame(
     ensures ok { IfOk result (λ arrived. Takes (Frame turn) limit (held.old.items ++ bytes.now) arrived
         held.new.items) }
     ensures err { OnErr result (held.new.items ≡ held.old.items) }
+    ensures memory { OnErr result (vec_capacity held.old < max limit 8) }
+    ensures capacity { vec_capacity held.old ≤ vec_capacity held.new }
 {
     let had = held.len();
     let taken = take_size(held, bytes)?;
@@ -147,6 +155,9 @@ pub fn take_unit(
     requires { IsPart due limit held.old.items }
     ensures ok { IfOk result (λ arrived. Takes due limit (held.old.items ++ bytes.now) arrived held.new.items) }
     ensures err { OnErr result (held.new.items ≡ held.old.items) }
+    ensures memory { OnErr result (vec_capacity held.old < max limit 8) }
+    ensures room { OnOk result (max limit 8 ≤ vec_capacity held.new) }
+    ensures capacity { vec_capacity held.old ≤ vec_capacity held.new }
 {
     held.reserve(limit.max(8).saturating_sub(held.len()))?;
     match due {
@@ -159,6 +170,7 @@ pub fn take_unit(
 pub fn end_unit(held: &mut Vec<u8>, had: usize) -> usize
     ensures taken { result ≡ length held.old.items - had }
     ensures empty { held.new.items ≡ [] }
+    ensures capacity { vec_capacity held.new ≡ vec_capacity held.old }
 {
     let taken = held.len().saturating_sub(had);
     held.clear();

@@ -8,7 +8,7 @@ ghost use Rattle.fe2o3_sasl_negotiation.specs.Framing.{IsPart, IsPart-prop};
 ghost use Rattle.fe2o3_sasl_negotiation.specs.Negotiations.{Completes, Answer, Receives};
 ghost use Rattle.fe2o3_sasl_negotiation.specs.ServerNegotiation.{offer_body as offer_of, Opens, Says, Replies, ReplyCosts, UnitCosts, ServerAnswers, ServerReceives, ServerCosts};
 ghost use Rattle.fe2o3_sasl_negotiation.specs.SetDown.{IsKept, side_of};
-ghost use Rattle.fe2o3_sasl_negotiation.specs.private.Units.{Appends};
+ghost use Rattle.fe2o3_sasl_negotiation.specs.private.Units.{Appends, Screens, ServerUnitAsks};
 ghost use Rattle.fe2o3_sasl_wire.specs.declared.sasl_frames.error.Error.TheVariants.{OutOfMemory as WireOutOfMemory};
 ghost use Rattle.fe2o3_sasl_negotiation.specs.declared.standing.Due.TheVariants.{Header, Frame as FrameDue};
 ghost use Rattle.fe2o3_sasl_negotiation.specs.declared.standing.Standing.TheVariants.{Wanting, LoggedIn};
@@ -134,6 +134,7 @@ fn reply<A: SaslAcceptor>(
         out.old.items out.new.items step) }
     ensures unsent { OnErr result (out.new.items ≡ out.old.items) }
     ensures unchanged { OnErr result (A.state acceptor.new ≡ A.state acceptor.old) }
+    ensures memory { OnErr result (Screens turn (drop 4 unit.now) None) }
     ensures cost { ReplyCosts A.hmacs turn (A.state acceptor.old) (record { body = drop 4 unit.now; nonce = nonce.now })
         meter.old meter.new }
 {
@@ -164,6 +165,7 @@ fn answer<A: SaslAcceptor>(
         nonce.now unit.now answer (A.state acceptor.new)) out.old.items out.new.items step) }
     ensures unsent { OnErr result (out.new.items ≡ out.old.items) }
     ensures unchanged { OnErr result (A.state acceptor.new ≡ A.state acceptor.old) }
+    ensures memory { OnErr result (ServerUnitAsks due unit.now) }
     ensures cost { UnitCosts A.hmacs due (A.state acceptor.old) nonce.now unit.now meter.old meter.new }
 {
     match due {
@@ -173,6 +175,7 @@ fn answer<A: SaslAcceptor>(
 }
 
 impl<A: NamesUser> ServerNegotiation<A> {
+    ghost use Rattle.fe2o3_sasl_negotiation.specs.Memory.{server_room, HasRoom, ServerAsks};
     ghost use Rattle.fe2o3_sasl_negotiation.specs.Sides.{acceptor_in, server_side};
 
     /// The server's side of a new connection, by an acceptor that no connection has used. It waits for the
@@ -266,12 +269,14 @@ impl<A: NamesUser> ServerNegotiation<A> {
         })
     }
 
-    /// Takes bytes as they came, to the end of the header or of the frame that is due, at least one of those
-    /// that are handed in while more are wanted, and appends what is to be sent to `out`. The nonce is the
-    /// frame's that these bytes complete: hand in fresh random bytes with each call. OutOfMemory changes
-    /// nothing but the meter: the same bytes can be handed in again. Once the client is logged in and once
-    /// the negotiation is closed, nothing is taken, sent or changed. The meter, of at most 2^63, counts the
-    /// HMAC values.
+    /// Takes the received bytes up to the end of the header or frame that is due, and appends what is to be sent to
+    /// `out`. While more bytes are wanted, a call takes one at least. The nonce belongs to the frame that these bytes
+    /// complete: pass fresh random bytes with each call. The meter, of at most 2^63, counts the HMAC values.
+    ///
+    /// Once the client is logged in or the negotiation is closed, nothing is taken, sent or changed, and no memory is
+    /// asked for. Otherwise a call asks for room for the longest unit, once for a connection, and for its answer to a
+    /// header or to a frame in turn.
+    /// `OutOfMemory` changes nothing but the meter: the same bytes can be passed again.
     pub fn receive(
         &mut self,
         alloc: Global,
@@ -290,12 +295,16 @@ impl<A: NamesUser> ServerNegotiation<A> {
         ensures standing { IfOk result (λ received. received.standing ≡ (server_side A.state self.new).standing) }
         ensures unsent { OnErr result (out.new.items ≡ out.old.items) }
         ensures unchanged { OnErr result (server_side A.state self.new ≡ server_side A.state self.old) }
+        ensures memory { OnErr result (ServerAsks (server_room self.old) (server_side A.state self.old) bytes.now) }
+        ensures room { OnOk result ((server_side A.state self.old).standing ≡ Wanting
+            → HasRoom (server_room self.new) (server_side A.state self.old)) }
+        ensures room_stays { server_room self.old ≤ server_room self.new }
         ensures cost { ServerCosts A.hmacs (server_side A.state self.old) bytes.now nonce.now meter.old meter.new }
     {
         self.take_bytes(alloc, bytes, nonce, meter, out)
     }
 
-    /// What `receive` does.
+    /// Does what `receive` promises.
     fn take_bytes(
         &mut self,
         alloc: Global,
@@ -311,6 +320,10 @@ impl<A: NamesUser> ServerNegotiation<A> {
         ensures standing { IfOk result (λ received. received.standing ≡ (server_side A.state self.new).standing) }
         ensures unsent { OnErr result (out.new.items ≡ out.old.items) }
         ensures unchanged { OnErr result (server_side A.state self.new ≡ server_side A.state self.old) }
+        ensures memory { OnErr result (ServerAsks (server_room self.old) (server_side A.state self.old) bytes.now) }
+        ensures room { OnOk result ((server_side A.state self.old).standing ≡ Wanting
+            → HasRoom (server_room self.new) (server_side A.state self.old)) }
+        ensures room_stays { server_room self.old ≤ server_room self.new }
         ensures cost { ServerCosts A.hmacs (server_side A.state self.old) bytes.now nonce.now meter.old meter.new }
     {
         let Standing::Wanting = self.standing else {

@@ -4,6 +4,8 @@ ghost use Rattle.std.specs.Prelude.{◌≡◌, ◌≢◌, ◌↔◌, ℕ, List, 
 ghost use Rattle.fe2o3_sasl_negotiation.specs.Framing.{IsPart};
 ghost use Rattle.fe2o3_sasl_negotiation.specs.Negotiations.{Completes};
 ghost use Rattle.fe2o3_sasl_negotiation.specs.SetDown.{IsKept, side_kept};
+ghost use Rattle.fe2o3_sasl_negotiation.specs.declared.standing.Due.TheVariants.{Header};
+ghost use Rattle.fe2o3_sasl_negotiation.specs.declared.standing.Standing.TheVariants.{Wanting};
 ghost use Rattle.fe2o3_sasl_negotiation.specs.declared.standing.Turn.{Turn as TurnKind};
 ghost use Rattle.fe2o3_sasl_negotiation.specs.declared.set_down.TakeUpError.TheVariants.{OutOfMemory as TakeUpOutOfMemory};
 
@@ -61,6 +63,8 @@ impl SetDown<'_> {
             ((turn : TurnKind) (body : List ℕ) → ¬ Completes (side_kept self.now) bytes.now turn body)
             (λ body. (turn : TurnKind) × Completes (side_kept self.now) bytes.now turn body.items)) }
         ensures refused { IfErr result (λ error. error ≢ TakeUpError.OutOfMemory → ¬ IsKept self.now) }
+        ensures memory { IfErr result (λ error. error ≡ TakeUpError.OutOfMemory
+            → IsKept self.now × (self.now.standing ≡ Wanting) × (self.now.due ≢ Header)) }
     {
         if !self.is_kept() {
             return Err(TakeUpError::NotKept);

@@ -1,5 +1,5 @@
 -- What private contracts cite: what is taken of a unit, and what a function appends.
-use Rattle.std.specs.Prelude.{◌≡◌, ◌⊎◌, ℕ, Option, Some, None, List, ◌++◌, take, Ok, Err}
+use Rattle.std.specs.Prelude.{◌≡◌, ◌⊎◌, ℕ, Option, Some, None, List, ◌++◌, take, drop, Ok, Err}
 use Rattle.fe2o3_sasl_wire.specs.declared.sasl_frames.error.Error.{Error}
 use Rattle.fe2o3_sasl_wire.specs.SaslFrames.{SaslFrame}
 use Rattle.fe2o3_sasl_runs.specs.Bodies.{SpellsBody}
@@ -7,6 +7,7 @@ use Rattle.fe2o3_sasl_negotiation.specs.declared.framing.Arrived.{Arrived}
 use Rattle.fe2o3_sasl_negotiation.specs.declared.framing.Arrived.TheVariants.{Part, Refused, Whole}
 use Rattle.fe2o3_sasl_negotiation.specs.declared.framing.Step.{Step}
 use Rattle.fe2o3_sasl_negotiation.specs.declared.standing.Due.{Due}
+use Rattle.fe2o3_sasl_negotiation.specs.declared.standing.Due.TheVariants.{Header, Frame}
 use Rattle.fe2o3_sasl_negotiation.specs.declared.standing.ClosedBecause.{ClosedBecause}
 use Rattle.fe2o3_sasl_negotiation.specs.declared.standing.ClosedBecause.TheVariants.{OutOfTurn, Unread}
 use Rattle.fe2o3_sasl_negotiation.specs.declared.standing.Turn.{Turn}
@@ -29,3 +30,12 @@ abbrev pub Screens : Turn → List ℕ → Option ClosedBecause → Type 0
 Screens turn body None = (frame : SaslFrame) × SpellsBody body (Ok frame) × IsInTurn turn frame
 Screens turn body (Some why) = ((fault : Error) × SpellsBody body (Err fault) × (why ≡ Unread fault))
     ⊎ ((frame : SaslFrame) × SpellsBody body (Ok frame) × ¬ IsInTurn turn frame × (why ≡ OutOfTurn))
+
+-- the answer to a unit may ask for memory: a server's to a header and to a frame in turn, a client's to a frame in turn
+abbrev pub ServerUnitAsks : Due → List ℕ → Type 0
+ServerUnitAsks Header unit = Unit {0}
+ServerUnitAsks (Frame turn) unit = Screens turn (drop 4 unit) None
+
+abbrev pub ClientUnitAsks : Due → List ℕ → Type 0
+ClientUnitAsks Header unit = ⊥
+ClientUnitAsks (Frame turn) unit = Screens turn (drop 4 unit) None

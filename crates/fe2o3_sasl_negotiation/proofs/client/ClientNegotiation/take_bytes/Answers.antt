@@ -3,6 +3,8 @@ use Rattle.fe2o3_sasl_runs.specs.SaslProfile.{profile_of}
 use Rattle.fe2o3_sasl_negotiation.specs.Framing.{IsPart}
 use Rattle.fe2o3_sasl_negotiation.proofs.lemmas.ReceivingLemmas.{held_before_unit, same_side}
 use Rattle.fe2o3_sasl_negotiation.proofs.lemmas.ClientAnswerLemmas.{unit_costs}
+use Rattle.fe2o3_sasl_negotiation.proofs.lemmas.MemoryLemmas.{client_asks}
+use Rattle.fe2o3_sasl_negotiation.specs.Memory.{client_room}
 use Rattle.fe2o3_sasl_negotiation.proofs.client.ClientNegotiation.take_bytes.Goals as goal
 
 pub invariant_of-self-in-Err : goal.invariant_of-self-in-Err
@@ -34,3 +36,10 @@ returns-in-Err-clause-cost c =
     unit_costs old.standing old.due old.limit old.held.items c.args.bytes.now c.args.nonce.now
     c.take_unit.new.held.items (profile_of old.profile) c.args.meter.now c.answer.new.meter c.in-Wanting.is
     (rw c.in-Whole.is at c.in_ok-take_unit.ensures.ok) (rw c.deref.ensures.value at c.in-Err.ensures.cost)
+
+pub returns-in-Err-clause-memory : goal.returns-in-Err-clause-memory
+returns-in-Err-clause-memory c =
+    let old = c.args.self.now in
+    client_asks old.standing old.due old.limit (client_room old) old.held.items c.args.bytes.now
+    c.take_unit.new.held.items (profile_of old.profile) c.in-Wanting.is
+    (rw c.in-Whole.is at c.in_ok-take_unit.ensures.ok) (rw c.deref.ensures.value at c.in-Err.ensures.memory)

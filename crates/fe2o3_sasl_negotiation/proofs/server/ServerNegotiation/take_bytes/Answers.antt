@@ -2,6 +2,8 @@ use Rattle.std.proofs.Common.{◌≡◌, ℕ, List, sym, ◌∙◌, subst}
 use Rattle.fe2o3_sasl_negotiation.specs.Framing.{IsPart}
 use Rattle.fe2o3_sasl_negotiation.proofs.lemmas.ReceivingLemmas.{held_before_unit, same_side}
 use Rattle.fe2o3_sasl_negotiation.proofs.lemmas.ServerAnswerLemmas.{unit_costs}
+use Rattle.fe2o3_sasl_negotiation.proofs.lemmas.MemoryLemmas.{server_asks}
+use Rattle.fe2o3_sasl_negotiation.specs.Memory.{server_room}
 use Rattle.fe2o3_sasl_negotiation.proofs.server.ServerNegotiation.take_bytes.Goals as goal
 
 pub invariant_of-self-in-Err : goal.invariant_of-self-in-Err
@@ -35,3 +37,11 @@ returns-in-Err-clause-cost g c =
     unit_costs m.hmacs old.standing old.due old.limit old.held.items c.args.bytes.now c.args.nonce.now
     c.take_unit.new.held.items (m.state old.acceptor) c.args.meter.now c.answer.new.meter c.in-Wanting.is
     (rw c.in-Whole.is at c.in_ok-take_unit.ensures.ok) (rw c.deref.ensures.value at c.in-Err.ensures.cost)
+
+pub returns-in-Err-clause-memory : goal.returns-in-Err-clause-memory
+returns-in-Err-clause-memory g c =
+    let m = g.A.SaslAcceptor in
+    let old = c.args.self.now in
+    server_asks old.standing old.due old.limit (server_room old) old.held.items c.args.bytes.now
+    c.take_unit.new.held.items (m.state old.acceptor) c.in-Wanting.is
+    (rw c.in-Whole.is at c.in_ok-take_unit.ensures.ok) (rw c.deref.ensures.value at c.in-Err.ensures.memory)
