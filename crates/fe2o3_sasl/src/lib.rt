@@ -45,7 +45,7 @@ pub use fe2o3_sasl_runs::client_policy::ClientPolicy;
 pub use fe2o3_sasl_runs::client_policy::Mechanism;
 pub use fe2o3_sasl_runs::client_policy::best_profile;
 pub use fe2o3_sasl_runs::external_acceptor;
-pub use fe2o3_sasl_runs::external_acceptor::ExternalAcceptor;
+pub use fe2o3_sasl_runs::external_acceptor::{ExternalAcceptor, NoExternalIdentity};
 pub use fe2o3_sasl_runs::offers_only;
 pub use fe2o3_sasl_runs::offers_only::OfferError;
 pub use fe2o3_sasl_runs::offers_only::OffersOnly;

@@ -1,9 +1,8 @@
 //! The server's side of EXTERNAL (RFC 4422, appendix A).
 
-ghost use Rattle.std.specs.Prelude.{◌≡◌, ◌↔◌, true, false, ℕ, List, ◌∷◌, [], IfOk, IsOk, codes, option_map, string_bytes};
+ghost use Rattle.std.specs.Prelude.{◌≡◌, ◌≢◌, ◌↔◌, true, false, ℕ, List, Some, ◌∷◌, [], IfErr, IfOk, IsOk, codes, option_map, string_bytes};
 ghost use Rattle.std.proofs.Common.{ap};
 ghost use Rattle.fe2o3_sasl_wire.specs.AmqpTypes.{binary_bytes, init_frame, response_frame};
-ghost use Rattle.fe2o3_sasl_runs.specs.ExternalAcceptor.{AsksFor, External, IsInitOf, external_machine, external_of, external_user};
 ghost use Rattle.fe2o3_sasl_runs.specs.SaslAcceptor.{sent_frame};
 
 use crate::OutOfMemory;
@@ -12,25 +11,42 @@ use crate::one_of::HasMechanism;
 use crate::sasl_acceptor::{NamesUser, SaslAcceptor, SaslServerFrame, one_name, outcome};
 use fe2o3_sasl_wire::{Array, Binary, SaslCode, SaslInit, SaslResponse, Symbol};
 use std::alloc::{AllocError, Global};
+use thiserror::Error;
 
-/// An acceptor of EXTERNAL for the name that the transport has authenticated, as that of a client's certificate
-/// under TLS. A client that asks for no name, for the empty one or for this one is let in, and every other is
-/// refused by Auth. It takes no memory to answer.
+/// Reports that the client has no identity outside SASL: the name from the transport is empty. EXTERNAL then
+/// has to fail (RFC 4422, appendix A.1).
+#[derive(Debug, Clone, Copy, PartialEq, Eq, Error)]
+#[error("The transport authenticated no one: the external name is empty")]
+pub struct NoExternalIdentity;
+
+/// An acceptor of EXTERNAL for the name that the transport authenticated, such as the subject of a client's TLS
+/// certificate. The name is never empty. An init that asks for no identity, the empty one or this name is
+/// accepted, and every other init is rejected with Auth. Replies allocate no memory.
 #[derive(Debug, Drop)]
 pub struct ExternalAcceptor {
     username: String,
     accepted: bool,
+    ghost identity: { string_bytes username ≢ [] },
 }
 
 impl ExternalAcceptor {
-    /// An acceptor of whom the transport calls so.
-    pub fn new(username: String) -> Self
-        ensures { external_of result ≡ record { user = string_bytes username; accepted = false } }
+    ghost use Rattle.fe2o3_sasl_runs.specs.ExternalAcceptor.{AsksFor, external_of};
+
+    /// Returns an acceptor of the name that the transport authenticated, or `NoExternalIdentity` where the name
+    /// is empty: then the transport authenticated no one, and EXTERNAL must not be offered.
+    pub fn new(username: String) -> Result<Self, NoExternalIdentity>
+        ensures ok { IfOk result (λ acceptor. external_of acceptor
+            ≡ record { user = string_bytes username; accepted = false }) }
+        ensures identity { IfOk result (λ _. string_bytes username ≢ []) }
+        ensures err { IfErr result (λ _. string_bytes username ≡ []) }
     {
-        Self {
+        if username.is_empty() {
+            return Err(NoExternalIdentity);
+        }
+        Ok(Self {
             username,
             accepted: false,
-        }
+        })
     }
 
     /// Whether the initial response asks for the name.
@@ -48,6 +64,8 @@ impl ExternalAcceptor {
 }
 
 impl Clone for ExternalAcceptor {
+    ghost use Rattle.fe2o3_sasl_runs.specs.ExternalAcceptor.{external_of};
+
     ghost is_clone = { λ acceptor copy. external_of copy ≡ external_of acceptor };
 
     fn clone(&self) -> Result<Self, AllocError> {
@@ -59,6 +77,8 @@ impl Clone for ExternalAcceptor {
 }
 
 impl SaslAcceptor for ExternalAcceptor {
+    ghost use Rattle.fe2o3_sasl_runs.specs.ExternalAcceptor.{External, external_machine, external_of};
+
     ghost State = { External };
 
     ghost state = { external_of };
@@ -109,11 +129,16 @@ impl SaslAcceptor for ExternalAcceptor {
 }
 
 impl NamesUser for ExternalAcceptor {
+    ghost use Rattle.fe2o3_sasl_runs.specs.ExternalAcceptor.{external_of, external_user};
+
     ghost named = { λ acceptor. external_user (external_of acceptor) };
 
     ghost named_by_state = { λ acceptor other same. ap external_user same };
 
-    fn user(&self) -> Option<&str> {
+    fn user(&self) -> Option<&str>
+        ensures named { option_map (λ user. user.now) result ≡ external_user (external_of self.now) }
+        ensures identity { option_map (λ user. user.now) result ≢ Some [] }
+    {
         if self.accepted {
             Some(&self.username)
         } else {

@@ -19,7 +19,7 @@ pub mod whole_runs;
 
 pub use crate::client_policy::{ChoiceError, ClientPolicy, Mechanism, best_profile};
 pub use crate::events::{ClientReply, Event, EventError, ServerReply};
-pub use crate::external_acceptor::ExternalAcceptor;
+pub use crate::external_acceptor::{ExternalAcceptor, NoExternalIdentity};
 pub use crate::offers_only::{OfferError, OffersOnly};
 pub use crate::one_of::{HasMechanism, OneOf, Part};
 pub use crate::plain_authenticator::{MAX_PASSWORD_LEN, PlainAuthenticator};

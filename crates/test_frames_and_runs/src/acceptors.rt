@@ -170,7 +170,7 @@ fn acceptors_of_one_mechanism(rt: HostRuntime) {
     );
     plays(
         &rt,
-        ExternalAcceptor::new(text(&rt, USER)),
+        ExternalAcceptor::new(text(&rt, USER)).expect(&rt, "a name"),
         MECHANISM_EXTERNAL,
         &EXTERNAL,
     );
