@@ -24,7 +24,7 @@ use Rattle.sasl_c.specs.declared.status.Status.{Status}
 use Rattle.sasl_c.specs.declared.status.Status.TheVariants as statuses
 use Rattle.sasl_c.specs.declared.client.Login.{Login}
 use Rattle.sasl_c.specs.declared.client.ScramClient.{ScramClient as Struct}
-use Rattle.sasl_c.specs.Client.{Answered, Believes, Holds, IsAnswer, IsLogin, IsNoLogin, IsNoSecret, IsReached, IsSecret, IsSide, IsState, NotAnswered, Responds, name_tests}
+use Rattle.sasl_c.specs.Client.{Answered, Believes, Holds, IsAnswer, IsLogin, IsNoLogin, IsNoSecret, IsReached, IsSecret, IsSide, IsState, NotAnswered, Responds, WritesClient, complete_struct, name_tests}
 use Rattle.sasl_c.specs.Records.{IsVersion}
 use Rattle.sasl_c.proofs.LoginLemmas.{no_secrets}
 use Rattle.sasl_c.proofs.StatusLemmas.{carried, client_not_room}
@@ -238,15 +238,16 @@ pub responds : (login : Login) (before after : Struct) (text message signature :
     → (next : ClientSide) × Answered login before text message next
     × (next.state ≡ ClientFinalSent signature (Some keys))
     → ((user : List ℕ) → IsState user after (ClientFinalSent signature (Some keys)))
-    → Responds login text before after (Ok message)
+    → WritesClient after (ClientFinalSent signature (Some keys)) → Responds login text before after (Ok message)
 unfolding Responds Answered
-responds login before after text message signature keys held waits =
+responds login before after text message signature keys held waits written =
     let next = held.0 in
     let given = held.1.0 in
     let state = carried (IsState next.user after) (ClientFinalSent signature (Some keys)) next.state (sym held.2)
     (waits next.user) in
     let is = answering_login login given.state given next text message held.1.2 held.1.1.0 in
-    (next, held.1, (is, state))
+    let writes = carried (WritesClient after) (ClientFinalSent signature (Some keys)) next.state (sym held.2) written in
+    (next, held.1, (is, state), writes)
 
 -- other refusals
 pub no_text : (login : Login) (before : Struct) (text : List ℕ) → ¬ IsUtf8 text
@@ -300,18 +301,20 @@ done_state user other before after (ClientFirstSent nonce bare) side next text i
 done_state user other before after (Complete keys) side next text is held done same = absurd held
 
 pub believes : (login : Login) (before after : Struct) (side next : ClientSide) (text : List ℕ) (believed : Unit {0})
-    → IsSide login before side → BelievesIn side.state side text (Ok believed) next → after.sent ≡ 3
-    → after.keys ≡ before.keys → Believes login text before after (Ok tt)
+    → IsSide login before side → BelievesIn side.state side text (Ok believed) next
+    → after ≡ complete_struct before.keys → Believes login text before after (Ok tt)
 unfolding Believes
-believes login before after side next text believed is held done same = (
+believes login before after side next text believed is held written = (
   side,
   next,
   is,
   held,
   (
     believing_login login side.state side next text held is.0,
-    done_state side.user next.user before after side.state side next text is.1 held done same,
+    done_state side.user next.user before after side.state side next text is.1 held
+        (ap (λ (client : Struct). client.sent) written) (ap (λ (client : Struct). client.keys) written),
   ),
+  written,
 )
 
 pub disbelieves : (login : Login) (before : Struct) (side next : ClientSide) (text : List ℕ) (why : ScramErrorKind)

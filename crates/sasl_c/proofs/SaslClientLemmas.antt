@@ -1,6 +1,6 @@
 -- What a client of a connection comes to (AMQP 1.0, part 5, section 5.3.2).
 use Rattle.std.proofs.Common.{arith, refl, sym, ap, inl, inr, ◌∙◌, ◌≡◌, ◌≤◌, ◌<◌, ◌⊎◌, ◌+◌, ◌++◌, ℕ, List, [], length}
-use Rattle.std.specs.Prelude.{Option, Some, None, false, MatchOption, Result, Ok, Err, drop, nat_eq, if◌then◌else◌}
+use Rattle.std.specs.Prelude.{Option, Some, None, false, IfSome, MatchOption, Result, Ok, Err, drop, nat_eq, if◌then◌else◌}
 use Rattle.std.proofs.lemmas.Bool.{cases_lt}
 use Rattle.fe2o3_sasl_wire.specs.declared.amqp_types.SaslCode.TheVariants as outcomes
 use Rattle.fe2o3_sasl_wire.specs.declared.sasl_frames.error.Error.{Error}
@@ -33,9 +33,9 @@ use Rattle.sasl_c.specs.declared.sasl_client.SaslClient.{SaslClient as Struct}
 use Rattle.sasl_c.specs.declared.sasl_client.SaslLogin.{SaslLogin as Login}
 use Rattle.sasl_c.specs.declared.status.Status.{Status}
 use Rattle.sasl_c.specs.declared.status.Status.TheVariants as statuses
-use Rattle.sasl_c.specs.Client.{IsNoLogin, IsReached, IsState}
-use Rattle.sasl_c.specs.Connection.{Keeps, KeepsNoPart, due_number, side_tests}
-use Rattle.sasl_c.specs.SaslClient.{Comes, HasNoHostname, HasNoWords, IsClient, IsHostname, IsNoClient, IsNoProfile, IsProfile, Receives, Stands}
+use Rattle.sasl_c.specs.Client.{IsNoLogin, IsReached, IsState, WritesClient, fresh_struct}
+use Rattle.sasl_c.specs.Connection.{Keeps, KeepsNoPart, due_number, side_tests, struct_of}
+use Rattle.sasl_c.specs.SaslClient.{Comes, HasNoHostname, HasNoWords, IsClient, IsHostname, IsNoClient, IsNoProfile, IsProfile, Receives, Stands, WritesProfile, WritesSide}
 use Rattle.sasl_c.proofs.ClientLemmas.{answer_fits, answering_login, believing_login, moved_login}
 use Rattle.sasl_c.proofs.StateLemmas.{reached}
 use Rattle.sasl_c.proofs.StatusLemmas.{carried}
@@ -330,6 +330,30 @@ shows_other login (PlainProfile user password) scram other comes = comes
 shows_other login AnonymousProfile scram other comes = comes
 shows_other login ExternalProfile scram other comes = comes
 
+-- the struct that is written for a profile
+pub writes_scram : (profile : Profile) (machine : ClientSide) (answer : Option ScramStruct)
+    → profile ≡ ScramProfile machine → IfSome answer (λ client. WritesClient client machine.state)
+    → IfSome answer (λ scram. WritesProfile scram profile)
+writes_scram profile machine None is held = held
+writes_scram profile machine (Some scram) is held =
+    carried (WritesProfile scram) (ScramProfile machine) profile (sym is) held
+
+pub writes_other : (profile : Profile) (scram : ScramStruct) → is_scram profile ≡ false → scram ≡ fresh_struct
+    → WritesProfile scram profile
+writes_other (ScramProfile side) scram other same = absurd (cc)
+writes_other (PlainProfile user password) scram other same = same
+writes_other AnonymousProfile scram other same = same
+writes_other ExternalProfile scram other same = same
+
+-- and those that are written for a side
+pub writes_side : (connection : Kept) (scram : ScramStruct) (side : Side Profile) (kept : SetDown)
+    → side_of kept side.state ≡ side → connection ≡ struct_of kept.standing kept.due kept.held.now
+    → WritesProfile scram side.state → WritesSide (record { connection = connection; scram = scram }) side
+writes_side connection scram side kept same is written = (
+  carried (λ (s : Side Profile). connection ≡ struct_of s.standing s.due s.held) (side_of kept side.state) side same is,
+  written,
+)
+
 -- the structs of a side, of its values
 pub shows_side : (login : Login) (connection : Kept) (scram : ScramStruct) (side : Side Profile) (kept : SetDown)
     → side_of kept side.state ≡ side → side.limit ≡ 512 → Keeps connection kept.standing kept.due kept.held.now
@@ -441,10 +465,10 @@ pub ruleset no_profiles = (no_scram, no_plain, no_mechanism)
 pub received : (login : Login) (bytes nonce : List ℕ) (before after : Struct) (hostname : Option (List ℕ))
     (side next : Side Profile) (taken : ℕ) (sent : List ℕ) → IsHostname login hostname → IsClient login before side
     → side.standing ≡ Wanting → ClientReceives hostname side bytes nonce taken sent next
-    → IsClient login after next → Receives login bytes nonce before after taken (Ok sent)
+    → IsClient login after next → WritesSide after next → Receives login bytes nonce before after taken (Ok sent)
 unfolding Receives
-received login bytes nonce before after hostname side next taken sent named is wanting held last =
-    (hostname, side, next, named, is, wanting, held, last)
+received login bytes nonce before after hostname side next taken sent named is wanting held last written =
+    (hostname, side, next, named, is, wanting, held, last, written)
 
 pub not_received : (login : Login) (bytes nonce : List ℕ) (before after : Struct) (taken : ℕ) (status : Status)
     → IsNoClient login before status → Receives login bytes nonce before after taken (Err status)

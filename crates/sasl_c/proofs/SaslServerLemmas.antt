@@ -24,7 +24,7 @@ use Rattle.sasl_c.specs.declared.server.ScramServer.{ScramServer as ScramStruct}
 use Rattle.sasl_c.specs.declared.status.Status.{Status}
 use Rattle.sasl_c.specs.declared.status.Status.TheVariants as statuses
 use Rattle.sasl_c.specs.Records.{IsVersion, Shows, SpellsStruct}
-use Rattle.sasl_c.specs.SaslServer.{All, Code, Comes, HasNoWords, HasNoStruct, HasRecords, IsAll, IsNoHost, IsOf, IsServer, HasNone, ShowsBy, ShowsOpen, ShowsSide, ShowsStanding, ShowsState, Stands, State, allowed_of, one_where, open_in, server_of, side_in, state_names, state_of, sum_of, user_in}
+use Rattle.sasl_c.specs.SaslServer.{All, Code, Comes, HasNoWords, HasNoStruct, HasRecords, IsAll, IsNoHost, IsOf, IsServer, HasNone, ShowsBy, ShowsOpen, ShowsSide, ShowsStanding, ShowsState, Stands, State, allowed_of, one_where, open_in, server_of, side_in, side_struct, state_names, state_of, state_struct, struct_by, sum_of, user_in}
 use Rattle.sasl_c.specs.Server.{HasLoggedIn, HasRoom, IsOpen, open_number}
 use Rattle.sasl_c.specs.Status.{version_number}
 use Rattle.sasl_c.proofs.StatusLemmas.{carried}
@@ -339,6 +339,14 @@ shows_as standing server opened user answer is named held =
 -- what a struct of SCRAM shows of an acceptor
 abbrev pub Shown : ScramStruct → Standing → Code → Type 0
 Shown scram standing acceptor = ShowsState scram standing (state_of acceptor)
+
+-- and the one that is written for it
+abbrev pub written_for : Standing → Code → ScramStruct
+written_for standing acceptor = state_struct standing (state_of acceptor)
+
+pub writes_side : (server : Struct) (next : ServerNegotiation Code) → server ≡ struct_by state_of written_for next
+    → server ≡ side_struct (side_in next)
+writes_side server next written = written
 
 pub shows_side : (server : Struct) (next : ServerNegotiation Code) → ShowsBy state_of Shown server next
     → ShowsSide server (side_in next)

@@ -46,9 +46,9 @@ use Rattle.sasl_c.specs.declared.sasl_server.SaslServer.{SaslServer as Struct}
 use Rattle.sasl_c.specs.declared.status.Status.{Status}
 use Rattle.sasl_c.specs.declared.status.Status.TheVariants as statuses
 use Rattle.sasl_c.specs.Connection.{Keeps, KeepsNoPart, side_tests}
-use Rattle.sasl_c.specs.SaslServer.{All, Code, Comes, HasNone, IsNoHost, IsNoServer, IsOf, IsServer, Last, NotReceived, Others, Received, ShowsBy, ShowsSide, ShowsState, State, all_machine, all_names, external_names, last_machine, last_names, other_machine, other_names, plain_names, server_of, side_in, state_machine, state_names, state_of}
+use Rattle.sasl_c.specs.SaslServer.{All, Code, Comes, HasNone, IsNoHost, IsNoServer, IsOf, IsServer, Last, NotReceived, Others, Received, ShowsBy, ShowsSide, ShowsState, State, all_machine, all_names, external_names, last_machine, last_names, other_machine, other_names, plain_names, server_of, side_in, side_struct, state_machine, state_names, state_of, struct_by}
 use Rattle.sasl_c.proofs.SaslClientLemmas.{one_due, part_short}
-use Rattle.sasl_c.proofs.SaslServerLemmas.{Shown, is_server, no_server, shows_nothing, shows_side}
+use Rattle.sasl_c.proofs.SaslServerLemmas.{Shown, is_server, no_server, shows_nothing, shows_side, writes_side, written_for}
 use Rattle.sasl_c.proofs.StatusLemmas.{carried}
 
 -- ---- a reply ends the login, or is a challenge of SCRAM
@@ -438,10 +438,10 @@ taken_up host before kept state keeps wants limit comes shows = (
 pub received : (host : Host) (bytes nonce : List ℕ) (before after : Struct) (side next : Side State) (taken : ℕ)
     (sent : List ℕ) → IsServer host before side → side.standing ≡ Wanting
     → ServerReceives state_names state_machine side bytes nonce taken sent next → IsServer host after next
-    → Received host bytes nonce before after taken sent
+    → after ≡ side_struct next → Received host bytes nonce before after taken sent
 unfolding Received
-received host bytes nonce before after side next taken sent is wants held then =
-    (side, next, is, wants, held, then)
+received host bytes nonce before after side next taken sent is wants held then written =
+    (side, next, is, wants, held, then, written)
 
 pub too_long : (host : Host) (bytes nonce : List ℕ) (before : Struct) (side next : Side State) (taken : ℕ)
     (sent : List ℕ) → IsServer host before side → side.standing ≡ Wanting
@@ -515,17 +515,18 @@ module _ (host : Host) (bytes nonce : List ℕ) (before : Struct) (kept : SetDow
 
   pub answered : (after : Struct) (taken : ℕ) (sent : List ℕ)
       → (next : ServerNegotiation Code) × Follows taken sent next × ShowsBy state_of Shown after next
-      → Received host bytes nonce before after taken sent
-  answered after taken sent (next, held, shows) =
+      × (after ≡ struct_by state_of written_for next) → Received host bytes nonce before after taken sent
+  answered after taken sent (next, held, shows, written) =
       received host bytes nonce before after taken_side (side_in next) taken sent is wants held
       (is_server host after (side_in next) (shows_side after next shows)
       (behind_comes host before taken_side (side_in next) bytes nonce taken sent is wants held)
       (behind_limit host before taken_side (side_in next) bytes nonce taken sent is wants held))
+      (writes_side after next written)
 
   pub short_answer : (after : Struct) (taken : ℕ) (sent : List ℕ)
       → (next : ServerNegotiation Code) × Follows taken sent next × ShowsBy state_of Shown after next
-      → length sent ≤ 520
-  short_answer after taken sent (next, held, shows) =
+      × (after ≡ struct_by state_of written_for next) → length sent ≤ 520
+  short_answer after taken sent (next, held, shows, written) =
       behind_short host before taken_side (side_in next) bytes nonce taken sent is wants held
 
   pub unanswered : (status : Status) → ((status ≡ statuses.NotKept) × ¬ IsKept kept)

@@ -1,7 +1,8 @@
 -- What a server answers to a client-first message, by the struct of its user's record.
-use Rattle.std.proofs.Common.{Bool, arith, refl, sym, ap, inl, inr, ◌∙◌, ◌≡◌, ◌≢◌, ◌≤◌, ℕ, List, length, take}
+use Rattle.std.proofs.Common.{Bool, arith, refl, sym, ap, inl, inr, ◌∙◌, ◌-◌, ◌≡◌, ◌≢◌, ◌≤◌, ℕ, List, length, replicate, take}
 use Rattle.std.specs.Prelude.{Option, Result, Some, None, Ok, Err, codes}
-use Rattle.std.proofs.lemmas.List.{length-append}
+use Rattle.std.proofs.lemmas.List.{length-append, length-take}
+use Rattle.std.proofs.Math.Seq.{take-append_seam}
 use Rattle.fe2o3_scram.specs.declared.scram_messages.error.ServerScramErrorKind.{ServerScramErrorKind}
 use Rattle.fe2o3_scram.specs.declared.scram_messages.error.ServerScramErrorKind.TheVariants.{IllegalAuthenticatorState, OutOfMemory as NoMemory}
 use Rattle.std.proofs.lemmas.Slice.Eq.{bytes_eq-Decides}
@@ -23,7 +24,7 @@ use Rattle.sasl_c.specs.declared.status.Status.{Status}
 use Rattle.sasl_c.specs.declared.status.Status.TheVariants as statuses
 use Rattle.sasl_c.specs.Records.{Shows, SpellsStruct}
 use Rattle.sasl_c.specs.declared.server.ScramServer.{ScramServer as Struct}
-use Rattle.sasl_c.specs.Server.{Challenged, Challenges, Concluded, Concludes, HasRoom, IsOpen, NotChallenged, one_user}
+use Rattle.sasl_c.specs.Server.{Challenged, Challenges, Concluded, Concludes, HasLoggedIn, HasRoom, IsOpen, NotChallenged, logged_in_struct, one_user}
 use Rattle.sasl_c.proofs.StatusLemmas.{carried}
 use Rattle.sasl_c.specs.Status.{server_status}
 
@@ -156,19 +157,17 @@ unfolding Concludes
 keeps_none kept before text challenge status is wrong = inr (inl (challenge, is, wrong))
 
 -- the struct of a server that has logged its user in
+logged_in : (user : List ℕ) → length user ≤ 256 → HasLoggedIn (logged_in_struct user) user
+logged_in user few = (refl, few, sym (take-append_seam user (replicate (256 - length user) 0)))
+
 pub concludes : (kept : Kept) (before after : Struct) (text message user : List ℕ)
-    → Concluded kept before text message user → after.stands ≡ 2 → after.user_len ≡ before.user_len
-    → after.user ≡ before.user → Concludes kept text before after (Ok message)
+    → Concluded kept before text message user → after ≡ logged_in_struct (take before.user_len before.user)
+    → Concludes kept text before after (Ok message)
 unfolding Concludes Concluded
-concludes kept before after text message user held done len same =
+concludes kept before after text message user held written =
     let named : user ≡ take before.user_len before.user =
-    held.4 ∙ ap (λ (challenge : Challenge). challenge.user) held.2.2 in (
-      user,
-      held,
-      (
-        done,
-        carried (λ n. n ≤ 256) before.user_len after.user_len (sym len) held.2.1.0,
-        carried (λ (n : ℕ). user ≡ take n after.user) before.user_len after.user_len (sym len)
-            (carried (λ (bytes : List ℕ). user ≡ take before.user_len bytes) before.user after.user (sym same) named),
-      ),
-    )
+    held.4 ∙ ap (λ (challenge : Challenge). challenge.user) held.2.2 in
+    let few : length user ≤ 256 =
+    omega (arith, ap length named, length-take before.user_len before.user, held.2.1.0) in
+    let same : after ≡ logged_in_struct user = written ∙ ap logged_in_struct (sym named) in
+    (user, held, carried (λ s. HasLoggedIn s user) (logged_in_struct user) after (sym same) (logged_in user few), same)

@@ -1,12 +1,13 @@
 -- That a struct is that of the client whose values it was made of.
 use Rattle.std.proofs.Common.{arith, refl, sym, ap, ◌∙◌, ◌≡◌, ◌≢◌, ◌<◌, ℕ, List, length}
-use Rattle.std.specs.Prelude.{Option, Some, None, MatchOption, option_map, true, false}
+use Rattle.std.specs.Prelude.{Option, Some, None, IfSome, MatchOption, option_map, true, false}
 use Rattle.std.proofs.lemmas.List.{length-take}
 use Rattle.fe2o3_scram.specs.ClientKeys.{ClientKeys}
 use Rattle.fe2o3_scram.specs.ScramClient.{ClientState, Initial, ClientFirstSent, ClientFinalSent, Complete, answer_keys, is_complete, login_keys}
 use Rattle.fe2o3_scram.specs.Texts.{base64_text}
 use Rattle.sasl_c.specs.declared.client.ScramClient.{ScramClient as Struct}
-use Rattle.sasl_c.specs.Client.{Holds, IsReached, IsState}
+use Rattle.sasl_c.specs.Client.{Holds, IsReached, IsState, WritesClient, complete_struct, fresh_struct, started_struct}
+use Rattle.sasl_c.specs.Keys.{WritesKeys}
 use Rattle.sasl_c.proofs.StatusLemmas.{carried}
 
 pub first_sent : (user : List ℕ) (client : Struct) (state : ClientState) (nonce bare : List ℕ)
@@ -88,5 +89,40 @@ reached user client (ClientFinalSent signature keys) is =
     omega (arith, is.1, ap length is.2, length-take client.signature_len client.signature)
 reached user client (Complete keys) is = tt
 
+-- ---- the struct that is written for a client in a state
+
+pub first_written : (client : Struct) (state : ClientState) (nonce bare : List ℕ)
+    → state ≡ ClientFirstSent (base64_text nonce) bare → client ≡ started_struct nonce → WritesClient client state
+first_written client state nonce bare is same =
+    carried (WritesClient client) (ClientFirstSent (base64_text nonce) bare) state (sym is) (nonce, refl, same)
+
+pub completed_written : (client : Struct) (state : ClientState) → is_complete state ≡ true
+    → WritesKeys client.keys (login_keys state) → client ≡ complete_struct client.keys → WritesClient client state
+completed_written client (Complete keys) is written same = (client.keys, written, same)
+completed_written client Initial is written same = absurd (cc)
+completed_written client (ClientFirstSent nonce bare) is written same = absurd (cc)
+completed_written client (ClientFinalSent signature keys) is written same = absurd (cc)
+
+pub nothing_written : (client : Struct) (state : ClientState)
+    → ((nonce bare : List ℕ) → state ≢ ClientFirstSent nonce bare)
+    → ((signature : List ℕ) (keys : Option ClientKeys) → state ≢ ClientFinalSent signature keys)
+    → is_complete state ≡ false → client ≡ fresh_struct → WritesClient client state
+nothing_written client Initial first final done same = same
+nothing_written client (ClientFirstSent nonce bare) first final done same = absurd (first nonce bare refl)
+nothing_written client (ClientFinalSent signature keys) first final done same = absurd (final signature keys refl)
+nothing_written client (Complete keys) first final done same = absurd (cc)
+
+pub waiting_written : {A : Type 0} (view : A → ClientKeys) (found : Option A) (state : ClientState)
+    (answer : Option Struct) (signature : List ℕ) (keys : Option ClientKeys) → state ≡ ClientFinalSent signature keys
+    → MatchOption found (answer_keys state ≡ None) (λ one. answer_keys state ≡ Some (view one))
+    → IfSome answer (λ client. WritesClient client (ClientFinalSent signature (option_map view found)))
+    → IfSome answer (λ client. WritesClient client state)
+waiting_written view found state None signature keys is given held = held
+waiting_written view found state (Some client) signature keys is given held =
+    let same : keys ≡ option_map view found =
+    sym (ap answer_keys is) ∙ found_keys view found (answer_keys state) given in
+    let moved = is ∙ ap (ClientFinalSent signature) same in
+    carried (WritesClient client) (ClientFinalSent signature (option_map view found)) state (sym moved) held
+
 -- what the struct of a client takes
-pub ruleset of_state = (first_sent, completed, nothing_sent, never_too_long)
+pub ruleset of_state = (first_sent, completed, nothing_sent, never_too_long, first_written, completed_written, nothing_written)

@@ -22,7 +22,7 @@ use Rattle.sasl_c.specs.SaslClient.{Comes as LoginComes, HasNoHostname, IsHostna
 use Rattle.sasl_c.specs.SaslServer.{Comes, IsNoHost, State, state_machine, state_of}
 use Rattle.sasl_c.specs.Steps.{ClientHides, ClientNotStepped, ClientStepped, ClientTells, IsStepped, NotStepped, ProfileNotStepped, ProfileStepped, ServerNotStepped, ServerStepped, ServerTells, Serves, behind_code, standing_number}
 use Rattle.sasl_c.proofs.SaslClientLemmas.{gives_comes as profile_gives, profile_comes}
-use Rattle.sasl_c.proofs.SaslServerLemmas.{Shown}
+use Rattle.sasl_c.proofs.SaslServerLemmas.{Shown, written_for}
 use Rattle.sasl_c.proofs.ServerCallLemmas.{gives_comes as acceptor_gives}
 use Rattle.sasl_c.proofs.StatusLemmas.{carried}
 
@@ -59,7 +59,7 @@ pub client_stepped : (login : Login) (event : Given) (before after : ClientStruc
     → ClientStepped login event before after (standing_number stands) sent
 unfolding ClientStepped
 client_stepped login event before after hostname shown profile stands sent named is
-    (next, says, steps, tells, shows) = (
+    (next, says, steps, tells, shows, written) = (
       shown,
       profile,
       next,
@@ -71,12 +71,13 @@ client_stepped login event before after hostname shown profile stands sent named
       tells,
       refl,
       shows login (client_comes login before shown profile next event says is steps),
+      written,
     )
 
 pub client_steps_short : (hostname : Option (List ℕ)) (profile : Profile) (event : Given) (after : ClientStruct)
     (stands : Standing) (sent : List ℕ) → ProfileStepped hostname profile event after stands sent
     → length sent ≤ 508
-client_steps_short hostname profile event after stands sent (next, says, steps, tells, shows) =
+client_steps_short hostname profile event after stands sent (next, says, steps, tells, shows, written) =
     client_short says sent stands tells
 
 pub client_no_hostname : (login : Login) (event : Given) (before : ClientStruct) (status : Status)
@@ -131,10 +132,10 @@ server_comes host event server next (Failed fault) sent stands comes steps tells
 
 pub server_stepped : (host : Host) (event : Given) (before after : ServerStruct) (server : State)
     (stands : Standing) (sent : List ℕ) → Serves host before Wanting server
-    → IsStepped state_of state_machine Shown server event after stands sent
+    → IsStepped state_of state_machine Shown written_for server event after stands sent
     → ServerStepped host event before after (standing_number stands) sent
 unfolding ServerStepped
-server_stepped host event before after server stands sent serves (next, says, steps, tells, shows) = (
+server_stepped host event before after server stands sent serves (next, says, steps, tells, shows, written) = (
   server,
   stands,
   serves,
@@ -144,13 +145,14 @@ server_stepped host event before after server stands sent serves (next, says, st
     steps,
     tells,
     (server_comes host event server (state_of next) says sent stands serves.0 steps tells, shows),
+    written,
   ),
   refl,
 )
 
 pub server_steps_short : (server : State) (event : Given) (after : ServerStruct) (stands : Standing) (sent : List ℕ)
-    → IsStepped state_of state_machine Shown server event after stands sent → length sent ≤ 508
-server_steps_short server event after stands sent (next, says, steps, tells, shows) =
+    → IsStepped state_of state_machine Shown written_for server event after stands sent → length sent ≤ 508
+server_steps_short server event after stands sent (next, says, steps, tells, shows, written) =
     server_short says sent stands tells
 
 pub server_no_host : (host : Host) (event : Given) (before : ServerStruct) (status : Status) → IsNoHost host status

@@ -1,5 +1,5 @@
 -- A SCRAM client that stands in structs of C between its calls (RFC 5802, sections 3 and 5).
-use Rattle.std.specs.Prelude.{◌≡◌, ◌≢◌, ◌<◌, ◌≤◌, ◌⊎◌, ℕ, List, [], ◌∷◌, length, take, Option, Some, None, Result, Ok, Err}
+use Rattle.std.specs.Prelude.{◌≡◌, ◌≢◌, ◌<◌, ◌≤◌, ◌⊎◌, ℕ, List, [], ◌∷◌, length, replicate, take, Option, Some, None, Result, Ok, Err}
 use Rattle.std.specs.Str.{IsUtf8}
 use Rattle.fe2o3_scram.specs.declared.hmac.ScramVersion.{ScramVersion}
 use Rattle.fe2o3_scram.specs.declared.scram_messages.error.ScramErrorKind.{ScramErrorKind}
@@ -10,6 +10,7 @@ use Rattle.fe2o3_scram.specs.ClientKeys.{ClientKeys}
 use Rattle.fe2o3_scram.specs.ClientSecret.{Secret, Password, Keys, Both}
 use Rattle.fe2o3_scram.specs.Passwords.{Prepared, Typed}
 use Rattle.fe2o3_scram.specs.ScramClient.{AnswersIn, BelievesIn, ClientSide, ClientState, Initial, ClientFirstSent, ClientFinalSent, Complete, started}
+use Rattle.fe2o3_scram.specs.Hmac.{zero_filled}
 use Rattle.fe2o3_scram.specs.Readings.{IsFirst, NoneHolds}
 use Rattle.fe2o3_scram.specs.Texts.{base64_text}
 use Rattle.sasl_c.specs.declared.client.ScramClient.{ScramClient as Struct}
@@ -17,7 +18,7 @@ use Rattle.sasl_c.specs.declared.client.Login.{Login}
 use Rattle.sasl_c.specs.declared.keys.ClientKeys.{ClientKeys as KeysStruct}
 use Rattle.sasl_c.specs.declared.status.Status.{Status}
 use Rattle.sasl_c.specs.declared.status.Status.TheVariants as statuses
-use Rattle.sasl_c.specs.Keys.{HasRoom, ShowsKeys}
+use Rattle.sasl_c.specs.Keys.{HasRoom, ShowsKeys, WritesKeys, no_keys_struct}
 use Rattle.sasl_c.specs.Records.{IsVersion}
 use Rattle.sasl_c.specs.Status.{client_status}
 
@@ -93,6 +94,57 @@ IsReached user state = Unit {0}
 abbrev pub IsSide : Login → Struct → ClientSide → Type 0
 IsSide login client side = IsLogin login side × IsState side.user client side.state
 
+-- ---- the structs that calls write: every field that a state does not name is zero, and so is each byte after a length
+
+-- of a client that has sent nothing
+abbrev pub fresh_struct : Struct
+fresh_struct = record {
+  sent = 0;
+  signature_len = 0;
+  nonce = replicate 32 0;
+  signature = replicate 64 0;
+  keys = no_keys_struct;
+}
+
+-- of one that has sent its client-first message, with this nonce
+abbrev pub started_struct : List ℕ → Struct
+started_struct nonce = record {
+  sent = 1;
+  signature_len = 0;
+  nonce = nonce;
+  signature = replicate 64 0;
+  keys = no_keys_struct;
+}
+
+-- of one that has sent its client-final message, and waits for this signature
+abbrev pub waiting_struct : List ℕ → KeysStruct → Struct
+waiting_struct signature keys = record {
+  sent = 2;
+  signature_len = length signature;
+  nonce = replicate 32 0;
+  signature = zero_filled 64 signature;
+  keys = keys;
+}
+
+-- of one whose login is complete
+abbrev pub complete_struct : KeysStruct → Struct
+complete_struct keys = record {
+  sent = 3;
+  signature_len = 0;
+  nonce = replicate 32 0;
+  signature = replicate 64 0;
+  keys = keys;
+}
+
+-- the struct that a call writes for a client in this state
+abbrev pub WritesClient : Struct → ClientState → Type 0
+WritesClient written Initial = written ≡ fresh_struct
+WritesClient written (ClientFirstSent nonce bare) = (bytes : List ℕ) × (nonce ≡ base64_text bytes)
+    × (written ≡ started_struct bytes)
+WritesClient written (ClientFinalSent signature keys) = (kept : KeysStruct) × WritesKeys kept keys
+    × (written ≡ waiting_struct signature kept)
+WritesClient written (Complete keys) = (kept : KeysStruct) × WritesKeys kept keys × (written ≡ complete_struct kept)
+
 -- ---- what the calls answer (RFC 5802, section 5), and the struct after them
 
 -- the client-first message
@@ -103,8 +155,8 @@ Starts login nonce (Err status) = IsNoLogin login status
 
 -- the struct after it
 abbrev pub Started : Login → List ℕ → Struct → Struct → Result (Unit {0}) Status → Type 0
-Started login nonce before after (Ok done) = (side : ClientSide) × IsLogin login side
-    × IsSide login after (started side nonce)
+Started login nonce before after (Ok done) = ((side : ClientSide) × IsLogin login side
+    × IsSide login after (started side nonce)) × (after ≡ started_struct nonce)
 Started login nonce before after (Err status) = after ≡ before
 
 -- a refusal of a client by the library
@@ -131,14 +183,14 @@ NotAnswered login before text status = IsNoLogin login status
 -- the client-final message; bytes that are not UTF-8 are refused before all else
 unfoldable pub Responds : Login → List ℕ → Struct → Struct → Result (List ℕ) Status → Type 0
 Responds login text before after (Ok message) = (next : ClientSide) × Answered login before text message next
-    × IsSide login after next
+    × IsSide login after next × WritesClient after next.state
 Responds login text before after (Err status) = ((status ≡ client_status Utf8Error) × ¬ IsUtf8 text)
     ⊎ (IsUtf8 text × NotAnswered login before text status)
 
 -- whether the server is believed
 unfoldable pub Believes : Login → List ℕ → Struct → Struct → Result (Unit {0}) Status → Type 0
 Believes login text before after (Ok done) = (side next : ClientSide) × IsSide login before side
-    × BelievesIn side.state side text (Ok done) next × IsSide login after next
+    × BelievesIn side.state side text (Ok done) next × IsSide login after next × (after ≡ complete_struct before.keys)
 Believes login text before after (Err status) = (after ≡ before) × (status ≢ statuses.OutOfMemory
     → IsNoLogin login status ⊎ Refuses login before (λ side why. BelievesIn side.state side text (Err why) side) status)
 

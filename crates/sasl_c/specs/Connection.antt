@@ -1,10 +1,11 @@
 -- A side of a connection that stands in a struct of C between its calls (AMQP 1.0, part 5, section 5.3.2).
-use Rattle.std.specs.Prelude.{◌≡◌, ◌≢◌, ◌≤◌, ℕ, List, [], ◌∷◌, take}
+use Rattle.std.specs.Prelude.{◌≡◌, ◌≢◌, ◌≤◌, ℕ, List, [], ◌∷◌, length, take}
 use Rattle.fe2o3_sasl_wire.specs.declared.amqp_types.SaslCode.{SaslCode}
 use Rattle.fe2o3_sasl_wire.specs.declared.amqp_types.SaslCode.TheVariants as outcomes
 use Rattle.fe2o3_sasl_wire.specs.declared.sasl_frames.error.Error.{Error}
 use Rattle.fe2o3_sasl_wire.specs.declared.sasl_frames.error.Error.TheVariants as faults
 use Rattle.fe2o3_scram.specs.declared.scram_messages.error.ScramErrorKind.TheVariants as kinds
+use Rattle.fe2o3_scram.specs.Hmac.{zero_filled}
 use Rattle.fe2o3_sasl_runs.specs.declared.sasl_profile.error.ProfileError.{ProfileError}
 use Rattle.fe2o3_sasl_runs.specs.declared.sasl_profile.error.ProfileError.TheVariants as profile
 use Rattle.fe2o3_sasl_negotiation.specs.declared.standing.ClosedBecause.{ClosedBecause}
@@ -62,6 +63,27 @@ closed_status closed.OutOfTurn = statuses.OutOfTurn
 closed_status closed.ReplyTooLarge = statuses.ReplyTooLarge
 closed_status (closed.Refused code) = code_status code
 closed_status (closed.Profile fault) = profile_status fault
+
+-- the number of a standing, and the status of why it is closed
+abbrev pub standing_code : Standing → ℕ
+standing_code Wanting = 0
+standing_code LoggedIn = 1
+standing_code (Closed why) = 2
+
+abbrev pub why_code : Standing → ℕ
+why_code Wanting = 0
+why_code LoggedIn = 0
+why_code (Closed why) = status_number (closed_status why)
+
+-- the struct that a call writes for a side: zeros after the bytes that are held
+abbrev pub struct_of : Standing → Due → List ℕ → Struct
+struct_of standing due held = record {
+  standing = standing_code standing;
+  why = why_code standing;
+  due = due_number due;
+  held_len = length held;
+  held = zero_filled 512 held;
+}
 
 -- the struct says that a side stands so
 abbrev pub SaysStanding : Struct → Standing → Type 0

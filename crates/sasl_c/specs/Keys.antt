@@ -1,5 +1,5 @@
 -- What a client keeps in place of its password, as a struct of C (RFC 5802, section 3).
-use Rattle.std.specs.Prelude.{◌≡◌, ◌<◌, ◌≤◌, ℕ, List, length, take, Result}
+use Rattle.std.specs.Prelude.{◌≡◌, ◌<◌, ◌≤◌, ◌⊎◌, ℕ, List, length, replicate, take, Option, Some, None, Result}
 use Rattle.fe2o3_scram.specs.declared.hmac.ScramVersion.{ScramVersion}
 use Rattle.fe2o3_scram.specs.ClientKeys.{AreSized, ClientKeys, keys_of, keys_with}
 use Rattle.fe2o3_scram.specs.Hmac.{digest_len, zero_filled}
@@ -25,6 +25,23 @@ struct_of keys = record {
 -- keys that a struct can hold: their salt has room, and they are as long as a digest
 abbrev pub HasRoom : ClientKeys → Type 0
 HasRoom keys = (length keys.salt ≤ 128) × AreSized keys
+
+-- the struct of no keys: all zeros
+abbrev pub no_keys_struct : Struct
+no_keys_struct = record {
+  version = 0;
+  iterations = 0;
+  salt_len = 0;
+  salt = replicate 128 0;
+  client_key = replicate 64 0;
+  server_key = replicate 64 0;
+}
+
+-- a call writes these keys into the struct where they have room, and otherwise zeros
+abbrev pub WritesKeys : Struct → Option ClientKeys → Type 0
+WritesKeys written None = written ≡ no_keys_struct
+WritesKeys written (Some keys) = (HasRoom keys × (written ≡ struct_of keys))
+    ⊎ (¬ HasRoom keys × (written ≡ no_keys_struct))
 
 -- what a struct of this version shows, of whatever bits it is
 abbrev pub shown_keys : ScramVersion → Struct → ClientKeys

@@ -14,8 +14,8 @@ use Rattle.sasl_c.specs.declared.sasl_client.SaslClient.{SaslClient as Struct}
 use Rattle.sasl_c.specs.declared.sasl_client.SaslLogin.{SaslLogin as Login}
 use Rattle.sasl_c.specs.declared.status.Status.{Status}
 use Rattle.sasl_c.specs.declared.status.Status.TheVariants as statuses
-use Rattle.sasl_c.specs.Client.{IsLogin, IsNoLogin, IsReached, IsSide}
-use Rattle.sasl_c.specs.Connection.{IsSideOf, KeepsNoPart, side_tests}
+use Rattle.sasl_c.specs.Client.{IsLogin, IsNoLogin, IsReached, IsSide, WritesClient, fresh_struct}
+use Rattle.sasl_c.specs.Connection.{IsSideOf, KeepsNoPart, side_tests, struct_of}
 
 -- the hostname of a login: none where it is empty
 abbrev pub IsHostname : Login → Option (List ℕ) → Type 0
@@ -48,6 +48,18 @@ IsNoProfile login status = ((login.mechanism ≡ 0) × IsNoLogin login.login sta
 abbrev pub IsClient : Login → Struct → Side Profile → Type 0
 IsClient login client side = IsSideOf client.connection side × IsProfile login client.scram side.state
 
+-- the struct of SCRAM that a call writes for a profile: all zeros where it is not SCRAM's
+abbrev pub WritesProfile : ScramStruct → Profile → Type 0
+WritesProfile written (ScramProfile side) = WritesClient written side.state
+WritesProfile written (PlainProfile user password) = written ≡ fresh_struct
+WritesProfile written AnonymousProfile = written ≡ fresh_struct
+WritesProfile written ExternalProfile = written ≡ fresh_struct
+
+-- the structs that a call writes for a side
+abbrev pub WritesSide : Struct → Side Profile → Type 0
+WritesSide written side = (written.connection ≡ struct_of side.standing side.due side.held)
+    × WritesProfile written.scram side.state
+
 -- why the structs are those of no side that wants more bytes: the tests of the connection, those of the hostname and of
 -- the profile, and last that what was kept is a part of what is due
 abbrev pub IsNoClient : Login → Struct → Status → Type 0
@@ -78,5 +90,5 @@ unfoldable pub Receives : Login → List ℕ → List ℕ → Struct → Struct 
 Receives login bytes nonce before after taken (Ok sent) =
     (hostname : Option (List ℕ)) × (side next : Side Profile) × IsHostname login hostname
     × IsClient login before side × (side.standing ≡ Wanting)
-    × ClientReceives hostname side bytes nonce taken sent next × IsClient login after next
+    × ClientReceives hostname side bytes nonce taken sent next × IsClient login after next × WritesSide after next
 Receives login bytes nonce before after taken (Err status) = IsNoClient login before status

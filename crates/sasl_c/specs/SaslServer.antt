@@ -38,9 +38,9 @@ use Rattle.sasl_c.specs.declared.sasl_server.SaslServer.{SaslServer as Struct}
 use Rattle.sasl_c.specs.declared.server.ScramServer.{ScramServer as ScramStruct}
 use Rattle.sasl_c.specs.declared.status.Status.{Status}
 use Rattle.sasl_c.specs.declared.status.Status.TheVariants as statuses
-use Rattle.sasl_c.specs.Connection.{IsSideOf, Keeps, KeepsNoPart, side_tests}
+use Rattle.sasl_c.specs.Connection.{IsSideOf, Keeps, KeepsNoPart, side_tests, struct_of}
 use Rattle.sasl_c.specs.Records.{IsVersion, Shows}
-use Rattle.sasl_c.specs.Server.{HasLoggedIn, IsOpen}
+use Rattle.sasl_c.specs.Server.{HasLoggedIn, IsOpen, fresh_struct, logged_in_struct, open_struct}
 
 -- ---- the library's acceptor: one server of SCRAM, PLAIN, ANONYMOUS and EXTERNAL, of which some are offered
 
@@ -212,15 +212,34 @@ ShowsStanding scram Wanting opened user = ShowsOpen scram opened
 ShowsStanding scram LoggedIn opened user = ShowsUser scram user
 ShowsStanding scram (Closed why) opened user = scram.stands ≡ 0
 
+-- the struct of SCRAM that a call writes for such a login
+abbrev pub standing_struct : Standing → Option Challenge → Option (List ℕ) → ScramStruct
+standing_struct Wanting None user = fresh_struct
+standing_struct Wanting (Some challenge) user = open_struct challenge
+standing_struct LoggedIn opened None = fresh_struct
+standing_struct LoggedIn opened (Some user) = logged_in_struct user
+standing_struct (Closed why) opened user = fresh_struct
+
 -- so it shows a server
 abbrev pub ShowsState : ScramStruct → Standing → State → Type 0
 ShowsState scram standing server = ShowsStanding scram standing (open_in server) (user_in server)
+
+-- the struct that a call writes for a server
+abbrev pub state_struct : Standing → State → ScramStruct
+state_struct standing server = standing_struct standing (open_in server) (user_in server)
 
 -- the structs show a side, where this says what the one of SCRAM shows of its acceptor
 abbrev pub ShowsBy : {A S : Type 0} → (A → S) → (ScramStruct → Standing → A → Type 0) → Struct → ServerNegotiation A
     → Type 0
 ShowsBy state shows server next = let side = server_side state next in
     Keeps server.connection side.standing side.due side.held × shows server.scram side.standing (acceptor_in next)
+
+-- the structs that a call writes for a side
+abbrev pub struct_by : {A S : Type 0} → (A → S) → (Standing → A → ScramStruct) → ServerNegotiation A → Struct
+struct_by state written next = let side = server_side state next in record {
+  connection = struct_of side.standing side.due side.held;
+  scram = written side.standing (acceptor_in next);
+}
 
 -- no structs do: more is held than has room in one, or none shows how far the acceptor is
 abbrev pub HasNone : {A S : Type 0} → (A → S) → (ScramStruct → Standing → A → Type 0) → ServerNegotiation A → Type 0
@@ -231,6 +250,13 @@ HasNone state shows next = let side = server_side state next in
 unfoldable pub ShowsSide : Struct → Side State → Type 0
 ShowsSide server side = Keeps server.connection side.standing side.due side.held
     × ShowsState server.scram side.standing side.state
+
+-- the structs that a call writes for a side of the library's acceptor
+abbrev pub side_struct : Side State → Struct
+side_struct side = record {
+  connection = struct_of side.standing side.due side.held;
+  scram = state_struct side.standing side.state;
+}
 
 -- or none does
 unfoldable pub HasNoStruct : Side State → Type 0
@@ -271,7 +297,7 @@ IsNoServer host server status = IsFirst (side_tests server.connection) status
 unfoldable pub Received : Host → List ℕ → List ℕ → Struct → Struct → ℕ → List ℕ → Type 0
 Received host bytes nonce before after taken sent = (side next : Side State) × IsServer host before side
     × (side.standing ≡ Wanting) × ServerReceives state_names state_machine side bytes nonce taken sent next
-    × IsServer host after next
+    × IsServer host after next × (after ≡ side_struct next)
 
 -- or it does not, because the structs are those of no side, or no struct is that of the side behind the call
 unfoldable pub NotReceived : Host → List ℕ → List ℕ → Struct → Status → Type 0

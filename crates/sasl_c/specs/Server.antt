@@ -1,5 +1,5 @@
 -- A SCRAM server that stands in a struct of C between its calls (RFC 5802, sections 3 and 5).
-use Rattle.std.specs.Prelude.{Bool, true, false, ◌≡◌, ◌≤◌, ◌⊎◌, ℕ, List, [], ◌∷◌, length, take, Some, Result, Ok, Err}
+use Rattle.std.specs.Prelude.{Bool, true, false, ◌≡◌, ◌≤◌, ◌⊎◌, ℕ, List, [], ◌∷◌, length, replicate, take, Some, Result, Ok, Err}
 use Rattle.std.specs.Str.{IsUtf8}
 use Rattle.fe2o3_scram.specs.declared.scram_messages.error.ServerScramErrorKind.{ServerScramErrorKind}
 use Rattle.fe2o3_scram.specs.declared.scram_messages.error.ServerScramErrorKind.TheVariants.{IllegalAuthenticatorState}
@@ -7,6 +7,7 @@ use Rattle.fe2o3_scram.specs.ClientFirst.{ClientFirst, ReadsClientFirst}
 use Rattle.fe2o3_scram.specs.declared.scram_messages.gs2_header.Gs2Header.{Gs2Header}
 use Rattle.fe2o3_scram.specs.declared.scram_messages.gs2_header.Gs2Header.TheVariants.{Unsupported, Unoffered}
 use Rattle.fe2o3_scram.specs.Credentials.{Store, VersionedRecord, serving}
+use Rattle.fe2o3_scram.specs.Hmac.{zero_filled}
 use Rattle.fe2o3_scram.specs.ScramServer.{ConcludesFrom, ServerFirstSent, ServerFinalSent}
 use Rattle.fe2o3_scram.specs.ServerFirst.{AnswersClientFirst, Challenge}
 use Rattle.fe2o3_scram.specs.Texts.{base64_text}
@@ -55,6 +56,54 @@ IsOpen server challenge = (server.stands ≡ open_number challenge.header) × Ar
 abbrev pub HasLoggedIn : Struct → List ℕ → Type 0
 HasLoggedIn server user = (server.stands ≡ 2) × (server.user_len ≤ 256) × (user ≡ take server.user_len server.user)
 
+-- ---- the structs that calls write: every field that a state does not name is zero, and so is each byte after a length
+
+-- of a server with no open challenge, which has logged nobody in
+abbrev pub fresh_struct : Struct
+fresh_struct = record {
+  stands = 0;
+  user_len = 0;
+  bare_len = 0;
+  nonce_len = 0;
+  first_len = 0;
+  user = replicate 256 0;
+  bare = replicate 1024 0;
+  nonce = replicate 512 0;
+  first = replicate 1024 0;
+}
+
+-- of one whose challenge is open
+abbrev pub open_struct : Challenge → Struct
+open_struct challenge = record {
+  stands = open_number challenge.header;
+  user_len = length challenge.user;
+  bare_len = length challenge.bare;
+  nonce_len = length challenge.nonce;
+  first_len = length challenge.first;
+  user = zero_filled 256 challenge.user;
+  bare = zero_filled 1024 challenge.bare;
+  nonce = zero_filled 512 challenge.nonce;
+  first = zero_filled 1024 challenge.first;
+}
+
+-- of one that has logged in the user whose name is so many bytes of this array
+abbrev pub user_struct : ℕ → List ℕ → Struct
+user_struct len array = record {
+  stands = 2;
+  user_len = len;
+  bare_len = 0;
+  nonce_len = 0;
+  first_len = 0;
+  user = array;
+  bare = replicate 1024 0;
+  nonce = replicate 512 0;
+  first = replicate 1024 0;
+}
+
+-- of one that has logged this user in
+abbrev pub logged_in_struct : List ℕ → Struct
+logged_in_struct user = user_struct (length user) (zero_filled 256 user)
+
 -- ---- what the calls answer (RFC 5802, section 5), and the struct after them
 
 -- a client-first message is answered by this challenge, where the record is that of the user whom it names; a client
@@ -81,7 +130,7 @@ Challenges unbound kept nonce text (Err status) = NotChallenged unbound kept non
 -- the struct after it
 abbrev pub Opens : Bool → Kept → List ℕ → List ℕ → Struct → Struct → Result (Unit {0}) Status → Type 0
 Opens unbound kept nonce text before after (Ok done) = (challenge : Challenge)
-    × Challenged unbound kept nonce text challenge × IsOpen after challenge
+    × Challenged unbound kept nonce text challenge × IsOpen after challenge × (after ≡ open_struct challenge)
 Opens unbound kept nonce text before after (Err status) = after ≡ before
 
 -- the user whom the message of an init names, behind either GS2 header
@@ -102,7 +151,7 @@ Concluded kept before text message user = (challenge : Challenge) × (shown : Ve
 -- record shows none, or it shows one and the message is refused
 unfoldable pub Concludes : Kept → List ℕ → Struct → Struct → Result (List ℕ) Status → Type 0
 Concludes kept text before after (Ok message) = (user : List ℕ) × Concluded kept before text message user
-    × HasLoggedIn after user
+    × HasLoggedIn after user × (after ≡ logged_in_struct user)
 Concludes kept text before after (Err status) =
     ((status ≡ server_status IllegalAuthenticatorState) × ((challenge : Challenge) → ¬ IsOpen before challenge))
     ⊎ ((challenge : Challenge) × IsOpen before challenge × SpellsStruct kept (Err status))

@@ -21,8 +21,8 @@ use Rattle.sasl_c.specs.declared.server.ScramServer.{ScramServer as ServerStruct
 use Rattle.sasl_c.specs.declared.status.Status.{Status}
 use Rattle.sasl_c.specs.declared.status.Status.TheVariants as statuses
 use Rattle.sasl_c.specs.Connection.{closed_status, frame_status, profile_status}
-use Rattle.sasl_c.specs.SaslClient.{Comes, HasNoHostname, IsHostname, IsNoProfile, IsProfile}
-use Rattle.sasl_c.specs.SaslServer.{BodyNames, BodyNamesNobody, Comes as HostComes, IsNoHost, ShowsState, State, state_machine, state_names}
+use Rattle.sasl_c.specs.SaslClient.{Comes, HasNoHostname, IsHostname, IsNoProfile, IsProfile, WritesProfile}
+use Rattle.sasl_c.specs.SaslServer.{BodyNames, BodyNamesNobody, Comes as HostComes, IsNoHost, ShowsState, State, state_machine, state_names, state_struct}
 use Rattle.sasl_c.specs.Status.{status_number}
 
 -- how a login stands behind an outcome of this code (part 5, section 5.3.3.6)
@@ -65,7 +65,7 @@ ClientHides (Refused fault) status = (why : ProfileError) × (fault ≡ client_f
 abbrev pub ProfileStepped : Option (List ℕ) → Profile → Given → ClientStruct → Standing → List ℕ → Type 0
 ProfileStepped hostname profile event after stands sent = (next : Profile) × (says : ClientSays)
     × ProfileSteps hostname profile event says next × ClientTells says sent stands
-    × ((login : Login) → Comes login next → IsProfile login after next)
+    × ((login : Login) → Comes login next → IsProfile login after next) × WritesProfile after next
 
 -- or none: it refuses the body, or no login comes to the one behind it
 abbrev pub ProfileNotStepped : Option (List ℕ) → Profile → Given → Status → Type 0
@@ -78,7 +78,7 @@ unfoldable pub ClientStepped : Login → Given → ClientStruct → ClientStruct
 ClientStepped login event before after standing sent = (hostname : Option (List ℕ)) × (profile next : Profile)
     × (says : ClientSays) × (stands : Standing) × IsHostname login hostname × IsProfile login before profile
     × ProfileSteps hostname profile event says next × ClientTells says sent stands
-    × (standing ≡ standing_number stands) × IsProfile login after next
+    × (standing ≡ standing_number stands) × IsProfile login after next × WritesProfile after next
 
 -- or none: the hostname cannot be sent, the login has no profile, or it refuses the body
 unfoldable pub ClientNotStepped : Login → Given → ClientStruct → Status → Type 0
@@ -118,9 +118,11 @@ ServerHides (Failed fault) status = status ≡ frame_status fault
 
 -- an acceptor makes a step over a body, after which the struct shows it
 abbrev pub IsStepped : {A S : Type 0} → (A → S) → (S → List ℕ → SaslFrame → SaslFrame → S → Type 0)
-    → (ServerStruct → Standing → A → Type 0) → S → Given → ServerStruct → Standing → List ℕ → Type 0
-IsStepped {A} state machine shows server event after stands sent = (next : A) × (says : ServerSays)
+    → (ServerStruct → Standing → A → Type 0) → (Standing → A → ServerStruct) → S → Given → ServerStruct → Standing
+    → List ℕ → Type 0
+IsStepped {A} state machine shows written server event after stands sent = (next : A) × (says : ServerSays)
     × AcceptorSteps machine server event says (state next) × ServerTells says sent stands × shows after stands next
+    × (after ≡ written stands next)
 
 -- or none: it refuses the body, or no struct shows it
 abbrev pub NotStepped : {A S : Type 0} → (A → S) → (S → List ℕ → SaslFrame → SaslFrame → S → Type 0)
@@ -134,7 +136,7 @@ NotStepped {A} state machine shows server event status = (next : A) × (says : S
 unfoldable pub ServerStepped : Host → Given → ServerStruct → ServerStruct → ℕ → List ℕ → Type 0
 ServerStepped host event before after standing sent = (server : State) × (stands : Standing)
     × Serves host before Wanting server
-    × IsStepped (λ (next : State). next) state_machine (Serves host) server event after stands sent
+    × IsStepped (λ (next : State). next) state_machine (Serves host) state_struct server event after stands sent
     × (standing ≡ standing_number stands)
 
 -- or none: the host has no acceptor, or it makes none

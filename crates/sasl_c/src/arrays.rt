@@ -19,6 +19,16 @@ pub fn padded<const N: usize>(bytes: &[u8]) -> Option<[u8; N]>
     Some(array)
 }
 
+/// The bytes of an array before a length, and zeros after them.
+pub fn cleared<const N: usize>(array: &[u8; N], len: u32) -> [u8; N]
+    requires { len ≤ N }
+    ensures { result ≡ zero_filled N (take len array.now) }
+{
+    let mut kept = [0; N];
+    kept[..len as usize].copy_from_slice(&array[..len as usize]);
+    kept
+}
+
 /// So many bytes of the head of an array, or `None` where it has fewer.
 pub fn head(array: &[u8], len: u32) -> Option<&[u8]>
     ensures { MatchOption result (length array.now < len)

@@ -1,14 +1,14 @@
 //! A SCRAM client, which stands in a struct between its calls.
 
-ghost use Rattle.std.specs.Prelude.{◌≡◌, ◌≢◌, ◌<◌, ◌≤◌, length, IfOk, IfErr, MatchOption, Option, Some, List, ℕ, Ok, option_map};
+ghost use Rattle.std.specs.Prelude.{◌≡◌, ◌≢◌, ◌<◌, ◌≤◌, length, IfOk, IfErr, IfSome, MatchOption, Option, Some, List, ℕ, Ok, option_map};
 ghost use Rattle.std.specs.Str.{IsUtf8};
 ghost use Rattle.std.specs.String.{string_bytes};
 ghost use Rattle.fe2o3_scram.specs.ScramClient.{ClientFinalSent, Initial};
 ghost use Rattle.fe2o3_scram.specs.Readings.{IsFirst, Reads};
 ghost use Rattle.sasl_c.specs.Records.{IsVersion};
 ghost use Rattle.fe2o3_scram.specs.ClientKeys.{ClientKeys as Keys};
-ghost use Rattle.sasl_c.specs.Client.{Believes, HandsOut, Holds, HoldsNone, IsLogin, IsNoLogin, IsNoSecret, IsSecret, IsReached, IsSide, IsState, Started, Starts, keys_tests, name_tests};
-ghost use Rattle.sasl_c.specs.Keys.{ShowsKeys};
+ghost use Rattle.sasl_c.specs.Client.{Believes, HandsOut, Holds, HoldsNone, IsLogin, IsNoLogin, IsNoSecret, IsSecret, IsReached, IsSide, IsState, Started, Starts, WritesClient, complete_struct, fresh_struct, keys_tests, name_tests, started_struct};
+ghost use Rattle.sasl_c.specs.Keys.{ShowsKeys, WritesKeys, no_keys_struct};
 ghost use Rattle.sasl_c.specs.Status.{Answers, Fills, Makes, written};
 ghost use Rattle.sasl_c.specs.declared.status.Status.TheVariants.{OutOfMemory as StatusOutOfMemory, NotUtf8 as StatusNotUtf8, RoomTooSmall};
 
@@ -73,7 +73,8 @@ pub struct ScramClient {
 
 /// A struct that shows no keys.
 fn no_keys() -> ClientKeys
-    ensures { HoldsNone result }
+    ensures none { HoldsNone result }
+    ensures writes { result ≡ no_keys_struct }
 {
     ClientKeys {
         version: 0,
@@ -87,7 +88,8 @@ fn no_keys() -> ClientKeys
 
 /// The struct of a client's keys, where it has some that have room.
 fn held(keys: Option<&ScramClientKeys>) -> ClientKeys
-    ensures { Holds result (option_map (λ held. held.now) keys.entry) }
+    ensures holds { Holds result (option_map (λ held. held.now) keys.entry) }
+    ensures writes { WritesKeys result (option_map (λ held. held.now) keys.entry) }
 {
     match keys {
         Some(keys) => match ClientKeys::of(keys) {
@@ -101,7 +103,8 @@ fn held(keys: Option<&ScramClientKeys>) -> ClientKeys
 impl ScramClient {
     /// The struct of a client that has sent nothing.
     pub fn fresh() -> ScramClient
-        ensures { (user : List ℕ) → IsState user result Initial }
+        ensures state { (user : List ℕ) → IsState user result Initial }
+        ensures writes { result ≡ fresh_struct }
     {
         ScramClient {
             sent: 0,
@@ -116,6 +119,7 @@ impl ScramClient {
     fn started(nonce: &[u8; 32]) -> ScramClient
         ensures sent { result.sent ≡ 1 }
         ensures nonce { result.nonce ≡ nonce.now }
+        ensures writes { result ≡ started_struct nonce.now }
     {
         ScramClient {
             sent: 1,
@@ -129,8 +133,9 @@ impl ScramClient {
     /// The struct of a client, or `None` where the signature that it waits for has no room.
     #[tactic(auto, using(crate::proofs::StateLemmas::of_state))]
     pub fn of(machine: &Machine) -> Option<ScramClient>
-        ensures { (user : List ℕ) → IsReached user machine.now.state
+        ensures state { (user : List ℕ) → IsReached user machine.now.state
             → MatchOption result ⊥ (λ client. IsState user client machine.now.state) }
+        ensures writes { IfSome result (λ client. WritesClient client machine.now.state) }
     {
         if let Some(nonce) = machine.nonce() {
             return Some(ScramClient::started(nonce));
@@ -153,8 +158,10 @@ impl ScramClient {
     /// The struct of a client that waits for this signature, with the keys of its answer where they have room, or
     /// `None` where the signature has none.
     fn waiting_for(signature: &[u8], keys: Option<&ScramClientKeys>) -> Option<ScramClient>
-        ensures { MatchOption result (64 < length signature.now) (λ client. (user : List ℕ)
+        ensures state { MatchOption result (64 < length signature.now) (λ client. (user : List ℕ)
             → IsState user client (ClientFinalSent signature.now (option_map (λ held. held.now) keys.entry))) }
+        ensures writes { IfSome result (λ client.
+            WritesClient client (ClientFinalSent signature.now (option_map (λ held. held.now) keys.entry))) }
     {
         Some(ScramClient {
             sent: 2,
@@ -167,8 +174,10 @@ impl ScramClient {
 
     /// The struct of a client that has sent this answer, or `None` where the signature that it waits for has no room.
     pub fn answered(answer: &ClientAnswer) -> Option<ScramClient>
-        ensures { MatchOption result (64 < length answer.now.signature.items) (λ client. (user : List ℕ)
+        ensures state { MatchOption result (64 < length answer.now.signature.items) (λ client. (user : List ℕ)
             → IsState user client (ClientFinalSent answer.now.signature.items (Some answer.now.keys))) }
+        ensures writes { IfSome result (λ client.
+            WritesClient client (ClientFinalSent answer.now.signature.items (Some answer.now.keys))) }
     {
         ScramClient::waiting_for(&answer.signature, Some(&answer.keys))
     }
@@ -176,11 +185,22 @@ impl ScramClient {
     /// The struct of a client that has sent its client-final message, or `None` where it has not, or where the
     /// signature that it waits for has no room.
     fn waiting(machine: &Machine) -> Option<ScramClient>
-        ensures { MatchOption result
+        ensures state { MatchOption result
             ((signature : List ℕ) (keys : Option Keys) → machine.now.state ≡ ClientFinalSent signature keys
             → 64 < length signature) (λ client. (user : List ℕ) → IsState user client machine.now.state) }
+        ensures writes { IfSome result (λ client. WritesClient client machine.now.state) }
     {
         ScramClient::waiting_for(machine.server_signature()?, machine.answer_keys())
+    }
+
+    /// Makes it the struct of a client whose login is complete, which keeps the keys and nothing else of the exchange.
+    fn complete(&mut self)
+        ensures { self.new ≡ complete_struct self.old.keys }
+    {
+        self.sent = 3;
+        self.signature_len = 0;
+        self.nonce = [0; 32];
+        self.signature = [0; 64];
     }
 
     /// The client that the struct is, of this login.
@@ -397,7 +417,7 @@ fn begin(
 ) -> Result<(), Status>
     ensures len { len.new ≡ length message.now }
     ensures ok { IfOk result (λ _. (length message.now ≤ length out.old) × (out.new ≡ written message.now out.old)) }
-    ensures sent { IfOk result (λ _. (client.new.sent ≡ 1) × (client.new.nonce ≡ nonce.now)) }
+    ensures sent { IfOk result (λ _. client.new ≡ started_struct nonce.now) }
     ensures err { IfErr result (λ status. (status ≡ RoomTooSmall) × (length out.old < length message.now)
         × (out.new ≡ out.old)) }
     ensures stays { IfErr result (λ _. client.new ≡ client.old) }
@@ -468,7 +488,7 @@ fn verify(
         return Err(Status::from(why));
     }
     drop(machine);
-    client.sent = 3;
+    client.complete();
     Ok(())
 }
 

@@ -1,11 +1,11 @@
 //! A side of a connection, which stands in a struct between its calls (AMQP 1.0, part 5, section 5.3.2).
 
-ghost use Rattle.std.specs.Prelude.{◌≡◌, ◌≢◌, ◌<◌, length, IfOk, IfErr, MatchOption};
+ghost use Rattle.std.specs.Prelude.{◌≡◌, ◌≢◌, ◌<◌, length, IfOk, IfErr, IfSome, MatchOption};
 ghost use Rattle.fe2o3_sasl_negotiation.specs.declared.standing.Due.{Due as DueUnit};
 ghost use Rattle.fe2o3_sasl_negotiation.specs.declared.standing.Standing.TheVariants.{Wanting};
 ghost use Rattle.sasl_c.specs.declared.status.Status.TheVariants.{RoomTooSmall};
 ghost use Rattle.fe2o3_scram.specs.Readings.{IsFirst};
-ghost use Rattle.sasl_c.specs.Connection.{Keeps, closed_status, code_status, due_number, frame_status, profile_status, side_tests};
+ghost use Rattle.sasl_c.specs.Connection.{Keeps, closed_status, code_status, due_number, frame_status, profile_status, side_tests, struct_of};
 
 use crate::arrays::{head, padded};
 use crate::status::Status;
@@ -124,8 +124,10 @@ pub fn of_closed(why: ClosedBecause) -> Status
 impl Connection {
     /// The struct that keeps these values, or `None` where more than 512 bytes are held.
     pub fn of(kept: &SetDown<'_>) -> Option<Connection>
-        ensures { MatchOption result (512 < length kept.now.held.now)
+        ensures keeps { MatchOption result (512 < length kept.now.held.now)
             (λ connection. Keeps connection kept.now.standing kept.now.due kept.now.held.now) }
+        ensures writes { IfSome result (λ connection.
+            connection ≡ struct_of kept.now.standing kept.now.due kept.now.held.now) }
     {
         let (standing, why) = match kept.standing {
             Standing::Wanting => (0, 0),

@@ -1,12 +1,12 @@
 //! The client's side of a connection, which stands in a struct between its calls.
 
-ghost use Rattle.std.specs.Prelude.{◌≡◌, ◌≢◌, ◌≤◌, ◌^◌, List, ℕ, Ok, Err, length, option_map, string_bytes, IfOk, IfErr, OnErr, MatchOption};
+ghost use Rattle.std.specs.Prelude.{◌≡◌, ◌≢◌, ◌≤◌, ◌^◌, List, ℕ, Ok, Err, length, option_map, string_bytes, IfOk, IfErr, IfSome, OnErr, MatchOption};
 ghost use Rattle.fe2o3_sasl_runs.specs.Profiles.{PlainProfile};
 ghost use Rattle.fe2o3_sasl_runs.specs.SaslProfile.{profile_of};
 ghost use Rattle.fe2o3_sasl_negotiation.specs.declared.standing.Standing.TheVariants.{Wanting};
 ghost use Rattle.fe2o3_sasl_negotiation.specs.ClientNegotiation.{ClientReceives};
 ghost use Rattle.fe2o3_sasl_negotiation.specs.Sides.{client_side, hostname_in};
-ghost use Rattle.sasl_c.specs.SaslClient.{Comes, HasNoWords, IsClient, IsHostname, IsNoClient, HasNoHostname, IsNoProfile, IsProfile, Opens, Receives};
+ghost use Rattle.sasl_c.specs.SaslClient.{Comes, HasNoWords, IsClient, IsHostname, IsNoClient, HasNoHostname, IsNoProfile, IsProfile, Opens, Receives, WritesProfile, WritesSide};
 ghost use Rattle.sasl_c.specs.declared.sasl_client.SaslClient.{SaslClient as Structs};
 ghost use Rattle.sasl_c.specs.declared.sasl_client.SaslLogin.{SaslLogin as LoginStruct};
 ghost use Rattle.sasl_c.specs.Status.{Answers, Fills, FillsWithin};
@@ -96,8 +96,9 @@ impl SaslLogin<'_> {
 
 /// The struct of a profile's client of SCRAM, and a fresh one of another profile.
 pub fn scram_of(profile: &SaslProfile) -> Option<ScramClient>
-    ensures { (login : LoginStruct) → Comes login (profile_of profile.now)
+    ensures state { (login : LoginStruct) → Comes login (profile_of profile.now)
         → MatchOption result ⊥ (λ scram. IsProfile login scram (profile_of profile.now)) }
+    ensures writes { IfSome result (λ scram. WritesProfile scram (profile_of profile.now)) }
 {
     match profile.scram_client() {
         Some(machine) => ScramClient::of(machine),
@@ -108,9 +109,10 @@ pub fn scram_of(profile: &SaslProfile) -> Option<ScramClient>
 impl SaslClient {
     /// The structs of a side.
     fn of(side: &ClientNegotiation) -> Option<SaslClient>
-        ensures { (login : LoginStruct) → Comes login (client_side side.now).state → (client_side side.now).limit ≡ 512
-            → length (client_side side.now).held ≤ 512
+        ensures state { (login : LoginStruct) → Comes login (client_side side.now).state
+            → (client_side side.now).limit ≡ 512 → length (client_side side.now).held ≤ 512
             → MatchOption result ⊥ (λ client. IsClient login client (client_side side.now)) }
+        ensures writes { IfSome result (λ client. WritesSide client (client_side side.now)) }
     {
         let kept = side.set_down();
         let Some(connection) = Connection::of(&kept) else {
@@ -186,7 +188,7 @@ fn taken(
     ensures ok { IfOk result (λ made. (login : LoginStruct) (before : Structs) → IsClient login before (client_side side.old)
         → (client_side side.old).standing ≡ Wanting → ClientReceives (hostname_in side.old) (client_side side.old) bytes.now
         nonce.now made.taken made.sent.items (client_side side.new) × IsClient login made.next (client_side side.new)
-        × (length made.sent.items ≤ 512)) }
+        × (length made.sent.items ≤ 512) × WritesSide made.next (client_side side.new)) }
     ensures err { IfErr result (λ status. status ≢ StatusOutOfMemory → (login : LoginStruct) (before : Structs)
         → IsClient login before (client_side side.old) → (client_side side.old).standing ≢ Wanting) }
     ensures room { IfErr result (λ status. status ≢ RoomTooSmall) }

@@ -1,6 +1,6 @@
 //! The server's side of a connection, which stands in a struct between its calls.
 
-ghost use Rattle.std.specs.Prelude.{◌≡◌, ◌≢◌, ◌<◌, ◌≤◌, ◌⊎◌, ◌+◌, ◌^◌, ℕ, List, Ok, length, map, option_map, string_bytes, IfOk, IfErr, OnErr, MatchOption};
+ghost use Rattle.std.specs.Prelude.{◌≡◌, ◌≢◌, ◌<◌, ◌≤◌, ◌⊎◌, ◌+◌, ◌^◌, ℕ, List, Ok, length, map, option_map, string_bytes, IfOk, IfErr, IfSome, OnErr, MatchOption};
 ghost use Rattle.std.specs.Str.{IsUtf8};
 ghost use Rattle.fe2o3_scram.specs.ScramServer.{challenge_kept, provider_in, state_in, unbound_in};
 ghost use Rattle.fe2o3_sasl_negotiation.specs.declared.standing.Standing.{Standing as StandingOf};
@@ -8,7 +8,7 @@ ghost use Rattle.fe2o3_sasl_negotiation.specs.declared.standing.Standing.TheVari
 ghost use Rattle.fe2o3_sasl_negotiation.specs.ServerNegotiation.{ServerReceives};
 ghost use Rattle.fe2o3_sasl_negotiation.specs.SetDown.{IsKept, side_of};
 ghost use Rattle.fe2o3_sasl_negotiation.specs.Sides.{server_side};
-ghost use Rattle.sasl_c.specs.SaslServer.{Comes, HasNoWords, HasNone, HasRecords, IsAll, IsNoHost, NotReceived, Received, Receives, ShowsBy, ShowsStanding, ShowsState, Stands, all_in, all_of, allowed_of, name_where, one_where, state_of, sum_of};
+ghost use Rattle.sasl_c.specs.SaslServer.{Comes, HasNoWords, HasNone, HasRecords, IsAll, IsNoHost, NotReceived, Received, Receives, ShowsBy, ShowsStanding, ShowsState, Stands, all_in, all_of, allowed_of, name_where, one_where, standing_struct, state_of, state_struct, struct_by, sum_of};
 ghost use Rattle.sasl_c.specs.declared.sasl_server.Choice.{Choice as Choices};
 ghost use Rattle.sasl_c.specs.declared.server.ScramServer.{ScramServer as ScramStruct};
 ghost use Rattle.sasl_c.specs.Status.{Answers, FillsWithin};
@@ -296,11 +296,13 @@ fn shown(
     challenge: Option<OpenChallenge<'_>>,
     user: Option<&str>,
 ) -> Option<ScramServer>
-    ensures { MatchOption result
+    ensures shows { MatchOption result
         ((scram : ScramStruct) → ¬ ShowsStanding scram standing (option_map challenge_kept challenge.entry)
         (option_map (λ user. user.now) user.entry)) (λ scram. ShowsStanding scram standing
         (option_map challenge_kept challenge.entry)
         (option_map (λ user. user.now) user.entry)) }
+    ensures writes { IfSome result (λ scram. scram ≡ standing_struct standing
+        (option_map challenge_kept challenge.entry) (option_map (λ user. user.now) user.entry)) }
 {
     match standing {
         Standing::Wanting => match challenge {
@@ -319,14 +321,19 @@ fn shown(
 pub trait Shows: NamesUser {
     ghost shows: { ScramStruct → StandingOf → Self → Type 0 };
 
+    ghost written_for: { StandingOf → Self → ScramStruct };
+
     /// The struct that shows it where the login stands so, or `None` where a text has no room in it.
     fn shown(&self, standing: Standing) -> Option<ScramServer>
-        ensures { MatchOption result ((scram : ScramStruct) → ¬ shows scram standing self.now)
-            (λ scram. shows scram standing self.now) };
+        ensures shows { MatchOption result ((scram : ScramStruct) → ¬ shows scram standing self.now)
+            (λ scram. shows scram standing self.now) }
+        ensures writes { IfSome result (λ scram. scram ≡ written_for standing self.now) };
 }
 
 impl Shows for Acceptor {
     ghost shows = { λ scram standing acceptor. ShowsState scram standing (state_of acceptor) };
+
+    ghost written_for = { λ standing acceptor. state_struct standing (state_of acceptor) };
 
     fn shown(&self, standing: Standing) -> Option<ScramServer> {
         shown(
@@ -340,8 +347,9 @@ impl Shows for Acceptor {
 impl SaslServer {
     /// The structs of a side, or `None` where a text has no room in them.
     fn of<A: Shows>(side: &ServerNegotiation<A>) -> Option<SaslServer>
-        ensures { MatchOption result (HasNone A.state A.shows side.now)
+        ensures shows { MatchOption result (HasNone A.state A.shows side.now)
             (λ server. ShowsBy A.state A.shows server side.now) }
+        ensures writes { IfSome result (λ server. server ≡ struct_by A.state A.written_for side.now) }
     {
         let Some(connection) = Connection::of(&side.set_down()) else {
             return None;
@@ -378,7 +386,7 @@ fn taken<A: Shows + Drop>(
     requires { meter.old ≤ 2 ^ 63 }
     ensures ok { IfOk result (λ made. (next : ServerNegotiation A) × ServerReceives A.names A.machine
         (side_of kept.now (A.state acceptor)) bytes.now nonce.now made.taken made.sent.items (server_side A.state next)
-        × ShowsBy A.state A.shows made.next next) }
+        × ShowsBy A.state A.shows made.next next × (made.next ≡ struct_by A.state A.written_for next)) }
     ensures err { IfErr result (λ status. status ≢ StatusOutOfMemory → ((status ≡ StatusNotKept) × ¬ IsKept kept.now)
         ⊎ ((status ≡ StatusTooLong) × ((next : ServerNegotiation A) × (taken : ℕ) × (sent : List ℕ)
         × ServerReceives A.names A.machine (side_of kept.now (A.state acceptor)) bytes.now nonce.now taken sent

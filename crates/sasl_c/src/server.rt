@@ -1,14 +1,14 @@
 //! A SCRAM server, which stands in a struct between its calls.
 
-ghost use Rattle.std.specs.Prelude.{false, true, ◌≡◌, ◌≢◌, ◌<◌, ◌≤◌, ◌^◌, List, ℕ, length, take, Ok, Err, IfOk, IfErr, OnErr, MatchOption};
+ghost use Rattle.std.specs.Prelude.{false, true, ◌≡◌, ◌≢◌, ◌<◌, ◌≤◌, ◌^◌, List, ℕ, length, take, Ok, Err, IfOk, IfErr, IfSome, OnErr, MatchOption};
 ghost use Rattle.fe2o3_scram.specs.ServerFirst.{Challenge};
 ghost use Rattle.fe2o3_scram.specs.ScramServer.{Initial, ServerFirstSent, challenge_kept, provider_in, state_in, unbound_in};
 ghost use Rattle.fe2o3_scram.specs.declared.scram_messages.gs2_header.Gs2Header.{Gs2Header as HeaderOf};
-ghost use Rattle.sasl_c.specs.Server.{Challenged, Challenges, Concluded, Concludes, HasLoggedIn, HasRoom, IsOpen, NamesUser, NotChallenged, Opens, TellsUser, open_number};
+ghost use Rattle.sasl_c.specs.Server.{Challenged, Challenges, Concluded, Concludes, HasLoggedIn, HasRoom, IsOpen, NamesUser, NotChallenged, Opens, TellsUser, fresh_struct, logged_in_struct, open_number, open_struct, user_struct};
 ghost use Rattle.sasl_c.specs.Status.{Answers, Fills, FillsWithin};
 ghost use Rattle.sasl_c.specs.declared.status.Status.TheVariants.{OutOfMemory as StatusOutOfMemory, RoomTooSmall};
 
-use crate::arrays::{head, padded, put};
+use crate::arrays::{cleared, head, padded, put};
 use crate::records::ScramRecord;
 use crate::status::{Status, number};
 use fe2o3_scram::{
@@ -55,7 +55,8 @@ type Machine = ScramAuthenticator<StoredScramCredential>;
 impl ScramServer {
     /// The struct of a server that has nobody's challenge open, and has logged nobody in.
     pub fn fresh() -> ScramServer
-        ensures { result.stands ≡ 0 }
+        ensures stands { result.stands ≡ 0 }
+        ensures writes { result ≡ fresh_struct }
     {
         ScramServer {
             stands: 0,
@@ -70,37 +71,46 @@ impl ScramServer {
         }
     }
 
-    /// The struct of a server that has logged this user in, or `None` where the name has no room.
-    pub fn logged_in(user: &str) -> Option<ScramServer>
-        ensures { MatchOption result (256 < length user.now) (λ server. HasLoggedIn server user.now) }
+    /// The struct of a server that has logged in the user whose name is so many bytes of this array.
+    fn with_user(user: [u8; 256], user_len: u32) -> ScramServer
+        ensures { result ≡ user_struct user_len user }
     {
-        let name = padded(user.as_bytes())?;
-        Some(ScramServer {
+        ScramServer {
             stands: 2,
-            user_len: user.len() as u32,
+            user_len,
             bare_len: 0,
             nonce_len: 0,
             first_len: 0,
-            user: name,
+            user,
             bare: [0; 1024],
             nonce: [0; 512],
             first: [0; 1024],
-        })
+        }
     }
 
-    /// Shows that the user of the challenge has logged in.
-    fn log_in(&mut self)
-        ensures stands { self.new.stands ≡ 2 }
-        ensures user_len { self.new.user_len ≡ self.old.user_len }
-        ensures user { self.new.user ≡ self.old.user }
+    /// The struct of a server that has logged this user in, or `None` where the name has no room.
+    pub fn logged_in(user: &str) -> Option<ScramServer>
+        ensures user { MatchOption result (256 < length user.now) (λ server. HasLoggedIn server user.now) }
+        ensures writes { IfSome result (λ server. server ≡ logged_in_struct user.now) }
     {
-        self.stands = 2;
+        let name = padded(user.as_bytes())?;
+        Some(ScramServer::with_user(name, user.len() as u32))
+    }
+
+    /// Makes it the struct of a server that has logged the user of the challenge in, which keeps the name and nothing else
+    /// of the exchange.
+    fn log_in(&mut self)
+        requires { self.old.user_len ≤ 256 }
+        ensures { self.new ≡ logged_in_struct (take self.old.user_len self.old.user) }
+    {
+        *self = ScramServer::with_user(cleared(&self.user, self.user_len), self.user_len);
     }
 
     /// The struct of a server whose challenge is open, or `None` where a text of it has no room.
     pub fn of(challenge: &OpenChallenge<'_>) -> Option<ScramServer>
-        ensures { MatchOption result (¬ HasRoom (challenge_kept challenge.now))
+        ensures open { MatchOption result (¬ HasRoom (challenge_kept challenge.now))
             (λ server. HasRoom (challenge_kept challenge.now) × IsOpen server (challenge_kept challenge.now)) }
+        ensures writes { IfSome result (λ server. server ≡ open_struct (challenge_kept challenge.now)) }
     {
         Some(ScramServer {
             stands: open_number(challenge.header),
@@ -222,7 +232,8 @@ fn opened(
     client_first: &[u8],
 ) -> Result<ScramServer, Status>
     ensures ok { IfOk result (λ opened. (challenge : Challenge)
-        × Challenged accepts_unbound kept.now nonce.now client_first.now challenge × IsOpen opened challenge) }
+        × Challenged accepts_unbound kept.now nonce.now client_first.now challenge × IsOpen opened challenge
+        × (opened ≡ open_struct challenge)) }
     ensures message { IfOk result (λ opened. Challenges accepts_unbound kept.now nonce.now client_first.now
         (Ok (take opened.first_len opened.first)) × (opened.first_len ≤ 1024)) }
     ensures err { IfErr result (λ status. status ≢ StatusOutOfMemory
@@ -349,6 +360,7 @@ fn concluded(
     ensures ok { IfOk result (λ message. (user : List ℕ)
         × Concluded kept.now server.now client_final.now message.items user) }
     ensures fits { IfOk result (λ message. length message.items ≤ 90) }
+    ensures named { IfOk result (λ _. server.now.user_len ≤ 256) }
     ensures err { IfErr result (λ status. status ≢ StatusOutOfMemory
         → Concludes kept.now client_final.now server.now server.now (Err status)) }
     ensures room { IfErr result (λ status. status ≢ RoomTooSmall) }

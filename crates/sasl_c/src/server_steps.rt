@@ -116,7 +116,7 @@ fn stepped<A: Shows + Drop>(
     meter: &mut Meter,
 ) -> Result<Made, Status>
     requires { meter.old ≤ 2 ^ 63 }
-    ensures ok { IfOk result (λ made. IsStepped A.state A.machine A.shows (A.state acceptor)
+    ensures ok { IfOk result (λ made. IsStepped A.state A.machine A.shows A.written_for (A.state acceptor)
         (record { body = body.now; nonce = nonce.now }) made.next made.standing made.sent.items) }
     ensures err { IfErr result (λ status. status ≢ StatusOutOfMemory → NotStepped A.state A.machine A.shows
         (A.state acceptor)

@@ -11,7 +11,7 @@ returns-in_default-answered-clause-text c =
         search rules,
         refl,
         λ _. always_waits c.args.login.now c.args.client.now c.args.server_first.now c.in_ok-answer.answer.message.items
-            c.in_ok-answer.answer.signature.items c.in_ok-answer.answer.keys held c.in_default-answered.ensures,
+            c.in_ok-answer.answer.signature.items c.in_ok-answer.answer.keys held c.in_default-answered.ensures.state,
       ),
     )
 
@@ -36,5 +36,5 @@ returns-clause-text c =
     let held = rw c.in-Ok.ensures.cases.0 at c.in_ok-answer.ensures.ok in
     let done = responds c.args.login.now c.args.client.now c.in-Some.waiting c.args.server_first.now
     c.in_ok-answer.answer.message.items
-    c.in_ok-answer.answer.signature.items c.in_ok-answer.answer.keys held c.in-Some.ensures in
+    c.in_ok-answer.answer.signature.items c.in_ok-answer.answer.keys held c.in-Some.ensures.state c.in-Some.ensures.writes in
     (c.in_ok-answer.answer.message.items, done, search rules, search rules, search rules)

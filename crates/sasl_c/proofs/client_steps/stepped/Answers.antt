@@ -31,7 +31,7 @@ returns-in_default-clause-err c = λ other. (
   profile_of c.profile_body_step.new.profile,
   client_reply c.in-Ok.reply,
   c.in-Ok.ensures.step,
-  inr c.in_default.ensures,
+  inr c.in_default.ensures.state,
 )
 
 pub returns-clause-ok : goal.returns-clause-ok
@@ -40,5 +40,6 @@ returns-clause-ok c = (
   client_reply c.in-Ok.reply,
   c.in-Ok.ensures.step,
   c.in-Ok-told.ensures.told,
-  c.in-Some.ensures,
+  c.in-Some.ensures.state,
+  c.in-Some.ensures.writes,
 )

@@ -1,12 +1,21 @@
 use Rattle.fe2o3_sasl_runs.specs.SaslProfile.{profile_of}
-use Rattle.sasl_c.proofs.SaslClientLemmas.{shows_other, shows_scram}
+use Rattle.sasl_c.proofs.SaslClientLemmas.{shows_other, shows_scram, writes_other, writes_scram}
 use Rattle.sasl_c.proofs.sasl_client.scram_of.Goals as goal
 
-pub returns-in-Some : goal.returns-in-Some
-returns-in-Some c = λ login comes.
+pub returns-in-Some-clause-state : goal.returns-in-Some-clause-state
+returns-in-Some-clause-state c = λ login comes.
     shows_scram login (profile_of c.args.profile.now) c.in-Some.machine.now c.of.result c.in-Some.ensures.side comes
-    c.of.ensures
+    c.of.ensures.state
 
-pub returns-in-None : goal.returns-in-None
-returns-in-None c = λ login comes.
+pub returns-in-Some-clause-writes : goal.returns-in-Some-clause-writes
+returns-in-Some-clause-writes c =
+    writes_scram (profile_of c.args.profile.now) c.in-Some.machine.now c.of.result c.in-Some.ensures.side
+    c.of.ensures.writes
+
+pub returns-in-None-clause-state : goal.returns-in-None-clause-state
+returns-in-None-clause-state c = λ login comes.
     shows_other login (profile_of c.args.profile.now) c.fresh.result c.in-None.ensures.side comes
+
+pub returns-in-None-clause-writes : goal.returns-in-None-clause-writes
+returns-in-None-clause-writes c =
+    writes_other (profile_of c.args.profile.now) c.fresh.result c.in-None.ensures.side c.fresh.ensures.writes

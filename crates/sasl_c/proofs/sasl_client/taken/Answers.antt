@@ -7,11 +7,11 @@ returns-in_default-clause-err c = λ _ login before is wanting.
     let all = behind_all login before (hostname_in c.args.side.now) (client_side c.args.side.now)
     (client_side c.receive.new.self) c.args.bytes.now c.args.nonce.now c.new-sent.result.items c.receive.new.out.items
     c.in_ok-received.received.taken is wanting c.new-sent.ensures.items c.in_ok-received.ensures.ok in
-    absurd (c.in_default.ensures login all.1 all.2 all.3)
+    absurd (c.in_default.ensures.state login all.1 all.2 all.3)
 
 pub returns-clause-ok : goal.returns-clause-ok
 returns-clause-ok c = λ login before is wanting.
     let all = behind_all login before (hostname_in c.args.side.now) (client_side c.args.side.now)
     (client_side c.receive.new.self) c.args.bytes.now c.args.nonce.now c.new-sent.result.items c.receive.new.out.items
     c.in_ok-received.received.taken is wanting c.new-sent.ensures.items c.in_ok-received.ensures.ok in
-    (all.0, c.in-Some.ensures login all.1 all.2 all.3, all.4)
+    (all.0, c.in-Some.ensures.state login all.1 all.2 all.3, all.4, c.in-Some.ensures.writes)

@@ -7,4 +7,4 @@ returns-in-Some-of-clause-message c =
     let held = c.in-Ok.ensures.ok in
     says_first c.args.accepts_unbound c.args.kept.now c.args.nonce.now c.args.client_first.now
     (state_in c.in-Ok.machine) held.0 (challenge_kept c.in-Some.challenge) c.in-Some-of.opened held.1 held.2
-    c.in-Some.ensures c.in-Some-of.ensures.1
+    c.in-Some.ensures c.in-Some-of.ensures.open.1

@@ -26,7 +26,7 @@ returns-in_default-clause-err g c = λ other. (
   c.in-Ok.ensures.step,
   inr (
     refl,
-    (c.in-Ok-told.told.1, c.in-Ok-told.told.0.items, c.in-Ok-told.ensures.told, c.in_default.ensures),
+    (c.in-Ok-told.told.1, c.in-Ok-told.told.0.items, c.in-Ok-told.ensures.told, c.in_default.ensures.shows),
   ),
 )
 
@@ -36,5 +36,6 @@ returns-clause-ok g c = (
   server_reply c.in-Ok.reply,
   c.in-Ok.ensures.step,
   c.in-Ok-told.ensures.told,
-  c.in-Some.ensures,
+  c.in-Some.ensures.shows,
+  c.in-Some.ensures.writes,
 )

@@ -1,21 +1,29 @@
 use Rattle.std.proofs.Common.{sym}
 use Rattle.fe2o3_sasl_runs.specs.SaslProfile.{profile_of}
 use Rattle.fe2o3_sasl_negotiation.specs.Sides.{client_side}
-use Rattle.sasl_c.specs.SaslClient.{Comes, IsProfile}
-use Rattle.sasl_c.proofs.SaslClientLemmas.{shows_side}
+use Rattle.sasl_c.specs.SaslClient.{Comes, IsProfile, WritesProfile}
+use Rattle.sasl_c.proofs.SaslClientLemmas.{shows_side, writes_side}
 use Rattle.sasl_c.proofs.StatusLemmas.{carried}
 use Rattle.sasl_c.proofs.sasl_client.SaslClient.of.Goals as goal
 
-pub returns : goal.returns
-returns c = λ login comes limit few.
+pub returns-clause-state : goal.returns-clause-state
+returns-clause-state c = λ login comes limit few.
     let shown = profile_of c.profile.result.now in
     let state = (client_side c.args.side.now).state in
-    let is = c.in-Some-scram_of.ensures login (carried (Comes login) state shown (sym c.profile.ensures) comes) in
+    let is = c.in-Some-scram_of.ensures.state login (carried (Comes login) state shown (sym c.profile.ensures) comes) in
     shows_side login c.in-Some.connection c.in-Some-scram_of.scram (client_side c.args.side.now) c.set_down-kept.result
-    c.set_down-kept.ensures limit c.in-Some.ensures
+    c.set_down-kept.ensures limit c.in-Some.ensures.keeps
     (carried (IsProfile login c.in-Some-scram_of.scram) shown state c.profile.ensures is)
 
-pub returns-in_default-scram_of : goal.returns-in_default-scram_of
-returns-in_default-scram_of c = λ login comes limit few.
-    absurd (c.in_default-scram_of.ensures login (carried (Comes login) (client_side c.args.side.now).state
+pub returns-clause-writes : goal.returns-clause-writes
+returns-clause-writes c =
+    let shown = profile_of c.profile.result.now in
+    let state = (client_side c.args.side.now).state in
+    writes_side c.in-Some.connection c.in-Some-scram_of.scram (client_side c.args.side.now) c.set_down-kept.result
+    c.set_down-kept.ensures c.in-Some.ensures.writes
+    (carried (WritesProfile c.in-Some-scram_of.scram) shown state c.profile.ensures c.in-Some-scram_of.ensures.writes)
+
+pub returns-in_default-scram_of-clause-state : goal.returns-in_default-scram_of-clause-state
+returns-in_default-scram_of-clause-state c = λ login comes limit few.
+    absurd (c.in_default-scram_of.ensures.state login (carried (Comes login) (client_side c.args.side.now).state
     (profile_of c.profile.result.now) (sym c.profile.ensures) comes))
