@@ -12,6 +12,7 @@ from pathlib import Path
 
 CRATES = Path(__file__).resolve().parent.parent / "crates"
 LIBRARIES = ("fe2o3_sasl_wire", "fe2o3_scram", "fe2o3_sasl_runs", "fe2o3_sasl", "fe2o3_sasl_negotiation")
+HEADLINE = "Rattle.fe2o3_sasl_runs.specs.Headline"
 HEAD = re.compile(r"(?:abbrev |unfoldable |infix\w* \d+ \S+ )*(?:pub )?(?:record |data )?(\S+)")
 USE = re.compile(r"use ([\w.]+?)(?:\.\{(.*)\})?(?: as (\w+))?$")
 
@@ -65,8 +66,8 @@ def cited(module, text):
         yield find(*names.get(first, (module, first)))
 
 
-def main():
-    start = sys.argv[1] if len(sys.argv) > 1 else "Rattle.fe2o3_sasl_runs.specs.Headline"
+def reached_from(start):
+    """The definitions that the statements of a module rest on, each by its module and its place there."""
     open_ones = [(start, place) for place in range(len(FILES[start][3]))]
     reached = set()
     while open_ones:
@@ -74,6 +75,11 @@ def main():
         if found and found not in reached:
             reached.add(found)
             open_ones += cited(found[0], FILES[found[0]][3][found[1]][1])
+    return reached
+
+
+def main():
+    reached = reached_from(sys.argv[1] if len(sys.argv) > 1 else HEADLINE)
     total = 0
     for module, (lines, _, _, definitions) in FILES.items():
         mine = [definitions[place][2] for at, place in reached if at == module]
@@ -83,4 +89,5 @@ def main():
     print(f"{len(reached)} definitions, {total} lines")
 
 
-main()
+if __name__ == "__main__":
+    main()
