@@ -104,8 +104,8 @@ pub fn kept_keys()
     ensures both { BothAnswerAsPassword }
 {}
 
-/// A password of printable ASCII is prepared to itself: handed in as it is typed or as prepared it gives one
-/// record, and a client one answer.
+/// A password of printable ASCII is prepared to itself: passed as typed or as prepared it gives one record,
+/// and a client one answer.
 pub fn printable_passwords()
     ensures record { OneRecordOfPassword }
     ensures answer { OneAnswerOfPassword }
@@ -119,8 +119,9 @@ pub fn users_texts()
     ensures some { SomeUsersAnswer }
 {}
 
-/// The same of users whose records are of several versions. Those who were read are written as the very
-/// text that was read, and no line is refused for its version.
+/// Users whose records are of several versions are read again from their lines, if they can be written.
+/// Users that were read are written as the very text that was read, and no line is rejected for its version.
+/// Each text of lines has one answer.
 pub fn mixed_texts()
     ensures again { MixedAreReadAgain }
     ensures back { MixedAreWrittenBack }
@@ -129,11 +130,10 @@ pub fn mixed_texts()
     ensures some { SomeMixedAnswer }
 {}
 
-/// Worked examples of the words of memory: of each of these texts want of memory is no answer, since it is
-/// refused before a call comes to ask for any. A server-final message that is an error; a server-first
-/// message to a client that has answered one; a client-first message of an unknown user; a client-final
-/// message with another nonce, and one without a channel binding; a record of an unknown mechanism; and a
-/// line whose name has a comma.
+/// States worked examples of texts to which `OutOfMemory` is no answer, since they are rejected before a
+/// call asks for memory. A server-final message that is an error; a server-first message to a client that
+/// has answered one; a client-first message of an unknown user; a client-final message with another nonce,
+/// and one without a channel binding; a record of an unknown mechanism; and a line whose name has a comma.
 pub fn texts_without_memory()
     ensures errors { ErrorsTakeNone }
     ensures answered { AnsweredClientsTakeNone }

@@ -86,7 +86,7 @@ impl Model for MixedCredentials {
 }
 
 impl MixedCredentials {
-    /// A store without a user.
+    /// Returns a store without users.
     pub fn new(alloc: Global) -> Self
         ensures { result ≡ [] }
     {
@@ -99,10 +99,10 @@ impl MixedCredentials {
         }
     }
 
-    /// Adds a user's record, for whatever version, behind the others. The name is plain, and not
-    /// escaped. Where an earlier record is for the same name and version, that one counts.
+    /// Adds a user's record, of any version, after the others. The name is plain, and not escaped. If
+    /// an earlier record has the name and the version, that one counts.
     ///
-    /// `OutOfMemory` is the only refusal. It leaves the store as it was.
+    /// The only error is `OutOfMemory`, which leaves the store as it was.
     pub fn add(&mut self, username: String, kept: ScramRecord) -> Result<(), OutOfMemory>
         ensures ok { OnOk result (self.new ≡ self.old ++ ((string_bytes username, kept) ∷ [])) }
         ensures err { OnErr result (self.new ≡ self.old) }
@@ -155,7 +155,7 @@ impl MixedCredentials {
         Ok(found)
     }
 
-    /// The users in the order in which they came.
+    /// Returns the users in the order in which they were added.
     pub(crate) fn users(&self) -> &[MixedUser]
         ensures { result.now ≡ self.now }
     {
