@@ -24,6 +24,7 @@ pub mod UnalteredRuns
 pub mod Laws
 pub mod MechanismLaws
 pub mod OneOfLaws
+pub mod OneOfUsers
 pub mod StepLaws
 pub mod CostLaws
 pub mod HidingLaws

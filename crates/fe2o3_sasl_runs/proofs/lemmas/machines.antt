@@ -10,3 +10,7 @@ pub mod ResponseCostLemmas
 pub mod RunCostLemmas
 pub mod NameLemmas
 pub mod PolicyLemmas
+pub mod OneOfLemmas
+pub mod OneOfUserLemmas
+pub mod OffersOnlyLemmas
+pub mod ScramInOneOfLemmas
