@@ -31,6 +31,7 @@ pub use Rattle.fe2o3_sasl_runs.specs.OneOfUsers
 pub use Rattle.fe2o3_sasl_runs.specs.StepLaws
 pub use Rattle.fe2o3_sasl_runs.specs.CostLaws
 pub use Rattle.fe2o3_sasl_runs.specs.HidingLaws
+pub use Rattle.fe2o3_sasl_runs.specs.UnknownUsers
 pub use Rattle.fe2o3_sasl_runs.specs.Headline
 pub use Rattle.fe2o3_scram.specs.Texts
 pub use Rattle.fe2o3_scram.specs.Escape

@@ -12,6 +12,7 @@ ghost use Rattle.fe2o3_sasl_runs.specs.CostLaws.{ServerRunsCost, ClientRunsCost}
 ghost use Rattle.fe2o3_sasl_runs.specs.OneOfLaws.{OneOfRunsAreSplit, ScramFirstAnswersOkExactly, ScramSecondAnswersOkExactly, OfferingRunsPassOn};
 ghost use Rattle.fe2o3_sasl_runs.specs.OneOfUsers.{OneOfNamesUsers, OfferedNamesUsers};
 ghost use Rattle.fe2o3_sasl_runs.specs.HidingLaws.{HiddenRunsAreRuns, HiddenRunsAreHistories, NobodyIsMet, HiddenOksLogIn};
+ghost use Rattle.fe2o3_sasl_runs.specs.UnknownUsers.{UnknownIsMock, UnknownIsMockInBoth};
 ghost use Rattle.fe2o3_sasl_runs.specs.StepLaws.{OksLogIn, PlainOksLogIn, ReportedOksAreSigned};
 ghost use Rattle.fe2o3_sasl_runs.specs.Laws.{OneServerHistory, OneClientHistory, SomeServerHistory, SomeClientHistory, AcceptorRunsAreHistories, AcceptorRunsNameUsers, AgreedUsersAreNamed, ProfileRunsAreHistories, KeyedRunsAreRuns, KeyedRunsAreHistories, OksWithinChallenges, RepeatedResponsesAreRefused, OneResponseOneNonce, RefusalsLeaveOpen, PositionsAreUsedOnce, EqualMessagesAgree, NoShortExtensions, TakenVerifiersAreJudged, ShownProofsAreJudged, OneVerdictEach, OneAuditEach, RepeatedClientPositions, RepeatedServerPositions, RepeatedClientFindings, RepeatedServerFindings, ClientsLogIn, ServersLogIn, ServersWantMemory, ClientsWantMemory, ProfilesWantMemory};
 
@@ -118,6 +119,16 @@ pub fn hidden_users()
     ensures histories { HiddenRunsAreHistories }
     ensures met { NobodyIsMet }
     ensures steps { HiddenOksLogIn }
+{}
+
+/// Unknown users as a law of pairs. A server with mock authentication that has no record of a name gives the same
+/// replies to the same events as one that has the mock record of that name, in every state; so does a server of two
+/// mechanisms, each over a store of its own. What a stranger can tell of a name is thus no more than whether its
+/// record is the mock record: a salt and two keys that are HMAC values under the server's secret, and the mock
+/// count.
+pub fn unknown_users()
+    ensures one { UnknownIsMock }
+    ensures both { UnknownIsMockInBoth }
 {}
 
 /// A client that keeps the keys of a password runs as the client with the password, as long as servers

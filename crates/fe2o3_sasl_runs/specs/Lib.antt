@@ -28,5 +28,6 @@ pub mod OneOfUsers
 pub mod StepLaws
 pub mod CostLaws
 pub mod HidingLaws
+pub mod UnknownUsers
 pub mod Headline
 pub mod private

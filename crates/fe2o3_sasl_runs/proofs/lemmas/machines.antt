@@ -12,5 +12,7 @@ pub mod NameLemmas
 pub mod PolicyLemmas
 pub mod OneOfLemmas
 pub mod OneOfUserLemmas
+pub mod AlikeRunLemmas
+pub mod UnknownUserLemmas
 pub mod OffersOnlyLemmas
 pub mod ScramInOneOfLemmas
