@@ -27,9 +27,11 @@ pub use Rattle.fe2o3_sasl_runs.specs.UnalteredRuns
 pub use Rattle.fe2o3_sasl_runs.specs.Laws
 pub use Rattle.fe2o3_sasl_runs.specs.MechanismLaws
 pub use Rattle.fe2o3_sasl_runs.specs.OneOfLaws
+pub use Rattle.fe2o3_sasl_runs.specs.OneOfUsers
 pub use Rattle.fe2o3_sasl_runs.specs.StepLaws
 pub use Rattle.fe2o3_sasl_runs.specs.CostLaws
 pub use Rattle.fe2o3_sasl_runs.specs.HidingLaws
+pub use Rattle.fe2o3_sasl_runs.specs.UnknownUsers
 pub use Rattle.fe2o3_sasl_runs.specs.Headline
 pub use Rattle.fe2o3_scram.specs.Texts
 pub use Rattle.fe2o3_scram.specs.Escape

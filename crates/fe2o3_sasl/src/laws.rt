@@ -10,7 +10,9 @@ ghost use Rattle.fe2o3_sasl_runs.specs.Profiles.{StepAllocates, ViewAllocates};
 ghost use Rattle.fe2o3_sasl_runs.specs.Headline.{AnswersOkExactly, ReportsOkExactly, TakenVerifiersAgree};
 ghost use Rattle.fe2o3_sasl_runs.specs.CostLaws.{ServerRunsCost, ClientRunsCost};
 ghost use Rattle.fe2o3_sasl_runs.specs.OneOfLaws.{OneOfRunsAreSplit, ScramFirstAnswersOkExactly, ScramSecondAnswersOkExactly, OfferingRunsPassOn};
+ghost use Rattle.fe2o3_sasl_runs.specs.OneOfUsers.{OneOfNamesUsers, OfferedNamesUsers};
 ghost use Rattle.fe2o3_sasl_runs.specs.HidingLaws.{HiddenRunsAreRuns, HiddenRunsAreHistories, NobodyIsMet, HiddenOksLogIn};
+ghost use Rattle.fe2o3_sasl_runs.specs.UnknownUsers.{UnknownIsMock, UnknownIsMockInBoth};
 ghost use Rattle.fe2o3_sasl_runs.specs.StepLaws.{OksLogIn, PlainOksLogIn, ReportedOksAreSigned};
 ghost use Rattle.fe2o3_sasl_runs.specs.Laws.{EveryServer, EveryClient, OneServerHistory, OneClientHistory, SomeServerHistory, SomeClientHistory, AcceptorRunsAreHistories, AcceptorRunsNameUsers, AgreedUsersAreNamed, ProfileRunsAreHistories, KeyedRunsAreRuns, KeyedRunsAreHistories, OksWithinChallenges, RepeatedResponsesAreRefused, OneResponseOneNonce, RefusalsLeaveOpen, PositionsAreUsedOnce, EqualMessagesAgree, NoShortExtensions, TakenVerifiersAreJudged, ShownProofsAreJudged, OneVerdictEach, OneAuditEach, RepeatedClientPositions, RepeatedServerPositions, RepeatedClientFindings, RepeatedServerFindings, ClientsLogIn, ServersLogIn, ServersWantMemory, ClientsWantMemory, ProfilesWantMemory};
 
@@ -76,23 +78,33 @@ pub fn users()
     ensures agreed { AgreedUsersAreNamed }
 {}
 
-/// A server of several mechanisms, over any list of bodies: each body goes to one of its two acceptors or to
-/// neither, what goes to one is a run of that one by itself, and what goes to neither is refused.
+/// A server of several mechanisms, over any list of bodies: each body goes where `part_for` sends it in the state
+/// before it, to one of the two acceptors or to neither. What goes to one is a run of that one by itself. What
+/// goes to neither is rejected. A proof of your own cites `one_of_runs` of `OneOfLemmas.antt` in
+/// `fe2o3_sasl_runs`.
 pub fn one_of<A: HasMechanism, B: HasMechanism>()
     ensures { OneOfRunsAreSplit A.names B.names A.machine B.machine }
 {}
 
-/// So a SCRAM acceptor in it answers Ok exactly as the headline says, to the bodies that go to it, whatever the
-/// other is.
+/// A SCRAM acceptor in a server of several mechanisms, over the bodies that go to it: it answers Ok exactly as the
+/// headline says and names exactly who has logged in, whatever the other acceptor is.
 pub fn scram_in_one_of<A: HasMechanism>()
     ensures first { ScramFirstAnswersOkExactly A.names A.machine }
     ensures second { ScramSecondAnswersOkExactly A.names A.machine }
 {}
 
-/// A server that offers only some of its mechanisms, over any list of bodies: what it passes on is a run of its
-/// acceptor by itself, and the rest is refused.
+/// A server that offers only some of its mechanisms, over any list of bodies: it passes a body on as `is_passed_on`
+/// says in the state before it. What it passes on is a run of its acceptor by itself, and the rest is rejected.
 pub fn offers_only<A: HasMechanism>()
     ensures { OfferingRunsPassOn A.names A.machine }
+{}
+
+/// Who has logged in at a server of several mechanisms. Where it names a user after a run, that is the name by the
+/// acceptor that was asked last, and an init of the run asked it, by a mechanism of that acceptor. Where the server
+/// offers only some of its names, that mechanism was offered. The run of that acceptor is in `one_of`.
+pub fn one_of_users<A: HasMechanism, B: HasMechanism>()
+    ensures named { OneOfNamesUsers A.names B.names A.machine B.machine }
+    ensures offered { OfferedNamesUsers A.names B.names A.machine B.machine }
 {}
 
 /// Unknown users. A run of an acceptor that hides them, over any list of bodies, is a run of a SCRAM
@@ -107,6 +119,16 @@ pub fn hidden_users()
     ensures histories { HiddenRunsAreHistories }
     ensures met { NobodyIsMet }
     ensures steps { HiddenOksLogIn }
+{}
+
+/// Unknown users as a law of pairs. A server with mock authentication that has no record of a name gives the same
+/// replies to the same events as one that has the mock record of that name, in every state; so does a server of two
+/// mechanisms, each over a store of its own. What a stranger can tell of a name is thus no more than whether its
+/// record is the mock record: a salt and two keys that are HMAC values under the server's secret, and the mock
+/// count.
+pub fn unknown_users()
+    ensures one { UnknownIsMock }
+    ensures both { UnknownIsMockInBoth }
 {}
 
 /// A client that keeps the keys of a password runs as the client with the password, as long as servers

@@ -24,8 +24,10 @@ pub mod UnalteredRuns
 pub mod Laws
 pub mod MechanismLaws
 pub mod OneOfLaws
+pub mod OneOfUsers
 pub mod StepLaws
 pub mod CostLaws
 pub mod HidingLaws
+pub mod UnknownUsers
 pub mod Headline
 pub mod private

@@ -10,3 +10,9 @@ pub mod ResponseCostLemmas
 pub mod RunCostLemmas
 pub mod NameLemmas
 pub mod PolicyLemmas
+pub mod OneOfLemmas
+pub mod OneOfUserLemmas
+pub mod AlikeRunLemmas
+pub mod UnknownUserLemmas
+pub mod OffersOnlyLemmas
+pub mod ScramInOneOfLemmas

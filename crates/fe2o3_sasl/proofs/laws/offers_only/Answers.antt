@@ -1,4 +1,4 @@
-use Rattle.fe2o3_sasl.proofs.lemmas.machines.OffersOnlyLemmas.{offering_runs}
+use Rattle.fe2o3_sasl_runs.proofs.lemmas.machines.OffersOnlyLemmas.{offering_runs}
 use Rattle.fe2o3_sasl.proofs.laws.offers_only.Goals as goal
 
 pub returns : goal.returns

@@ -1,4 +1,4 @@
-use Rattle.fe2o3_sasl.proofs.lemmas.machines.OneOfLemmas.{one_of_runs}
+use Rattle.fe2o3_sasl_runs.proofs.lemmas.machines.OneOfLemmas.{one_of_runs}
 use Rattle.fe2o3_sasl.proofs.laws.one_of.Goals as goal
 
 pub returns : goal.returns

@@ -1,4 +1,4 @@
-use Rattle.fe2o3_sasl.proofs.lemmas.machines.ScramInOneOfLemmas.{scram_first, scram_second}
+use Rattle.fe2o3_sasl_runs.proofs.lemmas.machines.ScramInOneOfLemmas.{scram_first, scram_second}
 use Rattle.fe2o3_sasl.proofs.laws.scram_in_one_of.Goals as goal
 
 pub returns-clause-first : goal.returns-clause-first

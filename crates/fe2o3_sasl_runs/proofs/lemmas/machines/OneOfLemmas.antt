@@ -1,6 +1,6 @@
 -- What a server of two acceptors does, and one that offers only some names, is what an acceptor in it does.
 use Rattle.std.proofs.Common.{◌≡◌, ℕ, suc, Option, Some, None, List, [], ◌∷◌, refl, sym, ap, ◌∙◌, subst, inl, inr, Result, Ok, Err}
-use Rattle.std.specs.List.{AllByRecursion}
+use Rattle.std.specs.Prelude.{zip}
 use Rattle.fe2o3_sasl_wire.specs.declared.amqp_types.SaslCode.TheVariants as outcomes
 use Rattle.fe2o3_sasl_wire.specs.declared.sasl_frames.error.Error.{Error}
 use Rattle.fe2o3_sasl_wire.specs.declared.sasl_frames.error.Error.TheVariants as faults
@@ -9,15 +9,11 @@ use Rattle.fe2o3_sasl_wire.specs.SaslFrames.{SaslFrame, canonical}
 use Rattle.fe2o3_sasl_runs.specs.Bodies.{SpellsBody, carried}
 use Rattle.fe2o3_sasl_runs.specs.Events.{Given, ServerSays, Failed}
 use Rattle.fe2o3_sasl_runs.specs.OneOf.{Parts, PartReplies, part_for, one_of_machine}
-use Rattle.fe2o3_sasl_runs.specs.OneOfLaws.{those, to_first, to_second, to_neither, IsRefusal, Splits, OneOfRunsAreSplit}
+use Rattle.fe2o3_sasl_runs.specs.OneOfLaws.{Machine, mark_of, MarkedSteps, MarkedRuns, those, to_first, to_second, IsRefusal, Splits, OneOfRunsAreSplit}
 use Rattle.fe2o3_sasl_runs.specs.Runs.{Runs, AcceptorSteps, AcceptorAnswers, AcceptorGives, server_says}
 use Rattle.fe2o3_sasl_runs.specs.SaslAcceptor.{ends_with}
 use Rattle.fe2o3_sasl_runs.specs.declared.one_of.Part.{Part}
 use Rattle.fe2o3_sasl_runs.specs.declared.one_of.Part.TheVariants.{First, Second}
-
--- a machine
-abbrev pub Machine : Type 0 → Type 1
-Machine S = S → List ℕ → SaslFrame → SaslFrame → S → Type 0
 
 -- what went to a part is a step of it, and the other stays; what went to neither is refused
 abbrev pub Goes : {S T : Type 0} → Machine S → Machine T → Parts S T → Option Part → Given → ServerSays → Parts S T
@@ -99,47 +95,52 @@ as_step {S} machine other parts (Some First) event frame says next steps is =
 as_step {S} {T} machine other parts (Some Second) event frame says next steps is =
     (steps T other parts.second next.second is.0, is.1)
 
--- each step goes to a part or to neither
+-- each step goes to a part or to neither, as the state before it says
 pub one_goes : {S T : Type 0} (names : S → List (List ℕ)) (others : T → List (List ℕ)) (machine : Machine S)
     (other : Machine T) (parts : Parts S T) (event : Given) (spelled : Result SaslFrame Error) (says : ServerSays)
     (next : Parts S T) → SpellsBody event.body spelled
     → AcceptorGives (one_of_machine names others machine other) parts event spelled says next
-    → (mark : Option Part) × Goes machine other parts mark event says next
-one_goes names others machine other parts event (Err fault) says next spells is =
-    (None, (subst IsRefusal (sym is.0) tt, is.1))
+    → Goes machine other parts (mark_of None (part_for names others) parts spelled) event says next
+one_goes names others machine other parts event (Err fault) says next spells is = (subst IsRefusal (sym is.0) tt, is.1)
 one_goes names others machine other parts event (Ok (frames.Mechanisms list)) says next spells is =
-    (None, (subst IsRefusal (sym is.0) tt, is.1))
+    (subst IsRefusal (sym is.0) tt, is.1)
 one_goes names others machine other parts event (Ok (frames.Challenge text)) says next spells is =
-    (None, (subst IsRefusal (sym is.0) tt, is.1))
+    (subst IsRefusal (sym is.0) tt, is.1)
 one_goes names others machine other parts event (Ok (frames.Outcome code more)) says next spells is =
-    (None, (subst IsRefusal (sym is.0) tt, is.1))
+    (subst IsRefusal (sym is.0) tt, is.1)
 one_goes names others machine other parts event (Ok (frames.Init mechanism response hostname)) says next spells is =
     let frame = frames.Init mechanism response hostname in
-    let mark = part_for names others parts frame in (
-      mark,
-      as_step machine other parts mark event frame says next
-          (λ R any state after answers. (Ok frame, spells, answers))
-          (answered machine other parts mark event.nonce frame says next is),
-    )
+    let mark = part_for names others parts frame in
+    as_step machine other parts mark event frame says next (λ R any state after answers. (Ok frame, spells, answers))
+    (answered machine other parts mark event.nonce frame says next is)
 one_goes names others machine other parts event (Ok (frames.Response text)) says next spells is =
     let frame = frames.Response text in
-    let mark = part_for names others parts frame in (
-      mark,
-      as_step machine other parts mark event frame says next
-          (λ R any state after answers. (Ok frame, spells, answers))
-          (answered machine other parts mark event.nonce frame says next is),
-    )
+    let mark = part_for names others parts frame in
+    as_step machine other parts mark event frame says next (λ R any state after answers. (Ok frame, spells, answers))
+    (answered machine other parts mark event.nonce frame says next is)
 
 -- one body more in front
-split_more : {S T : Type 0} (machine : Machine S) (other : Machine T) (parts next last : Parts S T) (mark : Option Part)
-    (event : Given) (events : List Given) (says : ServerSays) (replies all : List ServerSays)
-    (marks : List (Option Part)) → Goes machine other parts mark event says next → all ≡ says ∷ replies
-    → Splits machine other next events replies last marks
-    → Splits machine other parts (event ∷ events) all last (mark ∷ marks)
-split_more {S} {T} machine other parts next last None event events says replies all marks goes is split =
-    subst (λ (all : List ServerSays). Splits machine other parts (event ∷ events) all last (None ∷ marks)) (sym is)
-    (record {
-      count = ap suc split.count;
+pub marked_more : {S M : Type 0} (machine : Machine S) (none : M) (mark : S → SaslFrame → M) (state next last : S) (it : M)
+    (event : Given) (events : List Given) (says : ServerSays) (replies : List ServerSays) (marks : List M)
+    → MarkedSteps machine none mark state event (it, says) next
+    → MarkedRuns machine none mark next events replies last marks
+    → MarkedRuns machine none mark state (event ∷ events) (says ∷ replies) last (it ∷ marks)
+marked_more machine none mark state next last it event events says replies marks step run = record {
+  count = ap suc run.count;
+  steps = ((it, says), next, zip marks replies, step, refl, run.steps);
+}
+
+split_more : {S T : Type 0} (names : S → List (List ℕ)) (others : T → List (List ℕ)) (machine : Machine S)
+    (other : Machine T) (parts next last : Parts S T) (mark : Option Part) (event : Given) (events : List Given)
+    (says : ServerSays) (replies : List ServerSays) (marks : List (Option Part))
+    → MarkedSteps (one_of_machine names others machine other) None (part_for names others) parts event (mark, says) next
+    → Goes machine other parts mark event says next
+    → Splits names others machine other next events replies last marks
+    → Splits names others machine other parts (event ∷ events) (says ∷ replies) last (mark ∷ marks)
+split_more {S} {T} names others machine other parts next last None event events says replies marks step goes split =
+    record {
+      marked = marked_more (one_of_machine names others machine other) None (part_for names others) parts next last
+          None event events says replies marks step split.marked;
       first =
           subst (λ (at : Parts S T). Runs (AcceptorSteps machine) at.first (those to_first marks events)
           (those to_first marks replies) last.first) goes.1 split.first;
@@ -147,46 +148,48 @@ split_more {S} {T} machine other parts next last None event events says replies 
           subst (λ (at : Parts S T). Runs (AcceptorSteps other) at.second (those to_second marks events)
           (those to_second marks replies) last.second) goes.1 split.second;
       neither = (goes.0, split.neither);
-    })
-split_more {S} {T} machine other parts next last (Some First) event events says replies all marks goes is split =
-    subst (λ (all : List ServerSays). Splits machine other parts (event ∷ events) all last (Some First ∷ marks)) (sym is)
-    (record {
-      count = ap suc split.count;
+    }
+split_more {S} {T} names others machine other parts next last (Some First) event events says replies marks step goes
+    split = record {
+      marked = marked_more (one_of_machine names others machine other) None (part_for names others) parts next last
+          (Some First) event events says replies marks step split.marked;
       first = (says, next.first, those to_first marks replies, goes.0, refl, split.first);
       second =
           subst (λ (at : T). Runs (AcceptorSteps other) at (those to_second marks events)
           (those to_second marks replies) last.second) goes.1 split.second;
       neither = split.neither;
-    })
-split_more {S} {T} machine other parts next last (Some Second) event events says replies all marks goes is split =
-    subst (λ (all : List ServerSays). Splits machine other parts (event ∷ events) all last (Some Second ∷ marks)) (sym is)
-    (record {
-      count = ap suc split.count;
+    }
+split_more {S} {T} names others machine other parts next last (Some Second) event events says replies marks step goes
+    split = record {
+      marked = marked_more (one_of_machine names others machine other) None (part_for names others) parts next last
+          (Some Second) event events says replies marks step split.marked;
       first =
           subst (λ (at : S). Runs (AcceptorSteps machine) at (those to_first marks events)
           (those to_first marks replies) last.first) goes.1 split.first;
       second = (says, next.second, those to_second marks replies, goes.0, refl, split.second);
       neither = split.neither;
-    })
+    }
 
 pub one_of_runs : {S T : Type 0} (names : S → List (List ℕ)) (others : T → List (List ℕ)) (machine : Machine S)
     (other : Machine T) → OneOfRunsAreSplit names others machine other
 one_of_runs {S} {T} names others machine other parts last [] replies runs = (
   [],
   record {
-    count = refl;
+    marked = record { count = refl; steps = (refl, runs.1) };
     first = (refl, ap (λ (p : Parts S T). p.first) runs.1);
     second = (refl, ap (λ (p : Parts S T). p.second) runs.1);
-    neither = subst (λ (all : List ServerSays). AllByRecursion IsRefusal (those to_neither [] all)) (sym runs.0) tt;
+    neither = tt;
   },
 )
-one_of_runs names others machine other parts last (event ∷ events) replies runs =
+one_of_runs {S} {T} names others machine other parts last (event ∷ events) replies runs =
     let says = runs.0 in
     let next = runs.1 in
     let step = runs.3 in
     let goes = one_goes names others machine other parts event step.0 says next step.1 step.2 in
     let rest = one_of_runs names others machine other next last events runs.2 runs.5 in (
-      goes.0 ∷ rest.0,
-      split_more machine other parts next last goes.0 event events says runs.2 replies rest.0 goes.1
-          runs.4 rest.1,
+      mark_of None (part_for names others) parts step.0 ∷ rest.0,
+      subst (λ (all : List ServerSays). Splits names others machine other parts (event ∷ events) all last
+          (mark_of None (part_for names others) parts step.0 ∷ rest.0)) (sym runs.4)
+          (split_more names others machine other parts next last (mark_of None (part_for names others) parts step.0)
+          event events says runs.2 rest.0 (step.0, step.1, step.2, refl) goes rest.1),
     )

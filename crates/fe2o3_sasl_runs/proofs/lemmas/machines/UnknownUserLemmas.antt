@@ -1,0 +1,259 @@
+-- An unknown user of a server with mock authentication is answered as a user whose record is the mock record.
+use Rattle.std.proofs.Common.{◌≡◌, ℕ, Bool, true, false, cond, List, [], ◌∷◌, ◌++◌, Option, None, Some, Result, Ok, Err, refl, sym, ap, ◌∙◌, subst, inl, inr}
+use Rattle.std.proofs.lemmas.Cmp.{nat_list_eq_equiv}
+use Rattle.std.proofs.lemmas.Bool.{cond-true}
+use Rattle.std.proofs.lemmas.Slice.Eq.{bytes_eq-Decides}
+use Rattle.std.specs.Cmp.Lexicographic.{pointwise}
+use Rattle.std.specs.Prelude.{nat_eq, not}
+use Rattle.fe2o3_sasl_wire.specs.SaslFrames as frames
+use Rattle.fe2o3_sasl_wire.specs.SaslFrames.{SaslFrame}
+use Rattle.fe2o3_scram.specs.declared.scram_messages.error.ServerScramErrorKind.{ServerScramErrorKind}
+use Rattle.fe2o3_scram.specs.Credentials.{Record, Records, Provider, record_at, records_with, records_without}
+use Rattle.fe2o3_scram.specs.HidingServer.{HidingServer, NamedBy, NamedIn}
+use Rattle.fe2o3_scram.specs.Nobody.{Nobody, nobody_record, with_nobody}
+use Rattle.fe2o3_scram.specs.ScramServer.{ServerState, Initial, ServerFirstSent, ServerFinalSent, ChallengesFrom, ConcludesFrom}
+use Rattle.fe2o3_sasl_runs.specs.Events.{Given, ServerSays}
+use Rattle.fe2o3_sasl_runs.specs.HidingAcceptor.{NamedAt, hiding_machine, hiding_names}
+use Rattle.fe2o3_sasl_runs.specs.HidingLaws.{hiding}
+use Rattle.fe2o3_sasl_runs.specs.OneOf.{one_of_machine}
+use Rattle.fe2o3_sasl_runs.specs.SaslAcceptor.{Acceptor, ScramAcceptor, acceptor_machine}
+use Rattle.fe2o3_sasl_runs.specs.UnknownUsers.{Gives, over, UnknownIsMock, UnknownIsMockInBoth}
+use Rattle.fe2o3_sasl_runs.specs.declared.one_of.Part.{Part}
+use Rattle.fe2o3_sasl_runs.proofs.lemmas.machines.AlikeRunLemmas.{MovesAlike, both_alike, both_of, runs_alike}
+
+-- ---- the record of the name that counts
+
+-- the record that a list of records gives for the name that counts
+abbrev found : Nobody → Records → List ℕ → Option Record
+found nobody records name = record_at (records ++ (name, nobody_record nobody name) ∷ []) name
+
+-- both lists give it alike
+abbrev FindAlike : Nobody → Records → Records → Type 0
+FindAlike nobody records others = (name : List ℕ) → found nobody records name ≡ found nobody others name
+
+module _ (nobody : Nobody) (name : List ℕ) where
+  -- without the name that counts the mock record is found
+  mock_found : (records : Records) → found nobody (records_without records name) name ≡ Some (nobody_record nobody name)
+  mock_found [] = cond-true (pointwise nat_eq name name) (Some (nobody_record nobody name)) _ (nat_list_eq_equiv.refl name)
+  mock_found (entry ∷ records) = go (pointwise nat_eq entry.0 name) refl (mock_found records)
+    where
+      go : (test : Bool) → pointwise nat_eq entry.0 name ≡ test
+          → found nobody (records_without records name) name ≡ Some (nobody_record nobody name)
+          → found nobody (cond (not test) (entry ∷ records_without records name) (records_without records name)) name
+          ≡ Some (nobody_record nobody name)
+      go true is rest = rest
+      go false is rest = ap (λ (test : Bool). cond test (Some entry.1)
+          (found nobody (records_without records name) name)) is ∙ rest
+
+  -- another name keeps its record
+  other_found : (user : List ℕ) → pointwise nat_eq name user ≡ false → (records : Records)
+      → found nobody (records_without records name) user ≡ found nobody records user
+  other_found user other [] = refl
+  other_found user other (entry ∷ records) = go (pointwise nat_eq entry.0 name) refl (other_found user other records)
+    where
+      go : (test : Bool) → pointwise nat_eq entry.0 name ≡ test
+          → found nobody (records_without records name) user ≡ found nobody records user
+          → found nobody (cond (not test) (entry ∷ records_without records name) (records_without records name)) user
+          ≡ cond (pointwise nat_eq entry.0 user) (Some entry.1) (found nobody records user)
+      go true is rest =
+          rest ∙ sym (ap (λ (test : Bool). cond test (Some entry.1) (found nobody records user))
+          (subst (λ (first : List ℕ). pointwise nat_eq first user ≡ false)
+          (sym ((bytes_eq-Decides entry.0 name).0 is)) other))
+      go false is rest =
+          ap (λ (at : Option Record). cond (pointwise nat_eq entry.0 user) (Some entry.1) at) rest
+
+  -- without the name, and with its mock record, each name that counts has one record
+  found_alike : (records : Records)
+      → FindAlike nobody (records_without records name) (records_with records name (nobody_record nobody name))
+  found_alike [] user = refl
+  found_alike (entry ∷ records) user = go (pointwise nat_eq entry.0 name) refl (found_alike records user)
+    where
+      here : (test : Bool) → pointwise nat_eq entry.0 name ≡ true → pointwise nat_eq entry.0 user ≡ test
+          → found nobody (records_without records name) user
+          ≡ cond test (Some (nobody_record nobody name)) (found nobody records user)
+      here true is at =
+          subst (λ (counts : List ℕ). found nobody (records_without records name) counts
+          ≡ Some (nobody_record nobody name))
+          (sym ((bytes_eq-Decides entry.0 name).0 is) ∙ (bytes_eq-Decides entry.0 user).0 at) (mock_found records)
+      here false is at =
+          other_found user (subst (λ (first : List ℕ). pointwise nat_eq first user ≡ false)
+          ((bytes_eq-Decides entry.0 name).0 is) at) records
+
+      go : (test : Bool) → pointwise nat_eq entry.0 name ≡ test
+          → found nobody (records_without records name) user
+          ≡ found nobody (records_with records name (nobody_record nobody name)) user
+          → found nobody (cond (not test) (entry ∷ records_without records name) (records_without records name)) user
+          ≡ found nobody (cond test ((entry.0, nobody_record nobody name) ∷ records)
+          (entry ∷ records_with records name (nobody_record nobody name))) user
+      go true is rest = here (pointwise nat_eq entry.0 user) is refl
+      go false is rest = ap (λ (at : Option Record). cond (pointwise nat_eq entry.0 user) (Some entry.1) at) rest
+
+-- ---- the machine
+
+module _ (provider : Provider) (nobody : Nobody) (records others : Records) (alike : FindAlike nobody records others)
+  where
+    -- the provider of the one with the mock record of a name, and that of the other
+    abbrev of : List ℕ → Provider
+    of name = with_nobody (over provider records) nobody (name ∷ [])
+
+    abbrev to : List ℕ → Provider
+    to name = with_nobody (over provider others) nobody (name ∷ [])
+
+    one : (name user : List ℕ) → name ≡ user → record_at (to name).records user ≡ record_at (of name).records user
+    one name user same = subst (λ (counts : List ℕ). record_at (to name).records counts ≡ record_at (of name).records counts)
+        same (sym (alike name))
+
+    first_alike : (state next : ServerState) (nonce text name : List ℕ)
+        (answer : Result (Option (List ℕ)) ServerScramErrorKind) → NamedIn provider.unbound text name
+        → ChallengesFrom state (of name) nonce text answer next → ChallengesFrom state (to name) nonce text answer next
+    first_alike state next nonce text name (Ok (Some message)) named
+        (challenge, (client, stored, reads, known, is), said, same) =
+        (challenge, (client, stored, reads, one name client.user (named client reads) ∙ known, is), said, same)
+    first_alike state next nonce text name (Ok None) named ((client, reads, none), rest) =
+        ((client, reads, one name client.user (named client reads) ∙ none), rest)
+    first_alike state next nonce text name (Err fault) named is = is
+
+    final_alike : (state next : ServerState) (text name : List ℕ)
+        (answer : Result (Option (List ℕ)) ServerScramErrorKind) → NamedBy state name
+        → ConcludesFrom state (of name) text answer next → ConcludesFrom state (to name) text answer next
+    final_alike (ServerFirstSent challenge) next text name (Ok (Some message)) named (stored, known, answers, same) =
+        (stored, one name challenge.user named ∙ known, answers, same)
+    final_alike (ServerFirstSent challenge) next text name (Ok None) named is = absurd is
+    final_alike (ServerFirstSent challenge) next text name (Err fault) named (inl (stored, known, reads), rest) =
+        (inl (stored, one name challenge.user named ∙ known, reads), rest)
+    final_alike (ServerFirstSent challenge) next text name (Err fault) named (inr (none, is), rest) =
+        (inr (one name challenge.user named ∙ none, is), rest)
+    final_alike Initial next text name (Ok answer) named is = absurd is
+    final_alike Initial next text name (Err fault) named is = is
+    final_alike (ServerFinalSent user) next text name (Ok answer) named is = absurd is
+    final_alike (ServerFinalSent user) next text name (Err fault) named is = is
+
+    abbrev state_in : Acceptor → ServerState
+    state_in (ScramAcceptor provider state) = state
+    state_in acceptor = Initial
+
+    moved_to : (name : List ℕ) (state other : ServerState)
+        → ScramAcceptor (of name) state ≡ ScramAcceptor (of name) other
+        → ScramAcceptor (to name) state ≡ ScramAcceptor (to name) other
+    moved_to name state other same = ap (ScramAcceptor (to name)) (ap state_in same)
+
+    acceptor_alike : (state moved : ServerState) (nonce name : List ℕ) (frame reply : SaslFrame)
+        → NamedAt (hiding (over provider records) nobody state) frame name
+        → acceptor_machine (ScramAcceptor (of name) state) nonce frame reply (ScramAcceptor (of name) moved)
+        → acceptor_machine (ScramAcceptor (to name) state) nonce frame reply (ScramAcceptor (to name) moved)
+    acceptor_alike state moved nonce name (frames.Init mechanism None hostname) reply named (is, same) =
+        (is, moved_to name moved state same)
+    acceptor_alike state moved nonce name (frames.Init mechanism (Some text) hostname) reply named (inl (other, is, same)) =
+        inl (other, is, moved_to name moved state same)
+    acceptor_alike state moved nonce name (frames.Init mechanism (Some text) hostname) reply named
+        (inr (is_name, (answer, after, from, is, same))) =
+        inr (
+          is_name,
+          (
+            answer,
+            after,
+            first_alike state after nonce text name answer named from,
+            is,
+            moved_to name moved after same,
+          ),
+        )
+    acceptor_alike state moved nonce name (frames.Response text) reply named (answer, after, from, is, same) =
+        (answer, after, final_alike state after text name answer named from, is, moved_to name moved after same)
+    acceptor_alike state moved nonce name (frames.Mechanisms list) reply named is = absurd is
+    acceptor_alike state moved nonce name (frames.Challenge text) reply named is = absurd is
+    acceptor_alike state moved nonce name (frames.Outcome code more) reply named is = absurd is
+
+    -- one name counts for both
+    named_alike : (state : ServerState) (frame : SaslFrame) (name : List ℕ)
+        → NamedAt (hiding (over provider records) nobody state) frame name
+        → NamedAt (hiding (over provider others) nobody state) frame name
+    named_alike state (frames.Init mechanism None hostname) name named = named
+    named_alike state (frames.Init mechanism (Some text) hostname) name named = named
+    named_alike state (frames.Response text) name named = named
+    named_alike state (frames.Mechanisms list) name named = named
+    named_alike state (frames.Challenge text) name named = named
+    named_alike state (frames.Outcome code more) name named = named
+
+    pub hiding_moves_alike : MovesAlike (λ (state : ServerState). hiding (over provider records) nobody state)
+        (λ (state : ServerState). hiding (over provider others) nobody state) hiding_machine hiding_machine
+    hiding_moves_alike state nonce frame reply next (name, moved, named, machine, is) = (
+      moved,
+      is,
+      (
+        name,
+        moved,
+        named_alike state frame name named,
+        acceptor_alike state moved nonce name frame reply named machine,
+        refl,
+      ),
+    )
+
+-- ---- the laws
+
+pub unknown_is_mock : UnknownIsMock
+unknown_is_mock provider nobody name state events replies = (
+  λ gives.
+      let there = runs_alike (at without) (at with_it) hiding_machine hiding_machine
+      (hiding_moves_alike provider nobody without with_it alike) state events replies gives.0 gives.1 in
+      (at with_it there.0, there.2),
+  λ gives.
+      let back = runs_alike (at with_it) (at without) hiding_machine hiding_machine
+      (hiding_moves_alike provider nobody with_it without (λ user. sym (alike user))) state events replies gives.0 gives.1
+      in (at without back.0, back.2),
+)
+  where
+    without : Records
+    without = records_without provider.records name
+
+    with_it : Records
+    with_it = records_with provider.records name (nobody_record nobody name)
+
+    alike : FindAlike nobody (records_without provider.records name)
+        (records_with provider.records name (nobody_record nobody name))
+    alike = found_alike nobody name provider.records
+
+    at : Records → ServerState → HidingServer
+    at records state = hiding (over provider records) nobody state
+
+-- a server of mock authentication over these records, and one that is known alike
+abbrev at : Provider → Nobody → Records → ServerState → HidingServer
+at provider nobody records state = hiding (over provider records) nobody state
+
+-- two of them, of which each moves as one over other records does
+both_move : (provider other : Provider) (nobody other_nobody : Nobody) (records to_records more to_more : Records)
+    → FindAlike nobody records to_records → FindAlike other_nobody more to_more
+    → (state other_state : ServerState) (asked : Option Part) (events : List Given) (replies : List ServerSays)
+    → Gives (one_of_machine hiding_names hiding_names hiding_machine hiding_machine)
+    (record { first = at provider nobody records state; second = at other other_nobody more other_state; asked = asked })
+    events replies
+    → Gives (one_of_machine hiding_names hiding_names hiding_machine hiding_machine)
+    (record {
+      first = at provider nobody to_records state;
+      second = at other other_nobody to_more other_state;
+      asked = asked;
+    }) events replies
+both_move provider other nobody other_nobody records to_records more to_more alike more_alike state other_state asked events
+    replies (last, run) =
+    let there = runs_alike (both_of (at provider nobody records) (at other other_nobody more))
+    (both_of (at provider nobody to_records) (at other other_nobody to_more))
+    (one_of_machine hiding_names hiding_names hiding_machine hiding_machine)
+    (one_of_machine hiding_names hiding_names hiding_machine hiding_machine)
+    (both_alike (at provider nobody records) (at provider nobody to_records) (at other other_nobody more)
+    (at other other_nobody to_more) hiding_names hiding_names hiding_names hiding_names hiding_machine hiding_machine
+    hiding_machine hiding_machine (hiding_moves_alike provider nobody records to_records alike)
+    (hiding_moves_alike other other_nobody more to_more more_alike) (λ state. refl) (λ state. refl))
+    (state, other_state, asked) events replies last run in
+    (both_of (at provider nobody to_records) (at other other_nobody to_more) there.0, there.2)
+
+pub unknown_is_mock_in_both : UnknownIsMockInBoth
+unknown_is_mock_in_both provider other nobody other_nobody name state other_state asked events replies =
+    let alike : FindAlike nobody (records_without provider.records name)
+    (records_with provider.records name (nobody_record nobody name)) = found_alike nobody name provider.records in
+    let more_alike : FindAlike other_nobody (records_without other.records name)
+    (records_with other.records name (nobody_record other_nobody name)) =
+    found_alike other_nobody name other.records in (
+      λ gives. both_move provider other nobody other_nobody _ _ _ _ alike more_alike state other_state asked events replies
+          gives,
+      λ gives. both_move provider other nobody other_nobody _ _ _ _ (λ user. sym (alike user))
+          (λ user. sym (more_alike user)) state other_state asked events replies gives,
+    )

@@ -1,0 +1,58 @@
+-- Unknown users of a server with mock authentication, as a law of pairs: what a stranger sees of a server that does not
+-- know a name is what it sees of one that has the mock record of that name (`nobody_record`). RFC 5802 leaves open what
+-- a server answers to an unknown user. Each is the contract of a clause of `laws::unknown_users`.
+use Rattle.std.specs.Prelude.{◌↔◌, ℕ, List, Option}
+use Rattle.fe2o3_scram.specs.Credentials.{Provider, Records, records_with, records_without}
+use Rattle.fe2o3_scram.specs.Nobody.{Nobody, nobody_record}
+use Rattle.fe2o3_scram.specs.ScramServer.{ServerState}
+use Rattle.fe2o3_sasl_runs.specs.Events.{Given, ServerSays}
+use Rattle.fe2o3_sasl_runs.specs.HidingAcceptor.{hiding_machine, hiding_names}
+use Rattle.fe2o3_sasl_runs.specs.HidingLaws.{hiding}
+use Rattle.fe2o3_sasl_runs.specs.OneOf.{one_of_machine}
+use Rattle.fe2o3_sasl_runs.specs.OneOfLaws.{Machine}
+use Rattle.fe2o3_sasl_runs.specs.Runs.{Runs, AcceptorSteps}
+use Rattle.fe2o3_sasl_runs.specs.declared.one_of.Part.{Part}
+
+-- a server in this state gives these replies to these events
+abbrev pub Gives : {S : Type 0} → Machine S → S → List Given → List ServerSays → Type 0
+Gives {S} machine state events replies = (last : S) × Runs (AcceptorSteps machine) state events replies last
+
+-- the provider with these records in place of its own
+abbrev pub over : Provider → Records → Provider
+over provider records = record { version = provider.version; unbound = provider.unbound; records = records }
+
+-- the provider without the records of a name
+abbrev pub without_user : Provider → List ℕ → Provider
+without_user provider name = over provider (records_without provider.records name)
+
+-- the provider with the mock record of a name in the place of the record that it has of that name
+abbrev pub with_mock : Provider → Nobody → List ℕ → Provider
+with_mock provider nobody name = over provider (records_with provider.records name (nobody_record nobody name))
+
+-- both give the same replies to the same events
+abbrev pub GivesAlike : {S : Type 0} → Machine S → S → S → Type 0
+GivesAlike machine state other = (events : List Given) (replies : List ServerSays)
+    → Gives machine state events replies ↔ Gives machine other events replies
+
+-- who is unknown is answered as a user whose record is the mock record of the name
+abbrev pub UnknownIsMock : Type 0
+UnknownIsMock = (provider : Provider) (nobody : Nobody) (name : List ℕ) (state : ServerState)
+    → GivesAlike hiding_machine (hiding (without_user provider name) nobody state)
+    (hiding (with_mock provider nobody name) nobody state)
+
+-- and so it is by a server of two mechanisms, each over a store of its own: one that knows the name in neither store
+-- gives the replies of one that has its mock records
+abbrev pub UnknownIsMockInBoth : Type 0
+UnknownIsMockInBoth = (provider other : Provider) (nobody other_nobody : Nobody) (name : List ℕ)
+    (state other_state : ServerState) (asked : Option Part)
+    → GivesAlike (one_of_machine hiding_names hiding_names hiding_machine hiding_machine)
+    (record {
+      first = hiding (without_user provider name) nobody state;
+      second = hiding (without_user other name) other_nobody other_state;
+      asked = asked;
+    })
+    (record {
+      first = hiding (with_mock provider nobody name) nobody state;
+      second = hiding (with_mock other other_nobody name) other_nobody other_state;
+      asked = asked;
+    })
