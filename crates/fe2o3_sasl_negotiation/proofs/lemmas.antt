@@ -19,3 +19,5 @@ pub mod ClientCostLemmas
 pub mod BoundLemmas
 pub mod CompletedLemmas
 pub mod MemoryLemmas
+pub mod KeptLemmas
+pub mod ClientKeptLemmas

@@ -1,12 +1,12 @@
 //! The client's side of a connection (AMQP 1.0, part 5, section 5.3.2).
 
-ghost use Rattle.std.specs.Prelude.{◌≡◌, ◌≢◌, ◌<◌, ◌≤◌, ◌^◌, ◌++◌, ℕ, List, Option, [], None, IfOk, IfErr, OnOk, OnErr, option_map, string_bytes, length, drop, min};
+ghost use Rattle.std.specs.Prelude.{◌≡◌, ◌≢◌, ◌<◌, ◌≤◌, ◌^◌, ◌++◌, ℕ, List, Option, [], None, IsTrue, IfOk, IfErr, OnOk, OnErr, option_map, string_bytes, length, drop, min};
 ghost use Rattle.fe2o3_sasl_runs.specs.Runs.{ProfileSteps, client_answer, client_reply};
 ghost use Rattle.fe2o3_sasl_runs.specs.SaslProfile.{profile_of};
 ghost use Rattle.fe2o3_sasl_runs.specs.Costs.{ProfileStepCosts};
 ghost use Rattle.fe2o3_sasl_negotiation.specs.Framing.{IsPart, IsPart-prop, sasl_header};
 ghost use Rattle.fe2o3_sasl_negotiation.specs.ClientNegotiation.{Opens, Says, Replies, ClientAnswers, ClientReceives, ReplyCosts, UnitCosts, ClientCosts};
-ghost use Rattle.fe2o3_sasl_negotiation.specs.SetDown.{IsKept, side_of};
+ghost use Rattle.fe2o3_sasl_negotiation.specs.SetDown.{IsClientKept, client_at, side_of};
 ghost use Rattle.fe2o3_sasl_negotiation.specs.private.Units.{Appends, Screens, ClientUnitAsks};
 ghost use Rattle.fe2o3_sasl_runs.specs.Events.{Reported, Refused};
 ghost use Rattle.fe2o3_sasl_runs.specs.ProfileFaults.{client_fault};
@@ -34,6 +34,9 @@ pub struct ClientNegotiation {
     limit: usize,
     held: Vec<u8>,
     ghost part: { IsPart due limit held.items } by { IsPart-prop due limit held.items },
+    ghost most: { limit ≤ 512 },
+    ghost at: { IsTrue (client_at standing due) },
+    ghost empty: { standing ≢ Wanting → held.items ≡ [] },
 }
 
 /// What a client makes of the server's header: it waits for that of SASL.
@@ -229,10 +232,10 @@ impl ClientNegotiation {
         &self.profile
     }
 
-    /// What the side keeps beside its profile and its hostname. One that is set down here is taken up by
-    /// `take_up`.
+    /// Saves what the side has beside its profile and its hostname, for `take_up`. It holds no password or key.
     pub fn set_down(&self) -> SetDown<'_>
-        ensures { side_of result (client_side self.now).state ≡ client_side self.now }
+        ensures side { side_of result (client_side self.now).state ≡ client_side self.now }
+        ensures kept { IsClientKept result }
     {
         SetDown {
             standing: self.standing,
@@ -242,23 +245,23 @@ impl ClientNegotiation {
         }
     }
 
-    /// The client's side that has kept these values, by a profile in the state in which that side's was (the
+    /// Restores the client's side that `set_down` saved, over a profile in the state in which that side's was (the
     /// profile's `waiting_for`), with its hostname.
     ///
-    /// Refused are, in this order: `NotKept` where no side keeps such values, and `OutOfMemory`.
+    /// Errors, in this order: `NotKept` where no client can have such values, and `OutOfMemory`.
     pub fn take_up(
         alloc: Global,
         profile: SaslProfile,
         hostname: Option<String>,
         kept: &SetDown<'_>,
     ) -> Result<Self, TakeUpError>
-        ensures ok { IfOk result (λ side. IsKept kept.now
+        ensures ok { IfOk result (λ side. IsClientKept kept.now
             × (client_side side ≡ side_of kept.now (profile_of profile))
             × (hostname_in side ≡ option_map string_bytes hostname)) }
-        ensures refused { IfErr result (λ error. error ≢ TakeUpError.OutOfMemory → ¬ IsKept kept.now) }
-        ensures memory { IfErr result (λ error. error ≡ TakeUpError.OutOfMemory → IsKept kept.now) }
+        ensures refused { IfErr result (λ error. error ≢ TakeUpError.OutOfMemory → ¬ IsClientKept kept.now) }
+        ensures memory { IfErr result (λ error. error ≡ TakeUpError.OutOfMemory → IsClientKept kept.now) }
     {
-        if !kept.is_kept() {
+        if !kept.is_client() {
             return Err(TakeUpError::NotKept);
         }
         let held = kept.held.to_vec(alloc)?;

@@ -1,13 +1,13 @@
 //! The server's side of a connection (AMQP 1.0, part 5, section 5.3.2).
 
-ghost use Rattle.std.specs.Prelude.{◌≡◌, ◌≢◌, ◌<◌, ◌≤◌, ◌^◌, ◌++◌, ℕ, List, Option, Some, None, [], IfOk, IfErr, OnOk, OnErr, option_map, length, drop, min};
+ghost use Rattle.std.specs.Prelude.{◌≡◌, ◌≢◌, ◌<◌, ◌≤◌, ◌^◌, ◌++◌, ℕ, List, Option, Some, None, [], IsTrue, IfOk, IfErr, OnOk, OnErr, option_map, length, drop, min};
 ghost use Rattle.fe2o3_sasl_runs.specs.Runs.{AcceptorSteps, server_reply, server_answer};
 ghost use Rattle.fe2o3_sasl_runs.specs.Events.{Failed};
 ghost use Rattle.fe2o3_sasl_runs.specs.Costs.{AcceptorStepCosts};
 ghost use Rattle.fe2o3_sasl_negotiation.specs.Framing.{IsPart, IsPart-prop};
 ghost use Rattle.fe2o3_sasl_negotiation.specs.Negotiations.{Completes, Answer, Receives};
 ghost use Rattle.fe2o3_sasl_negotiation.specs.ServerNegotiation.{offer_body as offer_of, Opens, Says, Replies, ReplyCosts, UnitCosts, ServerAnswers, ServerReceives, ServerCosts};
-ghost use Rattle.fe2o3_sasl_negotiation.specs.SetDown.{IsKept, side_of};
+ghost use Rattle.fe2o3_sasl_negotiation.specs.SetDown.{IsServerKept, server_at, side_of};
 ghost use Rattle.fe2o3_sasl_negotiation.specs.private.Units.{Appends, Screens, ServerUnitAsks};
 ghost use Rattle.fe2o3_sasl_wire.specs.declared.sasl_frames.error.Error.TheVariants.{OutOfMemory as WireOutOfMemory};
 ghost use Rattle.fe2o3_sasl_negotiation.specs.declared.standing.Due.TheVariants.{Header, Frame as FrameDue};
@@ -33,6 +33,9 @@ pub struct ServerNegotiation<A> {
     limit: usize,
     held: Vec<u8>,
     ghost part: { IsPart due limit held.items } by { IsPart-prop due limit held.items },
+    ghost most: { limit ≤ 512 },
+    ghost at: { IsTrue (server_at standing due) },
+    ghost empty: { standing ≢ Wanting → held.items ≡ [] },
 }
 
 /// The body of the list of mechanisms, or `None` where it has none.
@@ -233,9 +236,10 @@ impl<A: NamesUser> ServerNegotiation<A> {
         }
     }
 
-    /// What the side keeps beside its acceptor. One that is set down here is taken up by `take_up`.
+    /// Saves what the side has beside its acceptor, for `take_up`. It holds no password, key or record.
     pub fn set_down(&self) -> SetDown<'_>
-        ensures { side_of result (A.state (acceptor_in self.now)) ≡ server_side A.state self.now }
+        ensures side { side_of result (A.state (acceptor_in self.now)) ≡ server_side A.state self.now }
+        ensures kept { IsServerKept result }
     {
         SetDown {
             standing: self.standing,
@@ -245,18 +249,19 @@ impl<A: NamesUser> ServerNegotiation<A> {
         }
     }
 
-    /// The server's side that has kept these values, by an acceptor in the state in which that side's was.
+    /// Restores the server's side that `set_down` saved, over an acceptor in the state in which that side's was. The
+    /// user of a side that has logged in is the one that this acceptor names.
     ///
-    /// Refused are, in this order: `NotKept` where no side keeps such values, and `OutOfMemory`.
+    /// Errors, in this order: `NotKept` where no server can have such values, and `OutOfMemory`.
     pub fn take_up(alloc: Global, acceptor: A, kept: &SetDown<'_>) -> Result<Self, TakeUpError>
     where
         A: Drop,
-        ensures ok { IfOk result (λ side. IsKept kept.now
-            × (server_side A.state side ≡ side_of kept.now (A.state acceptor))) }
-        ensures refused { IfErr result (λ error. error ≢ TakeUpError.OutOfMemory → ¬ IsKept kept.now) }
-        ensures memory { IfErr result (λ error. error ≡ TakeUpError.OutOfMemory → IsKept kept.now) }
+        ensures ok { IfOk result (λ side. IsServerKept kept.now
+            × (server_side A.state side ≡ side_of kept.now (A.state acceptor)) × (acceptor_in side ≡ acceptor)) }
+        ensures refused { IfErr result (λ error. error ≢ TakeUpError.OutOfMemory → ¬ IsServerKept kept.now) }
+        ensures memory { IfErr result (λ error. error ≡ TakeUpError.OutOfMemory → IsServerKept kept.now) }
     {
-        if !kept.is_kept() {
+        if !kept.is_server() {
             return Err(TakeUpError::NotKept);
         }
         let held = kept.held.to_vec(alloc)?;

@@ -1,40 +1,43 @@
-//! A side of a connection that is set down as plain values between two calls.
+//! Saves a side of a connection as plain values between two calls.
 
 ghost use Rattle.std.specs.Prelude.{◌≡◌, ◌≢◌, ◌↔◌, ℕ, List, IsTrue, IfOk, IfErr, MatchOption};
 ghost use Rattle.fe2o3_sasl_negotiation.specs.Framing.{IsPart};
 ghost use Rattle.fe2o3_sasl_negotiation.specs.Negotiations.{Completes};
-ghost use Rattle.fe2o3_sasl_negotiation.specs.SetDown.{IsKept, side_kept};
+ghost use Rattle.fe2o3_sasl_negotiation.specs.SetDown.{IsKept, IsServerKept, IsClientKept, EndsEmpty, server_frame, server_due, server_at, client_frame, client_due, outcome_due, client_at, side_kept};
 ghost use Rattle.fe2o3_sasl_negotiation.specs.declared.standing.Due.TheVariants.{Header};
 ghost use Rattle.fe2o3_sasl_negotiation.specs.declared.standing.Standing.TheVariants.{Wanting};
 ghost use Rattle.fe2o3_sasl_negotiation.specs.declared.standing.Turn.{Turn as TurnKind};
 ghost use Rattle.fe2o3_sasl_negotiation.specs.declared.set_down.TakeUpError.TheVariants.{OutOfMemory as TakeUpOutOfMemory};
 
 use crate::framing::{Arrived, MAX_FRAME, size, take_unit};
-use crate::standing::{Due, Standing};
+use crate::standing::{ClosedBecause, Due, Standing, Turn};
+use fe2o3_sasl_runs::ProfileError;
+use fe2o3_sasl_wire::{Error as FrameError, SaslCode};
 use std::alloc::{AllocError, Global};
 use thiserror::Error;
 
-/// What a side keeps between two calls, beside its acceptor or its profile.
+/// A side between two calls as plain values, without its acceptor or its profile.
 #[derive(Drop)]
 pub struct SetDown<'a> {
-    /// How it stands.
+    /// The standing.
     pub standing: Standing,
 
     /// What is due next.
     pub due: Due,
 
-    /// The most bytes of a frame, 512 at most.
+    /// The maximum size of a frame, 512 at most.
     pub limit: usize,
 
-    /// What has come of the header or of the frame that is due.
+    /// The bytes that have arrived of the header or frame that is due.
     pub held: &'a [u8],
 }
 
-/// Why a side is not taken up.
+/// Why a side is not restored.
 #[derive(Clone, Copy, Debug, PartialEq, Eq, Error)]
 pub enum TakeUpError {
-    /// No side keeps these values: the limit is above 512, or what has come is all of what is due, or begins
-    /// with a size that no frame may have.
+    /// No side has these values: the limit is above 512; all of what is due has arrived, or a size that no frame may
+    /// have; a side that has ended holds bytes; or what is due does not fit the standing, or is never due to that
+    /// side.
     #[error("No side keeps these values")]
     NotKept,
 
@@ -52,10 +55,12 @@ impl From<AllocError> for TakeUpError {
 }
 
 impl SetDown<'_> {
-    /// The body of the frame that these bytes complete, without the four bytes of its size, or `None` where they
-    /// complete none: so a server can tell whom a frame names before it takes it up. The side stays set down.
+    /// Returns the body of the frame that these bytes complete, without the four bytes of its size, or `None` where
+    /// they complete none. A server reads from it which user a frame names, before it restores the side, which stays
+    /// saved.
     ///
-    /// Refused are, in this order: `NotKept` where no side keeps such values, and `OutOfMemory`.
+    /// Errors, in this order: `NotKept` where no side has such values, and `OutOfMemory`, only of a side that waits for
+    /// a frame.
     #[tactic(auto, using(crate::proofs::lemmas::CompletedLemmas::completed))]
     pub fn completed(&self, alloc: Global, bytes: &[u8]) -> Result<Option<Vec<u8>>, TakeUpError>
         ensures kept { IfOk result (λ _. IsKept self.now) }
@@ -85,15 +90,75 @@ impl SetDown<'_> {
         }
     }
 
-    /// Whether a side can have kept these values.
-    pub(crate) fn is_kept(&self) -> bool
+    /// Whether a side that waits can have these values.
+    fn is_kept(&self) -> bool
         ensures { IsTrue result ↔ IsKept self.now }
     {
         self.limit <= MAX_FRAME && is_part(self.due, self.limit, self.held)
     }
+
+    /// Whether a side that has ended holds nothing.
+    fn ends_empty(&self) -> bool
+        ensures { IsTrue result ↔ EndsEmpty self.now }
+    {
+        matches!(self.standing, Standing::Wanting) || self.held.is_empty()
+    }
+
+    /// Whether a server can have these values.
+    pub(crate) fn is_server(&self) -> bool
+        ensures { IsTrue result ↔ IsServerKept self.now }
+    {
+        self.is_kept() && is_server_at(self.standing, self.due) && self.ends_empty()
+    }
+
+    /// Whether a client can have these values.
+    pub(crate) fn is_client(&self) -> bool
+        ensures { IsTrue result ↔ IsClientKept self.now }
+    {
+        self.is_kept() && is_client_at(self.standing, self.due) && self.ends_empty()
+    }
 }
 
-/// Whether so much can have come of what is due.
+/// Whether a server with this standing can have this due.
+fn is_server_at(standing: Standing, due: Due) -> bool
+    ensures { result ≡ server_at standing due }
+{
+    let is_frame = matches!(due, Due::Frame(Turn::Init | Turn::Response));
+    match standing {
+        Standing::Wanting | Standing::Closed(ClosedBecause::ReplyTooLarge) => {
+            matches!(due, Due::Header) || is_frame
+        }
+        Standing::Closed(ClosedBecause::OtherHeader) => matches!(due, Due::Header),
+        Standing::Closed(
+            ClosedBecause::Unread(FrameError::OutOfMemory)
+            | ClosedBecause::Refused(SaslCode::Ok)
+            | ClosedBecause::Profile(_),
+        ) => false,
+        Standing::LoggedIn | Standing::Closed(_) => is_frame,
+    }
+}
+
+/// Whether a client with this standing can have this due.
+fn is_client_at(standing: Standing, due: Due) -> bool
+    ensures { result ≡ client_at standing due }
+{
+    let is_outcome = matches!(due, Due::Frame(Turn::Challenge | Turn::Outcome));
+    let is_frame = matches!(due, Due::Frame(Turn::Mechanisms)) || is_outcome;
+    match standing {
+        Standing::Wanting => matches!(due, Due::Header) || is_frame,
+        Standing::Closed(ClosedBecause::OtherHeader) => matches!(due, Due::Header),
+        Standing::Closed(
+            ClosedBecause::Unread(FrameError::OutOfMemory)
+            | ClosedBecause::Refused(SaslCode::Ok)
+            | ClosedBecause::Profile(ProfileError::OutOfMemory),
+        ) => false,
+        Standing::LoggedIn
+        | Standing::Closed(ClosedBecause::ReplyTooLarge | ClosedBecause::Refused(_)) => is_outcome,
+        Standing::Closed(_) => is_frame,
+    }
+}
+
+/// Whether a side that waits can hold these bytes of what is due.
 fn is_part(due: Due, limit: usize, held: &[u8]) -> bool
     ensures { IsTrue result ↔ IsPart due limit held.now }
 {

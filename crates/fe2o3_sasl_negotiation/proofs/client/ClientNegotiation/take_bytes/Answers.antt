@@ -4,16 +4,18 @@ use Rattle.fe2o3_sasl_negotiation.specs.Framing.{IsPart}
 use Rattle.fe2o3_sasl_negotiation.proofs.lemmas.ReceivingLemmas.{held_before_unit, same_side}
 use Rattle.fe2o3_sasl_negotiation.proofs.lemmas.ClientAnswerLemmas.{unit_costs}
 use Rattle.fe2o3_sasl_negotiation.proofs.lemmas.MemoryLemmas.{client_asks}
+use Rattle.fe2o3_sasl_negotiation.proofs.lemmas.ClientKeptLemmas.{client_stays}
+use Rattle.fe2o3_sasl_negotiation.specs.Sides.{hostname_in}
 use Rattle.fe2o3_sasl_negotiation.specs.Memory.{client_room}
 use Rattle.fe2o3_sasl_negotiation.proofs.client.ClientNegotiation.take_bytes.Goals as goal
 
-pub invariant_of-self-in-Err : goal.invariant_of-self-in-Err
-invariant_of-self-in-Err c =
+pub invariant_of-self-in-Err-clause-part : goal.invariant_of-self-in-Err-clause-part
+invariant_of-self-in-Err-clause-part c =
     let old = c.args.self.now in
     let same : c.truncate.new.self.items ≡ old.held.items = c.truncate.ensures.items
     ∙ held_before_unit old.due old.limit old.held.items c.args.bytes.now c.take_unit.new.held.items c.len-had.result
     old.part (rw c.in-Whole.is at c.in_ok-take_unit.ensures.ok) (c.len-had.ensures ∙ old.held.ok.0) in
-    record { part = subst (λ (h : List ℕ). IsPart old.due old.limit h) (sym same) old.part }
+    subst (λ (h : List ℕ). IsPart old.due old.limit h) (sym same) old.part
 
 pub returns-in-Ok-clause-cost : goal.returns-in-Ok-clause-cost
 returns-in-Ok-clause-cost c =
@@ -43,3 +45,10 @@ returns-in-Err-clause-memory c =
     client_asks old.standing old.due old.limit (client_room old) old.held.items c.args.bytes.now
     c.take_unit.new.held.items (profile_of old.profile) c.in-Wanting.is
     (rw c.in-Whole.is at c.in_ok-take_unit.ensures.ok) (rw c.deref.ensures.value at c.in-Err.ensures.memory)
+
+pub invariant_of-self-in-Ok-clause-at : goal.invariant_of-self-in-Ok-clause-at
+invariant_of-self-in-Ok-clause-at c =
+    let old = c.args.self.now in
+    client_stays (hostname_in old) old.standing old.due (profile_of old.profile) (profile_of c.answer.new.profile)
+    c.args.nonce.now c.take_unit.new.held.items c.args.out.now.items c.answer.new.out.items c.in-Ok.step c.in-Wanting.is
+    old.at (rw (c.deref.ensures.value, c.shown_name.ensures) at c.in-Ok.ensures.ok)

@@ -3,16 +3,17 @@ use Rattle.fe2o3_sasl_negotiation.specs.Framing.{IsPart}
 use Rattle.fe2o3_sasl_negotiation.proofs.lemmas.ReceivingLemmas.{held_before_unit, same_side}
 use Rattle.fe2o3_sasl_negotiation.proofs.lemmas.ServerAnswerLemmas.{unit_costs}
 use Rattle.fe2o3_sasl_negotiation.proofs.lemmas.MemoryLemmas.{server_asks}
+use Rattle.fe2o3_sasl_negotiation.proofs.lemmas.KeptLemmas.{server_stays}
 use Rattle.fe2o3_sasl_negotiation.specs.Memory.{server_room}
 use Rattle.fe2o3_sasl_negotiation.proofs.server.ServerNegotiation.take_bytes.Goals as goal
 
-pub invariant_of-self-in-Err : goal.invariant_of-self-in-Err
-invariant_of-self-in-Err g c =
+pub invariant_of-self-in-Err-clause-part : goal.invariant_of-self-in-Err-clause-part
+invariant_of-self-in-Err-clause-part g c =
     let old = c.args.self.now in
     let same : c.truncate.new.self.items ≡ old.held.items = c.truncate.ensures.items
     ∙ held_before_unit old.due old.limit old.held.items c.args.bytes.now c.take_unit.new.held.items c.len-had.result
     old.part (rw c.in-Whole.is at c.in_ok-take_unit.ensures.ok) (c.len-had.ensures ∙ old.held.ok.0) in
-    record { part = subst (λ (h : List ℕ). IsPart old.due old.limit h) (sym same) old.part }
+    subst (λ (h : List ℕ). IsPart old.due old.limit h) (sym same) old.part
 
 pub returns-in-Ok-clause-cost : goal.returns-in-Ok-clause-cost
 returns-in-Ok-clause-cost g c =
@@ -45,3 +46,11 @@ returns-in-Err-clause-memory g c =
     server_asks old.standing old.due old.limit (server_room old) old.held.items c.args.bytes.now
     c.take_unit.new.held.items (m.state old.acceptor) c.in-Wanting.is
     (rw c.in-Whole.is at c.in_ok-take_unit.ensures.ok) (rw c.deref.ensures.value at c.in-Err.ensures.memory)
+
+pub invariant_of-self-in-Ok-clause-at : goal.invariant_of-self-in-Ok-clause-at
+invariant_of-self-in-Ok-clause-at g c =
+    let m = g.A.SaslAcceptor in
+    let old = c.args.self.now in
+    server_stays m.names m.machine old.standing old.due (m.state old.acceptor) (m.state c.answer.new.acceptor)
+    c.args.nonce.now c.take_unit.new.held.items c.args.out.now.items c.answer.new.out.items c.in-Ok.step c.in-Wanting.is
+    old.at (rw c.deref.ensures.value at c.in-Ok.ensures.ok)

@@ -1,0 +1,181 @@
+-- A client's standing and what is due to it, after an answer to a unit.
+use Rattle.std.proofs.Common.{◌≡◌, ◌≢◌, ℕ, Option, Some, None, List, [], drop, IsTrue, refl, sym, ◌∙◌, subst, inl, inr, Result, Ok, Err}
+use Rattle.fe2o3_sasl_wire.specs.declared.amqp_types.SaslCode.{SaslCode}
+use Rattle.fe2o3_sasl_wire.specs.declared.amqp_types.SaslCode.TheVariants as outcomes
+use Rattle.fe2o3_sasl_wire.specs.declared.sasl_frames.error.Error.{Error}
+use Rattle.fe2o3_sasl_wire.specs.declared.sasl_frames.error.Error.TheVariants as faults
+use Rattle.fe2o3_sasl_wire.specs.SaslFrames.{SaslFrame, canonical}
+use Rattle.fe2o3_sasl_wire.specs.SaslFrames as frames
+use Rattle.fe2o3_sasl_runs.specs.Bodies.{SpellsBody, carried}
+use Rattle.fe2o3_sasl_runs.specs.Events.{Given, ClientSays, Started, Answered, Reported, Refused as ClientRefused, ClientFault, NotImplemented, Scram, OtherKeys, Frame as FrameFault, OutOfMemory}
+use Rattle.fe2o3_sasl_runs.specs.ProfileFaults.{client_fault}
+use Rattle.fe2o3_sasl_runs.specs.Profiles.{Profile}
+use Rattle.fe2o3_sasl_runs.specs.Runs.{ProfileSteps, ProfileGives, Replies as ProfileSays}
+use Rattle.fe2o3_sasl_runs.specs.declared.sasl_profile.error.ProfileError.{ProfileError}
+use Rattle.fe2o3_sasl_runs.specs.declared.sasl_profile.error.ProfileError.TheVariants as profile_faults
+use Rattle.fe2o3_sasl_runs.proofs.lemmas.frames.SpellingLemmas.{one_spelling}
+use Rattle.fe2o3_sasl_negotiation.specs.declared.framing.Step.{Step}
+use Rattle.fe2o3_sasl_negotiation.specs.declared.standing.ClosedBecause.TheVariants.{OtherHeader, OutOfTurn, ReplyTooLarge, Unread, Refused, Profile as ProfileRefused}
+use Rattle.fe2o3_sasl_negotiation.specs.declared.standing.Due.{Due}
+use Rattle.fe2o3_sasl_negotiation.specs.declared.standing.Due.TheVariants.{Header, Frame}
+use Rattle.fe2o3_sasl_negotiation.specs.declared.standing.Standing.{Standing}
+use Rattle.fe2o3_sasl_negotiation.specs.declared.standing.Standing.TheVariants.{Wanting, LoggedIn, Closed}
+use Rattle.fe2o3_sasl_negotiation.specs.declared.standing.Turn.{Turn}
+use Rattle.fe2o3_sasl_negotiation.specs.declared.standing.Turn.TheVariants as turns
+use Rattle.fe2o3_sasl_negotiation.specs.Negotiations.{Answer, closes, Sends, IsInTurn}
+use Rattle.fe2o3_sasl_negotiation.specs.ClientNegotiation.{Says, Replies, ClientAnswers}
+use Rattle.fe2o3_sasl_negotiation.specs.SetDown.{client_due, outcome_due, client_at}
+use Rattle.fe2o3_sasl_negotiation.specs.private.Units.{Appends}
+use Rattle.fe2o3_sasl_negotiation.proofs.lemmas.KeptLemmas.{unread_is_no_memory}
+
+-- where an answer is this one
+at_client : (answer other : Answer) → answer ≡ other → IsTrue (client_at other.standing other.due)
+    → IsTrue (client_at answer.standing answer.due)
+at_client answer other is holds = subst (λ (a : Answer). IsTrue (client_at a.standing a.due)) (sym is) holds
+
+sent_at_client : (body : List ℕ) (due : Due) (answer : Answer) → IsTrue (client_due due) → IsTrue (outcome_due due)
+    → Sends body Wanting due answer → IsTrue (client_at answer.standing answer.due)
+sent_at_client body due answer holds after (inl (fits, is)) =
+    at_client answer (record { sent = _; standing = Wanting; due = due }) is holds
+sent_at_client body due answer holds after (inr (long, is)) = at_client answer (closes ReplyTooLarge due) is after
+
+-- a client that closes at a frame for a fault of its body
+unread_at_client : (fault : Error) (turn : Turn) → fault ≢ faults.OutOfMemory → IsTrue (client_due (Frame turn))
+    → IsTrue (client_at (Closed (Unread fault)) (Frame turn))
+unread_at_client faults.DecodeError turn other unit = unit
+unread_at_client faults.NotImplemented turn other unit = unit
+unread_at_client faults.TooLarge turn other unit = unit
+unread_at_client faults.OutOfMemory turn other unit = absurd (other refl)
+
+-- and for a fault of its profile
+profile_at_client : (kind : ProfileError) (turn : Turn) → client_fault kind ≢ OutOfMemory
+    → IsTrue (client_due (Frame turn)) → IsTrue (client_at (Closed (ProfileRefused kind)) (Frame turn))
+profile_at_client profile_faults.NotImplemented turn other unit = unit
+profile_at_client (profile_faults.Scram kind) turn other unit = unit
+profile_at_client profile_faults.OtherKeys turn other unit = unit
+profile_at_client (profile_faults.Frame fault) turn other unit = unit
+profile_at_client profile_faults.OutOfMemory turn other unit = absurd (other refl)
+
+-- a profile reports no outcome of a list of mechanisms
+init_is_no_report : (code : SaslCode) (more : Option (List ℕ)) (body : Option (List ℕ))
+    → Reported code more ≡ carried (ClientRefused (FrameFault faults.TooLarge)) (λ b. Started b) body → ⊥
+init_is_no_report code more None same = absurd (cc)
+init_is_no_report code more (Some body) same = absurd (cc)
+
+no_report : (hostname : Option (List ℕ)) (profile next : Profile) (event : Given) (names : List (List ℕ))
+    (code : SaslCode) (more : Option (List ℕ)) → SpellsBody event.body (Ok (frames.Mechanisms names))
+    → ProfileSteps hostname profile event (Reported code more) next → ⊥
+no_report hostname profile next event names code more spells (spelled, other, gives) =
+    go (subst (λ (s : Result SaslFrame Error). ProfileGives hostname profile event s (Reported code more) next)
+    (one_spelling event.body spelled (Ok (frames.Mechanisms names)) other spells) gives)
+  where
+    go : ProfileGives hostname profile event (Ok (frames.Mechanisms names)) (Reported code more) next → ⊥
+    go (inl (allocates, says, same)) = absurd (cc)
+    go (inr (reply, moved, inl (offered, is, after), says)) =
+        init_is_no_report code more _
+        (subst (λ (r : Result SaslFrame ClientFault). ProfileSays profile moved r (Reported code more) next) is says).0
+    go (inr (reply, moved, inr (other, is, after), says)) =
+        let apart = (subst (λ (r : Result SaslFrame ClientFault). ProfileSays profile moved r (Reported code more) next)
+        is says).0 in absurd (cc)
+
+-- so an outcome comes after the mechanisms
+after_mechanisms : (hostname : Option (List ℕ)) (turn : Turn) (profile next : Profile) (event : Given)
+    (frame : SaslFrame) (code : SaslCode) (more : Option (List ℕ)) → IsTrue (client_due (Frame turn))
+    → SpellsBody event.body (Ok frame) → IsInTurn turn frame
+    → ProfileSteps hostname profile event (Reported code more) next → IsTrue (outcome_due (Frame turn))
+after_mechanisms hostname turns.Challenge profile next event frame code more unit spells in_turn steps = refl
+after_mechanisms hostname turns.Outcome profile next event frame code more unit spells in_turn steps = refl
+after_mechanisms hostname turns.Init profile next event frame code more unit spells in_turn steps = absurd (cc)
+after_mechanisms hostname turns.Response profile next event frame code more unit spells in_turn steps = absurd (cc)
+after_mechanisms hostname turns.Mechanisms profile next event (frames.Mechanisms names) code more unit spells in_turn
+    steps = absurd (no_report hostname profile next event names code more spells steps)
+after_mechanisms hostname turns.Mechanisms profile next event (frames.Init mechanism response host) code more unit spells
+    in_turn steps = absurd in_turn
+after_mechanisms hostname turns.Mechanisms profile next event (frames.Challenge text) code more unit spells in_turn
+    steps = absurd in_turn
+after_mechanisms hostname turns.Mechanisms profile next event (frames.Response text) code more unit spells in_turn
+    steps = absurd in_turn
+after_mechanisms hostname turns.Mechanisms profile next event (frames.Outcome other extra) code more unit spells in_turn
+    steps = absurd in_turn
+
+refused_at_client : (fault : ClientFault) (turn : Turn) (answer : Answer) → IsTrue (client_due (Frame turn))
+    → Says (ClientRefused fault) turn answer → IsTrue (client_at answer.standing answer.due)
+refused_at_client OutOfMemory turn answer unit says = absurd says
+refused_at_client NotImplemented turn answer unit (kind, same, is) =
+    at_client answer (closes (ProfileRefused kind) (Frame turn)) is
+    (profile_at_client kind turn (λ wants. let apart = sym same ∙ wants in absurd (cc)) unit)
+refused_at_client (Scram why) turn answer unit (kind, same, is) =
+    at_client answer (closes (ProfileRefused kind) (Frame turn)) is
+    (profile_at_client kind turn (λ wants. let apart = sym same ∙ wants in absurd (cc)) unit)
+refused_at_client OtherKeys turn answer unit (kind, same, is) =
+    at_client answer (closes (ProfileRefused kind) (Frame turn)) is
+    (profile_at_client kind turn (λ wants. let apart = sym same ∙ wants in absurd (cc)) unit)
+refused_at_client (FrameFault fault) turn answer unit (kind, same, is) =
+    at_client answer (closes (ProfileRefused kind) (Frame turn)) is
+    (profile_at_client kind turn (λ wants. let apart = sym same ∙ wants in absurd (cc)) unit)
+
+says_at_client : (says : ClientSays) (turn : Turn) (answer : Answer) → IsTrue (client_due (Frame turn))
+    → ((code : SaslCode) (more : Option (List ℕ)) → says ≡ Reported code more → IsTrue (outcome_due (Frame turn)))
+    → Says says turn answer → IsTrue (client_at answer.standing answer.due)
+says_at_client (Started body) turns.Mechanisms answer unit reports says =
+    sent_at_client body (Frame turns.Challenge) answer refl refl says
+says_at_client (Started body) turns.Challenge answer unit reports says =
+    at_client answer (closes OutOfTurn (Frame turns.Challenge)) says refl
+says_at_client (Started body) turns.Outcome answer unit reports says =
+    at_client answer (closes OutOfTurn (Frame turns.Outcome)) says refl
+says_at_client (Started body) turns.Init answer unit reports says = absurd (cc)
+says_at_client (Started body) turns.Response answer unit reports says = absurd (cc)
+says_at_client (Answered body) turns.Challenge answer unit reports says =
+    sent_at_client body (Frame turns.Outcome) answer refl refl says
+says_at_client (Answered body) turns.Mechanisms answer unit reports says =
+    at_client answer (closes OutOfTurn (Frame turns.Mechanisms)) says refl
+says_at_client (Answered body) turns.Outcome answer unit reports says =
+    at_client answer (closes OutOfTurn (Frame turns.Outcome)) says refl
+says_at_client (Answered body) turns.Init answer unit reports says = absurd (cc)
+says_at_client (Answered body) turns.Response answer unit reports says = absurd (cc)
+says_at_client (Reported outcomes.Ok more) turn answer unit reports says =
+    at_client answer (record { sent = []; standing = LoggedIn; due = Frame turn }) says (reports outcomes.Ok more refl)
+says_at_client (Reported outcomes.Auth more) turn answer unit reports says =
+    at_client answer (closes (Refused outcomes.Auth) (Frame turn)) says (reports outcomes.Auth more refl)
+says_at_client (Reported outcomes.Sys more) turn answer unit reports says =
+    at_client answer (closes (Refused outcomes.Sys) (Frame turn)) says (reports outcomes.Sys more refl)
+says_at_client (Reported outcomes.SysPerm more) turn answer unit reports says =
+    at_client answer (closes (Refused outcomes.SysPerm) (Frame turn)) says (reports outcomes.SysPerm more refl)
+says_at_client (Reported outcomes.SysTemp more) turn answer unit reports says =
+    at_client answer (closes (Refused outcomes.SysTemp) (Frame turn)) says (reports outcomes.SysTemp more refl)
+says_at_client (ClientRefused fault) turn answer unit reports says = refused_at_client fault turn answer unit says
+
+module _ (hostname : Option (List ℕ)) where
+  replied_at_client : (turn : Turn) (profile next : Profile) (event : Given) (answer : Answer)
+      → IsTrue (client_due (Frame turn)) → Replies hostname turn profile event answer next
+      → IsTrue (client_at answer.standing answer.due)
+  replied_at_client turn profile next event answer unit (Err fault, spells, (is, same)) =
+      at_client answer (closes (Unread fault) (Frame turn)) is
+      (unread_at_client fault turn (λ wants. unread_is_no_memory event.body (sym spells.0 ∙ wants)) unit)
+  replied_at_client turn profile next event answer unit (Ok frame, spells, inl (out, is, same)) =
+      at_client answer (closes OutOfTurn (Frame turn)) is unit
+  replied_at_client turn profile next event answer unit (Ok frame, spells, inr (in_turn, (says, steps, holds))) =
+      says_at_client says turn answer unit
+      (λ code more is. after_mechanisms hostname turn profile next event frame code more unit spells in_turn
+      (subst (λ (s : ClientSays). ProfileSteps hostname profile event s next) is steps)) holds
+
+  -- what a client answers to a unit leaves it as a client can be
+  answered_at_client : (due : Due) (profile next : Profile) (nonce unit : List ℕ) (answer : Answer)
+      → IsTrue (client_due due) → ClientAnswers hostname due profile nonce unit answer next
+      → IsTrue (client_at answer.standing answer.due)
+  answered_at_client Header profile next nonce unit answer is (inl (other, same), after) =
+      at_client answer (closes OtherHeader Header) same refl
+  answered_at_client Header profile next nonce unit answer is (inr (sasl, same), after) =
+      at_client answer (record { sent = []; standing = Wanting; due = Frame turns.Mechanisms }) same refl
+  answered_at_client (Frame turn) profile next nonce unit answer is answers =
+      replied_at_client turn profile next (record { body = drop 4 unit; nonce = nonce }) answer is answers
+
+  -- and so does what it appends
+  pub client_stays : (standing : Standing) (due : Due) (profile next : Profile) (nonce unit old new : List ℕ)
+      (step : Step) → standing ≡ Wanting → IsTrue (client_at standing due)
+      → Appends (λ answer. ClientAnswers hostname due profile nonce unit answer next) old new step
+      → IsTrue (client_at step.standing step.due)
+  client_stays standing due profile next nonce unit old new step wanting holds (sent, appended, answers) =
+      answered_at_client due profile next nonce unit
+      (record { sent = sent; standing = step.standing; due = step.due })
+      (subst (λ (s : Standing). IsTrue (client_at s due)) wanting holds) answers
