@@ -32,8 +32,8 @@ EXPORT = re.compile(r"#\[unsafe\(no_mangle\)\]\n(?:#\[tactic\([^\n]*\n)?pub exte
                     r"\(([^()]*)\)(?: -> (u32|usize))?(?: \{|((?:\n    [^\n]*)+)\n\{)\n")
 VARIANT = re.compile(r"\s*(?:(?:///|#\[)[^\n]*\n\s*)*(\w+)(?:\((\w+)\))?,\n")
 ARM = re.compile(r"\s*(\w+)::(\w+)(?:\((why)\))? => (?:(\d+)|(\w+)\(why\)),\n")
-TEXTS = re.compile(r"\bfn text_of\(status: u32\) [^\n]*\n    match status \{\n(.*?)^        _ => (b\"[^\n]*),\n    \}$",
-                   re.M | re.S)
+TEXTS = re.compile(r"\bfn text_of\(status: u32\) [^\n]*\n(?:    ensures [^\n]*\n\{\n)?    match status \{\n"
+                   r"(.*?)^        _ => (b\"[^\n]*),\n    \}$", re.M | re.S)
 TEXT = re.compile(r"\s*(\d+) => (b\"[^\"\\]+\\0\"),\n")
 
 Part = namedtuple("Part", "name form kind count")  # form: value, array, const or mut; count: that of an array

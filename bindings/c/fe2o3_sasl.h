@@ -108,7 +108,7 @@ enum fe2o3_status {
     /* The password is not that of the record. */
     FE2O3_OTHER_PASSWORD = 11,
     /* There is no such mechanism: of a client 0 is SCRAM, 1 PLAIN, 2 ANONYMOUS, and 3 EXTERNAL; a server's are the
-     * sum of 1, 2, 4 and 8, and not 0. */
+     * sum of 1, 2, 4 and 8, and not 0, nor 8 alone where the peer's name is empty. */
     FE2O3_NO_SUCH_MECHANISM = 12,
     /* The connection has ended: its client is logged in, or it is to be closed. */
     FE2O3_ENDED = 13,
@@ -317,7 +317,8 @@ struct fe2o3_scram_record {
     uint8_t server_key[64];
 };
 
-/* What a server keeps of an exchange. All zeros is a server without an open challenge. */
+/* What a server keeps of an exchange. All zeros is a server without an open challenge. A call that succeeds writes zeros
+ * to every field that is not of the new state, and after every length. No password and no key of a record is kept. */
 struct fe2o3_scram_server {
     /* 1 while a challenge is open, and 2 once its user has logged in. */
     uint32_t stands;
@@ -370,7 +371,9 @@ struct fe2o3_login {
     const struct fe2o3_client_keys *keys;
 };
 
-/* What a client keeps of an exchange. All zeros is a client that has sent nothing. */
+/* What a client keeps of an exchange. All zeros is a client that has sent nothing. A call that succeeds writes zeros to
+ * every field that is not of the new state, and after every length. No password is kept, and no keys but those in
+ * `keys`. */
 struct fe2o3_scram_client {
     /* What was sent last: 1 the client-first message, 2 the client-final message; 3 is a login whose server was
      * believed. */
@@ -388,7 +391,7 @@ struct fe2o3_scram_client {
 /* What a server offers, and whose record it has: lent for each call. */
 struct fe2o3_sasl_host {
     /* Which mechanisms are offered: the sum of 1 for SCRAM of the version, 2 for PLAIN, 4 for ANONYMOUS, and 8 for
-     * EXTERNAL; and of 16 where SCRAM takes a client whose GS2 header is `y,,`, as
+     * EXTERNAL where there is a peer; and of 16 where SCRAM takes a client whose GS2 header is `y,,`, as
      * `fe2o3_scram_server_first_unbound` does. PLAIN shows the password to whoever reads the connection, and is for
      * TLS alone. */
     uint32_t mechanisms;
@@ -401,7 +404,8 @@ struct fe2o3_sasl_host {
     size_t username_len;
     /* The record of the user. Where the struct shows none of the version, nobody is known. */
     const struct fe2o3_scram_record *record;
-    /* Whom the transport has authenticated: EXTERNAL lets in this name. */
+    /* The name of the client that the transport has authenticated, which EXTERNAL lets in. Where it is empty the
+     * transport has authenticated nobody: EXTERNAL is not offered, and an init of it is refused by `REFUSED_AUTH`. */
     const uint8_t *peer;
     size_t peer_len;
 };

@@ -240,6 +240,25 @@ static void by_hand(void)
     told("nothing", "offered", fe2o3_sasl_server_offer(&host, ROOM(offer)) == FE2O3_NO_SUCH_MECHANISM);
 }
 
+/* EXTERNAL on a connection whose client the transport has not authenticated. */
+static void without_peer(const struct fe2o3_sasl_login *external, struct fe2o3_sasl_host host)
+{
+    struct fe2o3_scram_server server = fresh_server;
+    struct body offer, out;
+    struct exchange one;
+    uint32_t stands = 0;
+    host.peer_len = 0;
+    host.mechanisms = FE2O3_OFFER_ANONYMOUS | FE2O3_OFFER_EXTERNAL;
+    told("EXTERNAL", "not offered without a peer", run(&one, external, &host) == FE2O3_NOT_IMPLEMENTED);
+    told("EXTERNAL", "an init without a peer",
+        fe2o3_sasl_server_step(&host, &server, TEXT("\2\1\0\0\0\x53\x41\xc0\x12\3\xa3\10EXTERNAL\x40\xa1\4host"),
+            server_nonce, &stands, ROOM(out)) == FE2O3_DONE
+            && stands == FE2O3_REFUSED_AUTH && spells(&out, TEXT(BARE_AUTH)) && names_nobody(&server));
+    host.mechanisms = FE2O3_OFFER_EXTERNAL;
+    told("EXTERNAL", "nothing offered without a peer",
+        fe2o3_sasl_server_offer(&host, ROOM(offer)) == FE2O3_NO_SUCH_MECHANISM);
+}
+
 static void by_others(void)
 {
     struct fe2o3_scram_record record = record_by(FE2O3_SHA_256);
@@ -262,6 +281,7 @@ static void by_others(void)
             && spells(&one.sent[1], TEXT("\2\1\0\0\0\x53\x41\xc0\x12\3\xa3\10EXTERNAL\x40\xa1\4host")));
     host.mechanisms = FE2O3_OFFER_SCRAM;
     told("EXTERNAL", "where it is not offered", run(&one, &external, &host) == FE2O3_NOT_IMPLEMENTED);
+    without_peer(&external, host_of(&record));
 }
 
 /* What a client that has sent nothing makes of this body. */

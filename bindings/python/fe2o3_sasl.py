@@ -1033,13 +1033,14 @@ class _ServerSide(_Login):
         mechanisms: int = Offer.SCRAM,
         version: int = SHA_256,
         iterations: int = 4096,
-        peer: Text = "",
+        peer: Optional[Text] = None,
     ) -> None:
         """A login by one of the mechanisms. `record_of` is asked for the record of a name: for one that it does not
         know it answers `Record.of_nobody(..)`, so that nobody learns that, or None. The count is what PLAIN takes for
-        an unknown user. EXTERNAL lets in the peer: whom the transport has authenticated."""
+        an unknown user. EXTERNAL lets in the peer, the name that the transport has authenticated. Where that is None or
+        empty, EXTERNAL is not offered, and an init of it is refused."""
         self._record_of, self._mechanisms, self._version = record_of, _number(mechanisms), _number(version)
-        self._iterations, self._peer, self._struct = _number(iterations), _text(peer), self._fresh()
+        self._iterations, self._peer, self._struct = _number(iterations), _text("" if peer is None else peer), self._fresh()
         self._lock = threading.RLock()
 
     def _fresh(self) -> Any:

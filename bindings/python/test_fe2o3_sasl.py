@@ -696,6 +696,15 @@ class Steps(Case):
             steps_served(side, Other("ANONYMOUS"))
             self.assertEqual((asked, side.standing), ([], Standing.LOGGED_IN))
 
+    def test_external_without_a_peer(self) -> None:
+        for peer in (None, "", b""):
+            side = ServerSteps(lambda name: None, mechanisms=15, peer=peer)
+            self.assertEqual(side.offer(), mechanisms_frame(MECHANISMS[SHA_256], "PLAIN", "ANONYMOUS")[4:])
+            steps_served(side, Other("EXTERNAL"), ask=True)
+            self.closed(side, Status.REFUSED_AUTH)
+            alone = ServerSteps(lambda name: None, mechanisms=Offer.EXTERNAL, peer=peer)
+            self.refused(Status.NO_SUCH_MECHANISM, alone.offer)
+
     def test_servers_of_other_mechanisms(self) -> None:
         def server(mechanisms: int) -> ServerSteps:
             return ServerSteps(lambda name: None, mechanisms=mechanisms, peer="peer")

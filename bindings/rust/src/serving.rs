@@ -36,7 +36,7 @@ pub struct Offers {
     /// ANONYMOUS (RFC 4505).
     pub anonymous: bool,
 
-    /// EXTERNAL (RFC 4422, appendix A).
+    /// EXTERNAL (RFC 4422, appendix A), which is offered only where the transport has authenticated a peer (`with_peer`).
     pub external: bool,
 }
 
@@ -57,7 +57,7 @@ impl Offers {
 pub(crate) struct Host<C: ScramCredentialProvider + Clone> {
     authenticator: ScramAuthenticator<C>,
     offers: Offers,
-    peer: String,
+    peer: Option<String>,
 }
 
 /// A host of the library, whose pointers are to what is borrowed for `'a`.
@@ -68,12 +68,12 @@ pub(crate) struct LentHost<'a> {
 
 impl<C: ScramCredentialProvider + Clone> Host<C> {
     pub(crate) fn new(authenticator: ScramAuthenticator<C>, offers: Offers) -> Self {
-        Self { authenticator, offers, peer: String::new() }
+        Self { authenticator, offers, peer: None }
     }
 
     /// The same host, where EXTERNAL lets in this name.
     pub(crate) fn with_peer(self, peer: String) -> Self {
-        Self { peer, ..self }
+        Self { peer: Some(peer), ..self }
     }
 
     /// The record of the user whom a frame names, if it names one and there is one.
@@ -87,6 +87,7 @@ impl<C: ScramCredentialProvider + Clone> Host<C> {
     /// The host with the record of a user, if there is one.
     pub(crate) fn lend<'a>(&'a self, name: Option<&'a str>, record: Option<&'a ScramRecord>) -> LentHost<'a> {
         let username = name.unwrap_or_default();
+        let peer = self.peer.as_deref().unwrap_or_default();
         let host = sys::SaslHost {
             mechanisms: self.offers.sum() + TAKE_UNBOUND * u32::from(self.authenticator.takes_unbound()),
             version: self.authenticator.credentials().scram_version().number(),
@@ -94,8 +95,8 @@ impl<C: ScramCredentialProvider + Clone> Host<C> {
             username: username.as_ptr(),
             username_len: username.len(),
             record: record.map_or(&NO_RECORD, |record| &record.0),
-            peer: self.peer.as_ptr(),
-            peer_len: self.peer.len(),
+            peer: peer.as_ptr(),
+            peer_len: peer.len(),
         };
         LentHost { host, from: PhantomData }
     }
@@ -146,7 +147,8 @@ impl<C: ScramCredentialProvider + Clone> ServerNegotiation<C> {
         Self { host: Host::new(authenticator, offers), state }
     }
 
-    /// The same, where EXTERNAL lets in this name, whom the transport has authenticated.
+    /// Sets the name that the transport has authenticated, which EXTERNAL lets in. Without one, and with an empty one,
+    /// EXTERNAL is not offered, and an init of it is refused.
     pub fn with_peer(mut self, peer: impl Into<String>) -> Self {
         self.host = self.host.with_peer(peer.into());
         self

@@ -207,7 +207,8 @@ impl<C: ScramCredentialProvider + Clone> ServerSteps<C> {
         Self { host: Host::new(authenticator, offers), state: NO_CHALLENGE, standing: Standing::Wanting }
     }
 
-    /// The same, where EXTERNAL lets in this name, whom the transport has authenticated.
+    /// Sets the name that the transport has authenticated, which EXTERNAL lets in. Without one, and with an empty one,
+    /// EXTERNAL is not offered, and an init of it is refused.
     pub fn with_peer(mut self, peer: impl Into<String>) -> Self {
         self.host = self.host.with_peer(peer.into());
         self

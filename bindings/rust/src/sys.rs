@@ -37,7 +37,7 @@ pub const OTHER_VERSION: u32 = 10;
 pub const OTHER_PASSWORD: u32 = 11;
 
 /// There is no such mechanism: of a client 0 is SCRAM, 1 PLAIN, 2 ANONYMOUS, and 3 EXTERNAL; a server's are the sum of
-/// 1, 2, 4 and 8, and not 0.
+/// 1, 2, 4 and 8, and not 0, nor 8 alone where the peer's name is empty.
 pub const NO_SUCH_MECHANISM: u32 = 12;
 
 /// The connection has ended: its client is logged in, or it is to be closed.
@@ -309,7 +309,9 @@ pub struct ScramRecord {
     pub server_key: [u8; 64],
 }
 
-/// What a server keeps of an exchange. All zeros is a server without an open challenge.
+/// What a server keeps of an exchange. All zeros is a server without an open challenge. A call that succeeds writes
+/// zeros to every field that is not of the new state, and after every length. No password and no key of a record is
+/// kept.
 #[repr(C)]
 #[derive(Clone, Copy)]
 pub struct ScramServer {
@@ -366,7 +368,9 @@ pub struct Login {
     pub keys: *const ClientKeys,
 }
 
-/// What a client keeps of an exchange. All zeros is a client that has sent nothing.
+/// What a client keeps of an exchange. All zeros is a client that has sent nothing. A call that succeeds writes zeros
+/// to every field that is not of the new state, and after every length. No password is kept, and no keys but those in
+/// `keys`.
 #[repr(C)]
 #[derive(Clone, Copy)]
 pub struct ScramClient {
@@ -388,8 +392,9 @@ pub struct ScramClient {
 #[derive(Clone, Copy)]
 pub struct SaslHost {
     /// Which mechanisms are offered: the sum of 1 for SCRAM of the version, 2 for PLAIN, 4 for ANONYMOUS, and 8 for
-    /// EXTERNAL; and of 16 where SCRAM takes a client whose GS2 header is `y,,`, as `fe2o3_scram_server_first_unbound`
-    /// does. PLAIN shows the password to whoever reads the connection, and is for TLS alone.
+    /// EXTERNAL where there is a peer; and of 16 where SCRAM takes a client whose GS2 header is `y,,`, as
+    /// `fe2o3_scram_server_first_unbound` does. PLAIN shows the password to whoever reads the connection, and is for
+    /// TLS alone.
     pub mechanisms: u32,
     /// 1, 256 or 512, for the hash of SCRAM and of the record.
     pub version: u32,
@@ -400,7 +405,8 @@ pub struct SaslHost {
     pub username_len: usize,
     /// The record of the user. Where the struct shows none of the version, nobody is known.
     pub record: *const ScramRecord,
-    /// Whom the transport has authenticated: EXTERNAL lets in this name.
+    /// The name of the client that the transport has authenticated, which EXTERNAL lets in. Where it is empty the
+    /// transport has authenticated nobody: EXTERNAL is not offered, and an init of it is refused by `REFUSED_AUTH`.
     pub peer: *const u8,
     pub peer_len: usize,
 }

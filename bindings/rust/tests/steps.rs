@@ -213,6 +213,24 @@ fn other_mechanisms() {
 }
 
 #[test]
+fn external_without_a_peer() {
+    let steps = |offers| {
+        let credential = SingleScramCredential::with_record("user", record(ScramVersion::Sha256));
+        ServerSteps::new(ScramAuthenticator::new(credential), offers)
+    };
+    let init = body(INIT, &[&symbol("EXTERNAL"), NULL, &short(0xa1, b"host")]);
+    for peer in [None, Some("")] {
+        let named = |side: ServerSteps<Store>| if let Some(peer) = peer { side.with_peer(peer) } else { side };
+        let mut side = named(steps(all()));
+        assert_eq!(side.sasl_mechanisms().unwrap(), list_of(&["SCRAM-SHA-256", "PLAIN", "ANONYMOUS"]));
+        assert_eq!(side.on_frame(&init).unwrap().body, outcome(1));
+        assert_eq!((side.standing(), side.user()), (REFUSED, None));
+        let alone = named(steps(Offers { external: true, ..Offers::default() }));
+        assert_eq!(alone.sasl_mechanisms(), Err(ConnectionError::NoSuchMechanism));
+    }
+}
+
+#[test]
 fn a_server_without_the_verifier_is_not_believed() {
     let true_record = record(ScramVersion::Sha256);
     let stored = true_record.as_stored_password();

@@ -13,3 +13,4 @@ pub mod ServerUserLemmas
 pub mod LoginLemmas
 pub mod SaslprepLemmas
 pub mod StepLemmas
+pub mod StatusTextLemmas

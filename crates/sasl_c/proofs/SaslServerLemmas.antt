@@ -128,10 +128,10 @@ pub ruleset store = (no_record, other_version, one_record)
 
 -- the server that is offered of all four
 whole : (host : Host) (version : ScramVersion) (choice : Choice) (all other : All) (names : List (List ℕ))
-    (server : State) → names ≡ allowed_of version choice → server ≡ record { inner = all; allowed = names }
-    → all ≡ other → server ≡ record { inner = other; allowed = allowed_of version choice }
+    (server : State) → names ≡ allowed_of version choice host.peer.now → server ≡ record { inner = all; allowed = names }
+    → all ≡ other → server ≡ record { inner = other; allowed = allowed_of version choice host.peer.now }
 whole host version choice all other names server named is same = is
-    ∙ (ap (λ (n : List (List ℕ)). offering all n) named ∙ ap (λ a. offering a (allowed_of version choice)) same)
+    ∙ (ap (λ (n : List (List ℕ)). offering all n) named ∙ ap (λ a. offering a (allowed_of version choice host.peer.now)) same)
   where
     offering : All → List (List ℕ) → State
     offering inner allowed = record { inner = inner; allowed = allowed }
@@ -161,7 +161,7 @@ shows_it scram server challenge same shows =
 -- the server that was made of a host and of what a struct shows
 pub made : (host : Host) (version : ScramVersion) (choice : Choice) (scram : ScramStruct) (all : All)
     (names : List (List ℕ)) (server : State) → IsVersion host.version version → sum_of choice ≡ host.mechanisms
-    → names ≡ allowed_of version choice → server ≡ record { inner = all; allowed = names }
+    → names ≡ allowed_of version choice host.peer.now → server ≡ record { inner = all; allowed = names }
     → IsAll host version choice.unbound scram all → Comes host Wanting server × ShowsState scram Wanting server
 made host version choice scram all names server known sum named is (records, state, asked, has, stands, same) =
     go stands
@@ -203,7 +203,7 @@ no_words host version choice status known sum (is, inr (name, wrong)) = inl (inr
 
 pub no_offer : (host : Host) (version : ScramVersion) (choice : Choice) (scram : ScramStruct) (all : All)
     (names : List (List ℕ)) (server : State) → IsVersion host.version version → sum_of choice ≡ host.mechanisms
-    → names ≡ allowed_of version choice → server ≡ record { inner = all; allowed = names }
+    → names ≡ allowed_of version choice host.peer.now → server ≡ record { inner = all; allowed = names }
     → IsAll host version choice.unbound scram all → IsUtf8 host.username.now → IsUtf8 host.peer.now
     → state_names server ≡ []
     → IsNoHost host statuses.NoSuchMechanism

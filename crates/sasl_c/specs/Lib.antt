@@ -11,3 +11,4 @@ pub mod Lines
 pub mod SaslServer
 pub mod Steps
 pub mod Saslprep
+pub mod Texts

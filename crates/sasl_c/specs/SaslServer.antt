@@ -128,12 +128,24 @@ abbrev pub name_where : Bool → List ℕ → List ℕ
 name_where true name = name
 name_where false name = []
 
+-- the mechanism of a name that the transport may have authenticated (RFC 4422, appendix A.1): EXTERNAL, and of the empty
+-- name, which says that it authenticated nobody, the empty one
+abbrev pub external_mechanism : List ℕ → List ℕ
+external_mechanism [] = []
+external_mechanism (byte ∷ bytes) = codes "EXTERNAL"
+
+-- the name of the acceptor of EXTERNAL: that of the peer; where that is empty this acceptor is not offered, so that it is
+-- never asked, and its name is never told
+abbrev pub external_name : List ℕ → List ℕ
+external_name [] = codes "nobody"
+external_name (byte ∷ bytes) = byte ∷ bytes
+
 -- the names that may be offered
-abbrev pub allowed_of : ScramVersion → Choice → List (List ℕ)
-allowed_of version choice = name_where choice.scram (mechanism_name version)
+abbrev pub allowed_of : ScramVersion → Choice → List ℕ → List (List ℕ)
+allowed_of version choice peer = name_where choice.scram (mechanism_name version)
     ∷ name_where choice.plain (codes "PLAIN")
     ∷ name_where choice.anonymous (codes "ANONYMOUS")
-    ∷ name_where choice.external (codes "EXTERNAL")
+    ∷ name_where choice.external (external_mechanism peer)
     ∷ []
 
 -- the records of a host (RFC 5802, section 3): that of its user, where the struct shows one of the host's version, and
@@ -148,7 +160,11 @@ HasRecords host version records =
 abbrev pub others_of : Store → ℕ → List ℕ → Others
 others_of store count peer = record {
   first = record { provider = store; count = count; user = None };
-  second = record { first = AnonymousAcceptor; second = record { user = peer; accepted = false }; asked = None };
+  second = record {
+    first = AnonymousAcceptor;
+    second = record { user = external_name peer; accepted = false };
+    asked = None;
+  };
   asked = None;
 }
 
@@ -166,7 +182,7 @@ abbrev pub server_of : Host → ScramVersion → Choice → Records → ServerSt
 server_of host version choice records state asked = record {
   inner = all_of choice.unbound (record { version = version; records = records }) host.iterations host.peer.now state
       asked;
-  allowed = allowed_of version choice;
+  allowed = allowed_of version choice host.peer.now;
 }
 
 -- the server is that of a host, with SCRAM in this state, and the mechanism that was asked last

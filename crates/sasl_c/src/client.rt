@@ -50,7 +50,9 @@ pub struct Login<'a> {
     pub keys: &'a ClientKeys,
 }
 
-/// What a client keeps of an exchange. All zeros is a client that has sent nothing.
+/// What a client keeps of an exchange. All zeros is a client that has sent nothing. A call that succeeds writes zeros to
+/// every field that is not of the new state, and after every length. No password is kept, and no keys but those in
+/// `keys`.
 #[repr(C)]
 #[derive(Drop)]
 pub struct ScramClient {

@@ -1,8 +1,9 @@
 //! The mechanisms of a server beside SCRAM, as one acceptor whose parts do not show (AMQP 1.0, part 5, section 5.3.2).
 
-ghost use Rattle.std.specs.Prelude.{◌≡◌, string_bytes};
+ghost use Rattle.std.specs.Prelude.{◌≡◌, List, ℕ, false};
+ghost use Rattle.fe2o3_sasl_runs.specs.ExternalAcceptor.{external_of};
 ghost use Rattle.fe2o3_sasl_runs.specs.SaslAcceptor.{AnonymousAcceptor};
-ghost use Rattle.sasl_c.specs.SaslServer.{Others as OtherStates, other_machine, other_names, other_state, other_user, others_of};
+ghost use Rattle.sasl_c.specs.SaslServer.{Others as OtherStates, other_machine, other_names, other_state, external_name, other_user, others_of};
 
 use fe2o3_sasl_runs::{
     ExternalAcceptor, HasMechanism, NamesUser, OneOf, OutOfMemory, PlainAuthenticator,
@@ -27,10 +28,11 @@ pub struct Others {
 
 impl Others {
     /// All three, which nobody has asked.
-    pub fn new(store: ScramCredentials, iterations: u32, peer: String) -> Self
-        ensures { other_state result ≡ others_of store iterations (string_bytes peer) }
+    pub fn new(store: ScramCredentials, iterations: u32, external: ExternalAcceptor) -> Self
+        ensures { (peer : List ℕ) → external_of external ≡ record { user = external_name peer; accepted = false }
+            → other_state result ≡ others_of store iterations peer }
     {
-        let last = OneOf::new(SaslAnonymousMechanism::new(), ExternalAcceptor::new(peer));
+        let last = OneOf::new(SaslAnonymousMechanism::new(), external);
         Self {
             joined: OneOf::new(PlainAuthenticator::new(store, iterations), last),
         }

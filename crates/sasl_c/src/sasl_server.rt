@@ -1,14 +1,15 @@
 //! The server's side of a connection, which stands in a struct between its calls.
 
-ghost use Rattle.std.specs.Prelude.{◌≡◌, ◌≢◌, ◌<◌, ◌≤◌, ◌⊎◌, ◌+◌, ◌^◌, ℕ, List, Ok, length, map, option_map, string_bytes, IfOk, IfErr, IfSome, OnErr, MatchOption};
+ghost use Rattle.std.specs.Prelude.{false, ◌≡◌, ◌≢◌, ◌<◌, ◌≤◌, ◌⊎◌, ◌+◌, ◌^◌, ℕ, List, Ok, length, map, option_map, string_bytes, IfOk, IfErr, IfSome, OnErr, MatchOption};
 ghost use Rattle.std.specs.Str.{IsUtf8};
 ghost use Rattle.fe2o3_scram.specs.ScramServer.{challenge_kept, provider_in, state_in, unbound_in};
+ghost use Rattle.fe2o3_sasl_runs.specs.ExternalAcceptor.{external_of};
 ghost use Rattle.fe2o3_sasl_negotiation.specs.declared.standing.Standing.{Standing as StandingOf};
 ghost use Rattle.fe2o3_sasl_negotiation.specs.declared.standing.Standing.TheVariants.{Wanting};
 ghost use Rattle.fe2o3_sasl_negotiation.specs.ServerNegotiation.{ServerReceives};
 ghost use Rattle.fe2o3_sasl_negotiation.specs.SetDown.{IsKept, side_of};
 ghost use Rattle.fe2o3_sasl_negotiation.specs.Sides.{server_side};
-ghost use Rattle.sasl_c.specs.SaslServer.{Comes, HasNoWords, HasNone, HasRecords, IsAll, IsNoHost, NotReceived, Received, Receives, ShowsBy, ShowsStanding, ShowsState, Stands, all_in, all_of, allowed_of, name_where, one_where, standing_struct, state_of, state_struct, struct_by, sum_of};
+ghost use Rattle.sasl_c.specs.SaslServer.{Comes, HasNoWords, HasNone, HasRecords, IsAll, IsNoHost, NotReceived, Received, Receives, ShowsBy, ShowsStanding, ShowsState, Stands, all_in, all_of, allowed_of, external_mechanism, external_name, name_where, one_where, standing_struct, state_of, state_struct, struct_by, sum_of};
 ghost use Rattle.sasl_c.specs.declared.sasl_server.Choice.{Choice as Choices};
 ghost use Rattle.sasl_c.specs.declared.server.ScramServer.{ScramServer as ScramStruct};
 ghost use Rattle.sasl_c.specs.Status.{Answers, FillsWithin};
@@ -22,7 +23,7 @@ use crate::server::{ScramServer, server_over};
 use crate::status::{Status, number, text, version_of};
 use bytes::BytesMut;
 use fe2o3_sasl_negotiation::{ServerNegotiation, SetDown, Standing, TakeUpError};
-use fe2o3_sasl_runs::{NamesUser, OfferError, OffersOnly, OneOf, Part};
+use fe2o3_sasl_runs::{ExternalAcceptor, NamesUser, OfferError, OffersOnly, OneOf, Part};
 use fe2o3_scram::{Meter, OpenChallenge, ScramAuthenticator, ScramCredentials, ScramVersion};
 use std::alloc::Global;
 
@@ -31,7 +32,7 @@ use std::alloc::Global;
 #[derive(Drop)]
 pub struct SaslHost<'a> {
     /// Which mechanisms are offered: the sum of 1 for SCRAM of the version, 2 for PLAIN, 4 for ANONYMOUS, and 8 for
-    /// EXTERNAL; and of 16 where SCRAM takes a client whose GS2 header is `y,,`, as
+    /// EXTERNAL where there is a peer; and of 16 where SCRAM takes a client whose GS2 header is `y,,`, as
     /// `fe2o3_scram_server_first_unbound` does. PLAIN shows the password to whoever reads the connection, and is for
     /// TLS alone.
     pub mechanisms: u32,
@@ -48,7 +49,8 @@ pub struct SaslHost<'a> {
     /// The record of the user. Where the struct shows none of the version, nobody is known.
     pub record: &'a ScramRecord,
 
-    /// Whom the transport has authenticated: EXTERNAL lets in this name.
+    /// The name of the client that the transport has authenticated, which EXTERNAL lets in. Where it is empty the
+    /// transport has authenticated nobody: EXTERNAL is not offered, and an init of it is refused by `REFUSED_AUTH`.
     pub peer: &'a [u8],
 }
 
@@ -122,16 +124,30 @@ impl Choice {
     }
 
     /// The names that may be offered.
-    fn names(self, version: ScramVersion) -> [&'static str; 4]
-        ensures { map (λ name. name.now) result ≡ allowed_of version self }
+    fn names(self, version: ScramVersion, peer: &[u8]) -> [&'static str; 4]
+        ensures { map (λ name. name.now) result ≡ allowed_of version self peer.now }
     {
         [
             name_where(self.scram, version.mechanism()),
             name_where(self.plain, "PLAIN"),
             name_where(self.anonymous, "ANONYMOUS"),
-            name_where(self.external, "EXTERNAL"),
+            name_where(self.external, external_mechanism(peer)),
         ]
     }
+}
+
+/// EXTERNAL where the transport has authenticated this name, and the empty mechanism where the name is empty.
+fn external_mechanism(peer: &[u8]) -> &'static str
+    ensures { result.now ≡ external_mechanism peer.now }
+{
+    if peer.is_empty() { "" } else { "EXTERNAL" }
+}
+
+/// The name of the acceptor of EXTERNAL. Where there is no peer the acceptor is not offered.
+fn external_name(peer: &str) -> &str
+    ensures { result.now ≡ external_name peer.now }
+{
+    if peer.is_empty() { "nobody" } else { peer }
 }
 
 /// The name where it is so, and else the empty one.
@@ -146,13 +162,14 @@ fn joined(
     scram: Scram,
     store: ScramCredentials,
     iterations: u32,
-    peer: String,
+    external: ExternalAcceptor,
     asked: Option<Part>,
 ) -> All
-    ensures { provider_in scram ≡ store → all_in result
-        ≡ all_of (unbound_in scram) store iterations (string_bytes peer) (state_in scram) asked }
+    ensures { (peer : List ℕ) → external_of external ≡ record { user = external_name peer; accepted = false }
+        → provider_in scram ≡ store → all_in result
+        ≡ all_of (unbound_in scram) store iterations peer (state_in scram) asked }
 {
-    OneOf::with_asked(scram, Others::new(store, iterations, peer), asked)
+    OneOf::with_asked(scram, Others::new(store, iterations, external), asked)
 }
 
 /// The server of SCRAM that a struct is, over a store, and what was asked last. `OutOfMemory` is the only refusal.
@@ -201,6 +218,22 @@ impl SaslHost<'_> {
         }
     }
 
+    /// The acceptor of EXTERNAL for the host's peer. `NotUtf8`, and otherwise `OutOfMemory`.
+    fn external(&self, alloc: Global) -> Result<ExternalAcceptor, Status>
+        ensures ok { IfOk result (λ external.
+            external_of external ≡ record { user = external_name self.now.peer.now; accepted = false }) }
+        ensures utf8 { IfOk result (λ _. IsUtf8 self.now.peer.now) }
+        ensures err { IfErr result (λ status. status ≢ StatusOutOfMemory
+            → (status ≡ StatusNotUtf8) × ¬ IsUtf8 self.now.peer.now) }
+        ensures room { IfErr result (λ status. status ≢ RoomTooSmall) }
+    {
+        let name = external_name(text(self.peer)?).to_string(alloc)?;
+        match ExternalAcceptor::new(name) {
+            Ok(external) => Ok(external),
+            Err(_) => unreachable!(),
+        }
+    }
+
     /// All four mechanisms, in the exchange that the struct of SCRAM shows.
     fn all(
         &self,
@@ -215,9 +248,9 @@ impl SaslHost<'_> {
         ensures room { IfErr result (λ status. status ≢ RoomTooSmall) }
     {
         let store = self.store(alloc, version)?;
-        let peer = text(self.peer)?.to_string(alloc)?;
+        let external = self.external(alloc)?;
         let (machine, asked) = stands(alloc, accepts_unbound, store.clone()?, scram)?;
-        Ok(joined(machine, store, self.iterations, peer, asked))
+        Ok(joined(machine, store, self.iterations, external, asked))
     }
 
     /// The acceptor, in the exchange that the struct of SCRAM shows.
@@ -238,7 +271,7 @@ impl SaslHost<'_> {
             Ok(all) => all,
             Err(status) => return Err(status),
         };
-        match OffersOnly::new(alloc, all, &choice.names(version)) {
+        match OffersOnly::new(alloc, all, &choice.names(version, self.peer)) {
             Ok(acceptor) => Ok(acceptor),
             Err(OfferError::NothingOffered) => Err(Status::NoSuchMechanism),
             Err(OfferError::OutOfMemory) => Err(Status::OutOfMemory),

@@ -17,7 +17,8 @@ use fe2o3_scram::{
 };
 use std::alloc::Global;
 
-/// What a server keeps of an exchange. All zeros is a server without an open challenge.
+/// What a server keeps of an exchange. All zeros is a server without an open challenge. A call that succeeds writes zeros
+/// to every field that is not of the new state, and after every length. No password and no key of a record is kept.
 #[repr(C)]
 #[derive(Drop)]
 pub struct ScramServer {

@@ -48,7 +48,7 @@ pub enum Status {
     OtherPassword,
 
     /// There is no such mechanism: of a client 0 is SCRAM, 1 PLAIN, 2 ANONYMOUS, and 3 EXTERNAL; a server's are the
-    /// sum of 1, 2, 4 and 8, and not 0.
+    /// sum of 1, 2, 4 and 8, and not 0, nor 8 alone where the peer's name is empty.
     NoSuchMechanism,
 
     /// The connection has ended: its client is logged in, or it is to be closed.

@@ -1,6 +1,7 @@
 //! The texts of statuses, and what tells whether the declarations of a caller fit.
 
 ghost use Rattle.std.specs.Prelude.{◌≡◌};
+ghost use Rattle.sasl_c.specs.Texts.{size_in, status_text, struct_sizes};
 
 use crate::client::{Login, ScramClient};
 use crate::connection::Connection;
@@ -21,7 +22,9 @@ pub struct Text<'a> {
 }
 
 /// The text of a status.
-fn text_of(status: u32) -> &'static [u8] {
+fn text_of(status: u32) -> &'static [u8]
+    ensures { result.now ≡ status_text status }
+{
     match status {
         0 => b"Done\0",
         1 => b"Out of memory\0",
@@ -102,7 +105,9 @@ fn text_of(status: u32) -> &'static [u8] {
 
 /// Lends the text of a status for ever, with a zero behind it.
 #[unsafe(no_mangle)]
-pub extern "C" fn fe2o3_status_text(status: u32, text: &mut Text<'static>) {
+pub extern "C" fn fe2o3_status_text(status: u32, text: &mut Text<'static>)
+    ensures { text.new.bytes.now ≡ status_text status }
+{
     text.bytes = text_of(status);
 }
 
@@ -119,7 +124,9 @@ pub extern "C" fn fe2o3_version() -> u32
 /// 8 `fe2o3_sasl_frame_view`, 9 `fe2o3_sasl_host`, 10 `fe2o3_sasl_server`; of other numbers 0. A caller whose own
 /// declarations have other sizes has another header.
 #[unsafe(no_mangle)]
-pub extern "C" fn fe2o3_size(which: u32) -> usize {
+pub extern "C" fn fe2o3_size(which: u32) -> usize
+    ensures { result ≡ size_in struct_sizes which }
+{
     match which {
         0 => size_of::<Login<'static>>(),
         1 => size_of::<ScramClient>(),
