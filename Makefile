@@ -25,7 +25,8 @@ check:
 
 # The merge gate: what the pages quote and list, and the C header; that no modules use each other in a
 # circle; who makes a meter of its own or hashes; the programs that the borrow checker has to refuse; then
-# every proof from nothing, the tests and the programs, and beside these the wrong bodies.
+# every proof from nothing, the tests and the programs, and beside these the wrong bodies; and the two built
+# programs that keep a secret, started again, which say nothing where all is well.
 test:
 	@tools/progress $$PPID 60 'a whole run takes 57 min on 4 processors, 79 on 2, and 11,158 s of processor' &
 	sh tools/quoted.sh
@@ -38,6 +39,7 @@ test:
 	python3 tools/wrong_bodies_test.py
 	sh tools/refused.sh
 	python3 tools/gate.py
+	@python3 tools/restarts.py
 
 # The same into a log, whose last line it prints, with its status.
 quiet:

@@ -1,7 +1,7 @@
 //! A broker's side of AMQP 1.0's SASL layer, over any files, random bytes, reader and writer.
 #![tactic(auto)]
 
-use anyhow::{Result, bail, ensure};
+use anyhow::{Context, Result, bail, ensure};
 use bytes::BytesMut;
 use fe2o3_sasl::{
     HasMechanism, HidingAuthenticator, Meter, MixedCredentials, NamesUser, OffersOnly, OneOf,
@@ -9,13 +9,14 @@ use fe2o3_sasl::{
 };
 use fe2o3_sasl_negotiation::{ClosedBecause, ServerNegotiation, Standing};
 use fe2o3_sasl_wire::SaslCode;
+use mock_secret::{file_of, secret_of};
 use std::fs;
 use std::io::{BufRead, Write};
 use std::random::RandomSource;
 use std::rt::Files;
 
-/// What connections share: the streams; records of 4096 iterations and salts of 16 bytes; random bytes, kept as long as
-/// these, of which unknown users' records are made; and TLS, if any, without which PLAIN would show passwords.
+/// What connections share: the streams; records of 4096 iterations and salts of 16 bytes; the secret of mock records,
+/// by which unknown users are answered; and TLS, if any, without which PLAIN would show passwords.
 #[derive(Drop)]
 struct Broker<'a, R, I, O> {
     rt: &'a R,
@@ -27,7 +28,8 @@ struct Broker<'a, R, I, O> {
 }
 
 /// Serves connections by a file of records until somebody has logged in: who, and how many logins were wrong before.
-/// The third wrong login, and a connection that ends otherwise, are errors.
+/// The third wrong login, and a connection that ends otherwise, are errors. The secret of mock records is that of the
+/// file beside the records, so every process and every start answers an unknown user by the same salt.
 pub fn log_in<'a, R: Files + RandomSource + AllocGlobal, I: BufRead, O: Write>(
     rt: &'a R,
     path: &str,
@@ -35,8 +37,7 @@ pub fn log_in<'a, R: Files + RandomSource + AllocGlobal, I: BufRead, O: Write>(
     input: &'a mut I,
     output: &'a mut O,
 ) -> Result<(String, u8)> {
-    let mut secret = vec![in rt.alloc(); 0; 32]?;
-    rt.fill_bytes(&mut secret)?;
+    let secret = secret_of(rt, path).context(file_of(rt.alloc(), path)?)?;
     let mut broker = Broker {
         rt,
         input,

@@ -2,7 +2,7 @@
 
 use crate::client::Login;
 use crate::nonces;
-use crate::server::{Server, Service};
+use crate::server::Service;
 use crate::stop::Stop;
 use bytes::BytesMut;
 use fe2o3_sasl::{Meter, NamesUser, SaslProfile};
@@ -121,15 +121,16 @@ fn negotiation(
 }
 
 /// Serves a login.
-pub fn serve<R, I, O>(
+pub fn serve<R, S, I, O>(
     rt: &R,
     service: &Service<'_>,
-    server: Server,
+    server: S,
     input: &mut I,
     output: &mut O,
 ) -> Result<(), Stop>
 where
     R: RandomSource + AllocGlobal,
+    S: NamesUser + Drop,
     I: BufRead,
     O: Write,
 {

@@ -170,6 +170,13 @@ const FRAMES: Word = Word {
     help: "Speaks the bytes of AMQP in place of lines",
 };
 
+const TELL_UNKNOWN_USERS: Word = Word {
+    kind: Kind::Flag,
+    name: "tell-unknown-users",
+    value: "",
+    help: "Answers an unknown user with an error; without this, as a known one, by the secret in FILE.secret",
+};
+
 const BODIES: Word = Word {
     kind: Kind::Flag,
     name: "frames",
@@ -207,7 +214,7 @@ pub static COMMANDS: [Words; 5] = [
     Words {
         name: "server",
         about: "Serves a login for the users of a file: each line is a message in base64",
-        words: &[M, FILE, NONCE, FRAMES],
+        words: &[M, FILE, TELL_UNKNOWN_USERS, NONCE, FRAMES],
     },
     Words {
         name: "explain",

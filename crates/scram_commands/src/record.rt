@@ -7,6 +7,12 @@ use std::alloc::Global;
 use std::io::Write;
 use std::random::RandomSource;
 
+/// How long the salts are that are made here, in bytes.
+pub const SALT_LEN: usize = 32;
+
+/// The iteration count where the words name none.
+pub const ITERATIONS: u32 = 4096;
+
 /// The record that is to be made.
 #[derive(Clone, Copy)]
 pub struct NewRecord<'a> {

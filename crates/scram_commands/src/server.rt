@@ -1,9 +1,16 @@
 //! `server`: serves a login for the users of a file, in which the messages of the client come on the input.
 
+pub mod mock;
+
+use crate::server::mock::Shape;
 use crate::stop::Stop;
-use crate::users::lines;
-use crate::{frames, nonces, wire};
-use fe2o3_scram::{ScramAuthenticator, ScramCredentials, ScramVersion, ServerScramErrorKind};
+use crate::{frames, nonces, store, wire};
+use fe2o3_sasl::NamesUser;
+use fe2o3_scram::{
+    HidingAuthenticator, MixedCredentials, ScramAuthenticator, ScramCredentials, ScramVersion,
+    ServerScramErrorKind,
+};
+use mock_secret::secret_of;
 use std::alloc::Global;
 use std::io::{BufRead, Write};
 use std::random::RandomSource;
@@ -18,6 +25,9 @@ pub struct Service<'a> {
     /// The file of users.
     pub file: &'a str,
 
+    /// Whether an unknown user is answered with an error, and not as a known one.
+    pub tells_unknown_users: bool,
+
     /// The nonce in hexadecimal digits, or none where it is to be random.
     pub nonce: Option<&'a str>,
 
@@ -25,8 +35,61 @@ pub struct Service<'a> {
     pub frames: bool,
 }
 
-/// A server of the users of a file.
-pub type Server = ScramAuthenticator<ScramCredentials>;
+/// A server's side of an exchange.
+pub trait Exchange {
+    /// Answers a client-first message, or says that the user is unknown.
+    fn challenge(
+        &mut self,
+        alloc: Global,
+        message: &[u8],
+        nonce: &[u8; 32],
+    ) -> Result<Option<Vec<u8>>, ServerScramErrorKind>;
+
+    /// Answers a client-final message, or says that the user is unknown.
+    fn conclude(
+        &mut self,
+        alloc: Global,
+        message: &[u8],
+    ) -> Result<Option<Vec<u8>>, ServerScramErrorKind>;
+}
+
+impl Exchange for ScramAuthenticator<ScramCredentials> {
+    fn challenge(
+        &mut self,
+        alloc: Global,
+        message: &[u8],
+        nonce: &[u8; 32],
+    ) -> Result<Option<Vec<u8>>, ServerScramErrorKind> {
+        self.compute_server_first_message(alloc, message, nonce)
+    }
+
+    fn conclude(
+        &mut self,
+        alloc: Global,
+        message: &[u8],
+    ) -> Result<Option<Vec<u8>>, ServerScramErrorKind> {
+        self.compute_server_final_message(alloc, message)
+    }
+}
+
+impl Exchange for HidingAuthenticator<ScramCredentials> {
+    fn challenge(
+        &mut self,
+        alloc: Global,
+        message: &[u8],
+        nonce: &[u8; 32],
+    ) -> Result<Option<Vec<u8>>, ServerScramErrorKind> {
+        self.compute_server_first_message(alloc, message, nonce)
+    }
+
+    fn conclude(
+        &mut self,
+        alloc: Global,
+        message: &[u8],
+    ) -> Result<Option<Vec<u8>>, ServerScramErrorKind> {
+        self.compute_server_final_message(alloc, message)
+    }
+}
 
 /// Serves a login.
 pub fn serve<R, I, O>(
@@ -40,7 +103,53 @@ where
     I: BufRead,
     O: Write,
 {
-    let server = Server::new(users(rt, service)?);
+    if service.tells_unknown_users {
+        return serve_by(rt, service, telling(rt, service)?, input, output);
+    }
+    serve_by(rt, service, hiding(rt, service)?, input, output)
+}
+
+/// The server that refuses an unknown user.
+fn telling<R: Files + AllocGlobal>(
+    rt: &R,
+    service: &Service<'_>,
+) -> Result<ScramAuthenticator<ScramCredentials>, Stop> {
+    let text = store::read(rt, service.file)?;
+    Ok(ScramAuthenticator::new(users(rt.alloc(), service, &text)?))
+}
+
+/// The server that answers an unknown user as a known one.
+fn hiding<R: Files + RandomSource + AllocGlobal>(
+    rt: &R,
+    service: &Service<'_>,
+) -> Result<HidingAuthenticator<ScramCredentials>, Stop> {
+    let text = store::read(rt, service.file)?;
+    let users = users(rt.alloc(), service, &text)?;
+    let shape = Shape::of(rt.alloc(), &text, service.version)?;
+    let secret = secret_of(rt, service.file)?;
+    Ok(shape.hide(users, secret))
+}
+
+/// The users of a text who have records for the mechanism.
+fn users(alloc: Global, service: &Service<'_>, text: &str) -> Result<ScramCredentials, Stop> {
+    let users = MixedCredentials::parse_lines(alloc, text)?;
+    Ok(users.for_version(service.version).clone()?)
+}
+
+/// Serves a login by a server.
+fn serve_by<R, S, I, O>(
+    rt: &R,
+    service: &Service<'_>,
+    server: S,
+    input: &mut I,
+    output: &mut O,
+) -> Result<(), Stop>
+where
+    R: RandomSource + AllocGlobal,
+    S: Exchange + NamesUser + Drop,
+    I: BufRead,
+    O: Write,
+{
     if service.frames {
         return frames::serve(rt, service, server, input, output);
     }
@@ -48,52 +157,47 @@ where
 }
 
 /// Serves a login over lines.
-fn over_lines<R, I, O>(
+fn over_lines<R, S, I, O>(
     rt: &R,
     service: &Service<'_>,
-    server: Server,
+    server: S,
     input: &mut I,
     output: &mut O,
 ) -> Result<(), Stop>
 where
     R: RandomSource + AllocGlobal,
+    S: Exchange + Drop,
     I: BufRead,
     O: Write,
 {
     let mut server = Box::new(rt.alloc(), server)?;
     let nonce = nonces::nonce(rt, service.nonce)?;
-    challenge(rt.alloc(), &mut server, &nonce, input, output)?;
-    conclude(rt.alloc(), &mut server, input, output)
-}
-
-/// The users of the file who have records for the mechanism.
-fn users<R: Files + AllocGlobal>(rt: &R, service: &Service<'_>) -> Result<ScramCredentials, Stop> {
-    let users = lines::users(rt, service.file)?;
-    Ok(users.for_version(service.version).clone()?)
+    challenge(rt.alloc(), &mut *server, &nonce, input, output)?;
+    conclude(rt.alloc(), &mut *server, input, output)
 }
 
 /// Answers the client's first message with a challenge.
-fn challenge<I: BufRead, O: Write>(
+fn challenge<S: Exchange, I: BufRead, O: Write>(
     alloc: Global,
-    server: &mut Server,
+    server: &mut S,
     nonce: &[u8; 32],
     input: &mut I,
     output: &mut O,
 ) -> Result<(), Stop> {
     let message = wire::receive(alloc, input)?;
-    let answer = server.compute_server_first_message(alloc, &message, nonce);
+    let answer = server.challenge(alloc, &message, nonce);
     reply(alloc, answer, output)
 }
 
 /// Answers the client's response with the signature.
-fn conclude<I: BufRead, O: Write>(
+fn conclude<S: Exchange, I: BufRead, O: Write>(
     alloc: Global,
-    server: &mut Server,
+    server: &mut S,
     input: &mut I,
     output: &mut O,
 ) -> Result<(), Stop> {
     let message = wire::receive(alloc, input)?;
-    let answer = server.compute_server_final_message(alloc, &message);
+    let answer = server.conclude(alloc, &message);
     reply(alloc, answer, output)
 }
 

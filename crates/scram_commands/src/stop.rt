@@ -8,6 +8,7 @@ use fe2o3_sasl_negotiation::ClosedBecause;
 use fe2o3_scram::{
     ReadLinesError, ReadLinesErrorKind, RecordError, ScramErrorKind, ServerScramErrorKind,
 };
+use mock_secret::SecretError;
 use std::alloc::{AllocError, AllocFailed};
 use std::io;
 use std::io::ErrorKind;
@@ -67,6 +68,10 @@ pub enum Stop {
     /// The new file is not written, and the old one stays.
     #[error("The file cannot be written: {0}.")]
     Unwritten(ErrorKind),
+
+    /// The secret of mock records is not there, and cannot be made, or its file is not as it has to be.
+    #[error("The secret of mock records, FILE.secret, cannot be used: {0}.")]
+    Secret(SecretError),
 
     /// Nobody has the name.
     #[error("The file has no such record.")]
@@ -222,6 +227,7 @@ impl Stop {
             | Stop::NotUtf8
             | Stop::Line(_)
             | Stop::Busy
+            | Stop::Secret(_)
             | Stop::NotBase64
             | Stop::NotHex
             | Stop::Behind
@@ -244,6 +250,15 @@ impl From<RecordError> for Stop {
             // The words name a count from 1.
             RecordError::ZeroIterations => Stop::WrongSalt,
             RecordError::OutOfMemory => Stop::OutOfMemory,
+        }
+    }
+}
+
+impl From<SecretError> for Stop {
+    fn from(fault: SecretError) -> Stop {
+        match fault {
+            SecretError::OutOfMemory => Stop::OutOfMemory,
+            _ => Stop::Secret(fault),
         }
     }
 }

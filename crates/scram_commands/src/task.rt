@@ -3,7 +3,7 @@
 use crate::audit::{Audited, audit};
 use crate::client::{Login, log_in};
 use crate::explain::explain;
-use crate::record::NewRecord;
+use crate::record::{ITERATIONS, NewRecord};
 use crate::server::{Service, serve};
 use crate::stop::Stop;
 use crate::users::{Named, add, check, list, remove};
@@ -141,6 +141,7 @@ fn service<'a>(matches: &ArgMatches<'a>) -> Service<'a> {
     Service {
         version: version_of(matches, "M").unwrap_or(ScramVersion::Sha256),
         file: text(matches, "FILE"),
+        tells_unknown_users: matches.get_flag("tell-unknown-users"),
         nonce: matches.get_str("nonce"),
         frames: matches.get_flag("frames"),
     }
@@ -150,7 +151,7 @@ fn service<'a>(matches: &ArgMatches<'a>) -> Service<'a> {
 fn new_record<'a>(matches: &ArgMatches<'a>) -> NewRecord<'a> {
     NewRecord {
         version: version_of(matches, "mechanism").unwrap_or(ScramVersion::Sha256),
-        iterations: matches.get_one::<u32>("iterations").unwrap_or(4096),
+        iterations: matches.get_one::<u32>("iterations").unwrap_or(ITERATIONS),
         salt: matches.get_str("salt"),
     }
 }

@@ -28,11 +28,12 @@ impl Calls {
     }
 }
 
-/// What a file holds, and who may read and write it.
+/// What a file holds, and who may read and write it; or a folder.
 #[derive(Drop)]
 struct Node {
     bytes: Cell<Vec<u8>>,
     mode: Cell<u32>,
+    is_folder: Cell<bool>,
 }
 
 /// A file under its name.
@@ -49,6 +50,7 @@ pub struct Disk {
     stored: Cell<Vec<Stored>>,
     calls: Rc<Calls>,
     random: Vec<u8>,
+    private: Metadata,
 }
 
 /// An open file.
@@ -57,19 +59,22 @@ pub struct Open {
     alloc: Global,
     node: Rc<Node>,
     calls: Rc<Calls>,
+    private: Metadata,
     at: usize,
 }
 
 impl Disk {
     /// A disk without a file, of which this call fails. Random bytes are, for each call in turn, all the next of
-    /// these, and for further calls all the last; where there are none they count up.
-    pub fn new(alloc: Global, failing: u32, random: Vec<u8>) -> Result<Disk> {
+    /// these, and for further calls all the last; where there are none they count up. What a file that only its owner
+    /// may use is told to be is `private`, which no program makes of nothing.
+    pub fn new(alloc: Global, failing: u32, random: Vec<u8>, private: Metadata) -> Result<Disk> {
         let made = Cell::new(0);
         Ok(Disk {
             alloc,
             stored: Cell::new(Vec::new(alloc)),
             calls: Rc::new(alloc, Calls { made, failing })?,
             random,
+            private,
         })
     }
 
@@ -78,10 +83,11 @@ impl Disk {
         self.calls.made.get()
     }
 
-    /// Stores a file, which everybody may read.
-    pub fn store(&self, name: &str, bytes: &[u8]) -> Result<()> {
+    /// Stores a file with its permissions, or a folder.
+    pub fn store(&self, name: &str, bytes: &[u8], mode: u32, is_folder: bool) -> Result<()> {
         let node = self.insert(name)?;
-        node.mode.set(0o644);
+        node.mode.set(mode);
+        node.is_folder.set(is_folder);
         node.bytes.set(bytes.to_vec(self.alloc)?);
         Ok(())
     }
@@ -89,14 +95,27 @@ impl Disk {
     /// Adds an empty file, which nobody may read.
     fn insert(&self, name: &str) -> Result<Rc<Node>> {
         let bytes = Cell::new(Vec::new(self.alloc));
-        let mode = Cell::new(0);
-        let node = Rc::new(self.alloc, Node { bytes, mode })?;
-        let (name, kept) = (name.to_string(self.alloc)?, node.clone()?);
+        let (mode, is_folder) = (Cell::new(0), Cell::new(false));
+        let node = Rc::new(
+            self.alloc,
+            Node {
+                bytes,
+                mode,
+                is_folder,
+            },
+        )?;
+        self.name(name, node.clone()?)?;
+        Ok(node)
+    }
+
+    /// Gives a file a name that no other has.
+    fn name(&self, name: &str, node: Rc<Node>) -> Result<()> {
+        let name = name.to_string(self.alloc)?;
         let mut stored = self.stored.replace(Vec::new(self.alloc));
-        let pushed = stored.push(Stored { name, node: kept });
+        let pushed = stored.push(Stored { name, node });
         self.stored.set(stored);
         pushed?;
-        Ok(node)
+        Ok(())
     }
 
     /// The file of a name.
@@ -123,6 +142,7 @@ impl Disk {
             alloc: self.alloc,
             node,
             calls: self.calls.clone()?,
+            private: self.private.clone()?,
             at: 0,
         })
     }
@@ -136,6 +156,17 @@ impl Disk {
         self.stored.set(stored);
         Ok(())
     }
+}
+
+/// What is told of a file: for its owner only, or for everybody to read.
+fn facts_of(node: &Node, private: &Metadata) -> Result<Metadata> {
+    if node.is_folder.get() {
+        return Ok(Metadata::of_dir());
+    }
+    if node.mode.get() % 0o100 == 0 {
+        return Ok(private.clone()?);
+    }
+    Ok(Metadata::of_file(0))
 }
 
 /// The file of a name.
@@ -207,8 +238,12 @@ impl Files for Disk {
         Err(Error::from(ErrorKind::Unsupported))
     }
 
-    fn metadata(&self, _path: &str) -> Result<Metadata> {
-        Err(Error::from(ErrorKind::Unsupported))
+    fn metadata(&self, path: &str) -> Result<Metadata> {
+        self.calls.count()?;
+        match self.find(path)? {
+            Some(node) => facts_of(&node, &self.private),
+            None => Err(Error::from(ErrorKind::NotFound)),
+        }
     }
 
     fn symlink_metadata(&self, _path: &str) -> Result<Metadata> {
@@ -241,6 +276,17 @@ impl Files for Disk {
         }
     }
 
+    fn hard_link(&self, original: &str, link: &str) -> Result<()> {
+        self.calls.count()?;
+        if self.find(link)?.is_some() {
+            return Err(Error::from(ErrorKind::AlreadyExists));
+        }
+        match self.find(original)? {
+            Some(node) => self.name(link, node),
+            None => Err(Error::from(ErrorKind::NotFound)),
+        }
+    }
+
     fn create_dir(&self, _path: &str) -> Result<()> {
         Err(Error::from(ErrorKind::Unsupported))
     }
@@ -257,7 +303,7 @@ impl Files for Disk {
 impl OpenFile for Open {
     fn metadata(&self) -> Result<Metadata> {
         self.calls.count()?;
-        Ok(Metadata::of_file(0))
+        facts_of(&self.node, &self.private)
     }
 
     fn set_len(&self, _size: u64) -> Result<()> {

@@ -6,16 +6,24 @@ mod disk;
 mod runs;
 
 use std::alloc::Global;
+use std::fs::{Metadata, OpenOptions};
 use std::io::Write;
+use std::os::unix::fs::OpenOptionsExt;
 use std::process::ExitCode;
 use std::{fs, io};
 
 /// Checks each paragraph of a file behind the first, and prints how many runs are confirmed.
-fn replay<W: Write>(alloc: Global, name: &str, text: &str, output: &mut W) -> io::Result<bool> {
+fn replay<W: Write>(
+    alloc: Global,
+    private: &Metadata,
+    name: &str,
+    text: &str,
+    output: &mut W,
+) -> io::Result<bool> {
     let mut confirmed = 0usize;
     let mut all = true;
     for paragraph in text.split("\n\n").skip(1) {
-        match runs::check(alloc, paragraph)? {
+        match runs::check(alloc, private, paragraph)? {
             None => confirmed = confirmed.saturating_add(1),
             Some(told) => {
                 all = false;
@@ -40,13 +48,23 @@ static FILES: [&str; 9] = [
     "brokers.txt",
 ];
 
+/// What the system tells of a file that only its owner may use, of one that is made for that and removed.
+fn private(rt: &HostRuntime) -> io::Result<Metadata> {
+    let mut options = OpenOptions::new();
+    options.write(true).create_new(true).mode(0o600);
+    let metadata = options.open(rt, "private")?.metadata()?;
+    fs::remove_file(rt, "private")?;
+    Ok(metadata)
+}
+
 /// Replays every file.
 fn replay_all(rt: &HostRuntime) -> io::Result<bool> {
     let mut output = io::writer(rt);
     let mut confirmed = true;
+    let private = private(rt)?;
     for name in &FILES {
         let text = fs::read_to_string(rt, *name)?;
-        confirmed &= replay(rt.alloc(), name, &text, &mut output)?;
+        confirmed &= replay(rt.alloc(), &private, name, &text, &mut output)?;
     }
     Ok(confirmed)
 }

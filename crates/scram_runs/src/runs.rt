@@ -4,7 +4,17 @@ use crate::disk::Disk;
 use broker_logins::log_in;
 use scram_commands::run;
 use std::alloc::{AllocError, Global};
+use std::fs::Metadata;
 use std::io::{BufRead, BufReader, Result, Write};
+
+/// A file or a folder before a run.
+#[derive(Drop)]
+struct File {
+    name: String,
+    text: String,
+    mode: u32,
+    is_folder: bool,
+}
 
 /// A run as a paragraph has it.
 #[derive(Drop)]
@@ -19,20 +29,23 @@ struct Run {
     /// Of which bytes the random bytes are, or none where they count up.
     random: Vec<u8>,
 
-    /// The files before the run: names and texts.
-    files: Vec<(String, String)>,
+    /// The files before the run.
+    files: Vec<File>,
 
     /// What is to come of it: the lines `>`, `!`, `=`, `F` and `+` of the paragraph.
     wanted: String,
 
     /// Whether each of its calls of files and of random bytes is to fail in turn.
     fails: bool,
+
+    /// What a file that only its owner may use is told to be.
+    private: Metadata,
 }
 
 /// Checks the run that a paragraph spells: what comes of it in place of what is wanted, if that is another. Where
 /// the paragraph says so, each call fails in turn, and leaves the files as they were, with status 4.
-pub fn check(alloc: Global, paragraph: &str) -> Result<Option<String>> {
-    let run = read(alloc, paragraph)?;
+pub fn check(alloc: Global, private: &Metadata, paragraph: &str) -> Result<Option<String>> {
+    let run = read(alloc, private, paragraph)?;
     if run.is_binary {
         return play_pieces(alloc, &run);
     }
@@ -74,9 +87,9 @@ fn fail_each(alloc: Global, run: &Run, calls: u32) -> Result<Option<String>> {
 
 /// A disk with the files of a run, of which a call fails.
 fn disk_of(alloc: Global, run: &Run, failing: u32) -> Result<Disk> {
-    let disk = Disk::new(alloc, failing, run.random.clone()?)?;
-    for (name, text) in &run.files {
-        disk.store(name, text.as_bytes())?;
+    let disk = Disk::new(alloc, failing, run.random.clone()?, run.private.clone()?)?;
+    for file in &run.files {
+        disk.store(&file.name, file.text.as_bytes(), file.mode, file.is_folder)?;
     }
     Ok(disk)
 }
@@ -154,7 +167,7 @@ fn tell_lines(told: &mut String, mark: &str, bytes: &[u8]) -> Result<()> {
 }
 
 /// Reads a paragraph.
-fn read(alloc: Global, paragraph: &str) -> Result<Run> {
+fn read(alloc: Global, private: &Metadata, paragraph: &str) -> Result<Run> {
     let mut run = Run {
         words: Vec::new(alloc),
         input: Vec::new(alloc),
@@ -163,6 +176,7 @@ fn read(alloc: Global, paragraph: &str) -> Result<Run> {
         files: Vec::new(alloc),
         wanted: String::new(alloc),
         fails: false,
+        private: private.clone()?,
     };
     for line in paragraph.lines() {
         read_line(alloc, &mut run, line)?;
@@ -182,12 +196,16 @@ fn read_line(alloc: Global, run: &mut Run, line: &str) -> Result<()> {
             run.input = hex::decode(alloc, text).unwrap_or(Vec::new(alloc));
         }
         "r" => run.random = hex::decode(alloc, text).unwrap_or(Vec::new(alloc)),
-        "f" => run
-            .files
-            .push((text.to_string(alloc)?, String::new(alloc)))?,
+        "f" => run.files.push(file_of(alloc, text, false)?)?,
+        "d" => run.files.push(file_of(alloc, text, true)?)?,
         "-" => {
-            if let Some((_, file)) = run.files.last_mut() {
-                push_line(alloc, file, text)?;
+            if let Some(file) = run.files.last_mut() {
+                push_line(alloc, &mut file.text, text)?;
+            }
+        }
+        "~" => {
+            if let Some(file) = run.files.last_mut() {
+                file.text.push_str(text)?;
             }
         }
         "?" => run.fails = true,
@@ -197,6 +215,17 @@ fn read_line(alloc: Global, run: &mut Run, line: &str) -> Result<()> {
         }
     }
     Ok(())
+}
+
+/// A file or a folder without content by its name, and by its mode in octal digits where that is not 644.
+fn file_of(alloc: Global, text: &str, is_folder: bool) -> Result<File> {
+    let (name, mode) = text.split_once(' ').unwrap_or((text, "644"));
+    Ok(File {
+        name: name.to_string(alloc)?,
+        text: String::new(alloc),
+        mode: u32::from_str_radix(mode, 8).unwrap_or(0o644),
+        is_folder,
+    })
 }
 
 /// Adds a line and its end to bytes.
