@@ -192,7 +192,8 @@ class Logins(Case):
                 self.refused(Status.SERVER_AUTHENTICATION_FAILED, login, client, server, record)
                 self.refused(Status.SERVER_ILLEGAL_AUTHENTICATOR_STATE, server.logged_in)
                 nobody = Record.of_nobody(version, secret, "u", salt_length=20, iterations=5000)
-                salt = hmac.new(secret, b"Salt:u", "sha512").digest()[:20]
+                label = f"Salt:{MECHANISMS[version]}:u".encode()
+                salt = hmac.new(secret, label, "sha512").digest()[:20]
                 stored, server_key = mac(version, secret, b"StoredKey:u"), mac(version, secret, b"ServerKey:u")
                 self.assertEqual(
                     nobody.text(),

@@ -1,11 +1,12 @@
 -- What an exchange of texts means to both of its sides, in the words of the headline (RFC 5802, section 5). The law is
 -- the clause `agreement` of `laws::accepted_messages`.
-use Rattle.std.specs.Prelude.{ℕ, List, ◌≡◌, ◌≢◌, Some, Ok, length}
+use Rattle.std.specs.Prelude.{ℕ, List, ◌≡◌, ◌≢◌, ◌⊎◌, Some, Ok, length}
 use Rattle.fe2o3_scram.specs.ClientFinal.{ClientFinal, ReadsClientFinal, keys_for, without_proof}
 use Rattle.fe2o3_scram.specs.ClientFirst.{ClientFirst, ReadsClientFirst, client_first_bare}
 use Rattle.fe2o3_scram.specs.ClientKeys.{ClientKeys}
 use Rattle.fe2o3_scram.specs.Credentials.{Provider, Record, record_at}
 use Rattle.fe2o3_scram.specs.declared.scram_messages.gs2_header.Gs2Header.TheVariants.{Unsupported}
+use Rattle.fe2o3_scram.specs.Extensions.{NoneMisplaced}
 use Rattle.fe2o3_scram.specs.Hmac.{hmac_of}
 use Rattle.fe2o3_scram.specs.Keys.{auth_message}
 use Rattle.fe2o3_scram.specs.Laws.{HoldsBytes}
@@ -68,7 +69,7 @@ abbrev pub server_message : {provider : Provider} {nonce init response : List �
     → ServerKnows provider nonce init response → List ℕ
 server_message server = auth_message server.client.bare (challenge_known server).first server.final.without
 
--- the text has so many parts, as commas cut it (RFC 5802, section 7)
+-- the text has that many parts, as commas cut it (RFC 5802, section 7)
 abbrev pub InParts : ℕ → List ℕ → Type 0
 InParts n text = (parts : List (List ℕ)) × Parts text parts × (length parts ≡ n)
 
@@ -76,18 +77,24 @@ InParts n text = (parts : List (List ℕ)) × Parts text parts × (length parts 
 abbrev pub IsPlain : List ℕ → Type 0
 IsPlain bare = InParts 2 bare
 
--- both sides mean one login: one version of keys, user name and client nonce and, where the client-first message was
--- plain, one nonce of both sides, salt and count, and where the server-first message as the client has it had exactly
--- three parts one GS2 header, which is `n,,`, as this client sends it
+-- one of the two sides received no attribute of RFC 5802 in the place of an extension
+abbrev pub NoneMisplacedIn : {side : ClientSide} {provider : Provider} {own text its init response : List ℕ}
+    → ClientKnows side own text → ServerKnows provider its init response → Type 0
+NoneMisplacedIn {text} client server = NoneMisplaced text server.client.bare server.final.without
+
+-- both sides mean one login: one version of keys, user name and client nonce. Where the client-first message was plain,
+-- or one side received no misplaced attribute, also one nonce of both sides, salt and count; in the second case also one
+-- GS2 header, which is `n,,`, as this client sends it
 pub record Agree {side : ClientSide} {provider : Provider} {own text its init response : List ℕ}
     (client : ClientKnows side own text) (server : ServerKnows provider its init response) : Type 0 where
   pub version : (keys_known client).version ≡ provider.version
-  pub header : IsPlain server.client.bare → InParts 3 text → Unsupported ≡ server.client.header
+  pub header : NoneMisplacedIn client server → Unsupported ≡ server.client.header
   pub user : side.user ≡ server.client.user
   pub nonce : base64_text own ≡ server.client.nonce
-  pub full_nonce : IsPlain server.client.bare → client.first.nonce ≡ (challenge_known server).nonce
-  pub salt : IsPlain server.client.bare → client.first.salt ≡ server.stored.salt
-  pub count : IsPlain server.client.bare → client.first.count ≡ server.stored.count
+  pub full_nonce : IsPlain server.client.bare ⊎ NoneMisplacedIn client server
+      → client.first.nonce ≡ (challenge_known server).nonce
+  pub salt : IsPlain server.client.bare ⊎ NoneMisplacedIn client server → client.first.salt ≡ server.stored.salt
+  pub count : IsPlain server.client.bare ⊎ NoneMisplacedIn client server → client.first.count ≡ server.stored.count
 
 -- the AuthMessages share one HMAC value, each under its side's ServerKey, at one version
 pub record Collide {side : ClientSide} {provider : Provider} {own text its init response : List ℕ}

@@ -1,4 +1,5 @@
 pub mod Texts
+pub mod Extensions
 pub mod Escape
 pub mod SaslprepAscii
 pub mod Passwords

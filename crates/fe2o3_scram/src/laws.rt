@@ -57,13 +57,15 @@ pub fn one_answer_each()
     ensures signature { OneSignature }
 {}
 
-/// What an accepted message means to its caller: a server accepts a client-final message only where a
-/// challenge is open and the proof meets the record of its user, whom it then names, also one that hides
-/// unknown users; and a client believes a server-final message only on the signature of the answer that it
-/// waits on. A caller's own proof cites them from `proofs/lemmas/messages/LoginLemmas.antt`. And where a
-/// client believed the message by which a server accepted, both agree on version, user name and client nonce
-/// (and, where the client-first message had two parts, on the nonce of both sides, salt and count), or their
-/// own differing AuthMessages share one HMAC value.
+/// States what an accepted message means. A server accepts a client-final message only if a challenge
+/// is open and the proof meets the record of its user, whom it then names; a server with mock
+/// authentication too. A client accepts a server-final message only with the signature of the answer
+/// that it waits for. A caller's own proof cites these from `proofs/lemmas/messages/LoginLemmas.antt`.
+///
+/// If a client accepted the message by which a server accepted, both agree on version, user name and
+/// client nonce, or their own differing AuthMessages share one HMAC value. They agree on the nonce of
+/// both sides, salt and count if the client-first message had two parts, or if one side received no
+/// attribute that RFC 5802 defines in the place of an extension; in the second case also on the header.
 pub fn accepted_messages()
     ensures server { AcceptedTextsLogIn }
     ensures hiding { HiddenTextsLogIn }
@@ -102,8 +104,8 @@ pub fn kept_keys()
     ensures both { BothAnswerAsPassword }
 {}
 
-/// A password of printable ASCII is prepared to itself: handed in as it is typed or as prepared it gives one
-/// record, and a client one answer.
+/// A password of printable ASCII is prepared to itself: passed as typed or as prepared it gives one record,
+/// and a client one answer.
 pub fn printable_passwords()
     ensures record { OneRecordOfPassword }
     ensures answer { OneAnswerOfPassword }
@@ -117,8 +119,9 @@ pub fn users_texts()
     ensures some { SomeUsersAnswer }
 {}
 
-/// The same of users whose records are of several versions. Those who were read are written as the very
-/// text that was read, and no line is refused for its version.
+/// Users whose records are of several versions are read again from their lines, if they can be written.
+/// Users that were read are written as the very text that was read, and no line is rejected for its version.
+/// Each text of lines has one answer.
 pub fn mixed_texts()
     ensures again { MixedAreReadAgain }
     ensures back { MixedAreWrittenBack }
@@ -127,11 +130,10 @@ pub fn mixed_texts()
     ensures some { SomeMixedAnswer }
 {}
 
-/// Worked examples of the words of memory: of each of these texts want of memory is no answer, since it is
-/// refused before a call comes to ask for any. A server-final message that is an error; a server-first
-/// message to a client that has answered one; a client-first message of an unknown user; a client-final
-/// message with another nonce, and one without a channel binding; a record of an unknown mechanism; and a
-/// line whose name has a comma.
+/// States worked examples of texts to which `OutOfMemory` is no answer, since they are rejected before a
+/// call asks for memory. A server-final message that is an error; a server-first message to a client that
+/// has answered one; a client-first message of an unknown user; a client-final message with another nonce,
+/// and one without a channel binding; a record of an unknown mechanism; and a line whose name has a comma.
 pub fn texts_without_memory()
     ensures errors { ErrorsTakeNone }
     ensures answered { AnsweredClientsTakeNone }

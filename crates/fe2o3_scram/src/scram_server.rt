@@ -2,7 +2,7 @@
 
 ghost use Rattle.std.specs.Prelude.{◌≡◌, ◌≤◌, ◌^◌, IfOk, OnErr, false, true, option_map};
 ghost use Rattle.fe2o3_scram.specs.ScramServer.{provider_in, served_by, state_in, unbound_in, Initial, ServerFirstSent, ServerFinalSent, logged_in, ChallengesFrom, ConcludesFrom, FinalCostsFrom, ReachesBase64In, state_of};
-ghost use Rattle.fe2o3_scram.specs.ServerFirst.{Challenge, ReachesChallenge};
+ghost use Rattle.fe2o3_scram.specs.ServerFirst.{Challenge, ReachesChallenge, challenge_values};
 ghost use Rattle.fe2o3_scram.specs.Readings.{Gives};
 
 pub mod hiding;
@@ -36,7 +36,7 @@ enum ScramAuthenticatorState {
 }
 
 impl ScramAuthenticatorState {
-    /// The same state.
+    /// Returns a copy of the state.
     fn copy(&self) -> Result<ScramAuthenticatorState, OutOfMemory>
         ensures { IfOk result (λ copy. state_of copy ≡ state_of self.now) }
     {
@@ -77,9 +77,41 @@ impl ScramAuthenticatorState {
     }
 }
 
+/// Returns the message of a challenge, and the state in which the challenge is open. No store is a
+/// parameter, so that what memory is asked for does not depend on one.
+fn opened(
+    alloc: Global,
+    server_first: ServerFirstMessage<'_>,
+) -> Result<(Vec<u8>, ScramAuthenticatorState), OutOfMemory>
+    ensures message { IfOk result (λ made. made.0.items ≡ (challenge_values server_first.entry).first) }
+    ensures state { IfOk result (λ made. state_of made.1 ≡ ServerFirstSent (challenge_values server_first.entry)) }
+{
+    let ServerFirstMessage {
+        username,
+        header,
+        client_first_message_bare,
+        client_server_nonce,
+        message,
+    } = server_first;
+    let username = username.into_owned(alloc)?;
+    let client_first_message_bare = Bytes::copy_from_slice(
+        alloc,
+        client_first_message_bare.as_bytes(),
+    )?;
+    let answer = message.to_vec(alloc)?;
+    let state = ScramAuthenticatorState::ServerFirstSent {
+        username,
+        header,
+        client_first_message_bare,
+        client_server_nonce,
+        server_first_message: message,
+    };
+    Ok((answer, state))
+}
+
 /// A server over a store of credentials. A client-first message opens a challenge, in place of an
-/// earlier one, and an accepted client-final message closes it. A call that is refused leaves the
-/// authenticator as it was.
+/// earlier one, and an accepted client-final message closes it. A call that returns an error leaves
+/// the authenticator unchanged.
 #[derive(Drop)]
 pub struct ScramAuthenticator<C: ScramCredentialProvider> {
     credentials: C,
@@ -88,7 +120,7 @@ pub struct ScramAuthenticator<C: ScramCredentialProvider> {
 }
 
 impl<C: ScramCredentialProvider> ScramAuthenticator<C> {
-    /// A server without an open challenge. It takes clients whose GS2 header is `n,,`.
+    /// Returns a server without an open challenge. It accepts clients whose GS2 header is `n,,`.
     pub fn new(credentials: C) -> Self
         ensures provider { provider_in result ≡ credentials }
         ensures unbound { unbound_in result ≡ false }
@@ -101,10 +133,10 @@ impl<C: ScramCredentialProvider> ScramAuthenticator<C> {
         }
     }
 
-    /// The same server, which takes clients whose GS2 header is `y,,` too: a client that could bind a
-    /// channel and believes that the server cannot, since it was offered no mechanism with `-PLUS` (RFC
-    /// 5802, section 6). Its client-final message has to repeat that header. A server that offers such a
-    /// mechanism must not take that client.
+    /// Returns this server, but one that accepts the GS2 header `y,,` too. A client with that header
+    /// supports channel binding, and believes that the server does not, since it was offered no
+    /// mechanism with `-PLUS` (RFC 5802, section 6). Its client-final message has to repeat the header.
+    /// A server that offers such a mechanism must not accept that client.
     pub fn accepts_unbound(self) -> Self
         ensures provider { provider_in result ≡ provider_in self }
         ensures unbound { unbound_in result ≡ true }
@@ -117,17 +149,17 @@ impl<C: ScramCredentialProvider> ScramAuthenticator<C> {
         }
     }
 
-    /// The store of credentials.
+    /// Returns the store of credentials.
     pub fn credentials(&self) -> &C
         ensures { result.now ≡ provider_in self.now }
     {
         &self.credentials
     }
 
-    /// The name of the user who has logged in: that of the client-first message whose challenge the last
-    /// accepted client-final message answered. `None` before that, and from the next challenge on. A
-    /// refusal, and a client-first message of an unknown user, leave it as it was: read it where a
-    /// client-final message was accepted.
+    /// Returns the name of the user who has logged in: the user of the client-first message whose
+    /// challenge the last accepted client-final message answered. Returns `None` before that, and from
+    /// the next challenge on. An error, and a client-first message of an unknown user, do not change
+    /// it: read it where a client-final message was accepted.
     pub fn user(&self) -> Option<&str>
         ensures { option_map (λ user. user.now) result ≡ logged_in (state_in self.now) }
     {
@@ -138,12 +170,12 @@ impl<C: ScramCredentialProvider> ScramAuthenticator<C> {
     }
 
     /// Answers a client-first message with the server-first message (RFC 5802, sections 5 and 7), or
-    /// with `None` where the user is unknown. The message is the client's text as it came, with its
-    /// GS2 header. The nonce is 32 bytes, which no exchange before had, and is written in base64, as
-    /// 44 symbols, behind the client's.
+    /// with `None` if the user is unknown. The message is the client's text as received, with its GS2
+    /// header. The nonce is 32 bytes, new for each exchange. It is written in base64, as 44 symbols,
+    /// after the client's.
     ///
-    /// The refusals are those of `ClientFirst::parse`, in its order, whatever the state.
-    /// `OutOfMemory` is answered only where the user name is escaped, or to a known user.
+    /// The errors are those of `ClientFirst::parse`, in its order, in every state. `OutOfMemory` is
+    /// returned only if the user name is escaped, or for a known user.
     pub fn compute_server_first_message(
         &mut self,
         alloc: Global,
@@ -171,37 +203,19 @@ impl<C: ScramCredentialProvider> ScramAuthenticator<C> {
         else {
             return Ok(None);
         };
-        let ServerFirstMessage {
-            username,
-            header,
-            client_first_message_bare,
-            client_server_nonce,
-            message,
-        } = server_first;
-        let username = username.into_owned(alloc)?;
-        let client_first_message_bare = Bytes::copy_from_slice(
-            alloc,
-            client_first_message_bare.as_bytes(),
-        )?;
-        let answer = message.to_vec(alloc)?;
-        self.state = ScramAuthenticatorState::ServerFirstSent {
-            username,
-            header,
-            client_first_message_bare,
-            client_server_nonce,
-            server_first_message: message,
-        };
+        let (answer, state) = opened(alloc, server_first)?;
+        self.state = state;
         Ok(Some(answer))
     }
 
     /// Answers a client-final message with the server-final message (RFC 5802, sections 5 and 7), and
-    /// never with `None`. The message is the client's text as it came.
+    /// never with `None`. The message is the client's text as received.
     ///
-    /// Refused are, in this order: `IllegalAuthenticatorState` where no challenge is open;
-    /// `AuthenticationFailed` where the store has lost the user; then what `ClientFinal::parse`
-    /// refuses, in its order; `XorLengthMismatch` where the proof is not as long as a digest; and
-    /// `AuthenticationFailed` where it does not meet the stored key. `OutOfMemory` is answered only
-    /// where `ClientFinal::parse` takes memory.
+    /// The errors are, in this order: `IllegalAuthenticatorState` if no challenge is open;
+    /// `AuthenticationFailed` if the store no longer has the user; those of `ClientFinal::parse`, in
+    /// its order; `XorLengthMismatch` if the proof is not as long as a digest; and
+    /// `AuthenticationFailed` if the proof does not meet the stored key. `OutOfMemory` is returned only
+    /// where `ClientFinal::parse` asks for memory.
     pub fn compute_server_final_message(
         &mut self,
         alloc: Global,
@@ -219,8 +233,8 @@ impl<C: ScramCredentialProvider> ScramAuthenticator<C> {
         self.compute_server_final_message_metered(alloc, client_final_message, &mut Meter::new())
     }
 
-    /// As `compute_server_final_message`. The meter, of at most 2^63, counts the HMAC values, also of
-    /// a refusal.
+    /// Like `compute_server_final_message`, with a meter. The meter, of at most 2^63, counts the HMAC
+    /// values, also of an error.
     pub fn compute_server_final_message_metered(
         &mut self,
         alloc: Global,
@@ -273,7 +287,7 @@ impl<C: ScramCredentialProvider> ScramAuthenticator<C> {
 }
 
 impl<C: ScramCredentialProvider> fmt::Debug for ScramAuthenticator<C> {
-    /// The version, without the store of credentials and the state.
+    /// Writes the version, without the store of credentials and the state.
     fn fmt<W: fmt::Write>(&self, f: &mut fmt::Formatter<W>) -> fmt::Result {
         let version = *self.credentials.scram_version();
         write!(f, "ScramAuthenticator {{ scram_version: {version:?}, .. }}")

@@ -6,7 +6,7 @@ use Rattle.std.specs.Prelude.{◌++◌, codes}
 use Rattle.fe2o3_scram.specs.declared.hmac.ScramVersion.TheVariants.{Sha512}
 use Rattle.fe2o3_scram.specs.Credentials.{record_of, versioned}
 use Rattle.fe2o3_scram.specs.Nobody.{nobody_record}
-use Rattle.fe2o3_scram.specs.Hmac.{hmac_of}
+use Rattle.fe2o3_scram.specs.Hmac.{hmac_of, mechanism_name}
 use Rattle.fe2o3_scram.specs.Keys.{client_key}
 use Rattle.fe2o3_scram.specs.Pbkdf2Hi.{salted_of}
 use Rattle.fe2o3_scram.proofs.lemmas.hashes.DigestLemmas.{length-digest, length-hmac_of}
@@ -30,7 +30,7 @@ pub nobody_has_room : (version : ScramVersion) (secret name : List ℕ) (salt_le
     → HasRoom (versioned version (nobody_record
     (record { version = version; secret = secret; salt_len = salt_len; count = count }) name))
 nobody_has_room version secret name salt_len count few =
-    let salt = hmac_of Sha512 secret (codes "Salt:" ++ name) in (
+    let salt = hmac_of Sha512 secret (codes "Salt:" ++ (mechanism_name version ++ (codes ":" ++ name))) in (
       omega (arith, few, length-take salt_len salt),
       length-hmac_of version secret _,
       length-hmac_of version secret _,

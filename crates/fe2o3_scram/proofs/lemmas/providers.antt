@@ -1,4 +1,5 @@
 pub mod ByNameLemmas
 pub mod HidingLemmas
 pub mod LookUpLemmas
+pub mod MixedLemmas
 pub mod PasswordLemmas

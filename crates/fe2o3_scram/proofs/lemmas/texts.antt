@@ -7,3 +7,4 @@ pub mod EachByteLemmas
 pub mod EscapingLemmas
 pub mod JoinedTextLemmas
 pub mod PartsLemmas
+pub mod ExtensionLemmas

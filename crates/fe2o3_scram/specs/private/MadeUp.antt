@@ -1,5 +1,5 @@
--- The made-up record that the code of a hiding server keeps. No public clause cites this file.
-use Rattle.std.specs.Prelude.{[], ◌∷◌, ◌++◌, ◌≡◌, Option, Some}
+-- The mock record that the code of a hiding server keeps. No public clause cites this file.
+use Rattle.std.specs.Prelude.{ℕ, List, [], ◌∷◌, ◌++◌, ◌≡◌, Option, Some}
 use Rattle.std.specs.Option.{option_map_or}
 use Rattle.fe2o3_scram.specs.Credentials.{Store}
 use Rattle.fe2o3_scram.specs.Nobody.{Nobody, nobody_record}
@@ -13,8 +13,11 @@ followed_by store more = record {
       store.records ++ option_map_or (λ made_up. made_up.records) more [];
 }
 
--- where a challenge is open the made-up record of its user is kept
+-- the store of one user that has the mock record of the name
+abbrev pub mock_store : Nobody → List ℕ → Store
+mock_store nobody name = record { version = nobody.version; records = (name, nobody_record nobody name) ∷ [] }
+
+-- where a challenge is open the mock record of its user is kept
 abbrev pub KeepsMadeUp : ServerState → Option Store → Nobody → Type 0
-KeepsMadeUp (ServerFirstSent challenge) made_up nobody = made_up
-    ≡ Some (record { version = nobody.version; records = (challenge.user, nobody_record nobody challenge.user) ∷ [] })
+KeepsMadeUp (ServerFirstSent challenge) made_up nobody = made_up ≡ Some (mock_store nobody challenge.user)
 KeepsMadeUp state made_up nobody = Unit {0}

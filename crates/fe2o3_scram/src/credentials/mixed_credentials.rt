@@ -1,6 +1,6 @@
 //! The records of several users, of several versions, as a provider of each version.
 
-ghost use Rattle.std.specs.Prelude.{◌≡◌, ◌++◌, ◌∷◌, [], IfOk, OnErr, OnOk, map, nat_eq};
+ghost use Rattle.std.specs.Prelude.{◌≡◌, ◌≢◌, ◌++◌, ◌∷◌, [], IfOk, OnErr, OnOk, map, nat_eq};
 ghost use Rattle.std.specs.Borrow.{Bor};
 ghost use Rattle.std.specs.Cmp.Lexicographic.{pointwise};
 ghost use Rattle.std.specs.String.{string_bytes};
@@ -86,7 +86,7 @@ impl Model for MixedCredentials {
 }
 
 impl MixedCredentials {
-    /// A store without a user.
+    /// Returns a store without users.
     pub fn new(alloc: Global) -> Self
         ensures { result ≡ [] }
     {
@@ -99,10 +99,10 @@ impl MixedCredentials {
         }
     }
 
-    /// Adds a user's record, for whatever version, behind the others. The name is plain, and not
-    /// escaped. Where an earlier record is for the same name and version, that one counts.
+    /// Adds a user's record, of any version, after the others. The name is plain, and not escaped. If
+    /// an earlier record has the name and the version, that one counts.
     ///
-    /// `OutOfMemory` is the only refusal. It leaves the store as it was.
+    /// The only error is `OutOfMemory`, which leaves the store as it was.
     pub fn add(&mut self, username: String, kept: ScramRecord) -> Result<(), OutOfMemory>
         ensures ok { OnOk result (self.new ≡ self.old ++ ((string_bytes username, kept) ∷ [])) }
         ensures err { OnErr result (self.new ≡ self.old) }
@@ -137,13 +137,14 @@ impl MixedCredentials {
         }
     }
 
-    /// The records of the name, which is plain, and not escaped, for whatever version, in their order.
-    /// Each user's name is compared.
+    /// Returns the records of the name, for every version, in their order. The name is plain, and not
+    /// escaped. Each user's name is compared.
     ///
-    /// `OutOfMemory` is the only refusal.
+    /// The only error is `OutOfMemory`, for a name that has a record.
     pub fn records(&self, username: &str) -> Result<Vec<&ScramRecord>, OutOfMemory>
-        ensures { IfOk result (λ found. map (λ (kept : Bor VersionedRecord). kept.now) found.items
+        ensures found { IfOk result (λ found. map (λ (kept : Bor VersionedRecord). kept.now) found.items
             ≡ records_named self.now username.now) }
+        ensures memory { OnErr result (records_named self.now username.now ≢ []) }
     {
         let mut found = Vec::new(self.alloc);
         for user in self.in_order.iter() {
@@ -154,7 +155,7 @@ impl MixedCredentials {
         Ok(found)
     }
 
-    /// The users in the order in which they came.
+    /// Returns the users in the order in which they were added.
     pub(crate) fn users(&self) -> &[MixedUser]
         ensures { result.now ≡ self.now }
     {

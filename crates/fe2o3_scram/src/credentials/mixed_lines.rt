@@ -1,6 +1,6 @@
 //! The records of several users, of several versions, as the lines of a text.
 
-ghost use Rattle.std.specs.Prelude.{◌≡◌, ◌≢◌, ◌↔◌, ◌++◌, [], ◌∷◌, ℕ, List, IsTrue, IfOk, IfErr, OnOk};
+ghost use Rattle.std.specs.Prelude.{◌≡◌, ◌≢◌, ◌↔◌, ◌<◌, ◌++◌, [], ◌∷◌, ℕ, List, IsTrue, IfOk, IfErr, OnErr, OnOk, length};
 ghost use Rattle.std.specs.List.{AllByRecursion};
 ghost use Rattle.fe2o3_scram.specs.Credentials.{VersionedRecord};
 ghost use Rattle.fe2o3_scram.specs.MixedLines.{IsMixedReadable, IsMixedWritable, MixedFault, ReadsMixed, SpellsMixed, UpToMixed, mixed_line, mixed_text};
@@ -60,15 +60,16 @@ impl MixedCredentials {
         Ok(rest)
     }
 
-    /// The users' text in UTF-8, a line for each, in one spelling. It is read again by `parse_lines`;
-    /// and of users whom `parse_lines` has read it is the text that it read.
+    /// Writes the users' text in UTF-8, a line for each, in one spelling. `parse_lines` reads it again.
+    /// The text of users that `parse_lines` has read is the text that it read.
     ///
-    /// Refused are `UserNotWritable`, exactly where a line feed stands in a user's name or a record
-    /// has the count 0 or a key that is not as long as a digest, and `OutOfMemory`.
+    /// The errors are `UserNotWritable`, exactly if a user's name has a line feed or a record has the
+    /// count 0 or a key that is not as long as a digest, and `OutOfMemory`, only if there is a user.
     pub fn to_lines(&self, alloc: Global) -> Result<Vec<u8>, WriteLinesError>
         ensures ok { IfOk result (λ text. text.items ≡ mixed_text self.now) }
         ensures refused { (result ≡ Err WriteLinesError.UserNotWritable)
             ↔ ¬ AllByRecursion IsMixedWritable self.now }
+        ensures memory { result ≡ Err WriteLinesError.OutOfMemory → 0 < length self.now }
     {
         if !are_writable(self.users()) {
             return Err(WriteLinesError::UserNotWritable);
@@ -124,7 +125,8 @@ fn are_writable(users: &[MixedUser]) -> bool
 /// Writes the users' lines at the end of the text.
 #[tactic(auto, using(crate::proofs::lemmas::messages::MixedLinesLemmas::mixed_writing))]
 fn push_users(alloc: Global, text: &mut Vec<u8>, users: &[MixedUser]) -> Result<(), OutOfMemory>
-    ensures { OnOk result (text.new.items ≡ text.old.items ++ mixed_text users.now) }
+    ensures ok { OnOk result (text.new.items ≡ text.old.items ++ mixed_text users.now) }
+    ensures memory { OnErr result (0 < length users.now) }
 {
     for user in users {
         user.push_line(alloc, text)?;

@@ -1,39 +1,48 @@
-//! A record that is made up for a name.
+//! The mock record of a name.
 
-ghost use Rattle.std.specs.Prelude.{◌≡◌, ◌≤◌, ◌+◌, ◌^◌, IfOk, take};
+ghost use Rattle.std.specs.Prelude.{◌≡◌, ◌≤◌, ◌<◌, ◌+◌, ◌^◌, ◌++◌, IfOk, codes, take};
 ghost use Rattle.fe2o3_scram.specs.Credentials.{versioned};
+ghost use Rattle.fe2o3_scram.specs.Hmac.{digest_bytes, hmac_of};
 ghost use Rattle.fe2o3_scram.specs.Nobody.{nobody_record};
 
 use crate::OutOfMemory;
 use crate::credentials::scram_record::ScramRecord;
 use crate::hmac::keyed::HmacKey;
-use crate::hmac::{Meter, ScramVersion};
+use crate::hmac::{DigestBytes, Meter, ScramVersion};
 use std::alloc::Global;
 
-/// What stands before the name where a salt is made up.
+/// The beginning of the label of a mock salt. The mechanism's name and [`SALT_LABEL_END`] follow.
 const SALT_LABEL: &[u8] = b"Salt:";
 
-/// What stands before the name where a StoredKey is made up.
+/// The end of the label of a mock salt, before the user name.
+const SALT_LABEL_END: &[u8] = b":";
+
+/// The label of a mock StoredKey, before the user name.
 const STORED_KEY_LABEL: &[u8] = b"StoredKey:";
 
-/// What stands before the name where a ServerKey is made up.
+/// The label of a mock ServerKey, before the user name.
 const SERVER_KEY_LABEL: &[u8] = b"ServerKey:";
 
 impl ScramRecord {
-    /// The record that is made up for a name, and the same for the name at each try: what a server
-    /// takes for a user whom it does not know, so that the login goes on as that of one whom it knows
-    /// and is refused at its proof.
+    /// Returns the mock record of a name. A server that does not know a user takes it in place of a
+    /// stored record, so that the login goes on as that of a known user and fails at its proof. A
+    /// name has one mock record for each mechanism and secret.
     ///
-    /// The StoredKey is `HMAC(secret, "StoredKey:" + username)`, the ServerKey `HMAC(secret,
-    /// "ServerKey:" + username)`, and the salt the first `salt_len` bytes of `HMAC(secret, "Salt:" +
-    /// username)`, which is of SHA-512 whatever the version, and so 64 bytes: a greater `salt_len` is
-    /// taken as 64. The user name is plain, and not escaped.
+    /// - StoredKey: `HMAC(secret, "StoredKey:" + username)`, with the hash of the version.
+    /// - ServerKey: `HMAC(secret, "ServerKey:" + username)`, with the hash of the version.
+    /// - Salt: the first `salt_len` bytes of `HMAC(secret, "Salt:" + mechanism + ":" + username)`,
+    ///   with SHA-512 for each version. A `salt_len` above 64 is taken as 64.
     ///
-    /// The secret is random, of at least 32 bytes, kept for as long as the users' records are, since
-    /// with another one unknown names alone get other salts, and told to nobody, since who has it can
-    /// tell made-up salts. Salt length and count are those of the server's other records.
+    /// The mechanism is the name that `ScramVersion::mechanism` returns, as `SCRAM-SHA-256`, so that a
+    /// name has another salt under each mechanism, as a user with several stored records has. The user
+    /// name is plain, and not escaped.
     ///
-    /// The one refusal is `OutOfMemory`.
+    /// The secret is random, has at least 32 bytes, and may serve several mechanisms. Keep it beside
+    /// the records: with another secret the salts of unknown users change and those of known users do
+    /// not. Keep it to yourself: a reader of the secret can tell mock salts from stored ones. Salt
+    /// length and count are those of the server's other records.
+    ///
+    /// The only error is `OutOfMemory`.
     pub fn of_nobody(
         alloc: Global,
         scram_version: ScramVersion,
@@ -60,7 +69,8 @@ impl ScramRecord {
         )
     }
 
-    /// As `of_nobody`. The meter, of at most 2^63, counts three HMAC values, also where memory ran out.
+    /// Like `of_nobody`, with a meter. The meter, of at most 2^63, counts three HMAC values, also where
+    /// the call runs out of memory.
     pub fn of_nobody_metered(
         alloc: Global,
         scram_version: ScramVersion,
@@ -80,7 +90,8 @@ impl ScramRecord {
         ensures counted { meter.new ≡ meter.old + 3 }
     {
         let name = username.as_bytes();
-        let salt = HmacKey::new(ScramVersion::Sha512, secret).mac(&[SALT_LABEL, name], meter);
+        let mechanism = scram_version.mechanism().as_bytes();
+        let salt = mock_salt(secret, mechanism, name, meter);
         let key = HmacKey::new(scram_version, secret);
         let stored_key = key.mac(&[STORED_KEY_LABEL, name], meter);
         let server_key = key.mac(&[SERVER_KEY_LABEL, name], meter);
@@ -92,6 +103,25 @@ impl ScramRecord {
             server_key.as_slice().to_vec(alloc)?,
         ))
     }
+}
+
+/// Returns the 64 bytes of which a mock salt is the beginning. A function of its own, since an array of
+/// slices needs one lifetime for all of them.
+fn mock_salt<'a>(
+    secret: &[u8],
+    mechanism: &'a [u8],
+    username: &'a [u8],
+    meter: &mut Meter,
+) -> DigestBytes
+    requires { meter.old + 1 < 2 ^ 64 }
+    ensures value { digest_bytes result ≡ hmac_of ScramVersion.Sha512 secret.now
+        (codes "Salt:" ++ (mechanism.now ++ (codes ":" ++ username.now))) }
+    ensures counted { meter.new ≡ meter.old + 1 }
+{
+    HmacKey::new(ScramVersion::Sha512, secret).mac(
+        &[SALT_LABEL, mechanism, SALT_LABEL_END, username],
+        meter,
+    )
 }
 
 /// The first `len` bytes, or all where there are fewer.

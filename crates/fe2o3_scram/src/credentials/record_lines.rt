@@ -1,6 +1,6 @@
 //! The records of several users as the lines of a text.
 
-ghost use Rattle.std.specs.Prelude.{◌≡◌, ◌≢◌, ◌↔◌, ◌⊎◌, ◌<◌, ◌+◌, ◌++◌, [], ◌∷◌, ℕ, List, IsTrue, IfOk, IfErr, OnOk, MatchOption, length, string_bytes};
+ghost use Rattle.std.specs.Prelude.{◌≡◌, ◌≢◌, ◌↔◌, ◌⊎◌, ◌<◌, ◌+◌, ◌++◌, [], ◌∷◌, ℕ, List, IsTrue, IfOk, IfErr, OnErr, OnOk, MatchOption, length, string_bytes};
 ghost use Rattle.std.specs.List.{AllByRecursion};
 ghost use Rattle.fe2o3_scram.specs.Credentials.{Record, VersionedRecord, kept};
 ghost use Rattle.fe2o3_scram.specs.Escape.{escaped};
@@ -156,14 +156,15 @@ impl ScramCredentials {
         }
     }
 
-    /// The users' text in UTF-8, a line for each, in one spelling. It is read again by `parse_lines`.
+    /// Writes the users' text in UTF-8, a line for each, in one spelling. `parse_lines` reads it again.
     ///
-    /// Refused are `UserNotWritable`, exactly where a line feed stands in a user's name or a record
-    /// has the count 0 or a key that is not as long as a digest, and `OutOfMemory`.
+    /// The errors are `UserNotWritable`, exactly if a user's name has a line feed or a record has the
+    /// count 0 or a key that is not as long as a digest, and `OutOfMemory`, only if there is a user.
     pub fn to_lines(&self, alloc: Global) -> Result<Vec<u8>, WriteLinesError>
         ensures ok { IfOk result (λ text. text.items ≡ users_text self.now.version self.now.records) }
         ensures refused { (result ≡ Err WriteLinesError.UserNotWritable)
             ↔ ¬ AllByRecursion (IsWritable self.now.version) self.now.records }
+        ensures memory { result ≡ Err WriteLinesError.OutOfMemory → 0 < length self.now.records }
     {
         let scram_version = *self.scram_version();
         if !are_writable(self.users(), scram_version) {
@@ -316,7 +317,8 @@ fn push_users(
     users: &[User],
     scram_version: ScramVersion,
 ) -> Result<(), OutOfMemory>
-    ensures { OnOk result (text.new.items ≡ text.old.items ++ users_text scram_version users.now) }
+    ensures ok { OnOk result (text.new.items ≡ text.old.items ++ users_text scram_version users.now) }
+    ensures memory { OnErr result (0 < length users.now) }
 {
     for user in users {
         push_line(

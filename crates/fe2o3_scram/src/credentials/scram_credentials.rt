@@ -1,6 +1,6 @@
 //! The records of several users as a provider.
 
-ghost use Rattle.std.specs.Prelude.{◌≡◌, ◌≢◌, ◌↔◌, ◌++◌, [], ◌∷◌, IfOk, OnErr, OnOk, is_some, option_map};
+ghost use Rattle.std.specs.Prelude.{◌≡◌, ◌≢◌, ◌↔◌, ◌++◌, [], ◌∷◌, IfOk, OnErr, OnOk, is_some, option_map, true};
 ghost use Rattle.std.specs.String.{string_bytes};
 ghost use Rattle.fe2o3_scram.specs.Credentials.{record_at, records_with, records_without, versioned};
 ghost use Rattle.fe2o3_scram.specs.declared.credentials.scram_credentials.AddRecordError.TheVariants.{OutOfMemory as OutOfMemoryError};
@@ -46,10 +46,10 @@ impl<T: Drop> From<AllocFailed<T>> for AddRecordError {
 
 /// The records of several users, all for one version. Of two with one name the first counts.
 ///
-/// A clone shares the users and asks for no memory; it may stand in another thread. A change of a
-/// store whose users are shared copies them first, once, for about two requests for memory a user:
-/// their names and the places in which they stand, while their records stay shared. From then on
-/// the store has its users alone, and the others stay as they were.
+/// A clone shares the users and asks for no memory; it may be in another thread. A change of a store
+/// whose users are shared copies them first, once, with about two requests for memory for each user:
+/// for their names and places, while their records stay shared. From then on the store has its own
+/// users, and the other stores are unchanged.
 ///
 /// A name is found by a map, in a time that grows with the logarithm of the number of users. Each
 /// name is kept twice for it.
@@ -77,7 +77,7 @@ impl Model for ScramCredentials {
 }
 
 impl ScramCredentials {
-    /// A store without a user, for records of this version.
+    /// Returns a store without users, for records of this version.
     pub fn new(alloc: Global, scram_version: ScramVersion) -> Self
         ensures { result ≡ record { version = scram_version; records = [] } }
     {
@@ -88,11 +88,11 @@ impl ScramCredentials {
         }
     }
 
-    /// Adds a user behind the others. The name is plain, and not escaped. Where an earlier user has
-    /// the same name, that one's record counts.
+    /// Adds a user after the others. The name is plain, and not escaped. If an earlier user has the
+    /// name, the record of that one counts.
     ///
-    /// Refused are, in this order: `VersionMismatch` where the record is for another version, and
-    /// `OutOfMemory`. A refusal leaves the store as it was.
+    /// The errors are, in this order: `VersionMismatch` if the record is for another version, and
+    /// `OutOfMemory`. An error leaves the store as it was.
     pub fn add(&mut self, username: String, kept: ScramRecord) -> Result<(), AddRecordError>
         ensures ok { OnOk result (self.new ≡ record {
           version = self.old.version;
@@ -108,7 +108,7 @@ impl ScramCredentials {
         Ok(())
     }
 
-    /// Adds a user behind the others, whose record, which is shared, is for the store's version.
+    /// Adds a user with a shared record of the store's version after the others.
     pub(crate) fn add_shared(
         &mut self,
         username: String,
@@ -130,13 +130,12 @@ impl ScramCredentials {
         Ok(())
     }
 
-    /// Puts this record in the place of the one that counts for the name, and says whether there
-    /// was one; where there was none, nothing changes. The name is plain, and not escaped. The
-    /// others stay as they were, in their order, those of the same name too. Names are compared up
-    /// to the first of this one.
+    /// Replaces the record that counts for the name, and returns whether there was one. An unknown
+    /// name changes nothing. The name is plain, and not escaped. The other records stay, in their
+    /// order, also further ones of the name. Names are compared up to the first of this one.
     ///
-    /// Refused are, in this order: `VersionMismatch` where the record is for another version, and
-    /// `OutOfMemory`. A refusal leaves the store as it was.
+    /// The errors are, in this order: `VersionMismatch` if the record is for another version, and
+    /// `OutOfMemory`, only for a name that has a record. An error leaves the store as it was.
     #[tactic(auto, using(crate::proofs::lemmas::providers::ByNameLemmas::with_nobody))]
     pub fn replace(&mut self, username: &str, kept: ScramRecord) -> Result<bool, AddRecordError>
         ensures ok { IfOk result (λ found.
@@ -148,25 +147,27 @@ impl ScramCredentials {
         ensures mismatch { (result ≡ Err AddRecordError.VersionMismatch)
             ↔ (kept.version ≢ self.old.version) }
         ensures err { OnErr result (self.new ≡ self.old) }
+        ensures memory { result ≡ Err AddRecordError.OutOfMemory
+            → is_some (record_at self.old.records username.now) ≡ true }
     {
         if *kept.scram_version() != self.scram_version {
             return Err(AddRecordError::VersionMismatch);
         }
-        if !self.has(username) {
-            return Ok(false);
+        let found = self.has(username);
+        if found {
+            if let Some(shared) = &mut self.users {
+                Arc::make_mut(shared)?.replace(self.alloc, username, kept)?;
+            }
         }
-        if let Some(shared) = &mut self.users {
-            Arc::make_mut(shared)?.replace(self.alloc, username, kept)?;
-        }
-        Ok(true)
+        Ok(found)
     }
 
-    /// Takes out every record of the name, so that no later one comes to count, and says whether
-    /// there was one. The name is plain, and not escaped. The others stay, in their order. Each
-    /// user's name is compared where there is one to take out.
+    /// Removes every record of the name, so that none of them counts later, and returns whether there
+    /// was one. The name is plain, and not escaped. The other records stay, in their order. Each
+    /// user's name is compared where there is one to remove.
     ///
-    /// Refused is `OutOfMemory`, only where the users are shared, since memory is asked for only to
-    /// copy them. A refusal leaves the store as it was.
+    /// The only error is `OutOfMemory`, for a name that has a record, in a store whose users are
+    /// shared: memory is asked for only to copy them. An error leaves the store as it was.
     #[tactic(auto, using(crate::proofs::lemmas::providers::ByNameLemmas::without_nobody))]
     pub fn remove(&mut self, username: &str) -> Result<bool, OutOfMemory>
         ensures ok { IfOk result (λ found.
@@ -176,6 +177,7 @@ impl ScramCredentials {
               records = records_without self.old.records username.now;
             })) }
         ensures err { OnErr result (self.new ≡ self.old) }
+        ensures memory { OnErr result (is_some (record_at self.old.records username.now) ≡ true) }
     {
         if !self.has(username) {
             return Ok(false);
@@ -186,7 +188,7 @@ impl ScramCredentials {
         Ok(true)
     }
 
-    /// The record that counts for the name, or `None` where nobody has the name, which is plain,
+    /// Returns the record that counts for the name, or `None` for an unknown name. The name is plain,
     /// and not escaped. To move a user, add a clone of the record to another store, and remove the
     /// name here.
     pub fn record(&self, username: &str) -> Option<&ScramRecord>
@@ -199,14 +201,14 @@ impl ScramCredentials {
         }
     }
 
-    /// Whether somebody has this name.
+    /// Returns whether a user has this name.
     fn has(&self, username: &str) -> bool
         ensures { result ≡ is_some (record_at self.now.records username.now) }
     {
         self.record(username).is_some()
     }
 
-    /// The users in the order in which they came.
+    /// Returns the users in the order in which they were added.
     pub(crate) fn users(&self) -> &[User]
         ensures { result.now ≡ self.now.records }
     {
@@ -218,7 +220,7 @@ impl ScramCredentials {
 }
 
 impl fmt::Debug for ScramCredentials {
-    /// The version alone.
+    /// Writes the version only.
     fn fmt<W: fmt::Write>(&self, f: &mut fmt::Formatter<W>) -> fmt::Result {
         write!(
             f,

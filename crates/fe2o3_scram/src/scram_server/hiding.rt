@@ -1,11 +1,14 @@
-//! A SCRAM server that does not tell which users it knows.
+//! A SCRAM server with mock authentication: unknown users are answered as known ones.
 
-ghost use Rattle.std.specs.Prelude.{◌≡◌, ◌≤◌, ◌<◌, ◌^◌, ℕ, List, OnErr, false, true, MatchResult, option_map};
+ghost use Rattle.std.specs.Cow.{cow_str_bytes};
+ghost use Rattle.std.specs.Prelude.{◌≡◌, ◌≤◌, ◌<◌, ◌+◌, ◌^◌, ℕ, List, IfOk, OnErr, false, true, MatchResult, option_map};
 ghost use Rattle.fe2o3_scram.specs.ScramServer.{Initial, logged_in, ChallengesFrom, ConcludesFrom, FinalCostsFrom, ReachesBase64In};
 ghost use Rattle.fe2o3_scram.specs.HidingServer.{HidingCosts, NamedBy, NamedIn, hiding_name, hiding_server};
 ghost use Rattle.fe2o3_scram.specs.Readings.{Gives};
 ghost use Rattle.fe2o3_scram.specs.ServerFirst.{ReachesChallenge};
+ghost use Rattle.fe2o3_scram.specs.private.MadeUp.{mock_store};
 
+use crate::OutOfMemory;
 use crate::credentials::{ScramRecord, StoredScramCredential};
 use crate::hmac::{Meter, ScramVersion};
 use crate::provider::ScramCredentialProvider;
@@ -14,22 +17,23 @@ use crate::scram_messages::error::ServerScramErrorKind;
 use crate::scram_server::ScramAuthenticator;
 use crate::scram_server::hiding_store::HidingStore;
 use std::alloc::{AllocError, Global};
+use std::borrow::CowStr;
 use std::marker::Model;
 use std::{fmt, mem};
 use thiserror::Error;
 
-/// The longest salt that is made up, in bytes: a digest of SHA-512.
+/// The longest mock salt, in bytes: a digest of SHA-512.
 const MAX_SALT_LEN: usize = 64;
 
-/// The salts are longer than the 64 bytes that can be made up.
+/// The salts are longer than 64 bytes, the length of the longest mock salt.
 #[derive(Debug, Clone, Copy, PartialEq, Eq, Error)]
 #[error("Salt too long")]
 pub struct SaltTooLong;
 
-/// A server over a store of credentials that answers a user whom it does not know as one whom it
-/// knows: by the record that `ScramRecord::of_nobody` makes up for the name, which no login is known
-/// to meet. A client-first message opens a challenge, in place of an earlier one, and an accepted
-/// client-final message closes it. A call that is refused leaves the authenticator as it was.
+/// A server over a store of credentials that answers an unknown user as a known one, by the mock
+/// record of the name (`ScramRecord::of_nobody`), which no login is known to meet. A client-first
+/// message opens a challenge, in place of an earlier one, and an accepted client-final message closes
+/// it. A call that returns an error leaves the authenticator unchanged.
 #[derive(Drop)]
 pub struct HidingAuthenticator<C: ScramCredentialProvider> {
     authenticator: ScramAuthenticator<HidingStore<C>>,
@@ -68,11 +72,11 @@ impl<C: ScramCredentialProvider> Model for HidingAuthenticator<C> {
 }
 
 impl<C: ScramCredentialProvider> HidingAuthenticator<C> {
-    /// A server without an open challenge. What the secret has to be, `ScramRecord::of_nobody` says;
-    /// `salt_len` is the length of the salts of the store's records, in bytes, and `iterations` their
-    /// iteration count.
+    /// Returns a server without an open challenge. The secret is that of `ScramRecord::of_nobody`: at
+    /// least 32 random bytes, stored beside the records. `salt_len` is the length of the salts of the
+    /// store's records, in bytes, and `iterations` their iteration count.
     ///
-    /// The one refusal is `SaltTooLong`, where the salts are longer than 64 bytes.
+    /// The only error is `SaltTooLong`, for salts of more than 64 bytes.
     pub fn new(
         credentials: C,
         secret: Vec<u8>,
@@ -107,8 +111,8 @@ impl<C: ScramCredentialProvider> HidingAuthenticator<C> {
         })
     }
 
-    /// The same server, which takes clients whose GS2 header is `y,,` too, as `accepts_unbound` of
-    /// `ScramAuthenticator` says it.
+    /// Returns this server, but one that accepts the GS2 header `y,,` too, as
+    /// `ScramAuthenticator::accepts_unbound` says.
     pub fn accepts_unbound(self) -> Self
         ensures provider { result.credentials ≡ self.credentials }
         ensures unbound { result.unbound ≡ true }
@@ -124,26 +128,26 @@ impl<C: ScramCredentialProvider> HidingAuthenticator<C> {
         }
     }
 
-    /// The store of credentials.
+    /// Returns the store of credentials.
     pub fn credentials(&self) -> &C
         ensures { result.now ≡ self.now.credentials }
     {
         &self.authenticator.credentials.credentials
     }
 
-    /// The name of the user who has logged in, as `user` of `ScramAuthenticator` tells it.
+    /// Returns the name of the user who has logged in, like `ScramAuthenticator::user`.
     pub fn user(&self) -> Option<&str>
         ensures { option_map (λ user. user.now) result ≡ logged_in self.now.state }
     {
         self.authenticator.user()
     }
 
-    /// Answers a client-first message with the server-first message (RFC 5802, sections 5 and 7), of an
-    /// unknown user as of a known one, and never with `None`. The message is the client's text as it
-    /// came, with its GS2 header. The nonce is 32 bytes, which no exchange before had.
+    /// Answers a client-first message with the server-first message (RFC 5802, sections 5 and 7), for
+    /// unknown and known users, and never with `None`. The message is the client's text as received,
+    /// with its GS2 header. The nonce is 32 bytes, new for each exchange.
     ///
-    /// The refusals are those of `ClientFirst::parse`, in its order, whatever the state.
-    /// `OutOfMemory` is answered only where the user name is escaped, or where the message is read.
+    /// The errors are those of `ClientFirst::parse`, in its order, in every state. `OutOfMemory` is
+    /// returned only if the user name is escaped, or if the message is read.
     pub fn compute_server_first_message(
         &mut self,
         alloc: Global,
@@ -170,9 +174,9 @@ impl<C: ScramCredentialProvider> HidingAuthenticator<C> {
         )
     }
 
-    /// As `compute_server_first_message`. The meter, of at most 2^63, counts the HMAC values: three
-    /// where the message is read, of a known user too, none where it is refused, and at most so many
-    /// where memory ran out.
+    /// Like `compute_server_first_message`, with a meter. The meter, of at most 2^63, counts the HMAC
+    /// values: three if the message is read, for a known user too, none if it is rejected, and at most
+    /// three if the call runs out of memory.
     pub fn compute_server_first_message_metered(
         &mut self,
         alloc: Global,
@@ -194,23 +198,25 @@ impl<C: ScramCredentialProvider> HidingAuthenticator<C> {
         ensures err { OnErr result (self.new.state ≡ self.old.state) }
         ensures cost { HidingCosts self.old.unbound client_first_message.now result meter.old meter.new }
     {
+        // Memory is asked for only by functions that have no store: `parse_unbound` and `mock_of` here,
+        // `challenge_to` and `opened` in the authenticator. The store's part is one look-up, in
+        // `HidingStore`, which finds a record of any name. So known and unknown users make the same
+        // requests for memory, and a failed one does not tell them apart.
         let accepts_unbound = self.authenticator.accepts_unbound;
         let client_first = ClientFirst::parse_unbound(
             alloc,
             client_first_message,
             accepts_unbound,
         )?;
-        let made_up = ScramRecord::of_nobody_metered(
+        let made_up = mock_of(
             alloc,
             self.scram_version,
             &self.secret,
-            &client_first.username,
+            client_first.username,
             self.salt_len,
             self.iterations,
             meter,
         )?;
-        let username = client_first.username.into_owned(alloc)?;
-        let made_up = StoredScramCredential::new(username, made_up);
         let before = mem::replace(&mut self.authenticator.credentials.made_up, Some(made_up));
         match self
             .authenticator
@@ -225,10 +231,10 @@ impl<C: ScramCredentialProvider> HidingAuthenticator<C> {
     }
 
     /// Answers a client-final message with the server-final message (RFC 5802, sections 5 and 7), and
-    /// never with `None`. The message is the client's text as it came.
+    /// never with `None`. The message is the client's text as received.
     ///
-    /// Refused are what `compute_server_final_message` of `ScramAuthenticator` refuses, in its order,
-    /// where the store has the made-up record of the open challenge's user behind its own.
+    /// The errors are those of `ScramAuthenticator::compute_server_final_message`, in its order, over a
+    /// store that has the mock record of the open challenge's user after its own records.
     pub fn compute_server_final_message(
         &mut self,
         alloc: Global,
@@ -250,8 +256,8 @@ impl<C: ScramCredentialProvider> HidingAuthenticator<C> {
         self.compute_server_final_message_metered(alloc, client_final_message, &mut Meter::new())
     }
 
-    /// As `compute_server_final_message`. The meter, of at most 2^63, counts the HMAC values, also of
-    /// a refusal.
+    /// Like `compute_server_final_message`, with a meter. The meter, of at most 2^63, counts the HMAC
+    /// values, also of an error.
     pub fn compute_server_final_message_metered(
         &mut self,
         alloc: Global,
@@ -280,8 +286,40 @@ impl<C: ScramCredentialProvider> HidingAuthenticator<C> {
     }
 }
 
+/// Returns the mock record of a user as a store of one. No store is a parameter, so that what memory is
+/// asked for does not depend on whether the user is known. The meter counts three HMAC values.
+fn mock_of(
+    alloc: Global,
+    scram_version: ScramVersion,
+    secret: &[u8],
+    username: CowStr<'_>,
+    salt_len: usize,
+    iterations: u32,
+    meter: &mut Meter,
+) -> Result<StoredScramCredential, OutOfMemory>
+    requires { meter.old ≤ 2 ^ 63 }
+    ensures mock { IfOk result (λ mock. mock ≡ mock_store (record {
+      version = scram_version;
+      secret = secret.now;
+      salt_len = salt_len;
+      count = iterations;
+    }) (cow_str_bytes username.entry)) }
+    ensures counted { meter.new ≡ meter.old + 3 }
+{
+    let made_up = ScramRecord::of_nobody_metered(
+        alloc,
+        scram_version,
+        secret,
+        &username,
+        salt_len,
+        iterations,
+        meter,
+    )?;
+    Ok(StoredScramCredential::new(username.into_owned(alloc)?, made_up))
+}
+
 impl<C: ScramCredentialProvider> fmt::Debug for HidingAuthenticator<C> {
-    /// The version, without the store of credentials, the secret and the state.
+    /// Writes the version, without the store of credentials, the secret and the state.
     fn fmt<W: fmt::Write>(&self, f: &mut fmt::Formatter<W>) -> fmt::Result {
         write!(
             f,

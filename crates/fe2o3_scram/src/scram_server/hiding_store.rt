@@ -1,4 +1,4 @@
-//! A store with a made-up record behind its own.
+//! A store with a mock record after its own records.
 
 ghost use Rattle.std.specs.Prelude.{◌≡◌};
 ghost use Rattle.fe2o3_scram.specs.private.MadeUp.{followed_by};
@@ -8,7 +8,7 @@ use crate::hmac::ScramVersion;
 use crate::provider::{ScramCredentialProvider, StoredPassword};
 use std::alloc::AllocError;
 
-/// A store, and behind its users one whose record is made up.
+/// A store, and the mock record of one user. A user of the store keeps the stored record.
 #[derive(Drop)]
 pub(crate) struct HidingStore<C: ScramCredentialProvider> {
     pub(crate) credentials: C,

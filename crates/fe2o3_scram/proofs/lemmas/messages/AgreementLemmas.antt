@@ -1,6 +1,6 @@
 -- What equal AuthMessages of a client and a server say, and what the signature does that both have: first of the values
 -- alone, however their texts came, and then of one client's and one server's texts.
-use Rattle.std.proofs.Common.{◌≡◌, Bool, ℕ, ◌<◌, ◌^◌, Some, List, [], ◌∷◌, ◌++◌, length, get_or, refl, sym, ap, ◌∙◌, subst, arith, codes, Ok}
+use Rattle.std.proofs.Common.{◌≡◌, ◌⊎◌, inl, inr, Bool, ℕ, ◌<◌, ◌^◌, Some, List, [], ◌∷◌, ◌++◌, length, get_or, drop, refl, sym, ap, ◌∙◌, subst, arith, codes, Ok}
 use Rattle.std.specs.Fmt.{decimal}
 use Rattle.std.proofs.lemmas.Option.{same_Some}
 use Rattle.fe2o3_scram.specs.declared.hmac.ScramVersion.{ScramVersion}
@@ -12,6 +12,7 @@ use Rattle.fe2o3_scram.specs.ClientFinal.{Answer, ClientFinal, answer_of, server
 use Rattle.fe2o3_scram.specs.ClientFirst.{ClientFirst, NamesClientFirst, client_first_bare, header_text}
 use Rattle.fe2o3_scram.specs.Credentials.{Provider, Record, record_at}
 use Rattle.fe2o3_scram.specs.Escape.{escaped}
+use Rattle.fe2o3_scram.specs.Extensions.{NoneMisplaced}
 use Rattle.fe2o3_scram.specs.Hmac.{digest_len, hmac_of}
 use Rattle.fe2o3_scram.specs.Keys.{auth_message}
 use Rattle.fe2o3_scram.specs.Laws.{HoldsBytes}
@@ -27,6 +28,7 @@ use Rattle.fe2o3_scram.proofs.lemmas.messages.OneValueLemmas.{names_client_first
 use Rattle.fe2o3_scram.proofs.lemmas.texts.Base64Lemmas.{no_comma-append, no_comma-base64_text, one_spelled}
 use Rattle.fe2o3_scram.proofs.lemmas.texts.CountLemmas.{count_of_decimal}
 use Rattle.fe2o3_scram.proofs.lemmas.texts.EscapingLemmas.{no_comma-escaped, one_escaped}
+use Rattle.fe2o3_scram.proofs.lemmas.texts.ExtensionLemmas.{AreNone, of_client, of_server, none_after_three, none_after_two, none_in_three, none_of_client, none_of_server}
 use Rattle.fe2o3_scram.proofs.lemmas.texts.JoinedTextLemmas.{same_parts, part_in, no_comma-part, two_joined, three_joined, first_two, first_three, with_last}
 use Rattle.fe2o3_scram.proofs.lemmas.texts.PartsLemmas.{pieces, Parts-pieces, one_list_of_parts, one_part}
 
@@ -113,6 +115,8 @@ record ServerParts (client : ClientFirst) (its : List ℕ) (stored : Record) (wi
   extra : List (List ℕ)
   middle : List (List ℕ)
   bare : Parts client.bare ((codes "n=" ++ escaped client.user) ∷ (codes "r=" ++ client.nonce) ∷ extra)
+  rest : Parts without ((codes "c=" ++ base64_text (header_text client.header))
+      ∷ (codes "r=" ++ (challenge_of client its stored).nonce) ∷ middle)
   message : let challenge = challenge_of client its stored in
       Parts (auth_message client.bare challenge.first without)
       (((codes "n=" ++ escaped client.user) ∷ (codes "r=" ++ client.nonce) ∷ extra)
@@ -141,6 +145,7 @@ server_parts version client its stored final small has =
       extra = bare.0;
       middle = rest.0;
       bare = bare.1;
+      rest = rest.1;
       message = three_joined client.bare challenge.first final.without _ _ _ bare.1 first rest.1;
     }
 
@@ -186,11 +191,6 @@ no_extra text p q [] are has = refl
 no_extra text p q (x ∷ more) are has = absurd (let same : length (p ∷ q ∷ x ∷ more) ≡ 2 =
     ap length (one_list_of_parts text _ has.0 are has.1) ∙ has.2 in omega (arith, same))
 
-no_more : (text p q r : List ℕ) (more : List (List ℕ)) → Parts text (p ∷ q ∷ r ∷ more) → InParts 3 text → more ≡ []
-no_more text p q r [] are has = refl
-no_more text p q r (x ∷ more) are has = absurd (let same : length (p ∷ q ∷ r ∷ x ∷ more) ≡ 3 =
-    ap length (one_list_of_parts text _ has.0 are has.1) ∙ has.2 in omega (arith, same))
-
 one_extra : (text p q : List ℕ) (extra : List (List ℕ)) → Parts text (p ∷ q ∷ extra) → InParts 3 text
     → ((x : List ℕ) → extra ≡ x ∷ [] → ⊥) → ⊥
 one_extra text p q extra are has none = go extra (ap length (one_list_of_parts text _ has.0 are has.1) ∙ has.2) none
@@ -210,8 +210,88 @@ two_extra text p q extra are has none = go extra (ap length (one_list_of_parts t
     go (x ∷ y ∷ []) same none = none x y refl
     go (x ∷ y ∷ z ∷ more) same none = omega (arith, same)
 
--- equal AuthMessages mean one user and nonce and, where the client-first message was plain, one nonce of both sides,
--- salt and count; it had not three parts and not four
+-- equal AuthMessages mean one user and client nonce. Where the client-first message was plain, or one side received no
+-- misplaced attribute, they mean one nonce of both sides, salt and count, and in the second case one header. The
+-- client-first message had not three parts and not four
+pub record SameLogin (name own text : List ℕ) (first : ServerFirst) (client : ClientFirst) (its : List ℕ)
+    (stored : Record) (without : List ℕ) : Type 0 where
+  pub header : NoneMisplaced text client.bare without → Unsupported ≡ client.header
+  pub user : name ≡ client.user
+  pub nonce : own ≡ client.nonce
+  pub full_nonce : IsPlain client.bare ⊎ NoneMisplaced text client.bare without
+      → first.nonce ≡ (challenge_of client its stored).nonce
+  pub salt : IsPlain client.bare ⊎ NoneMisplaced text client.bare without → first.salt ≡ stored.salt
+  pub count : IsPlain client.bare ⊎ NoneMisplaced text client.bare without → first.count ≡ stored.count
+  pub not_three : ¬ InParts 3 client.bare
+  pub not_four : ¬ InParts 4 client.bare
+
+-- where no attribute is misplaced there are no extensions
+are_none : (text bare without f s i c f' s' i' c' : List ℕ) (more extra middle : List (List ℕ)) (p q : List ℕ)
+    → Parts text ((114 ∷ 61 ∷ f) ∷ (115 ∷ 61 ∷ s) ∷ (105 ∷ 61 ∷ i) ∷ more) → Parts bare (p ∷ q ∷ extra)
+    → Parts without ((99 ∷ 61 ∷ c') ∷ (114 ∷ 61 ∷ f') ∷ middle) → NoneMisplaced text bare without
+    → of_client f s i c more ≡ of_server f' s' i' c' extra middle → AreNone more extra middle
+are_none text bare without f s i c f' s' i' c' more extra middle p q are first rest (inl none) same =
+    none_of_client f s i c f' s' i' c' more extra middle (none_after_three text _ _ _ more are none) same
+are_none text bare without f s i c f' s' i' c' more extra middle p q are first rest (inr none) same =
+    none_of_server f s i c f' s' i' c' more extra middle (none_after_two bare _ _ extra first none.0)
+    (none_after_two without _ _ middle rest none.1) same
+
+-- the client-first message has none in either case
+plain_or_none : (bare p q : List ℕ) (extra more middle : List (List ℕ)) → Parts bare (p ∷ q ∷ extra)
+    → (None : Type 0) → (None → AreNone more extra middle) → IsPlain bare ⊎ None → extra ≡ []
+plain_or_none bare p q extra more middle are None none (inl plain) = no_extra bare p q extra are plain
+plain_or_none bare p q extra more middle are None none (inr is) = (none is).1
+
+-- headers that are spelled alike are one
+same_header : (header : Gs2Header) → base64_text (codes "n,,") ≡ base64_text (header_text header) → Unsupported ≡ header
+same_header Unsupported same = refl
+same_header Unoffered same =
+    let bytes = one_spelled (base64_text (codes "n,,")) (codes "n,,") (codes "y,,")
+    (IsBytes-literal (codes "n,,") refl, refl) (IsBytes-literal (codes "y,,") refl, same) in
+    let letter : ◌≡◌ {A = ℕ} 110 121 = ap (λ (text : List ℕ). get_or text 0 0) bytes in
+    absurd (omega (arith, letter))
+
+pub same_login : (name own text : List ℕ) (first : ServerFirst) (version : ScramVersion) (client : ClientFirst)
+    (its : List ℕ) (stored : Record) (final : ClientFinal) → HoldsBytes (client.user, stored)
+    → ClientHas own text first → ServerHas version client its stored final
+    → auth_message (client_first_bare name own) text (without_proof first.nonce)
+    ≡ auth_message client.bare (challenge_of client its stored).first final.without
+    → SameLogin name own text first client its stored final.without
+same_login name own text first version client its stored final holds ours theirs same =
+    let small : stored.count < 2 ^ 32 = holds.0 in
+    let wide : stored.count < 2 ^ 64 = omega (arith, small) in
+    let full = (challenge_of client its stored).nonce in
+    let names = ours.names in
+    let left = client_parts name own text first ours in
+    let right = server_parts version client its stored final small theirs in
+    let parts = same_parts (auth_message (client_first_bare name own) text (without_proof first.nonce))
+    (auth_message client.bare (challenge_of client its stored).first final.without) _ _ same left.2 right.message in
+    let fields = same_fields (escaped name) own (escaped client.user) client.nonce first.nonce (base64_text first.salt)
+    names.count.0 full (base64_text stored.salt) (decimal stored.count) (base64_text (codes "n,,"))
+    (base64_text (header_text client.header)) full right.extra left.0 right.middle parts in
+    let none : NoneMisplaced text client.bare final.without → AreNone left.0 right.extra right.middle = λ apart.
+    are_none text client.bare final.without first.nonce (base64_text first.salt) names.count.0
+    (base64_text (codes "n,,")) full (base64_text stored.salt) (decimal stored.count)
+    (base64_text (header_text client.header)) left.0 right.extra right.middle _ _ left.1 right.bare right.rest apart
+    (ap (λ (z : List (List ℕ)). drop 2 z) parts) in
+    let only : IsPlain client.bare ⊎ NoneMisplaced text client.bare final.without → right.extra ≡ [] = λ either.
+    plain_or_none client.bare _ _ right.extra left.0 right.middle right.bare
+    (NoneMisplaced text client.bare final.without) none either in
+    record {
+      header = λ apart. same_header client.header (fields.binding (none apart).1 (none apart).0);
+      user = one_escaped name client.user fields.user;
+      nonce = fields.nonce;
+      full_nonce = λ either. fields.full (only either);
+      salt = λ either. one_spelled (base64_text first.salt) first.salt stored.salt (names.salt.0, refl)
+          (holds.1, fields.salt (only either));
+      count = λ either. count_of_decimal stored.count first.count wide
+          (subst (λ (digits : List ℕ). IsCount digits first.count) (fields.count (only either)) names.count.2);
+      not_three = λ three. one_extra client.bare _ _ right.extra right.bare three fields.not_three;
+      not_four = λ four. two_extra client.bare _ _ right.extra right.bare four fields.not_four;
+    }
+
+-- where the client-first message was plain: one nonce of both sides, salt and count, and one header where the
+-- server-first message had three parts
 pub record SameValues (name own text : List ℕ) (first : ServerFirst) (client : ClientFirst) (its : List ℕ)
     (stored : Record) : Type 0 where
   pub header : IsPlain client.bare → InParts 3 text → Unsupported ≡ client.header
@@ -223,15 +303,7 @@ pub record SameValues (name own text : List ℕ) (first : ServerFirst) (client :
   pub not_three : ¬ InParts 3 client.bare
   pub not_four : ¬ InParts 4 client.bare
 
--- headers that are spelled alike are one
-same_header : (header : Gs2Header) → base64_text (codes "n,,") ≡ base64_text (header_text header) → Unsupported ≡ header
-same_header Unsupported same = refl
-same_header Unoffered same =
-    let bytes = one_spelled (base64_text (codes "n,,")) (codes "n,,") (codes "y,,")
-    (IsBytes-literal (codes "n,,") refl, refl) (IsBytes-literal (codes "y,,") refl, same) in
-    let letter : ◌≡◌ {A = ℕ} 110 121 = ap (λ (text : List ℕ). get_or text 0 0) bytes in
-    absurd (omega (arith, letter))
-
+-- the law over frames cites it
 pub same_values : (name own text : List ℕ) (first : ServerFirst) (version : ScramVersion) (client : ClientFirst)
     (its : List ℕ) (stored : Record) (final : ClientFinal) → HoldsBytes (client.user, stored)
     → ClientHas own text first → ServerHas version client its stored final
@@ -239,30 +311,16 @@ pub same_values : (name own text : List ℕ) (first : ServerFirst) (version : Sc
     ≡ auth_message client.bare (challenge_of client its stored).first final.without
     → SameValues name own text first client its stored
 same_values name own text first version client its stored final holds ours theirs same =
-    let small : stored.count < 2 ^ 32 = holds.0 in
-    let wide : stored.count < 2 ^ 64 = omega (arith, small) in
-    let full = (challenge_of client its stored).nonce in
-    let names = ours.names in
-    let left = client_parts name own text first ours in
-    let right = server_parts version client its stored final small theirs in
-    let fields = same_fields (escaped name) own (escaped client.user) client.nonce first.nonce (base64_text first.salt)
-    names.count.0 full (base64_text stored.salt) (decimal stored.count) (base64_text (codes "n,,"))
-    (base64_text (header_text client.header)) full right.extra left.0 right.middle
-    (same_parts (auth_message (client_first_bare name own) text (without_proof first.nonce))
-    (auth_message client.bare (challenge_of client its stored).first final.without) _ _ same left.2 right.message) in
+    let login = same_login name own text first version client its stored final holds ours theirs same in
     record {
-      header = λ only three. same_header client.header (fields.binding
-          (no_extra client.bare _ _ right.extra right.bare only) (no_more text _ _ _ left.0 left.1 three));
-      user = one_escaped name client.user fields.user;
-      nonce = fields.nonce;
-      full_nonce = λ only. fields.full (no_extra client.bare _ _ right.extra right.bare only);
-      salt = λ only. one_spelled (base64_text first.salt) first.salt stored.salt (names.salt.0, refl)
-          (holds.1, fields.salt (no_extra client.bare _ _ right.extra right.bare only));
-      count = λ only. count_of_decimal stored.count first.count wide
-          (subst (λ (digits : List ℕ). IsCount digits first.count)
-          (fields.count (no_extra client.bare _ _ right.extra right.bare only)) names.count.2);
-      not_three = λ three. one_extra client.bare _ _ right.extra right.bare three fields.not_three;
-      not_four = λ four. two_extra client.bare _ _ right.extra right.bare four fields.not_four;
+      header = λ plain three. login.header (inl (none_in_three text three.0 three.1 three.2));
+      user = login.user;
+      nonce = login.nonce;
+      full_nonce = λ plain. login.full_nonce (inl plain);
+      salt = λ plain. login.salt (inl plain);
+      count = λ plain. login.count (inl plain);
+      not_three = login.not_three;
+      not_four = login.not_four;
     }
 
 -- ---- the signature
@@ -326,7 +384,7 @@ agree : (side : ClientSide) (provider : Provider) (own text its init response : 
     → (keys_known client).version ≡ provider.version → client_message client ≡ server_message server
     → Agree client server
 agree side provider own text its init response client server holds version same =
-    let values = same_values side.user (base64_text own) text client.first provider.version server.client
+    let values = same_login side.user (base64_text own) text client.first provider.version server.client
     (base64_text its) server.stored server.final holds (client_has side own text client)
     (server_has provider its init response server) same in
     record {

@@ -32,21 +32,6 @@ returns-in_err-made_up-clause-answer g c name named =
       λ other. absurd (other is),
     )
 
-pub returns-in_err-username-clause-answer : goal.returns-in_err-username-clause-answer
-returns-in_err-username-clause-answer g c name named =
-    let from = err_from_is_err_and c.from_residual-in_err-username.result c.from_residual-in_err-username.ensures.1 in
-    let same : c.self.inside.authenticator.accepts_unbound ≡ c.args.self.now.unbound = search rules in
-    let reads = read_so c.args.client_first_message.now (Ok (client_first_values c.in_ok-client_first.client_first)) _ _
-    same c.in_ok-client_first.ensures.answer in
-    let is : from.0 ≡ OutOfMemory = search rules in
-    rw from.1 (
-      λ memory. reaches_made_up (serving c.args.self.now.unbound
-          (g.C.ScramCredentialProvider.meaning c.args.self.now.credentials)) c.args.self.now.nobody
-          c.args.client_first_message.now name (client_first_values c.in_ok-client_first.client_first) reads
-          (named _ reads),
-      λ other. absurd (other is),
-    )
-
 pub returns-in_err-made_up-clause-cost : goal.returns-in_err-made_up-clause-cost
 returns-in_err-made_up-clause-cost g c =
     let from = err_from_is_err_and c.from_residual-in_err-made_up.result c.from_residual-in_err-made_up.ensures.1 in
@@ -56,18 +41,7 @@ returns-in_err-made_up-clause-cost g c =
     let is : from.0 ≡ OutOfMemory = search rules in
     rw (from.1, is) (wants_costs (Option (Vec ℕ Global)) c.args.self.now.unbound c.args.client_first_message.now
     (client_first_values c.in_ok-client_first.client_first) c.args.meter.now _ reads
-    c.of_nobody_metered.ensures.counted)
-
-pub returns-in_err-username-clause-cost : goal.returns-in_err-username-clause-cost
-returns-in_err-username-clause-cost g c =
-    let from = err_from_is_err_and c.from_residual-in_err-username.result c.from_residual-in_err-username.ensures.1 in
-    let same : c.self.inside.authenticator.accepts_unbound ≡ c.args.self.now.unbound = search rules in
-    let reads = read_so c.args.client_first_message.now (Ok (client_first_values c.in_ok-client_first.client_first)) _ _
-    same c.in_ok-client_first.ensures.answer in
-    let is : from.0 ≡ OutOfMemory = search rules in
-    rw (from.1, is) (wants_costs (Option (Vec ℕ Global)) c.args.self.now.unbound c.args.client_first_message.now
-    (client_first_values c.in_ok-client_first.client_first) c.args.meter.now _ reads
-    c.of_nobody_metered.ensures.counted)
+    c.mock_of.ensures.counted)
 
 pub returns-in-Err-clause-cost : goal.returns-in-Err-clause-cost
 returns-in-Err-clause-cost g c =
@@ -78,7 +52,7 @@ returns-in-Err-clause-cost g c =
     c.in_ok-client_first.client_first)
     c.in-Err.kind c.args.meter.now _ reads
     (λ other. read_so c.args.client_first_message.now (Err c.in-Err.kind) _ _ same (c.in-Err.ensures.answer.1 other).0)
-    c.of_nobody_metered.ensures.counted
+    c.mock_of.ensures.counted
 
 pub returns-in-Err-clause-answer : goal.returns-in-Err-clause-answer
 returns-in-Err-clause-answer g c name named =
@@ -104,7 +78,7 @@ invariant_of-self g c =
       salt_len = c.self.inside.salt_len;
       count = c.self.inside.iterations;
     } in
-    let made : c.new-made_up.result
+    let made : c.in_ok-made_up.made_up
     ≡ record { version = nobody.version; records = (user, nobody_record nobody user) ∷ [] } = search rules in
     let kept : (provider_in c.compute_server_first_message.new.self).made_up
     ≡ Some (record { version = nobody.version; records = (user, nobody_record nobody user) ∷ [] }) = search rules in
@@ -126,7 +100,7 @@ invariant_of-self-in-Ok-2 g c =
       salt_len = c.self.inside.salt_len;
       count = c.self.inside.iterations;
     } in
-    let made : c.new-made_up.result
+    let made : c.in_ok-made_up.made_up
     ≡ record { version = nobody.version; records = (user, nobody_record nobody user) ∷ [] } = search rules in
     let kept : (provider_in c.compute_server_first_message.new.self).made_up
     ≡ Some (record { version = nobody.version; records = (user, nobody_record nobody user) ∷ [] }) = search rules in
