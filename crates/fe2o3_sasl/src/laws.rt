@@ -12,7 +12,7 @@ ghost use Rattle.fe2o3_sasl_runs.specs.CostLaws.{ServerRunsCost, ClientRunsCost}
 ghost use Rattle.fe2o3_sasl_runs.specs.OneOfLaws.{OneOfRunsAreSplit, ScramFirstAnswersOkExactly, ScramSecondAnswersOkExactly, OfferingRunsPassOn};
 ghost use Rattle.fe2o3_sasl_runs.specs.OneOfUsers.{OneOfNamesUsers, OfferedNamesUsers};
 ghost use Rattle.fe2o3_sasl_runs.specs.HidingLaws.{HiddenRunsAreRuns, HiddenRunsAreHistories, NobodyIsMet, HiddenOksLogIn};
-ghost use Rattle.fe2o3_sasl_runs.specs.UnknownUsers.{UnknownIsMock, UnknownIsMockInBoth};
+ghost use Rattle.fe2o3_sasl_runs.specs.UnknownUsers.{SaltTextsDiffer, UnknownIsMock, UnknownIsMockInBoth};
 ghost use Rattle.fe2o3_sasl_runs.specs.StepLaws.{OksLogIn, PlainOksLogIn, ReportedOksAreSigned};
 ghost use Rattle.fe2o3_sasl_runs.specs.Laws.{EveryServer, EveryClient, OneServerHistory, OneClientHistory, SomeServerHistory, SomeClientHistory, AcceptorRunsAreHistories, AcceptorRunsNameUsers, AgreedUsersAreNamed, ProfileRunsAreHistories, KeyedRunsAreRuns, KeyedRunsAreHistories, OksWithinChallenges, RepeatedResponsesAreRefused, OneResponseOneNonce, RefusalsLeaveOpen, PositionsAreUsedOnce, EqualMessagesAgree, NoShortExtensions, TakenVerifiersAreJudged, ShownProofsAreJudged, OneVerdictEach, OneAuditEach, RepeatedClientPositions, RepeatedServerPositions, RepeatedClientFindings, RepeatedServerFindings, ClientsLogIn, ServersLogIn, ServersWantMemory, ClientsWantMemory, ProfilesWantMemory};
 
@@ -26,9 +26,10 @@ pub use fe2o3_scram::laws::{
 /// The headline theorem. Over every list of frame bodies, a SCRAM server answers Ok exactly when a
 /// response fits its open challenge and its proof meets the stored key, which closes the challenge;
 /// a SCRAM client reports Ok exactly on the signature of its open answered challenge; and if that
-/// verifier is one that a server issued, both agree on user name and client nonce (and, where the init
-/// had two parts, on full nonce, salt and count), or their own differing AuthMessages share one HMAC
-/// value.
+/// verifier is one that a server issued, both agree on user name and client nonce, or their own differing
+/// AuthMessages share one HMAC value. Where the init had two parts, or one side received no attribute of RFC
+/// 5802 in the place of an extension, they also agree on full nonce, salt and count, and in the second case on
+/// the header.
 pub fn headline()
     ensures server { EveryServer AnswersOkExactly }
     ensures client { EveryClient ReportsOkExactly }
@@ -125,10 +126,11 @@ pub fn hidden_users()
 /// replies to the same events as one that has the mock record of that name, in every state; so does a server of two
 /// mechanisms, each over a store of its own. What a stranger can tell of a name is thus no more than whether its
 /// record is the mock record: a salt and two keys that are HMAC values under the server's secret, and the mock
-/// count.
+/// count. The salts of two mechanisms, or of two names, are HMAC values of two different texts.
 pub fn unknown_users()
     ensures one { UnknownIsMock }
     ensures both { UnknownIsMockInBoth }
+    ensures salts { SaltTextsDiffer }
 {}
 
 /// A client that keeps the keys of a password runs as the client with the password, as long as servers

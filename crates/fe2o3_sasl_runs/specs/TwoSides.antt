@@ -1,6 +1,6 @@
 -- What a client and a server have in common, read off their two lists (RFC 5802, section 3, for keys, proofs
 -- and signatures).
-use Rattle.std.specs.Prelude.{◌≡◌, ◌≢◌, ℕ, Some, List, length, slice_get}
+use Rattle.std.specs.Prelude.{◌≡◌, ◌≢◌, ◌⊎◌, ℕ, Some, List, length, slice_get}
 use Rattle.fe2o3_sasl_wire.specs.declared.amqp_types.SaslCode.TheVariants as outcomes
 use Rattle.fe2o3_scram.specs.ClientFinal.{keys_for, without_proof}
 use Rattle.fe2o3_scram.specs.declared.scram_messages.gs2_header.Gs2Header.TheVariants.{Unsupported}
@@ -8,6 +8,7 @@ use Rattle.fe2o3_scram.specs.ClientFirst.{client_first_bare}
 use Rattle.fe2o3_sasl_runs.specs.ClientHistory.{Answering, AnswersAt, ClientHistory}
 use Rattle.fe2o3_scram.specs.Credentials.{Provider}
 use Rattle.fe2o3_sasl_runs.specs.Events.{Given, Login, ServerSays, Concluded, ClientSays, Answered, Reported}
+use Rattle.fe2o3_scram.specs.Extensions.{NoneMisplaced}
 use Rattle.fe2o3_scram.specs.Hmac.{hmac_of}
 use Rattle.fe2o3_scram.specs.ClientKeys.{ClientKeys}
 use Rattle.fe2o3_scram.specs.Keys.{auth_message, client_proof}
@@ -80,7 +81,7 @@ pub record Shows (sides : Sides) (k n : ℕ) (answer : Answering) (accepted : Ac
   pub ok : OkAt sides n accepted
   pub one : proof_at sides.login answer ≡ accepted.final.proof
 
--- the text has so many parts, as commas cut it (RFC 5802, section 7)
+-- the text has that many parts, as commas cut it (RFC 5802, section 7)
 abbrev pub HasParts : List ℕ → ℕ → Type 0
 HasParts text n = (parts : List (List ℕ)) × Parts text parts × (length parts ≡ n)
 
@@ -88,16 +89,23 @@ HasParts text n = (parts : List (List ℕ)) × Parts text parts × (length parts
 abbrev pub IsPlainInit : Accepted → Type 0
 IsPlainInit accepted = HasParts accepted.challenge.client.bare 2
 
--- both sides mean one login: one version of keys, user name and client nonce and, where the init was plain, one full
--- nonce, salt and count, and where the challenge that was answered had exactly three parts one GS2 header, `n,,`
+-- one of the two sides received no attribute of RFC 5802 in the place of an extension
+abbrev pub NoneMisplacedIn : Answering → Accepted → Type 0
+NoneMisplacedIn answer accepted = NoneMisplaced answer.text accepted.challenge.client.bare accepted.final.without
+
+-- both sides mean one login: one version of keys, user name and client nonce. Where the init was plain, or one side
+-- received no misplaced attribute, also one full nonce, salt and count; in the second case also one GS2 header, `n,,`
 pub record Agree (login : Login) (provider : Provider) (answer : Answering) (accepted : Accepted) : Type 0 where
   pub version : (keys_at login answer).version ≡ provider.version
-  pub header : IsPlainInit accepted → HasParts answer.text 3 → Unsupported ≡ accepted.challenge.client.header
+  pub header : NoneMisplacedIn answer accepted → Unsupported ≡ accepted.challenge.client.header
   pub user : login.user ≡ accepted.challenge.client.user
   pub nonce : answer.nonce ≡ accepted.challenge.client.nonce
-  pub full_nonce : IsPlainInit accepted → answer.first.nonce ≡ full_nonce accepted.challenge
-  pub salt : IsPlainInit accepted → answer.first.salt ≡ accepted.challenge.stored.salt
-  pub count : IsPlainInit accepted → answer.first.count ≡ accepted.challenge.stored.count
+  pub full_nonce : IsPlainInit accepted ⊎ NoneMisplacedIn answer accepted
+      → answer.first.nonce ≡ full_nonce accepted.challenge
+  pub salt : IsPlainInit accepted ⊎ NoneMisplacedIn answer accepted
+      → answer.first.salt ≡ accepted.challenge.stored.salt
+  pub count : IsPlainInit accepted ⊎ NoneMisplacedIn answer accepted
+      → answer.first.count ≡ accepted.challenge.stored.count
 
 -- at one version the AuthMessages differ, and have one HMAC value, each under its key: a collision
 pub record MessagesCollide (sides : Sides) (answer : Answering) (accepted : Accepted) (client_key server_key : List ℕ)

@@ -1,8 +1,11 @@
 -- Unknown users of a server with mock authentication, as a law of pairs: what a stranger sees of a server that does not
 -- know a name is what it sees of one that has the mock record of that name (`nobody_record`). RFC 5802 leaves open what
 -- a server answers to an unknown user. Each is the contract of a clause of `laws::unknown_users`.
-use Rattle.std.specs.Prelude.{◌↔◌, ℕ, List, Option}
+use Rattle.std.specs.Prelude.{◌≡◌, ◌↔◌, ℕ, List, Option, take}
+use Rattle.fe2o3_scram.specs.declared.hmac.ScramVersion.{ScramVersion}
+use Rattle.fe2o3_scram.specs.declared.hmac.ScramVersion.TheVariants.{Sha512}
 use Rattle.fe2o3_scram.specs.Credentials.{Provider, Records, records_with, records_without}
+use Rattle.fe2o3_scram.specs.Hmac.{hmac_of}
 use Rattle.fe2o3_scram.specs.Nobody.{Nobody, nobody_record}
 use Rattle.fe2o3_scram.specs.ScramServer.{ServerState}
 use Rattle.fe2o3_sasl_runs.specs.Events.{Given, ServerSays}
@@ -29,19 +32,28 @@ without_user provider name = over provider (records_without provider.records nam
 abbrev pub with_mock : Provider → Nobody → List ℕ → Provider
 with_mock provider nobody name = over provider (records_with provider.records name (nobody_record nobody name))
 
+-- of each mock record the salt is an HMAC value (RFC 2104, section 2), cut to its length, of a text that no other
+-- mechanism and no other name has: so one secret serves several mechanisms
+abbrev pub SaltTextsDiffer : Type 0
+SaltTextsDiffer = (text : ScramVersion → List ℕ → List ℕ)
+    × ((nobody : Nobody) (name : List ℕ) → (nobody_record nobody name).salt
+    ≡ take nobody.salt_len (hmac_of Sha512 nobody.secret (text nobody.version name)))
+    × ((version other : ScramVersion) (name other_name : List ℕ) → text version name ≡ text other other_name
+    → (version ≡ other) × (name ≡ other_name))
+
 -- both give the same replies to the same events
 abbrev pub GivesAlike : {S : Type 0} → Machine S → S → S → Type 0
 GivesAlike machine state other = (events : List Given) (replies : List ServerSays)
     → Gives machine state events replies ↔ Gives machine other events replies
 
--- who is unknown is answered as a user whose record is the mock record of the name
+-- an unknown user is answered as a user whose record is the mock record of the name
 abbrev pub UnknownIsMock : Type 0
 UnknownIsMock = (provider : Provider) (nobody : Nobody) (name : List ℕ) (state : ServerState)
     → GivesAlike hiding_machine (hiding (without_user provider name) nobody state)
     (hiding (with_mock provider nobody name) nobody state)
 
--- and so it is by a server of two mechanisms, each over a store of its own: one that knows the name in neither store
--- gives the replies of one that has its mock records
+-- likewise by a server of two mechanisms, each over its own store: one that has the name in neither store gives the
+-- replies of one that has its mock records
 abbrev pub UnknownIsMockInBoth : Type 0
 UnknownIsMockInBoth = (provider other : Provider) (nobody other_nobody : Nobody) (name : List ℕ)
     (state other_state : ServerState) (asked : Option Part)

@@ -1,4 +1,4 @@
-use Rattle.fe2o3_sasl_runs.proofs.lemmas.machines.UnknownUserLemmas.{unknown_is_mock, unknown_is_mock_in_both}
+use Rattle.fe2o3_sasl_runs.proofs.lemmas.machines.UnknownUserLemmas.{salt_texts_differ, unknown_is_mock, unknown_is_mock_in_both}
 use Rattle.fe2o3_sasl.proofs.laws.unknown_users.Goals as goal
 
 pub returns-clause-one : goal.returns-clause-one
@@ -6,3 +6,6 @@ returns-clause-one c = unknown_is_mock
 
 pub returns-clause-both : goal.returns-clause-both
 returns-clause-both c = unknown_is_mock_in_both
+
+pub returns-clause-salts : goal.returns-clause-salts
+returns-clause-salts c = salt_texts_differ

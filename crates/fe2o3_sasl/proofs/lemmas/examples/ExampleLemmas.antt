@@ -1,5 +1,5 @@
 -- The three worked examples.
-use Rattle.std.proofs.Common.{◌≡◌, ◌≢◌, ◌≤◌, ℕ, zero, suc, List, [], ◌∷◌, ◌++◌, length, Err, Ok, refl, sym, ◌∙◌, ap, arith, codes, inr}
+use Rattle.std.proofs.Common.{◌≡◌, ◌≢◌, ◌≤◌, ℕ, zero, suc, List, [], ◌∷◌, ◌++◌, length, Err, Ok, refl, sym, ◌∙◌, ap, arith, codes, inl, inr, ◌⊎◌}
 use Rattle.std.specs.Prelude.{Some, slice_get}
 use Rattle.std.proofs.lemmas.List.{length-append}
 use Rattle.std.proofs.lemmas.Option.{none-some}
@@ -12,9 +12,9 @@ use Rattle.fe2o3_sasl_runs.specs.ClientHistory.{ClientHistory}
 use Rattle.fe2o3_sasl_runs.specs.Events.{Concluded, ClientFault, Failed, Frame, OutOfMemory, Refused}
 use Rattle.fe2o3_sasl_runs.specs.Bodies.{SpellsBody, carried}
 use Rattle.fe2o3_sasl_runs.specs.ServerHistory.{ServerHistory, says_auth}
-use Rattle.fe2o3_sasl_runs.specs.TwoSides.{Agree, IsPlainInit}
+use Rattle.fe2o3_sasl_runs.specs.TwoSides.{Agree, IsPlainInit, NoneMisplacedIn}
 use Rattle.fe2o3_sasl_runs.specs.UnalteredRuns.{UnalteredRun, HoldsLogin, Suffices}
-use Rattle.fe2o3_sasl.specs.examples.Examples.{client_bytes, server_bytes, client_nonce, server_nonce, both, salt, login, names, values, binds, sends_init, sends_auth, body_of, told, init_text, answer_to, accepted_with, sides_with, unaltered, PremisesCanBeMet, shifted, ShiftedTextsPass, refused_sides, RefusalsAreUnaltered}
+use Rattle.fe2o3_sasl.specs.examples.Examples.{client_bytes, server_bytes, client_nonce, server_nonce, both, salt, login, names, values, binds, sends_init, sends_auth, body_of, told, challenge_text, init_text, answer_to, accepted_with, sides_with, unaltered, PremisesCanBeMet, shifted, ShiftedTextsPass, refused_sides, RefusalsAreUnaltered}
 use Rattle.fe2o3_scram.proofs.lemmas.texts.PartsLemmas.{one_list_of_parts}
 use Rattle.fe2o3_sasl.proofs.lemmas.examples.ExampleBodyLemmas.{Short, auth_bodied, init_texts, length-both, mechanisms_sent, short_binds, short_joined, short_names, short_values, spells_body}
 use Rattle.fe2o3_sasl.proofs.lemmas.examples.ExampleLoginLemmas.{PassesUnseen, client_history, server_history, start_sent, starts, histories, takes, shows, open_two}
@@ -144,16 +144,33 @@ not_plain : ¬ IsPlainInit (accepted_with shifted)
 not_plain is = let same = ap length (one_list_of_parts (init_text shifted) is.0 bare_parts is.1 five_parts) in
     omega (arith, same, is.2)
 
+abbrev challenge_parts : List (List ℕ)
+challenge_parts = values nonce ++ (values both ++ binds both)
+
+eight_parts : Parts (challenge_text shifted) challenge_parts
+eight_parts = parts_joined (codes "r=" ++ nonce) _
+    (each_append Plain (values nonce) (values both ++ binds both) (plain_values nonce plain_nonce)
+    (each_append Plain (values both) (binds both) (plain_values both plain_both) (plain_binds both plain_both)))
+
+-- both sides received attributes of RFC 5802 in the place of extensions
+misplaced : ¬ NoneMisplacedIn (answer_to shifted) (accepted_with shifted)
+misplaced (inl none) = none (3, codes "r=" ++ both, omega arith, (challenge_parts, eight_parts, refl), refl)
+misplaced (inr none) = none.0 (2, codes "r=" ++ nonce, omega arith, (bare_parts, five_parts, refl), refl)
+
+not_either : IsPlainInit (accepted_with shifted) ⊎ NoneMisplacedIn (answer_to shifted) (accepted_with shifted) → ⊥
+not_either (inl plain) = not_plain plain
+not_either (inr none) = misplaced none
+
 -- the sides agree on the user name and the client's nonce
 agree : Agree login (sides_with shifted).provider (answer_to shifted) (accepted_with shifted)
 agree = record {
   version = refl;
-  header = λ is. absurd (not_plain is);
+  header = λ none. refl;
   user = refl;
   nonce = refl;
-  full_nonce = λ is. absurd (not_plain is);
-  salt = λ is. absurd (not_plain is);
-  count = λ is. absurd (not_plain is);
+  full_nonce = λ either. absurd (not_either either);
+  salt = λ either. absurd (not_either either);
+  count = λ either. absurd (not_either either);
 }
 
 nonces_apart : nonce ≢ both

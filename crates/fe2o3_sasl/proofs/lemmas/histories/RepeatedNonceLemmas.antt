@@ -1,5 +1,5 @@
 -- Positions that are matched twice are of events with one nonce.
-use Rattle.std.proofs.Common.{◌≡◌, ◌≢◌, ℕ, true, false, Option, Some, None, List, ◌++◌, refl, sym, ap, ◌∙◌, subst}
+use Rattle.std.proofs.Common.{◌≡◌, ◌≢◌, ℕ, true, false, Option, Some, None, List, ◌++◌, refl, sym, ap, ◌∙◌, subst, inl}
 use Rattle.std.specs.Prelude.{slice_get}
 use Rattle.std.proofs.lemmas.List.{append_cancel_left}
 use Rattle.fe2o3_scram.specs.Texts.{base64_text}
@@ -149,7 +149,8 @@ one_server_nonce sides k n o answer another accepted other kept too_kept plain a
     let nonces : challenge.client.nonce ≡ another_challenge.client.nonce =
     sym first.nonce ∙ (ap (λ (z : Answering). z.nonce) one ∙ second.nonce) in
     let fulls : full_nonce challenge ≡ full_nonce another_challenge =
-    sym (first.full_nonce plain) ∙ (ap (λ (z : Answering). z.first.nonce) one ∙ second.full_nonce also_plain) in
+    sym (first.full_nonce (inl plain))
+    ∙ (ap (λ (z : Answering). z.first.nonce) one ∙ second.full_nonce (inl also_plain)) in
     append_cancel_left challenge.client.nonce challenge.nonce another_challenge.nonce
     (fulls ∙ ap (λ z. z ++ another_challenge.nonce) (sym nonces))
 

@@ -1,15 +1,18 @@
 -- An unknown user of a server with mock authentication is answered as a user whose record is the mock record.
-use Rattle.std.proofs.Common.{◌≡◌, ℕ, Bool, true, false, cond, List, [], ◌∷◌, ◌++◌, Option, None, Some, Result, Ok, Err, refl, sym, ap, ◌∙◌, subst, inl, inr}
+use Rattle.std.proofs.Common.{◌≡◌, ℕ, Bool, true, false, cond, List, [], ◌∷◌, ◌++◌, Option, None, Some, Result, Ok, Err, refl, sym, ap, ◌∙◌, subst, inl, inr, get_or, drop, eq-eqb}
 use Rattle.std.proofs.lemmas.Cmp.{nat_list_eq_equiv}
 use Rattle.std.proofs.lemmas.Bool.{cond-true}
 use Rattle.std.proofs.lemmas.Slice.Eq.{bytes_eq-Decides}
 use Rattle.std.specs.Cmp.Lexicographic.{pointwise}
-use Rattle.std.specs.Prelude.{nat_eq, not}
+use Rattle.std.specs.Prelude.{nat_eq, not, codes}
 use Rattle.fe2o3_sasl_wire.specs.SaslFrames as frames
 use Rattle.fe2o3_sasl_wire.specs.SaslFrames.{SaslFrame}
 use Rattle.fe2o3_scram.specs.declared.scram_messages.error.ServerScramErrorKind.{ServerScramErrorKind}
 use Rattle.fe2o3_scram.specs.Credentials.{Record, Records, Provider, record_at, records_with, records_without}
 use Rattle.fe2o3_scram.specs.HidingServer.{HidingServer, NamedBy, NamedIn}
+use Rattle.fe2o3_scram.specs.declared.hmac.ScramVersion.{ScramVersion}
+use Rattle.fe2o3_scram.specs.declared.hmac.ScramVersion.TheVariants.{Sha1, Sha256, Sha512}
+use Rattle.fe2o3_scram.specs.Hmac.{mechanism_name}
 use Rattle.fe2o3_scram.specs.Nobody.{Nobody, nobody_record, with_nobody}
 use Rattle.fe2o3_scram.specs.ScramServer.{ServerState, Initial, ServerFirstSent, ServerFinalSent, ChallengesFrom, ConcludesFrom}
 use Rattle.fe2o3_sasl_runs.specs.Events.{Given, ServerSays}
@@ -17,7 +20,7 @@ use Rattle.fe2o3_sasl_runs.specs.HidingAcceptor.{NamedAt, hiding_machine, hiding
 use Rattle.fe2o3_sasl_runs.specs.HidingLaws.{hiding}
 use Rattle.fe2o3_sasl_runs.specs.OneOf.{one_of_machine}
 use Rattle.fe2o3_sasl_runs.specs.SaslAcceptor.{Acceptor, ScramAcceptor, acceptor_machine}
-use Rattle.fe2o3_sasl_runs.specs.UnknownUsers.{Gives, over, UnknownIsMock, UnknownIsMockInBoth}
+use Rattle.fe2o3_sasl_runs.specs.UnknownUsers.{Gives, over, SaltTextsDiffer, UnknownIsMock, UnknownIsMockInBoth}
 use Rattle.fe2o3_sasl_runs.specs.declared.one_of.Part.{Part}
 use Rattle.fe2o3_sasl_runs.proofs.lemmas.machines.AlikeRunLemmas.{MovesAlike, both_alike, both_of, runs_alike}
 
@@ -257,3 +260,31 @@ unknown_is_mock_in_both provider other nobody other_nobody name state other_stat
       λ gives. both_move provider other nobody other_nobody _ _ _ _ (λ user. sym (alike user))
           (λ user. sym (more_alike user)) state other_state asked events replies gives,
     )
+
+-- ---- the texts of salts
+
+-- the text whose HMAC value is the salt of a mock record
+salt_text : ScramVersion → List ℕ → List ℕ
+salt_text version name = codes "Salt:" ++ (mechanism_name version ++ (codes ":" ++ name))
+
+apart : (m n : ℕ) → nat_eq m n ≡ false → m ≡ n → ⊥
+apart m n not_one is =
+    let yes : nat_eq m n ≡ true = eq-eqb m n is in
+    cc
+
+one_salt_text : (version other : ScramVersion) (name other_name : List ℕ)
+    → salt_text version name ≡ salt_text other other_name → (version ≡ other) × (name ≡ other_name)
+unfolding salt_text
+one_salt_text Sha1 Sha1 name other_name is = (refl, ap (drop 17) is)
+one_salt_text Sha256 Sha256 name other_name is = (refl, ap (drop 19) is)
+one_salt_text Sha512 Sha512 name other_name is = (refl, ap (drop 19) is)
+one_salt_text Sha1 Sha256 name other_name is = absurd (apart 49 50 refl (ap (λ (text : List ℕ). get_or text 15 0) is))
+one_salt_text Sha1 Sha512 name other_name is = absurd (apart 49 53 refl (ap (λ (text : List ℕ). get_or text 15 0) is))
+one_salt_text Sha256 Sha1 name other_name is = absurd (apart 50 49 refl (ap (λ (text : List ℕ). get_or text 15 0) is))
+one_salt_text Sha256 Sha512 name other_name is = absurd (apart 50 53 refl (ap (λ (text : List ℕ). get_or text 15 0) is))
+one_salt_text Sha512 Sha1 name other_name is = absurd (apart 53 49 refl (ap (λ (text : List ℕ). get_or text 15 0) is))
+one_salt_text Sha512 Sha256 name other_name is = absurd (apart 53 50 refl (ap (λ (text : List ℕ). get_or text 15 0) is))
+
+pub salt_texts_differ : SaltTextsDiffer
+unfolding salt_text
+salt_texts_differ = (salt_text, λ nobody name. refl, one_salt_text)

@@ -10,7 +10,7 @@ use Rattle.fe2o3_sasl_runs.specs.Events.{Given, Login, IsRecord, ServerSays, Cli
 use Rattle.fe2o3_scram.specs.ServerFirst.{NamesServerFirst}
 use Rattle.fe2o3_sasl_runs.specs.ServerHistory.{Challenging, Accepted, FitsAsInit, FitsAsResponse, Open, AcceptsAt, server_at}
 use Rattle.fe2o3_sasl_runs.specs.TwoSides.{Sides, client_message, server_message}
-use Rattle.fe2o3_scram.proofs.lemmas.messages.AgreementLemmas.{ClientHas, SameValues, ServerHas, same_values}
+use Rattle.fe2o3_scram.proofs.lemmas.messages.AgreementLemmas.{ClientHas, SameLogin, ServerHas, same_login}
 use Rattle.fe2o3_scram.proofs.lemmas.messages.OneValueLemmas.{names_client_first, names_server_first}
 use Rattle.fe2o3_scram.proofs.lemmas.messages.ClientFinalLemmas.{NamesAcceptedFinal, names_client_final}
 use Rattle.fe2o3_scram.proofs.lemmas.texts.Base64Lemmas.{no_comma-base64_text}
@@ -86,8 +86,8 @@ is_accepted provider events replies n accepted is =
 
 -- equal AuthMessages of an answer and of what was accepted mean one login
 abbrev pub SameMessages : Login → Answering → Accepted → Type 0
-SameMessages login answer accepted = SameValues login.user answer.nonce answer.text answer.first
-    accepted.challenge.client accepted.challenge.nonce accepted.challenge.stored
+SameMessages login answer accepted = SameLogin login.user answer.nonce answer.text answer.first
+    accepted.challenge.client accepted.challenge.nonce accepted.challenge.stored accepted.final.without
 
 pub same_messages : (sides : Sides) (k n : ℕ) (answer : Answering) (accepted : Accepted)
     → IsRecord accepted.challenge.stored
@@ -96,7 +96,7 @@ pub same_messages : (sides : Sides) (k n : ℕ) (answer : Answering) (accepted :
     → client_message sides.login answer ≡ server_message accepted → SameMessages sides.login answer accepted
 same_messages sides k n answer accepted kept answers accepts same =
     let challenge = accepted.challenge in
-    same_values sides.login.user answer.nonce answer.text answer.first sides.provider.version challenge.client
+    same_login sides.login.user answer.nonce answer.text answer.first sides.provider.version challenge.client
     challenge.nonce challenge.stored accepted.final (kept.count, kept.salt, kept.stored_key, kept.server_key)
     (is_answering sides.login sides.client_events sides.client_replies k answer answers)
     (is_accepted sides.provider sides.server_events sides.server_replies n accepted accepts) same

@@ -221,7 +221,7 @@ module _ (sides : Sides) (password salt : List ℕ) (count : ℕ) (run : Unalter
     refl,
     record {
       version = ap (λ (keys : ClientKeys). keys.version) by_keys ∙ sym holds.version;
-      header = λ plain three. refl;
+      header = λ none. refl;
       user = refl;
       nonce = refl;
       full_nonce = λ plain. refl;
