@@ -12,6 +12,8 @@ pub mod JoinedSideLemmas
 pub mod ServerConnectionLemmas
 pub mod ClientConnectionLemmas
 pub mod LoginLemmas
+pub mod NamedUserLemmas
+pub mod ContinueLemmas
 pub mod UnalteredConnectionLemmas
 pub mod CostLemmas
 pub mod ServerCostLemmas

@@ -6,7 +6,9 @@ pub mod ClientNegotiation
 pub mod Sides
 pub mod Laws
 pub mod Connections
+pub mod Pieces
 pub mod ScramConnections
+pub mod NamedUsers
 pub mod UnalteredConnections
 pub mod private
 pub mod CostLaws

@@ -4,14 +4,14 @@
 ghost use Rattle.fe2o3_sasl_negotiation.specs.Connections.{ServersConnect, ClientsConnect, ServersLogIn, ClientsLogIn};
 ghost use Rattle.fe2o3_sasl_negotiation.specs.CostLaws.{ServersCost, ClientsCost, ServersAreBounded, ClientsAreBounded};
 ghost use Rattle.fe2o3_sasl_negotiation.specs.Laws.{ServerCutsDoNotMatter, ClientCutsDoNotMatter};
+ghost use Rattle.fe2o3_sasl_negotiation.specs.NamedUsers.{OneOfServersLogIn, OneOfStepsLogIn};
 ghost use Rattle.fe2o3_sasl_negotiation.specs.ScramConnections.{ScramServersServe, ScramClientsLogIn};
 ghost use Rattle.fe2o3_sasl_negotiation.specs.UnalteredConnections.{JoinedSidesLogIn};
 
-use fe2o3_sasl_runs::NamesUser;
+use fe2o3_sasl_runs::{HasMechanism, NamesUser};
 
-/// However a stream of bytes is cut into calls, what they take of it is answered as it would be as a whole,
-/// unit by unit, each with the nonce of the call that completes it. So any two divisions of a stream give
-/// the same bytes out, the same end and the same rest for the same nonces by frame.
+/// However a stream of bytes is cut into calls, what they take of it is answered as it would be as a whole, unit by unit,
+/// for some nonces of the units. Which nonce a frame has, [`connections`] says.
 pub fn cuts()
     ensures server { ServerCutsDoNotMatter }
     ensures client { ClientCutsDoNotMatter }
@@ -32,6 +32,13 @@ pub fn connections<A: NamesUser>()
     ensures client_logged_in { ClientsLogIn }
     ensures scram_server { ScramServersServe }
     ensures scram_client { ScramClientsLogIn }
+{}
+
+/// Who a server of several mechanisms has logged in, whatever its bytes are: the init asks for a mechanism that it offers,
+/// the acceptor that has this mechanism answers Ok to the last frame, and the server names that acceptor's user.
+pub fn users_of_one_of<A: HasMechanism, B: HasMechanism>()
+    ensures connections { OneOfServersLogIn A.names B.names A.machine B.machine }
+    ensures steps { OneOfStepsLogIn A.names B.names A.machine B.machine }
 {}
 
 /// An honest client and an honest server that are joined both log in, in whatever pieces their bytes arrive, and

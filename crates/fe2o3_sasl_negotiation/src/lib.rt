@@ -8,11 +8,13 @@
 mod client;
 mod framing;
 pub mod laws;
+mod pieces;
 mod server;
 mod set_down;
 mod standing;
 
 pub use client::ClientNegotiation;
+pub use pieces::{Piece, Served, scram_server_connection, server_connection};
 pub use server::ServerNegotiation;
 pub use set_down::{SetDown, TakeUpError};
 pub use standing::{ClosedBecause, Due, Received, Standing, Turn};

@@ -21,6 +21,7 @@ use Rattle.fe2o3_sasl_negotiation.specs.Connections.{Piece, bytes_of, NonceAt, f
 use Rattle.fe2o3_sasl_negotiation.specs.Framing.{sasl_header, framed, size_of, Fits, unit_size, IsPart, IsRefused, IsWhole}
 use Rattle.fe2o3_sasl_negotiation.specs.Laws.{Call, Calls}
 use Rattle.fe2o3_sasl_negotiation.specs.Negotiations.{Side, Answer, AnswersTo, Ends, Rests, Waits, Receives, ReceivesAt, closes}
+use Rattle.fe2o3_sasl_negotiation.specs.private.Pieces.{NextNonces}
 use Rattle.fe2o3_sasl_negotiation.proofs.lemmas.CutLemmas.{nothing_is_part, refused_long, whole_long}
 use Rattle.fe2o3_sasl_negotiation.proofs.lemmas.FramingLemmas.{size_of-append, part_is_shorter, refused_is_short}
 use Rattle.fe2o3_sasl_negotiation.proofs.lemmas.PieceLemmas.{nonce_of_piece, is_framed, frames_of-more, frames_of_more, one_frame_more, IsChain, due_after, one_reply_more, as_many, one_step_more}
@@ -43,10 +44,6 @@ holding turn limit tail state =
 -- the body of the frame with which these bytes begin
 abbrev pub first_body : List ℕ → List ℕ
 first_body come = drop 4 (take (size_of come) come)
-
--- the nonce of the next bytes of a stream
-abbrev pub NextNonces : List Piece → ℕ → ℕ → List ℕ → Type 0
-NextNonces pieces at k nonce = (i : ℕ) → i < k → NonceAt pieces (at + i) nonce
 
 module _ {S A : Type 0} (Answers : Due → S → List ℕ → List ℕ → Answer → S → Type 0) (Steps : S → Given → A → S → Type 0)
     (Says : A → Turn → Answer → Type 0) (turns : List Turn) (chain : IsChain Says turns)

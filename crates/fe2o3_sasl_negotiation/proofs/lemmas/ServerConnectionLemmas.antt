@@ -18,7 +18,8 @@ use Rattle.fe2o3_sasl_negotiation.specs.Connections.{Piece, OffersNone, ServerCo
 use Rattle.fe2o3_sasl_negotiation.specs.Framing.{sasl_header, framed}
 use Rattle.fe2o3_sasl_negotiation.specs.Negotiations.{Side, Answer, Receives, ReceivesAt}
 use Rattle.fe2o3_sasl_negotiation.specs.ServerNegotiation.{offer_body, Offers, Opens, Says, ServerAnswers}
-use Rattle.fe2o3_sasl_negotiation.proofs.lemmas.ConnectionLemmas.{closed_is_not_wanting, logged_in_is_not_wanting, NextNonces, opened, negotiated_call, negotiated_more, rests_there, connected}
+use Rattle.fe2o3_sasl_negotiation.specs.private.Pieces.{NextNonces}
+use Rattle.fe2o3_sasl_negotiation.proofs.lemmas.ConnectionLemmas.{closed_is_not_wanting, logged_in_is_not_wanting, opened, negotiated_call, negotiated_more, rests_there, connected}
 use Rattle.fe2o3_sasl_negotiation.proofs.lemmas.KindLemmas.{standing_of, closes_waits_not, sends_goes_on, sends_ends}
 
 -- a challenge leaves a server waiting for a response, and no other reply leaves it waiting

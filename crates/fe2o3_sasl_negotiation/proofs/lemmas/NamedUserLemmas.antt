@@ -1,0 +1,286 @@
+-- Who a server of two acceptors has logged in.
+use Rattle.std.proofs.Common.{◌≡◌, ℕ, Option, Some, None, List, [], ◌∷◌, refl, sym, ap, ◌∙◌, subst, inl, inr, Ok, Err}
+use Rattle.fe2o3_sasl_wire.specs.declared.amqp_types.SaslCode.TheVariants as outcomes
+use Rattle.fe2o3_sasl_wire.specs.declared.sasl_frames.error.Error.{Error}
+use Rattle.fe2o3_sasl_wire.specs.declared.sasl_frames.error.Error.TheVariants as faults
+use Rattle.fe2o3_sasl_wire.specs.SaslFrames as frames
+use Rattle.fe2o3_sasl_wire.specs.SaslFrames.{SaslFrame, canonical}
+use Rattle.fe2o3_sasl_runs.specs.Bodies.{SpellsBody, carried}
+use Rattle.fe2o3_sasl_runs.specs.Events.{Given, ServerSays, Challenged, Concluded, Failed}
+use Rattle.fe2o3_sasl_runs.specs.OneOf.{Parts, PartReplies, part_for, part_with, one_of_machine}
+use Rattle.fe2o3_sasl_runs.specs.OneOfLaws.{IsRefusal}
+use Rattle.fe2o3_sasl_runs.specs.Runs.{Runs, AcceptorSteps, AcceptorAnswers, server_says}
+use Rattle.fe2o3_sasl_runs.specs.SaslAcceptor.{ends_with}
+use Rattle.fe2o3_sasl_runs.specs.declared.one_of.Part.{Part}
+use Rattle.fe2o3_sasl_runs.specs.declared.one_of.Part.TheVariants.{First, Second}
+use Rattle.fe2o3_sasl_runs.proofs.lemmas.frames.SpellingLemmas.{one_spelling}
+use Rattle.fe2o3_sasl_negotiation.specs.declared.standing.ClosedBecause.TheVariants.{Refused}
+use Rattle.fe2o3_sasl_negotiation.specs.declared.standing.Due.TheVariants.{Frame}
+use Rattle.fe2o3_sasl_negotiation.specs.declared.standing.Standing.TheVariants.{Wanting}
+use Rattle.fe2o3_sasl_negotiation.specs.declared.standing.Turn.TheVariants as turns
+use Rattle.fe2o3_sasl_negotiation.specs.Connections.{Piece, SpellsTurn, AreFrames, Replied, LastReply, IsOkSent}
+use Rattle.fe2o3_sasl_negotiation.specs.NamedUsers.{PartSteps, OneOfLogsIn, OneOfServersLogIn, OneOfStepsLogIn}
+use Rattle.fe2o3_sasl_negotiation.specs.Negotiations.{Answer}
+use Rattle.fe2o3_sasl_negotiation.specs.ServerNegotiation.{Says}
+use Rattle.fe2o3_sasl_negotiation.proofs.lemmas.ConnectionLemmas.{closed_is_not_wanting}
+use Rattle.fe2o3_sasl_negotiation.proofs.lemmas.KindLemmas.{closes_waits_not, sends_ends}
+use Rattle.fe2o3_sasl_negotiation.proofs.lemmas.LoginLemmas.{servers_log_in}
+
+-- Auth and a fault are refusals, in whatever body
+auth_is_refusal : (body : Option (List ℕ))
+    → IsRefusal (carried (Failed faults.TooLarge) (server_says (ends_with outcomes.Auth)) body)
+auth_is_refusal None = tt
+auth_is_refusal (Some body) = tt
+
+-- a frame in turn
+init_of : (body : List ℕ) (frame : SaslFrame) → SpellsTurn turns.Init body → SpellsBody body (Ok frame)
+    → (mechanism : List ℕ) × (response : Option (List ℕ)) × (hostname : Option (List ℕ))
+    × (frame ≡ frames.Init mechanism response hostname)
+init_of body frame (frames.Init mechanism response hostname, spells, in_turn) spelled =
+    let same : Ok frame ≡ Ok (frames.Init mechanism response hostname) =
+    one_spelling body (Ok frame) (Ok (frames.Init mechanism response hostname)) spelled spells in
+    (mechanism, response, hostname, cc)
+init_of body frame (frames.Mechanisms names, spells, in_turn) spelled = absurd in_turn
+init_of body frame (frames.Challenge text, spells, in_turn) spelled = absurd in_turn
+init_of body frame (frames.Response text, spells, in_turn) spelled = absurd in_turn
+init_of body frame (frames.Outcome code more, spells, in_turn) spelled = absurd in_turn
+
+response_of : (body : List ℕ) (frame : SaslFrame) → SpellsTurn turns.Response body → SpellsBody body (Ok frame)
+    → (text : List ℕ) × (frame ≡ frames.Response text)
+response_of body frame (frames.Response text, spells, in_turn) spelled =
+    let same : Ok frame ≡ Ok (frames.Response text) =
+    one_spelling body (Ok frame) (Ok (frames.Response text)) spelled spells in
+    (text, cc)
+response_of body frame (frames.Init mechanism response hostname, spells, in_turn) spelled = absurd in_turn
+response_of body frame (frames.Mechanisms names, spells, in_turn) spelled = absurd in_turn
+response_of body frame (frames.Challenge text, spells, in_turn) spelled = absurd in_turn
+response_of body frame (frames.Outcome code more, spells, in_turn) spelled = absurd in_turn
+
+-- what leaves a server waiting is no refusal
+goes_on_is_no_refusal : (says : ServerSays) (answer : Answer) → Says says turns.Init answer
+    → answer.standing ≡ Wanting → ¬ IsRefusal says
+goes_on_is_no_refusal (Challenged body) answer said waits refused = refused
+goes_on_is_no_refusal (Concluded outcomes.Auth body) answer sends waits refused =
+    sends_ends body _ (Frame turns.Init) answer (closed_is_not_wanting (Refused outcomes.Auth)) sends waits
+goes_on_is_no_refusal (Concluded outcomes.Ok body) answer said waits refused = refused
+goes_on_is_no_refusal (Concluded outcomes.Sys body) answer said waits refused = refused
+goes_on_is_no_refusal (Concluded outcomes.SysPerm body) answer said waits refused = refused
+goes_on_is_no_refusal (Concluded outcomes.SysTemp body) answer said waits refused = refused
+goes_on_is_no_refusal (Failed faults.OutOfMemory) answer never waits refused = never
+goes_on_is_no_refusal (Failed faults.DecodeError) answer is waits refused = closes_waits_not _ _ answer is waits
+goes_on_is_no_refusal (Failed faults.NotImplemented) answer is waits refused = closes_waits_not _ _ answer is waits
+goes_on_is_no_refusal (Failed faults.TooLarge) answer is waits refused = closes_waits_not _ _ answer is waits
+
+module _ {S T : Type 0} (names : S → List (List ℕ)) (others : T → List (List ℕ))
+    (machine : S → List ℕ → SaslFrame → SaslFrame → S → Type 0)
+    (other : T → List ℕ → SaslFrame → SaslFrame → T → Type 0) where
+  -- an answer of a part
+  abbrev PartAnswers : Part → Parts S T → List ℕ → SaslFrame → ServerSays → Parts S T → Type 0
+  PartAnswers First parts nonce frame says next = AcceptorAnswers machine parts.first nonce frame says next.first
+  PartAnswers Second parts nonce frame says next = AcceptorAnswers other parts.second nonce frame says next.second
+
+  -- an answer that is sent
+  sent_by : (asked : Option Part) (parts next moved : Parts S T) (nonce : List ℕ) (frame reply : SaslFrame)
+      (says : ServerSays) (body : Option (List ℕ)) → ¬ IsRefusal says
+      → PartReplies machine other parts asked nonce frame reply moved → canonical reply ≡ body
+      → says ≡ carried (Failed faults.TooLarge) (server_says reply) body → next ≡ carried parts (λ _. moved) body
+      → (part : Part) × (asked ≡ Some part) × (next.asked ≡ Some part) × PartAnswers part parts nonce frame says next
+  sent_by asked parts next moved nonce frame reply says None kept replies none is same =
+      absurd (kept (subst IsRefusal (sym is) tt))
+  sent_by None parts next moved nonce frame reply says (Some body) kept replies some is same =
+      let auth : says ≡ server_says (ends_with outcomes.Auth) body =
+      is ∙ ap (λ (r : SaslFrame). server_says r body) replies.0 in
+      absurd (kept (subst IsRefusal (sym auth) tt))
+  sent_by (Some First) parts next moved nonce frame reply says (Some body) kept (state, moves, now) some is same =
+      let after = same ∙ now in (
+        First,
+        refl,
+        ap (λ (p : Parts S T). p.asked) after,
+        inr (
+          reply,
+          state,
+          moves,
+          (
+            is ∙ ap (λ b. carried (Failed faults.TooLarge) (server_says reply) b) (sym some),
+            ap (λ (p : Parts S T). p.first) after ∙ ap (λ b. carried parts.first (λ _. state) b) (sym some),
+          ),
+        ),
+      )
+  sent_by (Some Second) parts next moved nonce frame reply says (Some body) kept (state, moves, now) some is same =
+      let after = same ∙ now in (
+        Second,
+        refl,
+        ap (λ (p : Parts S T). p.asked) after,
+        inr (
+          reply,
+          state,
+          moves,
+          (
+            is ∙ ap (λ b. carried (Failed faults.TooLarge) (server_says reply) b) (sym some),
+            ap (λ (p : Parts S T). p.second) after ∙ ap (λ b. carried parts.second (λ _. state) b) (sym some),
+          ),
+        ),
+      )
+
+  answered_by : (parts next : Parts S T) (nonce : List ℕ) (frame : SaslFrame) (says : ServerSays) → ¬ IsRefusal says
+      → AcceptorAnswers (one_of_machine names others machine other) parts nonce frame says next
+      → (part : Part) × (part_for names others parts frame ≡ Some part) × (next.asked ≡ Some part)
+      × PartAnswers part parts nonce frame says next
+  answered_by parts next nonce frame says kept (inl memory) = absurd (kept (subst IsRefusal (sym memory.0) tt))
+  answered_by parts next nonce frame says kept (inr (reply, moved, replies, sends)) =
+      sent_by (part_for names others parts frame) parts next moved nonce frame reply says (canonical reply) kept replies
+      refl sends.0 sends.1
+
+  steps_of_init : (event : Given) (mechanism : List ℕ) (response hostname : Option (List ℕ)) (part : Part)
+      (parts next : Parts S T) (says : ServerSays)
+      → SpellsBody event.body (Ok (frames.Init mechanism response hostname))
+      → PartAnswers part parts event.nonce (frames.Init mechanism response hostname) says next
+      → PartSteps machine other part parts event says next
+  steps_of_init event mechanism response hostname First parts next says spells answers =
+      (Ok (frames.Init mechanism response hostname), spells, answers)
+  steps_of_init event mechanism response hostname Second parts next says spells answers =
+      (Ok (frames.Init mechanism response hostname), spells, answers)
+
+  steps_of_response : (event : Given) (text : List ℕ) (part : Part) (parts next : Parts S T) (says : ServerSays)
+      → SpellsBody event.body (Ok (frames.Response text))
+      → PartAnswers part parts event.nonce (frames.Response text) says next
+      → PartSteps machine other part parts event says next
+  steps_of_response event text First parts next says spells answers = (Ok (frames.Response text), spells, answers)
+  steps_of_response event text Second parts next says spells answers = (Ok (frames.Response text), spells, answers)
+
+  -- a step that does not refuse is one of the part that the frame goes to
+  abbrev Kept : Parts S T → Given → ServerSays → Parts S T → Type 0
+  Kept parts event says next = (frame : SaslFrame) × SpellsBody event.body (Ok frame)
+      × ((part : Part) × (part_for names others parts frame ≡ Some part) × (next.asked ≡ Some part)
+      × PartSteps machine other part parts event says next)
+
+  refuses : (says : ServerSays) (fault : Error) → says ≡ Failed fault → IsRefusal says
+  refuses says fault is = subst IsRefusal (sym is) tt
+
+  one_step : (parts next : Parts S T) (event : Given) (says : ServerSays) → ¬ IsRefusal says
+      → AcceptorSteps (one_of_machine names others machine other) parts event says next → Kept parts event says next
+  one_step parts next event says kept (Err fault, spells, gives) = absurd (kept (refuses says fault gives.0))
+  one_step parts next event says kept (Ok (frames.Mechanisms list), spells, gives) =
+      absurd (kept (refuses says faults.NotImplemented gives.0))
+  one_step parts next event says kept (Ok (frames.Challenge text), spells, gives) =
+      absurd (kept (refuses says faults.NotImplemented gives.0))
+  one_step parts next event says kept (Ok (frames.Outcome code more), spells, gives) =
+      absurd (kept (refuses says faults.NotImplemented gives.0))
+  one_step parts next event says kept (Ok (frames.Init mechanism response hostname), spells, gives) =
+      let (part, is, asked, answers) =
+      answered_by parts next event.nonce (frames.Init mechanism response hostname) says kept gives in (
+        frames.Init mechanism response hostname,
+        spells,
+        (
+          part,
+          is,
+          asked,
+          steps_of_init event mechanism response hostname part parts next says spells answers,
+        ),
+      )
+  one_step parts next event says kept (Ok (frames.Response text), spells, gives) =
+      let (part, is, asked, answers) = answered_by parts next event.nonce (frames.Response text) says kept gives in (
+        frames.Response text,
+        spells,
+        (part, is, asked, steps_of_response event text part parts next says spells answers),
+      )
+
+  pub one_of_steps_log_in : OneOfStepsLogIn names others machine other
+  one_of_steps_log_in before after event body step =
+      let (frame, spells, (part, is, asked, steps)) =
+      one_step before after event (Concluded outcomes.Ok body) (λ never. never) step in
+      (part, asked, steps)
+
+  -- ---- a negotiation
+
+  abbrev Steps : Parts S T → Given → ServerSays → Parts S T → Type 0
+  Steps = AcceptorSteps (one_of_machine names others machine other)
+
+  -- the part that an init goes to
+  part_of_init : (parts next : Parts S T) (event : Given) (says : ServerSays) → SpellsTurn turns.Init event.body
+      → Kept parts event says next
+      → (mechanism : List ℕ) × (response : Option (List ℕ)) × (hostname : Option (List ℕ)) × (part : Part)
+      × SpellsBody event.body (Ok (frames.Init mechanism response hostname))
+      × (part_with (names parts.first) (others parts.second) mechanism ≡ Some part) × (next.asked ≡ Some part)
+      × PartSteps machine other part parts event says next
+  part_of_init parts next event says in_turn (frame, spells, (part, is, asked, steps)) =
+      let (mechanism, response, hostname, same) = init_of event.body frame in_turn spells in (
+        mechanism,
+        response,
+        hostname,
+        part,
+        subst (λ (f : SaslFrame). SpellsBody event.body (Ok f)) same spells,
+        ap (part_for names others parts) (sym same) ∙ is,
+        asked,
+        steps,
+      )
+
+  by_frames : (pieces : List Piece) (limit : ℕ) (events : List Given) (replies : List ServerSays) (answer : Answer)
+      (state last : Parts S T) → AreFrames pieces limit 8 (turns.Init ∷ turns.Response ∷ []) events
+      → Runs Steps state events replies last → Replied Says (turns.Init ∷ turns.Response ∷ []) replies answer
+      → LastReply IsOkSent replies → OneOfLogsIn names others machine other events state last
+  by_frames pieces limit [] replies answer state last frames run replied ok =
+      absurd (subst (λ (l : List ServerSays). LastReply IsOkSent l) run.0 ok)
+  by_frames pieces limit (event ∷ []) replies answer state last frames
+      (says, next, none, step, is, (empty, end)) replied ok =
+      let all : replies ≡ says ∷ [] = is ∙ ap (λ (l : List ServerSays). says ∷ l) empty in
+      let (body, same, fits) = subst (λ (l : List ServerSays). LastReply IsOkSent l) all ok in
+      let now : Steps state event (Concluded outcomes.Ok body) last =
+      subst (λ (s : ServerSays). Steps state event s last) same
+      (subst (λ (p : Parts S T). Steps state event says p) (sym end) step) in
+      let (mechanism, response, hostname, part, spells, has, asked, steps) =
+      part_of_init state last event (Concluded outcomes.Ok body) frames.1
+      (one_step state last event (Concluded outcomes.Ok body) (λ never. never) now) in
+      record {
+        mechanism = mechanism;
+        part = part;
+        asked = (event, [], response, hostname, refl, spells);
+        has = has;
+        before = state;
+        event = event;
+        ended = ([], refl);
+        body = body;
+        answers = steps;
+        named = asked;
+      }
+  by_frames pieces limit (event ∷ second ∷ []) replies answer state last frames
+      (says, mid, more, step, is, (then, next, none, step_then, is_then, (empty, end))) replied ok =
+      let all : replies ≡ says ∷ then ∷ [] =
+      is ∙ ap (λ (l : List ServerSays). says ∷ l) (is_then ∙ ap (λ (l : List ServerSays). then ∷ l) empty) in
+      let (body, same, fits) = subst (λ (l : List ServerSays). LastReply IsOkSent l) all ok in
+      let (first, rest, said, waits, _, _) =
+      subst (λ (l : List ServerSays). Replied Says (turns.Init ∷ turns.Response ∷ []) l answer) all replied in
+      let (mechanism, response, hostname, part, spells, has, asked, steps) =
+      part_of_init state mid event says frames.1
+      (one_step state mid event says (goes_on_is_no_refusal says first said waits) step) in
+      let now : Steps mid second (Concluded outcomes.Ok body) last =
+      subst (λ (s : ServerSays). Steps mid second s last) same
+      (subst (λ (p : Parts S T). Steps mid second then p) (sym end) step_then) in
+      let (frame, spelled, (part_then, goes, asked_then, steps_then)) =
+      one_step mid last second (Concluded outcomes.Ok body) (λ never. never) now in
+      let (text, response_is) = response_of second.body frame frames.3.1 spelled in
+      let one : part_then ≡ part =
+      same_part part_then part (sym goes ∙ (ap (part_for names others mid) response_is ∙ asked)) in
+      record {
+        mechanism = mechanism;
+        part = part;
+        asked = (event, second ∷ [], response, hostname, refl, spells);
+        has = has;
+        before = mid;
+        event = second;
+        ended = (event ∷ [], refl);
+        body = body;
+        answers = subst (λ (p : Part). PartSteps machine other p mid second (Concluded outcomes.Ok body) last) one
+            steps_then;
+        named = asked_then ∙ ap (λ (p : Part). Some p) one;
+      }
+    where
+      same_part : (one two : Part) → Some one ≡ Some two → one ≡ two
+      same_part one two same = cc
+  by_frames pieces limit (event ∷ second ∷ third ∷ events) replies answer state last frames run replied ok =
+      absurd frames.3.3
+
+  pub one_of_servers_log_in : OneOfServersLogIn names others machine other
+  one_of_servers_log_in limit state pieces taken sent last n logged =
+      by_frames pieces limit n.events n.replies n.answer state last.state n.frames n.run n.replied
+      ((servers_log_in (one_of_machine names others machine other) limit state pieces taken sent last n).0 logged)

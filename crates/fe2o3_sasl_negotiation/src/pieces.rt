@@ -1,0 +1,133 @@
+//! Whole connections over bytes that arrive in pieces, without a socket: for tests, replays and logs.
+
+ghost use Rattle.std.specs.Prelude.{◌≡◌, ◌≢◌, ◌<◌, ◌≤◌, ◌++◌, List, ℕ, IfOk, length, map, false};
+ghost use Rattle.fe2o3_sasl_wire.specs.SaslFrames.{IsBytes};
+ghost use Rattle.fe2o3_sasl_negotiation.specs.declared.standing.Standing.TheVariants.{Wanting};
+ghost use Rattle.fe2o3_scram.specs.Credentials.{serving};
+ghost use Rattle.fe2o3_scram.specs.ScramServer.{Initial, served_by, state_in};
+ghost use Rattle.fe2o3_sasl_runs.specs.SaslAcceptor.{ScramAcceptor, acceptor_machine, acceptor_names};
+ghost use Rattle.fe2o3_sasl_negotiation.specs.Connections.{ServerConnection, ServerNegotiated, bytes_of};
+ghost use Rattle.fe2o3_sasl_negotiation.specs.ScramConnections.{ScramServes};
+ghost use Rattle.fe2o3_sasl_negotiation.specs.Pieces.{piece_of, first_bytes};
+ghost use Rattle.fe2o3_sasl_negotiation.specs.Sides.{server_side};
+ghost use Rattle.fe2o3_sasl_negotiation.specs.private.Pieces.{Continues};
+
+use crate::server::ServerNegotiation;
+use crate::standing::Standing;
+use bytes::BytesMut;
+use fe2o3_sasl_runs::{NamesUser, OutOfMemory};
+use fe2o3_scram::Meter;
+use fe2o3_scram::credentials::ScramCredentialProvider;
+use fe2o3_scram::scram_server::ScramAuthenticator;
+use std::alloc::Global;
+
+/// Bytes that arrive together, and 32 random bytes: the nonce of each frame whose last byte is among them.
+pub struct Piece<'a> {
+    /// The bytes.
+    pub bytes: &'a [u8],
+
+    /// The nonce.
+    pub nonce: [u8; 32],
+}
+
+/// A server's side of a connection after the pieces that it was passed.
+#[derive(Drop)]
+pub struct Served<A> {
+    /// The side, which says how the negotiation stands and who has logged in.
+    pub side: ServerNegotiation<A>,
+
+    /// What it has sent.
+    pub sent: BytesMut,
+
+    /// How many pieces it has taken whole.
+    pub pieces: usize,
+
+    /// How many bytes it has taken of the next piece. The bytes after them are AMQP's.
+    pub bytes: usize,
+}
+
+/// Passes the bytes of a piece to the side, up to those that it does not take.
+fn serve_piece<A: NamesUser>(
+    alloc: Global,
+    side: &mut ServerNegotiation<A>,
+    piece: &Piece<'_>,
+    sent: &mut BytesMut,
+) -> Result<usize, OutOfMemory>
+    ensures within { IfOk result (λ taken. taken ≤ length piece.now.bytes.now) }
+    ensures all { IfOk result (λ taken. taken < length piece.now.bytes.now
+        → (server_side A.state side.new).standing ≢ Wanting) }
+    ensures ok { IfOk result (λ taken. (more : List ℕ) × (sent.new.items ≡ sent.old.items ++ more)
+        × ((limit : ℕ) (state : A.State)
+        → Continues (ServerConnection A.names A.machine limit state) (server_side A.state side.old)
+        piece.now.bytes.now piece.now.nonce taken more (server_side A.state side.new))) }
+{
+    let mut taken = 0;
+    while taken < piece.bytes.len() && side.standing() == Standing::Wanting {
+        let mut meter = Meter::new();
+        let received = side.receive(alloc, &piece.bytes[taken..], &piece.nonce, &mut meter, sent)?;
+        taken += received.taken;
+    }
+    Ok(taken)
+}
+
+/// What a server's side of a new connection makes of bytes that arrive in these pieces, by an acceptor that no
+/// connection has used: the whole connection up to where the side takes no more. While it waits it takes them all.
+/// Where memory runs out nothing is returned.
+pub fn server_connection<A: NamesUser + Drop>(
+    alloc: Global,
+    acceptor: A,
+    pieces: &[Piece<'_>],
+) -> Result<Served<A>, OutOfMemory>
+    ensures connection { IfOk result (λ served. IsBytes (bytes_of (map piece_of pieces.now))
+        → ServerConnection A.names A.machine 512 (A.state acceptor) (map piece_of pieces.now)
+        (first_bytes (map piece_of pieces.now) served.pieces served.bytes) served.sent.items
+        (server_side A.state served.side)) }
+    ensures all { IfOk result (λ served. (server_side A.state served.side).standing ≡ Wanting
+        → served.pieces ≡ length pieces.now) }
+{
+    let mut side = ServerNegotiation::new(alloc, acceptor);
+    let mut sent = BytesMut::new(alloc);
+    let mut whole = 0;
+    for piece in pieces {
+        let taken = serve_piece(alloc, &mut side, piece, &mut sent)?;
+        if taken < piece.bytes.len() {
+            return Ok(Served {
+                side,
+                sent,
+                pieces: whole,
+                bytes: taken,
+            });
+        }
+        whole += 1;
+    }
+    Ok(Served {
+        side,
+        sent,
+        pieces: whole,
+        bytes: 0,
+    })
+}
+
+/// Like [`server_connection`], of a SCRAM server over these credentials that no connection has used: the headline
+/// theorem over bytes. It has logged a client in exactly where it sent an Ok, which it answers only to a response that
+/// fits its open challenge and whose proof meets the stored key, and it names the user of that challenge.
+pub fn scram_server_connection<C: ScramCredentialProvider>(
+    alloc: Global,
+    credentials: &C,
+    pieces: &[Piece<'_>],
+) -> Result<Served<ScramAuthenticator<C>>, OutOfMemory>
+    ensures connection { IfOk result (λ served. IsBytes (bytes_of (map piece_of pieces.now))
+        → ServerConnection acceptor_names acceptor_machine 512
+        (ScramAcceptor (serving false (C.meaning credentials.now)) Initial) (map piece_of pieces.now)
+        (first_bytes (map piece_of pieces.now) served.pieces served.bytes) served.sent.items
+        (server_side (λ server. ScramAcceptor (served_by C.meaning server) (state_in server)) served.side)) }
+    ensures headline { IfOk result (λ served. (taken out : List ℕ)
+        (negotiated : ServerNegotiated acceptor_machine 512
+        (ScramAcceptor (serving false (C.meaning credentials.now)) Initial) (map piece_of pieces.now) taken out
+        (server_side (λ server. ScramAcceptor (served_by C.meaning server) (state_in server)) served.side))
+        → ScramServes (serving false (C.meaning credentials.now)) negotiated.events negotiated.replies
+        (server_side (λ server. ScramAcceptor (served_by C.meaning server) (state_in server)) served.side)) }
+{
+    let credentials = credentials.clone()?;
+    server_connection(alloc, ScramAuthenticator::new(credentials), pieces)
+}
