@@ -19,3 +19,4 @@ pub mod CompletedLemmas
 pub mod MemoryLemmas
 pub mod KeptLemmas
 pub mod ClientKeptLemmas
+pub mod RetryLemmas

@@ -8,6 +8,7 @@
 mod client;
 mod framing;
 pub mod laws;
+pub mod retries;
 mod server;
 mod set_down;
 mod standing;
