@@ -23,3 +23,4 @@ pub mod CompletedLemmas
 pub mod MemoryLemmas
 pub mod KeptLemmas
 pub mod ClientKeptLemmas
+pub mod RetryLemmas

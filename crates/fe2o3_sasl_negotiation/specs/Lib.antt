@@ -13,3 +13,4 @@ pub mod UnalteredConnections
 pub mod private
 pub mod CostLaws
 pub mod Memory
+pub mod Retries

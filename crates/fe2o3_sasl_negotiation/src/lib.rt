@@ -9,6 +9,7 @@ mod client;
 mod framing;
 pub mod laws;
 mod pieces;
+pub mod retries;
 mod server;
 mod set_down;
 mod standing;

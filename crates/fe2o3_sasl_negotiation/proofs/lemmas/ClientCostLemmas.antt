@@ -27,7 +27,9 @@ use Rattle.fe2o3_sasl_negotiation.specs.CostLaws.{ClientsCost}
 use Rattle.fe2o3_sasl_negotiation.specs.Connections.{fresh}
 use Rattle.fe2o3_sasl_negotiation.specs.Framing.{size_of}
 use Rattle.fe2o3_sasl_negotiation.specs.Negotiations.{Side, Answer, closes, IsInTurn, Receives}
+use Rattle.fe2o3_sasl_negotiation.specs.Retries.{ClientsRetry}
 use Rattle.fe2o3_sasl_negotiation.proofs.lemmas.CostLemmas.{none, open_calls, rests, Left, leaves, answers_whole}
+use Rattle.fe2o3_sasl_negotiation.proofs.lemmas.RetryLemmas.{open_retried}
 use Rattle.fe2o3_sasl_negotiation.proofs.lemmas.KindLemmas.{standing_of, due_of}
 
 -- before a challenge is answered the header, the list of mechanisms or a challenge is due
@@ -298,3 +300,42 @@ clients_cost hostname client limit calls stream before after made =
     (λ side next bytes nonce sent taken before after done receives costs.
     done_step hostname client.limits.most side next bytes nonce sent taken before after receives done costs)
     calls (fresh limit (ScramProfile client)) stream before after ((client, refl, refl), tt) made
+
+-- a call costs that many at most, also one that runs out of memory
+open_tries : (most : ℕ) (side : Side Profile) (bytes nonce : List ℕ) (before after : ℕ) → Open most side
+    → ClientCosts side bytes nonce before after → (before ≤ after) × (after ≤ before + (most + 4))
+open_tries most side bytes nonce before after begun (inl same) = none before after (most + 4) same
+open_tries most side bytes nonce before after begun (inr (turn, body, completes, inl same)) =
+    none before after (most + 4) same
+open_tries most side bytes nonce before after begun
+    (inr (turn, body, completes, inr (frame, reply, spells, in_turn, costs))) =
+    go (turn_costs turn begun.0.0 frame reply before after in_turn
+    (subst (λ (p : Profile). ProfileCosts frame p reply before after) begun.0.1
+    (costs_over side.state (record { body = body; nonce = nonce }) frame reply before after spells costs)))
+  where
+    go : (after ≡ before) ⊎ ((turn ≡ turns.Challenge)
+        × ((before ≤ after) × (after ≤ before + (begun.0.0.limits.most + 4))))
+        → (before ≤ after) × (after ≤ before + (most + 4))
+    go (inl same) = none before after (most + 4) same
+    go (inr (is, (least, bound))) = (least, subst (λ (n : ℕ). after ≤ before + (n + 4)) begun.0.2 bound)
+
+done_tries : (side : Side Profile) (bytes nonce : List ℕ) (before after : ℕ) → Done side
+    → ClientCosts side bytes nonce before after → after ≡ before
+done_tries side bytes nonce before after done (inl same) = same
+done_tries side bytes nonce before after (inl ends) (inr (turn, body, completes, costs)) = absurd (ends completes.0)
+done_tries side bytes nonce before after (inr due) (inr (turn, body, completes, inl same)) = same
+done_tries side bytes nonce before after (inr due)
+    (inr (turn, body, completes, inr (frame, reply, spells, in_turn, costs))) =
+    outcome_costs side.state frame reply before after
+    (subst (λ (t : Turn). IsInTurn t frame) (one_turn turn turns.Outcome (sym completes.1 ∙ due)) in_turn)
+    (costs_over side.state (record { body = body; nonce = nonce }) frame reply before after spells costs)
+
+pub clients_retry : ClientsRetry
+clients_retry hostname client limit calls stream failed before after made =
+    open_retried (ClientAnswers hostname) ClientCosts (client.limits.most + 4) (Open client.limits.most) Done
+    (λ side next bytes nonce sent taken before after begun receives costs.
+    open_step hostname client.limits.most side next bytes nonce sent taken before after receives begun costs)
+    (λ side next bytes nonce sent taken before after done receives costs.
+    done_step hostname client.limits.most side next bytes nonce sent taken before after receives done costs)
+    (open_tries client.limits.most) done_tries
+    calls (fresh limit (ScramProfile client)) stream failed before after ((client, refl, refl), tt) made

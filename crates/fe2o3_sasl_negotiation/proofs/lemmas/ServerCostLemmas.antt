@@ -27,7 +27,9 @@ use Rattle.fe2o3_sasl_negotiation.specs.Connections.{fresh}
 use Rattle.fe2o3_sasl_negotiation.specs.Framing.{size_of}
 use Rattle.fe2o3_sasl_negotiation.specs.Negotiations.{Side, Answer, Sends, IsInTurn, Receives}
 use Rattle.fe2o3_sasl_negotiation.specs.ServerNegotiation.{Says, ServerAnswers, ServerCosts}
-use Rattle.fe2o3_sasl_negotiation.proofs.lemmas.CostLemmas.{same_of, open_calls, rests, Left, leaves, answers_whole}
+use Rattle.fe2o3_sasl_negotiation.specs.Retries.{ServersRetry}
+use Rattle.fe2o3_sasl_negotiation.proofs.lemmas.CostLemmas.{none, same_of, open_calls, rests, Left, leaves, answers_whole}
+use Rattle.fe2o3_sasl_negotiation.proofs.lemmas.RetryLemmas.{open_retried}
 use Rattle.fe2o3_sasl_negotiation.proofs.lemmas.KindLemmas.{standing_of}
 
 -- the acceptor is of SCRAM still, over the same records
@@ -194,3 +196,35 @@ servers_cost provider state limit calls stream before after made =
     (λ side next bytes nonce sent taken before after done receives costs.
     done_step provider side next bytes nonce sent taken before after receives done costs)
     calls (fresh limit (ScramAcceptor provider state)) stream before after (state, refl) made
+
+-- a call costs two at most, also one that runs out of memory
+open_tries : (provider : Provider) (side : Side Acceptor) (bytes nonce : List ℕ) (before after : ℕ)
+    → Open provider side → ServerCosts acceptor_hmacs side bytes nonce before after
+    → (before ≤ after) × (after ≤ before + 2)
+open_tries provider side bytes nonce before after early (inl same) = none before after 2 same
+open_tries provider side bytes nonce before after early (inr (turn, body, completes, inl same)) =
+    none before after 2 same
+open_tries provider side bytes nonce before after early
+    (inr (turn, body, completes, inr (frame, spells, in_turn, costs))) =
+    go (step_costs provider side.state turn (record { body = body; nonce = nonce }) frame before after early spells
+    in_turn costs)
+  where
+    go : (after ≡ before) ⊎ ((turn ≡ turns.Response) × ((before ≤ after) × (after ≤ before + 2)))
+        → (before ≤ after) × (after ≤ before + 2)
+    go (inl same) = none before after 2 same
+    go (inr (is, bounds)) = bounds
+
+done_tries : (side : Side Acceptor) (bytes nonce : List ℕ) (before after : ℕ) → Done side
+    → ServerCosts acceptor_hmacs side bytes nonce before after → after ≡ before
+done_tries side bytes nonce before after done (inl same) = same
+done_tries side bytes nonce before after done (inr (turn, body, completes, costs)) = absurd (done completes.0)
+
+pub servers_retry : ServersRetry
+servers_retry provider state limit calls stream failed before after made =
+    open_retried (ServerAnswers acceptor_names acceptor_machine) (ServerCosts acceptor_hmacs) 2 (Open provider) Done
+    (λ side next bytes nonce sent taken before after early receives costs.
+    open_step provider side next bytes nonce sent taken before after receives early costs)
+    (λ side next bytes nonce sent taken before after done receives costs.
+    done_step provider side next bytes nonce sent taken before after receives done costs)
+    (open_tries provider) done_tries
+    calls (fresh limit (ScramAcceptor provider state)) stream failed before after (state, refl) made
