@@ -147,6 +147,11 @@ Concluded kept before text message user = (challenge : Challenge) × (shown : Ve
     × ConcludesFrom (ServerFirstSent challenge) (serving false (one_user user shown)) text (Ok (Some message))
     (ServerFinalSent user)
 
+-- a client-final message comes to be read: a challenge is open, and the struct of the record shows one
+abbrev pub ReadsFinal : Kept → Struct → Type 0
+ReadsFinal kept before = ((challenge : Challenge) × IsOpen before challenge)
+    × ((shown : VersionedRecord) × Shows kept shown)
+
 -- the server-final message, and the struct after it; or that no challenge is open, or one is and the struct of the
 -- record shows none, or it shows one and the message is refused
 unfoldable pub Concludes : Kept → List ℕ → Struct → Struct → Result (List ℕ) Status → Type 0

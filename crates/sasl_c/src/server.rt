@@ -4,8 +4,8 @@ ghost use Rattle.std.specs.Prelude.{false, true, ◌≡◌, ◌≢◌, ◌<◌, 
 ghost use Rattle.fe2o3_scram.specs.ServerFirst.{Challenge};
 ghost use Rattle.fe2o3_scram.specs.ScramServer.{Initial, ServerFirstSent, challenge_kept, provider_in, state_in, unbound_in};
 ghost use Rattle.fe2o3_scram.specs.declared.scram_messages.gs2_header.Gs2Header.{Gs2Header as HeaderOf};
-ghost use Rattle.sasl_c.specs.Server.{Challenged, Challenges, Concluded, Concludes, HasLoggedIn, HasRoom, IsOpen, NamesUser, NotChallenged, Opens, TellsUser, fresh_struct, logged_in_struct, open_number, open_struct, user_struct};
-ghost use Rattle.sasl_c.specs.Status.{Answers, Fills, FillsWithin};
+ghost use Rattle.sasl_c.specs.Server.{Challenged, Challenges, Concluded, Concludes, HasLoggedIn, HasRoom, IsOpen, NamesUser, NotChallenged, Opens, ReadsFinal, TellsUser, fresh_struct, logged_in_struct, open_number, open_struct, user_struct};
+ghost use Rattle.sasl_c.specs.Status.{Answers, AsksWhere, Fills, FillsWithin};
 ghost use Rattle.sasl_c.specs.declared.status.Status.TheVariants.{OutOfMemory as StatusOutOfMemory, RoomTooSmall};
 
 use crate::arrays::{cleared, head, padded, put};
@@ -364,6 +364,7 @@ fn concluded(
     ensures named { IfOk result (λ _. server.now.user_len ≤ 256) }
     ensures err { IfErr result (λ status. status ≢ StatusOutOfMemory
         → Concludes kept.now client_final.now server.now server.now (Err status)) }
+    ensures memory { AsksWhere (ReadsFinal kept.now server.now) result }
     ensures room { IfErr result (λ status. status ≢ RoomTooSmall) }
 {
     let Some(challenge) = server.challenge() else {
@@ -407,6 +408,7 @@ fn conclude(
         (record { bytes = out.old; len = len.old }) (record { bytes = out.new; len = len.new }) result }
     ensures stays { OnErr result (server.new ≡ server.old) }
     ensures first { IfErr result (λ status. status ≡ RoomTooSmall → meter.new ≡ meter.old) }
+    ensures memory { AsksWhere (ReadsFinal kept.now server.old) result }
 {
     if out.len() < FINAL_MOST {
         *len = FINAL_MOST;
@@ -432,7 +434,7 @@ pub extern "C" fn fe2o3_scram_server_final(
 ) -> u32
     ensures { Answers result (λ answer. FillsWithin 90 (Concludes kept.now client_final.now server.old server.new)
         (record { bytes = out.old; len = len.old }) (record { bytes = out.new; len = len.new }) answer
-        × OnErr answer (server.new ≡ server.old)) }
+        × OnErr answer (server.new ≡ server.old) × AsksWhere (ReadsFinal kept.now server.old) answer) }
 {
     let mut meter = Meter::new();
     number(conclude(alloc, kept, server, client_final, &mut meter, out, len))
@@ -440,8 +442,9 @@ pub extern "C" fn fe2o3_scram_server_final(
 
 /// Writes the name of the user who has logged in.
 fn tell(server: &ScramServer, out: &mut [u8], len: &mut usize) -> Result<(), Status>
-    ensures { Fills (TellsUser server.now) (record { bytes = out.old; len = len.old })
+    ensures text { Fills (TellsUser server.now) (record { bytes = out.old; len = len.old })
         (record { bytes = out.new; len = len.new }) result }
+    ensures memory { AsksWhere ⊥ result }
 {
     let illegal = Status::Server(ServerScramErrorKind::IllegalAuthenticatorState);
     if server.stands != 2 {
@@ -460,8 +463,8 @@ pub extern "C" fn fe2o3_scram_server_logged_in(
     out: &mut [u8],
     len: &mut usize,
 ) -> u32
-    ensures { Answers result (Fills (TellsUser server.now) (record { bytes = out.old; len = len.old })
-        (record { bytes = out.new; len = len.new })) }
+    ensures { Answers result (λ answer. Fills (TellsUser server.now) (record { bytes = out.old; len = len.old })
+        (record { bytes = out.new; len = len.new }) answer × AsksWhere ⊥ answer) }
 {
     number(tell(server, out, len))
 }
