@@ -3,7 +3,7 @@ use Rattle.std.specs.Prelude.{Bool, true, false, ◌≡◌, ◌≤◌, ◌⊎◌
 use Rattle.std.specs.Str.{IsUtf8}
 use Rattle.fe2o3_scram.specs.declared.scram_messages.error.ServerScramErrorKind.{ServerScramErrorKind}
 use Rattle.fe2o3_scram.specs.declared.scram_messages.error.ServerScramErrorKind.TheVariants.{IllegalAuthenticatorState}
-use Rattle.fe2o3_scram.specs.ClientFirst.{ClientFirst, ReadsClientFirst}
+use Rattle.fe2o3_scram.specs.ClientFirst.{ClientFirst, HasEscapes, ReadsClientFirst}
 use Rattle.fe2o3_scram.specs.declared.scram_messages.gs2_header.Gs2Header.{Gs2Header}
 use Rattle.fe2o3_scram.specs.declared.scram_messages.gs2_header.Gs2Header.TheVariants.{Unsupported, Unoffered}
 use Rattle.fe2o3_scram.specs.Credentials.{Store, VersionedRecord, serving}
@@ -120,6 +120,10 @@ NotChallenged unbound kept nonce text status =
     ⊎ ((first : ClientFirst) × ReadsClientFirst unbound text (Ok first) × SpellsStruct kept (Err status))
     ⊎ ((status ≡ statuses.TooLong) × ((challenge : Challenge) × Challenged unbound kept nonce text challenge
     × ¬ HasRoom challenge))
+
+-- a client-first message comes to ask for memory: its user name has escapes, or it is read
+abbrev pub ReadsFirst : Bool → List ℕ → Type 0
+ReadsFirst unbound text = HasEscapes unbound text ⊎ ((first : ClientFirst) × ReadsClientFirst unbound text (Ok first))
 
 -- the server-first message
 abbrev pub Challenges : Bool → Kept → List ℕ → List ℕ → Result (List ℕ) Status → Type 0
