@@ -5,8 +5,8 @@ use Rattle.fe2o3_scram.specs.declared.hmac.ScramVersion.{ScramVersion}
 use Rattle.sasl_c.specs.declared.client.Login.{Login}
 use Rattle.sasl_c.specs.declared.status.Status.{Status}
 use Rattle.sasl_c.specs.declared.status.Status.TheVariants as statuses
-use Rattle.fe2o3_scram.specs.Readings.{IsFirst}
-use Rattle.sasl_c.specs.Client.{IsNoLogin, IsNoSecret, keys_tests}
+use Rattle.fe2o3_scram.specs.Readings.{IsFirst, NoneHolds}
+use Rattle.sasl_c.specs.Client.{IsNoLogin, IsNoSecret, keys_tests, name_tests}
 use Rattle.sasl_c.specs.Records.{IsVersion}
 
 -- its version and its user are some, and its secret is none
@@ -64,3 +64,8 @@ pub ruleset no_secrets = (
   prepared_no_keys,
   other_secret,
 )
+
+-- a login whose version and user are known
+pub named : (login : Login) (version : ScramVersion) → IsVersion login.version version → IsUtf8 login.username.now
+    → NoneHolds (name_tests login)
+named login version known utf8 = ((λ none. none version known), ((λ wrong. wrong utf8), tt))

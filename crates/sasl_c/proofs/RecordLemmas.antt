@@ -1,9 +1,9 @@
 -- What a password's keys are made of, and that one which does not meet a record is refused by its struct.
 use Rattle.std.proofs.Common.{arith, refl, sym, inl, inr, ◌≡◌, ◌≤◌, ℕ, List, length}
-use Rattle.std.specs.Prelude.{Err}
+use Rattle.std.specs.Prelude.{Ok, Err}
 use Rattle.std.specs.Str.{IsUtf8}
 use Rattle.fe2o3_scram.specs.declared.hmac.ScramVersion.{ScramVersion}
-use Rattle.fe2o3_scram.specs.Credentials.{MeetsRecord, Record, VersionedRecord}
+use Rattle.fe2o3_scram.specs.Credentials.{MeetsRecord, Record, VersionedRecord, versioned}
 use Rattle.fe2o3_scram.specs.Passwords.{IsNormal, PasswordText, password_bytes}
 use Rattle.fe2o3_scram.specs.Readings.{IsFirst}
 use Rattle.sasl_c.specs.declared.passwords.PasswordForm.{PasswordForm}
@@ -19,6 +19,15 @@ pub bytes_in_form : (form : PasswordForm) (text : List ℕ) → password_bytes (
 bytes_in_form forms.Typed text = refl
 bytes_in_form forms.Prepared text = refl
 
+pub verified : (kept : Struct) (form : PasswordForm) (given password : List ℕ) (version : ScramVersion)
+    (stored : Record) → Shows kept (versioned version stored) → password ≡ given
+    → MeetsRecord version (in_form form password) stored → Verifies kept (in_form form given) (Ok tt)
+verified kept form given password version stored is spelled meets = (
+  versioned version stored,
+  is,
+  carried (λ text. MeetsRecord version (in_form form text) stored) password given spelled meets,
+)
+
 pub other_password : (kept : Struct) (form : PasswordForm) (given password : List ℕ) (shown : VersionedRecord)
     (version : ScramVersion) (stored : Record) → Shows kept shown → version ≡ shown.version → stored ≡ shown.stored
     → password ≡ given → IsUtf8 given → ¬ MeetsRecord version (in_form form password) stored
@@ -29,11 +38,11 @@ other_password kept form given password shown version stored is same alike spell
     (carried (λ kept. MeetsRecord shown.version (in_form form password) kept) shown.stored stored (sym alike)
     (carried (λ text. MeetsRecord shown.version (in_form form text) shown.stored) given password (sym spelled) meets)))
     in
-    λ _. inr (shown, is, inr (refl, rw (bytes_in_form form given) utf8, other))
+    inr (shown, is, inr (refl, rw (bytes_in_form form given) utf8, other))
 
 pub not_text : (kept : Struct) (form : PasswordForm) (given : List ℕ) (shown : VersionedRecord) → Shows kept shown
     → ¬ IsUtf8 given → Verifies kept (in_form form given) (Err statuses.NotUtf8)
-not_text kept form given shown is wrong = λ _. inr (shown, is, inl (refl, rw (bytes_in_form form given) wrong))
+not_text kept form given shown is wrong = inr (shown, is, inl (refl, rw (bytes_in_form form given) wrong))
 
 pub zero_iterations : (version : ℕ) (known : ScramVersion) (password : PasswordText) (salt : List ℕ) (count : ℕ)
     → IsVersion version known → IsUtf8 (password_bytes password) → length salt ≤ 128 → ¬ ¬ IsNormal password

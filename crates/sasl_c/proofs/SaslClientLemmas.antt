@@ -35,7 +35,7 @@ use Rattle.sasl_c.specs.declared.status.Status.{Status}
 use Rattle.sasl_c.specs.declared.status.Status.TheVariants as statuses
 use Rattle.sasl_c.specs.Client.{IsNoLogin, IsReached, IsState, WritesClient, fresh_struct}
 use Rattle.sasl_c.specs.Connection.{Keeps, KeepsNoPart, due_number, side_tests, struct_of}
-use Rattle.sasl_c.specs.SaslClient.{Comes, HasNoHostname, HasNoWords, IsClient, IsHostname, IsNoClient, IsNoProfile, IsProfile, Receives, Stands, WritesProfile, WritesSide}
+use Rattle.sasl_c.specs.SaslClient.{Comes, HasNoHostname, HasNoWords, IsClient, IsHostname, IsNoClient, IsNoProfile, IsProfile, ReadsClient, Receives, Stands, WritesProfile, WritesSide}
 use Rattle.sasl_c.proofs.ClientLemmas.{answer_fits, answering_login, believing_login, moved_login}
 use Rattle.sasl_c.proofs.StateLemmas.{reached}
 use Rattle.sasl_c.proofs.StatusLemmas.{carried}
@@ -418,6 +418,19 @@ none_holds client kept keeps wanting =
     let stands = carried (λ s. Keeps client.connection s kept.due kept.held.now) kept.standing Wanting wanting keeps in
     ((λ ended. ended stands.standing), ((λ nothing. nothing kept.due kept.held.now stands), tt))
 
+-- no test of the struct is told as out of memory
+pub tests_without_memory : (connection : Kept) (status : Status) → IsFirst (side_tests connection) status
+    → status ≡ statuses.OutOfMemory → ⊥
+tests_without_memory connection status (inl (ended, is)) same = absurd (cc)
+tests_without_memory connection status (inr (goes, inl (none, is))) same = absurd (cc)
+tests_without_memory connection status (inr (goes, inr (kept, none))) same = absurd none
+
+-- a struct that was read, of a login whose hostname can be sent
+pub reads_client : (login : Login) (client : Struct) (kept : SetDown)
+    → Keeps client.connection kept.standing kept.due kept.held.now → kept.standing ≡ Wanting → ¬ HasNoHostname login
+    → ReadsClient login client
+reads_client login client kept keeps wanting named = (none_holds client kept keeps wanting, named)
+
 -- why there is no side
 pub no_connection : (login : Login) (client : Struct) (status : Status)
     → IsFirst (side_tests client.connection) status → IsNoClient login client status
@@ -488,4 +501,4 @@ behind_all login before hostname side next bytes nonce old items taken is wantin
     (profile_comes login before.scram side.state is.1) in
     (whole, last.comes, last.limit, last.held, last.short)
 
-pub ruleset taken_up = (is_taken_up, no_connection, no_hostname, no_profile, is_not_kept)
+pub ruleset taken_up = (is_taken_up, no_connection, no_hostname, no_profile, is_not_kept, tests_without_memory, reads_client)

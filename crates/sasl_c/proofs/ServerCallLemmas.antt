@@ -47,7 +47,7 @@ use Rattle.sasl_c.specs.declared.status.Status.{Status}
 use Rattle.sasl_c.specs.declared.status.Status.TheVariants as statuses
 use Rattle.sasl_c.specs.Connection.{Keeps, KeepsNoPart, side_tests}
 use Rattle.sasl_c.specs.SaslServer.{All, Code, Comes, HasNone, IsNoHost, IsNoServer, IsOf, IsServer, Last, NotReceived, Others, Received, ShowsBy, ShowsSide, ShowsState, State, all_machine, all_names, external_names, last_machine, last_names, other_machine, other_names, plain_names, server_of, side_in, side_struct, state_machine, state_names, state_of, struct_by}
-use Rattle.sasl_c.proofs.SaslClientLemmas.{one_due, part_short}
+use Rattle.sasl_c.proofs.SaslClientLemmas.{one_due, part_short, tests_without_memory}
 use Rattle.sasl_c.proofs.SaslServerLemmas.{Shown, is_server, no_server, shows_nothing, shows_side, writes_side, written_for}
 use Rattle.sasl_c.proofs.StatusLemmas.{carried}
 
@@ -458,6 +458,9 @@ pub none_holds : (connection : Connection) (kept : SetDown) → Keeps connection
 none_holds connection kept keeps wants =
     let stands = carried (λ s. Keeps connection s kept.due kept.held.now) kept.standing Wanting wants keeps in
     ((λ ended. ended stands.standing), ((λ nothing. nothing kept.due kept.held.now stands), tt))
+
+-- what a call that is out of memory takes
+pub ruleset without_memory = (none_holds, tests_without_memory)
 
 pub keeps_no_part : (connection : Connection) (kept : SetDown) → Keeps connection kept.standing kept.due kept.held.now
     → kept.limit ≡ 512 → ¬ IsKept kept → KeepsNoPart connection

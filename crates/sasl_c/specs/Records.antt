@@ -93,7 +93,7 @@ MakesUp version secret name salt_len count answer = Reads (nobody_tests version 
 abbrev pub Verifies : Struct → PasswordText → Result (Unit {0}) Status → Type 0
 Verifies kept password (Ok done) = (shown : VersionedRecord) × Shows kept shown
     × MeetsRecord shown.version password shown.stored
-Verifies kept password (Err status) = (status ≢ statuses.OutOfMemory) → SpellsStruct kept (Err status)
+Verifies kept password (Err status) = SpellsStruct kept (Err status)
     ⊎ ((shown : VersionedRecord) × Shows kept shown
     × (((status ≡ statuses.NotUtf8) × ¬ IsUtf8 (password_bytes password))
     ⊎ ((status ≡ statuses.OtherPassword) × IsUtf8 (password_bytes password)

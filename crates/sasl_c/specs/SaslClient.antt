@@ -68,6 +68,10 @@ IsNoClient login client status = IsFirst (side_tests client.connection) status
     ⊎ (¬ HasNoHostname login × (IsNoProfile login status ⊎ ((status ≡ statuses.NotKept)
     × KeepsNoPart client.connection × ((profile : Profile) × IsProfile login client.scram profile))))))
 
+-- none of the tests holds that come before memory is asked for: those of the connection, and that of the hostname
+abbrev pub ReadsClient : Login → Struct → Type 0
+ReadsClient login client = NoneHolds (side_tests client.connection) × ¬ HasNoHostname login
+
 -- a client of SCRAM that a login comes to
 abbrev pub Stands : Words → ClientSide → Type 0
 Stands words side = IsLogin words side × IsReached side.user side.state

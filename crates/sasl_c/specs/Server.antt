@@ -3,7 +3,7 @@ use Rattle.std.specs.Prelude.{Bool, true, false, ◌≡◌, ◌≤◌, ◌⊎◌
 use Rattle.std.specs.Str.{IsUtf8}
 use Rattle.fe2o3_scram.specs.declared.scram_messages.error.ServerScramErrorKind.{ServerScramErrorKind}
 use Rattle.fe2o3_scram.specs.declared.scram_messages.error.ServerScramErrorKind.TheVariants.{IllegalAuthenticatorState}
-use Rattle.fe2o3_scram.specs.ClientFirst.{ClientFirst, ReadsClientFirst}
+use Rattle.fe2o3_scram.specs.ClientFirst.{ClientFirst, HasEscapes, ReadsClientFirst}
 use Rattle.fe2o3_scram.specs.declared.scram_messages.gs2_header.Gs2Header.{Gs2Header}
 use Rattle.fe2o3_scram.specs.declared.scram_messages.gs2_header.Gs2Header.TheVariants.{Unsupported, Unoffered}
 use Rattle.fe2o3_scram.specs.Credentials.{Store, VersionedRecord, serving}
@@ -121,6 +121,10 @@ NotChallenged unbound kept nonce text status =
     ⊎ ((status ≡ statuses.TooLong) × ((challenge : Challenge) × Challenged unbound kept nonce text challenge
     × ¬ HasRoom challenge))
 
+-- a client-first message comes to ask for memory: its user name has escapes, or it is read
+abbrev pub ReadsFirst : Bool → List ℕ → Type 0
+ReadsFirst unbound text = HasEscapes unbound text ⊎ ((first : ClientFirst) × ReadsClientFirst unbound text (Ok first))
+
 -- the server-first message
 abbrev pub Challenges : Bool → Kept → List ℕ → List ℕ → Result (List ℕ) Status → Type 0
 Challenges unbound kept nonce text (Ok message) = (challenge : Challenge)
@@ -146,6 +150,11 @@ Concluded kept before text message user = (challenge : Challenge) × (shown : Ve
     × Shows kept shown × (user ≡ challenge.user)
     × ConcludesFrom (ServerFirstSent challenge) (serving false (one_user user shown)) text (Ok (Some message))
     (ServerFinalSent user)
+
+-- a client-final message comes to be read: a challenge is open, and the struct of the record shows one
+abbrev pub ReadsFinal : Kept → Struct → Type 0
+ReadsFinal kept before = ((challenge : Challenge) × IsOpen before challenge)
+    × ((shown : VersionedRecord) × Shows kept shown)
 
 -- the server-final message, and the struct after it; or that no challenge is open, or one is and the struct of the
 -- record shows none, or it shows one and the message is refused

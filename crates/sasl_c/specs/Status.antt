@@ -1,5 +1,5 @@
 -- What a call from C answers: a number, in which 0 says that it is done.
-use Rattle.std.specs.Prelude.{◌≡◌, ◌≢◌, ◌<◌, ◌≤◌, ◌++◌, ℕ, List, length, drop, Result, Ok, Err}
+use Rattle.std.specs.Prelude.{◌≡◌, ◌≢◌, ◌<◌, ◌≤◌, ◌++◌, ℕ, List, length, drop, IfErr, Result, Ok, Err}
 use Rattle.fe2o3_scram.specs.declared.hmac.ScramVersion.{ScramVersion}
 use Rattle.fe2o3_scram.specs.declared.hmac.ScramVersion.TheVariants as versions
 use Rattle.fe2o3_scram.specs.declared.credentials.record_text.RecordTextError.{RecordTextError}
@@ -126,6 +126,10 @@ answer_number (Err status) = status_number status
 -- the number is that of an answer of this kind
 abbrev pub Answers : ℕ → (Result (Unit {0}) Status → Type 0) → Type 0
 Answers number Answer = (answer : Result (Unit {0}) Status) × (number ≡ answer_number answer) × Answer answer
+
+-- a call is out of memory only where this holds: then no refusal was due before it asked for memory
+abbrev pub AsksWhere : {A : Type 0} → Type 0 → Result A Status → Type 0
+AsksWhere Asks answer = IfErr answer (λ status. status ≡ OutOfMemory → Asks)
 
 -- ---- what a call writes
 

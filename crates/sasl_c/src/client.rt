@@ -4,12 +4,12 @@ ghost use Rattle.std.specs.Prelude.{◌≡◌, ◌≢◌, ◌<◌, ◌≤◌, le
 ghost use Rattle.std.specs.Str.{IsUtf8};
 ghost use Rattle.std.specs.String.{string_bytes};
 ghost use Rattle.fe2o3_scram.specs.ScramClient.{ClientFinalSent, Initial};
-ghost use Rattle.fe2o3_scram.specs.Readings.{IsFirst, Reads};
+ghost use Rattle.fe2o3_scram.specs.Readings.{IsFirst, NoneHolds, Reads};
 ghost use Rattle.sasl_c.specs.Records.{IsVersion};
 ghost use Rattle.fe2o3_scram.specs.ClientKeys.{ClientKeys as Keys};
 ghost use Rattle.sasl_c.specs.Client.{Believes, HandsOut, Holds, HoldsNone, IsLogin, IsNoLogin, IsNoSecret, IsSecret, IsReached, IsSide, IsState, Started, Starts, WritesClient, complete_struct, fresh_struct, keys_tests, name_tests, started_struct};
 ghost use Rattle.sasl_c.specs.Keys.{ShowsKeys, WritesKeys, no_keys_struct};
-ghost use Rattle.sasl_c.specs.Status.{Answers, Fills, Makes, written};
+ghost use Rattle.sasl_c.specs.Status.{Answers, AsksWhere, Fills, Makes, written};
 ghost use Rattle.sasl_c.specs.declared.status.Status.TheVariants.{OutOfMemory as StatusOutOfMemory, NotUtf8 as StatusNotUtf8, RoomTooSmall};
 
 use crate::arrays::{head, padded, put};
@@ -208,7 +208,9 @@ impl ScramClient {
     /// The client that the struct is, of this login.
     pub fn read(&self, alloc: Global, login: &Login<'_>) -> Result<Machine, Status>
         ensures ok { IfOk result (λ side. IsSide login.now self.now side) }
+        ensures names { IfOk result (λ _. NoneHolds (name_tests login.now)) }
         ensures err { IfErr result (λ status. status ≢ StatusOutOfMemory → IsNoLogin login.now status) }
+        ensures memory { AsksWhere (NoneHolds (name_tests login.now)) result }
         ensures room { IfErr result (λ status. status ≢ RoomTooSmall) }
     {
         match self.sent {
@@ -221,7 +223,9 @@ impl ScramClient {
     /// The client that has sent its client-first message.
     fn behind_first(&self, alloc: Global, login: &Login<'_>) -> Result<Machine, Status>
         ensures ok { IfOk result (λ side. self.now.sent ≡ 1 → IsSide login.now self.now side) }
+        ensures names { IfOk result (λ _. NoneHolds (name_tests login.now)) }
         ensures err { IfErr result (λ status. status ≢ StatusOutOfMemory → IsNoLogin login.now status) }
+        ensures memory { AsksWhere (NoneHolds (name_tests login.now)) result }
         ensures room { IfErr result (λ status. status ≢ RoomTooSmall) }
     {
         let mut machine = match login.client(alloc) {
@@ -240,12 +244,16 @@ impl ScramClient {
     /// The client that waits for the signature, where it has room.
     fn behind_final(&self, alloc: Global, login: &Login<'_>) -> Result<Machine, Status>
         ensures ok { IfOk result (λ side. self.now.sent ≡ 2 → IsSide login.now self.now side) }
+        ensures names { IfOk result (λ _. NoneHolds (name_tests login.now)) }
         ensures err { IfErr result (λ status. status ≢ StatusOutOfMemory → IsNoLogin login.now status) }
+        ensures memory { AsksWhere (NoneHolds (name_tests login.now)) result }
         ensures room { IfErr result (λ status. status ≢ RoomTooSmall) }
     {
         let Some(signature) = head(&self.signature, self.signature_len) else {
             return login.client(alloc);
         };
+        // The names are tested before memory is asked for.
+        login.named_version()?;
         let signature = signature.to_vec(alloc)?;
         let keys = shown(alloc, &self.keys)?;
         match login.client(alloc) {
@@ -293,9 +301,7 @@ impl Login<'_> {
     pub fn named_version(&self) -> Result<ScramVersion, Status>
         ensures { Reads (name_tests self.now) (λ version. IsVersion self.now.version version) result }
     {
-        let Some(version) = version_of(self.version) else {
-            return Err(Status::NoSuchVersion);
-        };
+        let version = version_of(self.version).ok_or(Status::NoSuchVersion)?;
         text(self.username)?;
         Ok(version)
     }
@@ -371,9 +377,12 @@ impl Login<'_> {
     }
 
     /// A client that has sent nothing.
+    #[tactic(auto, using(crate::proofs::LoginLemmas::named))]
     fn client(&self, alloc: Global) -> Result<Machine, Status>
         ensures ok { IfOk result (λ side. IsLogin self.now side × (side.state ≡ Initial)) }
+        ensures names { IfOk result (λ _. NoneHolds (name_tests self.now)) }
         ensures err { IfErr result (λ status. status ≢ StatusOutOfMemory → IsNoLogin self.now status) }
+        ensures memory { AsksWhere (NoneHolds (name_tests self.now)) result }
         ensures room { IfErr result (λ status. status ≢ RoomTooSmall) }
     {
         let Some(version) = version_of(self.version) else {
@@ -395,6 +404,7 @@ impl Login<'_> {
 fn first_message(alloc: Global, login: &Login<'_>, nonce: &[u8; 32]) -> Result<Bytes, Status>
     ensures ok { IfOk result (λ message. Starts login.now nonce.now (Ok message)) }
     ensures err { IfErr result (λ status. status ≢ StatusOutOfMemory → IsNoLogin login.now status) }
+    ensures memory { AsksWhere (NoneHolds (name_tests login.now)) result }
     ensures room { IfErr result (λ status. status ≢ RoomTooSmall) }
 {
     let mut machine = match login.client(alloc) {
@@ -445,6 +455,7 @@ fn first(
     ensures text { Fills (Starts login.now nonce.now) (record { bytes = out.old; len = len.old })
         (record { bytes = out.new; len = len.new }) result }
     ensures moved { Started login.now nonce.now client.old client.new result }
+    ensures memory { AsksWhere (NoneHolds (name_tests login.now)) result }
 {
     let message = match first_message(alloc, login, nonce) {
         Ok(message) => message,
@@ -465,7 +476,8 @@ pub extern "C" fn fe2o3_scram_client_first(
     len: &mut usize,
 ) -> u32
     ensures { Answers result (λ answer. Fills (Starts login.now nonce.now) (record { bytes = out.old; len = len.old })
-        (record { bytes = out.new; len = len.new }) answer × Started login.now nonce.now client.old client.new answer) }
+        (record { bytes = out.new; len = len.new }) answer × Started login.now nonce.now client.old client.new answer
+        × AsksWhere (NoneHolds (name_tests login.now)) answer) }
 {
     number(first(alloc, login, client, nonce, out, len))
 }
@@ -478,7 +490,8 @@ fn verify(
     client: &mut ScramClient,
     server_final: &[u8],
 ) -> Result<(), Status>
-    ensures { Believes login.now server_final.now client.old client.new result }
+    ensures believes { Believes login.now server_final.now client.old client.new result }
+    ensures memory { AsksWhere (NoneHolds (name_tests login.now)) result }
 {
     let mut machine = match client.read(alloc, login) {
         Ok(machine) => machine,
@@ -502,7 +515,8 @@ pub extern "C" fn fe2o3_scram_client_verify(
     client: &mut ScramClient,
     server_final: &[u8],
 ) -> u32
-    ensures { Answers result (Believes login.now server_final.now client.old client.new) }
+    ensures { Answers result (λ answer. Believes login.now server_final.now client.old client.new answer
+        × AsksWhere (NoneHolds (name_tests login.now)) answer) }
 {
     number(verify(alloc, login, client, server_final))
 }

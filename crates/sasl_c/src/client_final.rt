@@ -7,7 +7,8 @@ ghost use Rattle.fe2o3_scram.specs.ClientFinal.{answer_values};
 ghost use Rattle.fe2o3_scram.specs.ClientSecret.{secret_of};
 ghost use Rattle.fe2o3_scram.specs.Texts.{base64_text};
 ghost use Rattle.sasl_c.specs.Client.{Responds, IsAnswer, IsSecret, NotAnswered, name_tests};
-ghost use Rattle.sasl_c.specs.Status.{Answers, FillsWithin};
+ghost use Rattle.std.specs.Str.{IsUtf8};
+ghost use Rattle.sasl_c.specs.Status.{Answers, AsksWhere, FillsWithin};
 ghost use Rattle.sasl_c.specs.declared.status.Status.TheVariants.{OutOfMemory as StatusOutOfMemory, RoomTooSmall};
 
 use crate::arrays::put;
@@ -175,6 +176,7 @@ fn answered_of(
 fn not_due(alloc: Global, login: &Login<'_>, client: &ScramClient) -> Status
     ensures why { result ≢ StatusOutOfMemory → client.now.sent ≢ 1 → (text : List ℕ)
         → NotAnswered login.now client.now text result }
+    ensures memory { result ≡ StatusOutOfMemory → NoneHolds (name_tests login.now) }
     ensures room { result ≢ RoomTooSmall }
 {
     let client = match client.read(alloc, login) {
@@ -198,6 +200,7 @@ fn answered(
     ensures ok { IfOk result (λ answer. IsAnswer login.now client.now server_first.now (answer_values answer)) }
     ensures err { IfErr result (λ status. status ≢ StatusOutOfMemory
         → NotAnswered login.now client.now server_first.now status) }
+    ensures memory { AsksWhere (NoneHolds (name_tests login.now)) result }
     ensures room { IfErr result (λ status. status ≢ RoomTooSmall) }
 {
     if client.sent != 1 {
@@ -224,6 +227,7 @@ fn answer(
         (record { bytes = out.new; len = len.new }) result }
     ensures stays { OnErr result (client.new ≡ client.old) }
     ensures first { IfErr result (λ status. status ≡ RoomTooSmall → meter.new ≡ meter.old) }
+    ensures memory { AsksWhere (IsUtf8 server_first.now × NoneHolds (name_tests login.now)) result }
 {
     let suffices = server_first.len() + ANSWER_MORE;
     if out.len() < suffices {
@@ -255,7 +259,8 @@ pub extern "C" fn fe2o3_scram_client_final(
 ) -> u32
     ensures { Answers result (λ answer. FillsWithin (length server_first.now + 128)
         (Responds login.now server_first.now client.old client.new) (record { bytes = out.old; len = len.old })
-        (record { bytes = out.new; len = len.new }) answer × OnErr answer (client.new ≡ client.old)) }
+        (record { bytes = out.new; len = len.new }) answer × OnErr answer (client.new ≡ client.old)
+        × AsksWhere (IsUtf8 server_first.now × NoneHolds (name_tests login.now)) answer) }
 {
     let mut meter = Meter::new();
     number(answer(alloc, login, client, server_first, &mut meter, out, len))

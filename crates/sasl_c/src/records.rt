@@ -347,21 +347,15 @@ pub extern "C" fn fe2o3_scram_record_of_nobody(
     ))
 }
 
-/// Whether a password is that of the record.
-fn verify(
-    alloc: Global,
-    kept: &ScramRecord,
-    form: PasswordForm,
-    password: &[u8],
-) -> Result<(), Status>
+/// Whether a password is that of the record, which takes no memory.
+fn verify(kept: &ScramRecord, form: PasswordForm, password: &[u8]) -> Result<(), Status>
     ensures { Verifies kept.now (in_form form password.now) result }
 {
-    let kept = kept.read(alloc)?;
+    let (version, stored) = kept.lent()?;
     let Ok(password) = text(password) else {
         return Err(Status::NotUtf8);
     };
-    let version = *kept.scram_version();
-    if form.meets(version, &kept.as_stored_password(), password) {
+    if form.meets(version, &stored, password) {
         Ok(())
     } else {
         Err(Status::OtherPassword)
@@ -371,24 +365,16 @@ fn verify(
 /// Whether a password that was told, as by PLAIN, is that of the record: 0 where it is. It hashes as often as the
 /// record's count says, so the record is to be one of the caller's own.
 #[unsafe(no_mangle)]
-pub extern "C" fn fe2o3_scram_record_verify(
-    alloc: Global,
-    kept: &ScramRecord,
-    password: &[u8],
-) -> u32
+pub extern "C" fn fe2o3_scram_record_verify(kept: &ScramRecord, password: &[u8]) -> u32
     ensures { Answers result (Verifies kept.now (Typed password.now)) }
 {
-    number(verify(alloc, kept, PasswordForm::Typed, password))
+    number(verify(kept, PasswordForm::Typed, password))
 }
 
 /// Whether a prepared password (RFC 4013), which is taken as it stands, is that of the record: 0 where it is.
 #[unsafe(no_mangle)]
-pub extern "C" fn fe2o3_scram_record_verify_prepared(
-    alloc: Global,
-    kept: &ScramRecord,
-    password: &[u8],
-) -> u32
+pub extern "C" fn fe2o3_scram_record_verify_prepared(kept: &ScramRecord, password: &[u8]) -> u32
     ensures { Answers result (Verifies kept.now (Prepared password.now)) }
 {
-    number(verify(alloc, kept, PasswordForm::Prepared, password))
+    number(verify(kept, PasswordForm::Prepared, password))
 }

@@ -6,10 +6,10 @@ ghost use Rattle.fe2o3_sasl_runs.specs.SaslProfile.{profile_of};
 ghost use Rattle.fe2o3_sasl_negotiation.specs.declared.standing.Standing.TheVariants.{Wanting};
 ghost use Rattle.fe2o3_sasl_negotiation.specs.ClientNegotiation.{ClientReceives};
 ghost use Rattle.fe2o3_sasl_negotiation.specs.Sides.{client_side, hostname_in};
-ghost use Rattle.sasl_c.specs.SaslClient.{Comes, HasNoWords, IsClient, IsHostname, IsNoClient, HasNoHostname, IsNoProfile, IsProfile, Opens, Receives, WritesProfile, WritesSide};
+ghost use Rattle.sasl_c.specs.SaslClient.{Comes, HasNoWords, IsClient, IsHostname, IsNoClient, HasNoHostname, IsNoProfile, ReadsClient, IsProfile, Opens, Receives, WritesProfile, WritesSide};
 ghost use Rattle.sasl_c.specs.declared.sasl_client.SaslClient.{SaslClient as Structs};
 ghost use Rattle.sasl_c.specs.declared.sasl_client.SaslLogin.{SaslLogin as LoginStruct};
-ghost use Rattle.sasl_c.specs.Status.{Answers, Fills, FillsWithin};
+ghost use Rattle.sasl_c.specs.Status.{Answers, AsksWhere, Fills, FillsWithin};
 ghost use Rattle.sasl_c.specs.declared.status.Status.TheVariants.{NotUtf8, OutOfMemory as StatusOutOfMemory, RoomTooSmall};
 
 use crate::arrays::put;
@@ -54,6 +54,7 @@ impl SaslLogin<'_> {
         ensures ok { IfOk result (λ hostname. IsHostname self.now (option_map string_bytes hostname)) }
         ensures utf8 { IfOk result (λ _. ¬ HasNoHostname self.now) }
         ensures err { IfErr result (λ status. status ≢ StatusOutOfMemory → (status ≡ NotUtf8) × HasNoHostname self.now) }
+        ensures memory { AsksWhere (¬ HasNoHostname self.now) result }
         ensures room { IfErr result (λ status. status ≢ RoomTooSmall) }
     {
         if self.hostname.is_empty() {
@@ -129,7 +130,9 @@ impl SaslClient {
     fn read(&self, alloc: Global, login: &SaslLogin<'_>) -> Result<ClientNegotiation, Status>
         ensures ok { IfOk result (λ side. IsHostname login.now (hostname_in side)
             × IsClient login.now self.now (client_side side) × ((client_side side).standing ≡ Wanting)) }
+        ensures reads { IfOk result (λ _. ReadsClient login.now self.now) }
         ensures err { IfErr result (λ status. status ≢ StatusOutOfMemory → IsNoClient login.now self.now status) }
+        ensures memory { AsksWhere (ReadsClient login.now self.now) result }
         ensures room { IfErr result (λ status. status ≢ RoomTooSmall) }
     {
         let kept = self.connection.read()?;
@@ -219,6 +222,7 @@ fn received(
         (Ok made.sent.items)) }
     ensures fits { IfOk result (λ made. length made.sent.items ≤ 512) }
     ensures err { IfErr result (λ status. status ≢ StatusOutOfMemory → IsNoClient login.now client.now status) }
+    ensures memory { AsksWhere (ReadsClient login.now client.now) result }
     ensures room { IfErr result (λ status. status ≢ RoomTooSmall) }
 {
     let mut side = match client.read(alloc, login) {
@@ -250,6 +254,7 @@ fn receive(
         (record { bytes = out.old; len = len.old }) (record { bytes = out.new; len = len.new }) result }
     ensures stays { OnErr result ((client.new ≡ client.old) × (taken.new ≡ taken.old)) }
     ensures first { IfErr result (λ status. status ≡ RoomTooSmall → meter.new ≡ meter.old) }
+    ensures memory { AsksWhere (ReadsClient login.now client.old) result }
 {
     if out.len() < FRAME_MOST {
         *len = FRAME_MOST;
@@ -285,7 +290,8 @@ pub extern "C" fn fe2o3_sasl_client_receive(
     ensures { Answers result (λ answer. FillsWithin 512
         (Receives login.now bytes.now nonce.now client.old client.new taken.new)
         (record { bytes = out.old; len = len.old }) (record { bytes = out.new; len = len.new }) answer
-        × OnErr answer ((client.new ≡ client.old) × (taken.new ≡ taken.old))) }
+        × OnErr answer ((client.new ≡ client.old) × (taken.new ≡ taken.old))
+        × AsksWhere (ReadsClient login.now client.old) answer) }
 {
     let mut meter = Meter::new();
     number(receive(

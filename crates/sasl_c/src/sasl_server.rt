@@ -12,7 +12,9 @@ ghost use Rattle.fe2o3_sasl_negotiation.specs.Sides.{server_side};
 ghost use Rattle.sasl_c.specs.SaslServer.{Comes, HasNoWords, HasNone, HasRecords, IsAll, IsNoHost, NotReceived, Received, Receives, ShowsBy, ShowsStanding, ShowsState, Stands, all_in, all_of, allowed_of, external_mechanism, external_name, name_where, one_where, standing_struct, state_of, state_struct, struct_by, sum_of};
 ghost use Rattle.sasl_c.specs.declared.sasl_server.Choice.{Choice as Choices};
 ghost use Rattle.sasl_c.specs.declared.server.ScramServer.{ScramServer as ScramStruct};
-ghost use Rattle.sasl_c.specs.Status.{Answers, FillsWithin};
+ghost use Rattle.fe2o3_scram.specs.Readings.{NoneHolds};
+ghost use Rattle.sasl_c.specs.Connection.{side_tests};
+ghost use Rattle.sasl_c.specs.Status.{Answers, AsksWhere, FillsWithin};
 ghost use Rattle.sasl_c.specs.declared.status.Status.TheVariants.{OutOfMemory as StatusOutOfMemory, NotKept as StatusNotKept, NotUtf8 as StatusNotUtf8, RoomTooSmall, TooLong as StatusTooLong};
 
 use crate::arrays::put;
@@ -441,6 +443,7 @@ fn taken<A: Shows + Drop>(
 }
 
 /// What a server makes of bytes.
+#[tactic(auto, using(crate::proofs::ServerCallLemmas::without_memory))]
 fn received(
     alloc: Global,
     host: &SaslHost<'_>,
@@ -455,6 +458,7 @@ fn received(
     ensures fits { IfOk result (λ made. length made.sent.items ≤ 520) }
     ensures err { IfErr result (λ status. status ≢ StatusOutOfMemory
         → NotReceived host.now bytes.now nonce.now server.now status) }
+    ensures memory { AsksWhere (NoneHolds (side_tests server.now.connection)) result }
     ensures room { IfErr result (λ status. status ≢ RoomTooSmall) }
 {
     let kept = match server.connection.read() {
@@ -491,6 +495,7 @@ fn receive(
         (record { bytes = out.old; len = len.old }) (record { bytes = out.new; len = len.new }) result }
     ensures stays { OnErr result ((server.new ≡ server.old) × (taken.new ≡ taken.old)) }
     ensures first { IfErr result (λ status. status ≡ RoomTooSmall → meter.new ≡ meter.old) }
+    ensures memory { AsksWhere (NoneHolds (side_tests server.old.connection)) result }
 {
     if out.len() < SENT_MOST {
         *len = SENT_MOST;
@@ -526,7 +531,8 @@ pub extern "C" fn fe2o3_sasl_server_receive(
     ensures { Answers result (λ answer. FillsWithin 520
         (Receives host.now bytes.now nonce.now server.old server.new taken.new)
         (record { bytes = out.old; len = len.old }) (record { bytes = out.new; len = len.new }) answer
-        × OnErr answer ((server.new ≡ server.old) × (taken.new ≡ taken.old))) }
+        × OnErr answer ((server.new ≡ server.old) × (taken.new ≡ taken.old))
+        × AsksWhere (NoneHolds (side_tests server.old.connection)) answer) }
 {
     let mut meter = Meter::new();
     number(receive(

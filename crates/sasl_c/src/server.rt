@@ -4,8 +4,8 @@ ghost use Rattle.std.specs.Prelude.{false, true, ◌≡◌, ◌≢◌, ◌<◌, 
 ghost use Rattle.fe2o3_scram.specs.ServerFirst.{Challenge};
 ghost use Rattle.fe2o3_scram.specs.ScramServer.{Initial, ServerFirstSent, challenge_kept, provider_in, state_in, unbound_in};
 ghost use Rattle.fe2o3_scram.specs.declared.scram_messages.gs2_header.Gs2Header.{Gs2Header as HeaderOf};
-ghost use Rattle.sasl_c.specs.Server.{Challenged, Challenges, Concluded, Concludes, HasLoggedIn, HasRoom, IsOpen, NamesUser, NotChallenged, Opens, TellsUser, fresh_struct, logged_in_struct, open_number, open_struct, user_struct};
-ghost use Rattle.sasl_c.specs.Status.{Answers, Fills, FillsWithin};
+ghost use Rattle.sasl_c.specs.Server.{Challenged, Challenges, Concluded, Concludes, HasLoggedIn, HasRoom, IsOpen, NamesUser, NotChallenged, Opens, ReadsFinal, ReadsFirst, TellsUser, fresh_struct, logged_in_struct, open_number, open_struct, user_struct};
+ghost use Rattle.sasl_c.specs.Status.{Answers, AsksWhere, Fills, FillsWithin};
 ghost use Rattle.sasl_c.specs.declared.status.Status.TheVariants.{OutOfMemory as StatusOutOfMemory, RoomTooSmall};
 
 use crate::arrays::{cleared, head, padded, put};
@@ -203,6 +203,7 @@ fn challenged(
         × Challenged accepts_unbound kept.now nonce.now client_first.now challenge) }
     ensures err { IfErr result (λ status. status ≢ StatusOutOfMemory
         → NotChallenged accepts_unbound kept.now nonce.now client_first.now status) }
+    ensures memory { AsksWhere (ReadsFirst accepts_unbound client_first.now) result }
     ensures room { IfErr result (λ status. status ≢ RoomTooSmall) }
 {
     let first = match ClientFirst::parse_unbound(alloc, client_first, accepts_unbound) {
@@ -239,6 +240,7 @@ fn opened(
         (Ok (take opened.first_len opened.first)) × (opened.first_len ≤ 1024)) }
     ensures err { IfErr result (λ status. status ≢ StatusOutOfMemory
         → NotChallenged accepts_unbound kept.now nonce.now client_first.now status) }
+    ensures memory { AsksWhere (ReadsFirst accepts_unbound client_first.now) result }
     ensures room { IfErr result (λ status. status ≢ RoomTooSmall) }
 {
     let machine = match challenged(alloc, accepts_unbound, kept, nonce, client_first) {
@@ -275,6 +277,7 @@ fn first(
     ensures text { Fills (Challenges accepts_unbound kept.now nonce.now client_first.now)
         (record { bytes = out.old; len = len.old }) (record { bytes = out.new; len = len.new }) result }
     ensures moved { Opens accepts_unbound kept.now nonce.now client_first.now server.old server.new result }
+    ensures memory { AsksWhere (ReadsFirst accepts_unbound client_first.now) result }
 {
     let opened = opened(alloc, accepts_unbound, kept, nonce, client_first)?;
     put(&opened.first[..opened.first_len as usize], out, len)?;
@@ -298,7 +301,8 @@ pub extern "C" fn fe2o3_scram_server_first(
 ) -> u32
     ensures { Answers result (λ answer. Fills (Challenges false kept.now nonce.now client_first.now)
         (record { bytes = out.old; len = len.old }) (record { bytes = out.new; len = len.new }) answer
-        × Opens false kept.now nonce.now client_first.now server.old server.new answer) }
+        × Opens false kept.now nonce.now client_first.now server.old server.new answer
+        × AsksWhere (ReadsFirst false client_first.now) answer) }
 {
     number(first(alloc, false, kept, server, nonce, client_first, out, len))
 }
@@ -318,7 +322,8 @@ pub extern "C" fn fe2o3_scram_server_first_unbound(
 ) -> u32
     ensures { Answers result (λ answer. Fills (Challenges true kept.now nonce.now client_first.now)
         (record { bytes = out.old; len = len.old }) (record { bytes = out.new; len = len.new }) answer
-        × Opens true kept.now nonce.now client_first.now server.old server.new answer) }
+        × Opens true kept.now nonce.now client_first.now server.old server.new answer
+        × AsksWhere (ReadsFirst true client_first.now) answer) }
 {
     number(first(alloc, true, kept, server, nonce, client_first, out, len))
 }
@@ -364,6 +369,7 @@ fn concluded(
     ensures named { IfOk result (λ _. server.now.user_len ≤ 256) }
     ensures err { IfErr result (λ status. status ≢ StatusOutOfMemory
         → Concludes kept.now client_final.now server.now server.now (Err status)) }
+    ensures memory { AsksWhere (ReadsFinal kept.now server.now) result }
     ensures room { IfErr result (λ status. status ≢ RoomTooSmall) }
 {
     let Some(challenge) = server.challenge() else {
@@ -407,6 +413,7 @@ fn conclude(
         (record { bytes = out.old; len = len.old }) (record { bytes = out.new; len = len.new }) result }
     ensures stays { OnErr result (server.new ≡ server.old) }
     ensures first { IfErr result (λ status. status ≡ RoomTooSmall → meter.new ≡ meter.old) }
+    ensures memory { AsksWhere (ReadsFinal kept.now server.old) result }
 {
     if out.len() < FINAL_MOST {
         *len = FINAL_MOST;
@@ -432,7 +439,7 @@ pub extern "C" fn fe2o3_scram_server_final(
 ) -> u32
     ensures { Answers result (λ answer. FillsWithin 90 (Concludes kept.now client_final.now server.old server.new)
         (record { bytes = out.old; len = len.old }) (record { bytes = out.new; len = len.new }) answer
-        × OnErr answer (server.new ≡ server.old)) }
+        × OnErr answer (server.new ≡ server.old) × AsksWhere (ReadsFinal kept.now server.old) answer) }
 {
     let mut meter = Meter::new();
     number(conclude(alloc, kept, server, client_final, &mut meter, out, len))
@@ -440,8 +447,9 @@ pub extern "C" fn fe2o3_scram_server_final(
 
 /// Writes the name of the user who has logged in.
 fn tell(server: &ScramServer, out: &mut [u8], len: &mut usize) -> Result<(), Status>
-    ensures { Fills (TellsUser server.now) (record { bytes = out.old; len = len.old })
+    ensures text { Fills (TellsUser server.now) (record { bytes = out.old; len = len.old })
         (record { bytes = out.new; len = len.new }) result }
+    ensures memory { AsksWhere ⊥ result }
 {
     let illegal = Status::Server(ServerScramErrorKind::IllegalAuthenticatorState);
     if server.stands != 2 {
@@ -460,8 +468,8 @@ pub extern "C" fn fe2o3_scram_server_logged_in(
     out: &mut [u8],
     len: &mut usize,
 ) -> u32
-    ensures { Answers result (Fills (TellsUser server.now) (record { bytes = out.old; len = len.old })
-        (record { bytes = out.new; len = len.new })) }
+    ensures { Answers result (λ answer. Fills (TellsUser server.now) (record { bytes = out.old; len = len.old })
+        (record { bytes = out.new; len = len.new }) answer × AsksWhere ⊥ answer) }
 {
     number(tell(server, out, len))
 }

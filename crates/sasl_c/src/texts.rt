@@ -103,12 +103,39 @@ fn text_of(status: u32) -> &'static [u8]
     }
 }
 
+/// Lends the text of a status.
+fn lend(status: u32, text: &mut Text<'static>)
+    ensures { text.new.bytes.now ≡ status_text status }
+{
+    text.bytes = text_of(status);
+}
+
 /// Lends the text of a status for ever, with a zero behind it.
 #[unsafe(no_mangle)]
 pub extern "C" fn fe2o3_status_text(status: u32, text: &mut Text<'static>)
     ensures { text.new.bytes.now ≡ status_text status }
 {
-    text.bytes = text_of(status);
+    lend(status, text);
+}
+
+/// How many bytes a struct has.
+fn size(which: u32) -> usize
+    ensures { result ≡ size_in struct_sizes which }
+{
+    match which {
+        0 => size_of::<Login<'static>>(),
+        1 => size_of::<ScramClient>(),
+        2 => size_of::<ClientKeys>(),
+        3 => size_of::<ScramServer>(),
+        4 => size_of::<ScramRecord>(),
+        5 => size_of::<Connection>(),
+        6 => size_of::<SaslLogin<'static>>(),
+        7 => size_of::<SaslClient>(),
+        8 => size_of::<SaslFrameView<'static>>(),
+        9 => size_of::<SaslHost<'static>>(),
+        10 => size_of::<SaslServer>(),
+        _ => 0,
+    }
 }
 
 /// The version of the library: its three numbers, each of two digits.
@@ -127,18 +154,5 @@ pub extern "C" fn fe2o3_version() -> u32
 pub extern "C" fn fe2o3_size(which: u32) -> usize
     ensures { result ≡ size_in struct_sizes which }
 {
-    match which {
-        0 => size_of::<Login<'static>>(),
-        1 => size_of::<ScramClient>(),
-        2 => size_of::<ClientKeys>(),
-        3 => size_of::<ScramServer>(),
-        4 => size_of::<ScramRecord>(),
-        5 => size_of::<Connection>(),
-        6 => size_of::<SaslLogin<'static>>(),
-        7 => size_of::<SaslClient>(),
-        8 => size_of::<SaslFrameView<'static>>(),
-        9 => size_of::<SaslHost<'static>>(),
-        10 => size_of::<SaslServer>(),
-        _ => 0,
-    }
+    size(which)
 }
