@@ -1,4 +1,5 @@
-//! The program `broker RECORDS [tls]`: `broker_logins` over standard input and output.
+//! The program `broker RECORDS [tls]`: `broker_logins` over standard input and output. It keeps the secret of mock
+//! records in `RECORDS.secret`.
 #![tactic(auto)]
 
 use anyhow::{Context, Result};

@@ -35,10 +35,22 @@ fn print_word<O: Write>(output: &mut O, word: &Word) -> Result<()> {
     };
     match word.kind {
         Kind::Place | Kind::MechanismPlace => write!(output, ".TP\n.I {name}\n{help}.\n"),
-        Kind::Flag => write!(output, ".TP\n.B \\-\\-{name}\n{help}.\n"),
-        _ => write!(
-            output,
-            ".TP\n.BI \\-\\-{name} \" {value}\"\n{help}{default}.\n"
-        ),
+        Kind::Flag => {
+            print_option(output, ".B", name)?;
+            write!(output, "\n{help}.\n")
+        }
+        _ => {
+            print_option(output, ".BI", name)?;
+            write!(output, " \" {value}\"\n{help}{default}.\n")
+        }
     }
+}
+
+/// Prints an option by its name, in which roff takes a plain hyphen for one of prose.
+fn print_option<O: Write>(output: &mut O, font: &str, name: &str) -> Result<()> {
+    write!(output, ".TP\n{font} \\-")?;
+    for part in name.split('-') {
+        write!(output, "\\-{part}")?;
+    }
+    Ok(())
 }
