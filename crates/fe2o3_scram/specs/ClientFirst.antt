@@ -69,10 +69,10 @@ client_first_tests unbound text =
     ∷ (CannotParseClientNonce, (nonce : List ℕ) → ¬ BarePart unbound text 1 (codes "r=" ++ nonce))
     ∷ []
 
--- the server comes to a name with escapes, for which it asks for memory (RFC 5802, section 5.1)
+-- the server asks for memory for a name that is sent with escapes (RFC 5802, section 5.1)
 abbrev pub HasEscapes : Bool → List ℕ → Type 0
 HasEscapes unbound text = IsUtf8 text
-    × ((spelling : List ℕ) × BarePart unbound text 0 (codes "n=" ++ spelling) × ¬ NoEquals spelling)
+    × ((user : List ℕ) × BarePart unbound text 0 (codes "n=" ++ escaped user) × ¬ NoEquals (escaped user))
 
 -- what the server reads (RFC 5802, section 5.1): the first refusal that holds, or the values that are named; further
 -- parts say nothing

@@ -1,5 +1,5 @@
 -- User names as SCRAM messages send them (RFC 5802, section 5.1, `saslname`).
-use Rattle.std.specs.Prelude.{ℕ, List, [], ◌∷◌, ◌++◌, ◌==◌, if◌then◌else◌, codes, ◌≢◌}
+use Rattle.std.specs.Prelude.{ℕ, List, [], ◌∷◌, ◌++◌, ◌==◌, if◌then◌else◌, codes, ◌≡◌, ◌≢◌}
 use Rattle.std.specs.List.{AllByRecursion}
 
 -- a byte as it is sent: a comma as `=2C`, an equals sign as `=3D`, any other as itself
@@ -14,3 +14,7 @@ escaped (byte ∷ name) = escaped_byte byte ++ escaped name
 -- no byte is an equals sign, so no escape stands in the text (RFC 5802, section 5.1)
 abbrev pub NoEquals : List ℕ → Type 0
 NoEquals text = AllByRecursion (λ byte. byte ≢ 61) text
+
+-- the text is some name as it is sent (RFC 5802, section 5.1)
+abbrev pub SpellsName : List ℕ → Type 0
+SpellsName text = (name : List ℕ) × (escaped name ≡ text)

@@ -20,6 +20,8 @@ mod events;
 #[cfg(test)]
 mod handed;
 #[cfg(test)]
+mod hidden_users;
+#[cfg(test)]
 mod profiles;
 #[cfg(test)]
 mod saslprep_texts;

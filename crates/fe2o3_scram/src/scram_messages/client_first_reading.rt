@@ -34,10 +34,10 @@ impl<'a> ClientFirst<'a> {
     /// Reads a client-first message (RFC 5802, sections 5.1 and 7), with its GS2 header, which has to be
     /// `n,,`.
     ///
-    /// Refused are, in this order: `Utf8Error` where the text is not UTF-8 (RFC 3629),
-    /// `CannotParseGs2Header`, `CannotParseUsername` and `CannotParseClientNonce`. Parts behind the
-    /// nonce say nothing. Memory is taken for an escaped user name alone: `OutOfMemory` is answered
-    /// only where the part of the name begins with `n=` and goes on with an equals sign.
+    /// The errors are, in this order: `Utf8Error` if the text is not UTF-8 (RFC 3629),
+    /// `CannotParseGs2Header`, `CannotParseUsername` and `CannotParseClientNonce`. Parts after the nonce
+    /// are ignored. Only a user name with escapes takes memory: `OutOfMemory` is returned only for a
+    /// text whose part of the name spells one.
     pub fn parse(alloc: Global, text: &'a [u8]) -> Result<Self, ServerScramErrorKind>
         ensures answer { Gives ServerScramErrorKind.OutOfMemory (HasEscapes false text.now) client_first_values
             result (ReadsClientFirst false text.now) }
@@ -46,8 +46,8 @@ impl<'a> ClientFirst<'a> {
         ClientFirst::parse_unbound(alloc, text, false)
     }
 
-    /// As `parse`, and where `accepts_unbound` says so the GS2 header may be `y,,` too: that of a client
-    /// which could bind a channel and believes that the server cannot (RFC 5802, section 6).
+    /// Like `parse`, but with `accepts_unbound` the GS2 header may be `y,,` too: that of a client which
+    /// supports channel binding and believes that the server does not (RFC 5802, section 6).
     pub fn parse_unbound(
         alloc: Global,
         text: &'a [u8],

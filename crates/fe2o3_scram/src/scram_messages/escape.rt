@@ -1,9 +1,9 @@
 //! User names as SCRAM messages send them (RFC 5802, section 5.1).
 
-ghost use Rattle.std.specs.Prelude.{◌≡◌, ◌≢◌, ◌↔◌, ◌⊎◌, ◌++◌, ◌∷◌, IfOk, IfErr, OnOk, MatchOption, ℕ, List, string_bytes};
+ghost use Rattle.std.specs.Prelude.{◌≡◌, ◌≢◌, ◌↔◌, ◌⊎◌, ◌++◌, ◌∷◌, IfOk, IfErr, OnOk, MatchOption, IsTrue, ℕ, List, string_bytes};
 ghost use Rattle.std.specs.Cow.{cow_str_bytes, IsBorrowedStr};
 ghost use Rattle.fe2o3_scram.specs.Texts.{NoComma};
-ghost use Rattle.fe2o3_scram.specs.Escape.{escaped, NoEquals};
+ghost use Rattle.fe2o3_scram.specs.Escape.{escaped, NoEquals, SpellsName};
 ghost use Rattle.fe2o3_scram.specs.declared.scram_messages.escape.UnescapeError.TheVariants.{OutOfMemory as OutOfMemoryError};
 
 use crate::OutOfMemory;
@@ -70,12 +70,12 @@ pub(crate) fn escaped_len(username: &[u8]) -> usize {
     len
 }
 
-/// The user name that the text spells (RFC 5802, section 5.1, `saslname`), borrowed where the text
-/// holds no equals sign. The text is what follows `n=` in a client-first message.
+/// Returns the user name that the text spells (RFC 5802, section 5.1, `saslname`), borrowed if the text
+/// has no equals sign. The text is what follows `n=` in a client-first message.
 ///
-/// Refused is, with `Invalid`, a text with a comma, or with an equals sign that neither `2C` nor
-/// `3D` follows in these very letters: `=2c` is invalid. `OutOfMemory` is answered only for a text
-/// with an equals sign and without commas.
+/// The errors are `Invalid`, for a text with a comma, or with an equals sign that neither `2C` nor `3D`
+/// follows in these very letters (`=2c` is invalid), and `OutOfMemory`, only for a text that spells a
+/// name and has an equals sign.
 #[tactic(auto, using(crate::proofs::lemmas::texts::EscapingLemmas::names))]
 pub fn unescape_username(alloc: Global, text: &str) -> Result<CowStr<'_>, UnescapeError>
     ensures ok { IfOk result (λ name. escaped (cow_str_bytes name) ≡ text.now) }
@@ -85,16 +85,40 @@ pub fn unescape_username(alloc: Global, text: &str) -> Result<CowStr<'_>, Unesca
     ensures err { IfErr result (λ error. ((error ≡ UnescapeError.Invalid) × ((name : List ℕ) → escaped name ≢ text.now))
         ⊎ ((error ≡ UnescapeError.OutOfMemory) × ¬ NoEquals text.now)) }
 
-    // Nor does one with a comma.
+    // Nor does one with a comma, or with an equals sign that begins no escape.
     ensures memory { IfErr result (λ error. error ≡ UnescapeError.OutOfMemory → NoComma text.now) }
+    ensures spells { IfErr result (λ error. error ≡ UnescapeError.OutOfMemory → SpellsName text.now) }
 {
     if text.contains(',') {
         return Err(UnescapeError::Invalid);
     }
     if text.contains('=') {
-        return Ok(CowStr::Owned(unescape(alloc, text)?));
+        if spells_name(text) {
+            return Ok(CowStr::Owned(unescape(alloc, text)?));
+        }
+        return Err(UnescapeError::Invalid);
     }
     Ok(CowStr::Borrowed(text))
+}
+
+/// Returns whether a text without commas spells a name. It asks for no memory, so that an invalid text is
+/// never answered by `OutOfMemory`.
+#[tactic(auto, using(crate::proofs::lemmas::texts::EscapingLemmas::unescaping))]
+fn spells_name(text: &str) -> bool
+    requires { NoComma text.now }
+    ensures { IsTrue result ↔ SpellsName text.now }
+{
+    let mut rest = text;
+    while let Some((_, escape)) = at_equals(rest) {
+        if let Some(more) = after(escape, "2C") {
+            rest = more;
+        } else if let Some(more) = after(escape, "3D") {
+            rest = more;
+        } else {
+            return false;
+        }
+    }
+    true
 }
 
 /// The name that a text without commas spells.

@@ -5,10 +5,10 @@ use Rattle.fe2o3_scram.specs.declared.scram_messages.error.ServerScramErrorKind.
 use Rattle.fe2o3_scram.specs.declared.scram_messages.error.ServerScramErrorKind.TheVariants.{Utf8Error, CannotParseGs2Header, CannotParseUsername, CannotParseClientNonce}
 use Rattle.fe2o3_scram.specs.declared.scram_messages.gs2_header.Gs2Header.{Gs2Header}
 use Rattle.fe2o3_scram.specs.declared.scram_messages.gs2_header.Gs2Header.TheVariants.{Unsupported, Unoffered}
-use Rattle.fe2o3_scram.specs.ClientFirst.{ClientFirst, BarePart, NamesClientFirst, ReadsClientFirst, TakesHeader, client_first_tests, header_text}
+use Rattle.fe2o3_scram.specs.ClientFirst.{HasEscapes, ClientFirst, BarePart, NamesClientFirst, ReadsClientFirst, TakesHeader, client_first_tests, header_text}
 use Rattle.fe2o3_scram.specs.declared.scram_messages.escape.UnescapeError.{UnescapeError}
 use Rattle.fe2o3_scram.specs.declared.scram_messages.escape.UnescapeError.TheVariants.{Invalid, OutOfMemory as UnescapeOutOfMemory}
-use Rattle.fe2o3_scram.specs.Escape.{escaped}
+use Rattle.fe2o3_scram.specs.Escape.{NoEquals, escaped}
 use Rattle.fe2o3_scram.specs.Texts.{Part, Begins}
 use Rattle.fe2o3_scram.proofs.lemmas.texts.EscapingLemmas.{one_escaped}
 use Rattle.fe2o3_scram.proofs.lemmas.texts.PartsLemmas.{one_behind}
@@ -79,6 +79,17 @@ module _ (unbound : Bool) (header : Gs2Header) (text bare : List ℕ) (utf8 : Is
   user_part : (spelling user : List ℕ) → Part bare 0 (codes "n=" ++ spelling) → escaped user ≡ spelling
       → Part bare 0 (codes "n=" ++ escaped user)
   user_part spelling user part spells = subst (λ (spelt : List ℕ). Part bare 0 (codes "n=" ++ spelt)) (sym spells) part
+
+  pub has_escapes : (spelling user : List ℕ) → Part bare 0 (codes "n=" ++ spelling) → escaped user ≡ spelling
+      → ¬ NoEquals spelling → HasEscapes unbound text
+  has_escapes spelling user part spells some = (
+    utf8,
+    (
+      user,
+      (header, bare, takes, is, user_part spelling user part spells),
+      subst (λ (spelt : List ℕ). ¬ NoEquals spelt) (sym spells) some,
+    ),
+  )
 
   pub no_nonce : (spelling user : List ℕ) → Part bare 0 (codes "n=" ++ spelling) → escaped user ≡ spelling
       → ((rest : List ℕ) → ¬ Part bare 1 (codes "r=" ++ rest)) → ReadsClientFirst unbound text

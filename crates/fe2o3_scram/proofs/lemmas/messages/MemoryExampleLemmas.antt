@@ -6,7 +6,7 @@ use Rattle.fe2o3_scram.specs.declared.hmac.ScramVersion.TheVariants.{Sha1, Sha25
 use Rattle.fe2o3_scram.specs.ClientFinal.{HasBinding, ReachesBinding, ReachesProof, client_final_of, without_proof}
 use Rattle.fe2o3_scram.specs.declared.scram_messages.gs2_header.Gs2Header.TheVariants.{Unsupported}
 use Rattle.fe2o3_scram.specs.ClientFirst.{HasEscapes}
-use Rattle.fe2o3_scram.specs.Escape.{NoEquals}
+use Rattle.fe2o3_scram.specs.Escape.{escaped, NoEquals}
 use Rattle.fe2o3_scram.specs.Hmac.{mechanism_name}
 use Rattle.fe2o3_scram.specs.MemoryExamples.{AnsweredClientsTakeNone, CommasTakeNone, ErrorsTakeNone, OtherNoncesTakeNone, UnboundTextsTakeNone, UnknownMechanismsTakeNone, UnknownUsersTakeNone}
 use Rattle.fe2o3_scram.specs.RecordLines.{ReachesName}
@@ -43,12 +43,13 @@ user_parts = two_joined (codes "n=user") (codes "r=abc") (codes "n=user" ∷ [])
 no_escapes : (unbound : Bool) → ¬ HasEscapes unbound (codes "n,,n=user,r=abc")
 no_escapes unbound has =
     let bare = has.1.1 in
+    let spelling = escaped has.1.0 in
     let behind : bare.1 ≡ codes "n=user,r=abc" =
     (one_header bare.0 Unsupported (codes "n,,n=user,r=abc") bare.1 (codes "n=user,r=abc") bare.3 refl).1 in
-    let part = subst (λ (text : List ℕ). Part text 0 (codes "n=" ++ has.1.0)) behind bare.4 in
-    let same = one_part (codes "n=user,r=abc") 0 (codes "n=user") (codes "n=" ++ has.1.0)
+    let part = subst (λ (text : List ℕ). Part text 0 (codes "n=" ++ spelling)) behind bare.4 in
+    let same = one_part (codes "n=user,r=abc") 0 (codes "n=user") (codes "n=" ++ spelling)
     (_, user_parts, refl) part in
-    let name = append_cancel_left (codes "n=") (codes "user") has.1.0 same in
+    let name = append_cancel_left (codes "n=") (codes "user") spelling same in
     has.1.2 (subst NoEquals name (without-test 61 (codes "user") refl))
 
 pub unknown_users_take_none : UnknownUsersTakeNone

@@ -6,6 +6,11 @@ use Rattle.fe2o3_scram.proofs.lemmas.texts.EachByteLemmas.{without-index}
 use Rattle.fe2o3_scram.proofs.lemmas.texts.EscapingLemmas.{always_if_err, not_contained, no_equals-index, escaped-plain}
 use Rattle.fe2o3_scram.proofs.scram_messages.escape.unescape_username.Goals as goal
 
+pub spells_name-requires : goal.spells_name-requires
+spells_name-requires c = without-index 44 c.args.text.now
+    (not_contained c.args.text.now 44 c.contains.result c.if-contains.false
+    (contains_char 44 c.args.text.now c.contains.result c.contains.ensures.cases (lit< tt)).1)
+
 pub unescape-requires : goal.unescape-requires
 unescape-requires c = without-index 44 c.args.text.now
     (not_contained c.args.text.now 44 c.contains.result c.if-contains.false

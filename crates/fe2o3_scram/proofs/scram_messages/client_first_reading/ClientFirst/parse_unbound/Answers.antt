@@ -3,7 +3,7 @@ use Rattle.std.specs.Prelude.{◌↔◌}
 use Rattle.std.specs.Cow.{cow_str_bytes, IsBorrowedStr}
 use Rattle.std.specs.declared.borrow.CowStr.{CowStr}
 use Rattle.std.specs.declared.borrow.CowStr.TheVariants as cows
-use Rattle.fe2o3_scram.proofs.lemmas.messages.ClientFirstLemmas.{not_utf8, no_header, no_name, bad_name, no_nonce, named, invalid_name, escaped_name}
+use Rattle.fe2o3_scram.proofs.lemmas.messages.ClientFirstLemmas.{not_utf8, no_header, no_name, bad_name, no_nonce, named, invalid_name, escaped_name, has_escapes}
 use Rattle.fe2o3_scram.proofs.scram_messages.client_first_reading.ClientFirst.parse_unbound.Goals as goal
 
 pub returns-in_default-clause-answer : goal.returns-in_default-clause-answer
@@ -57,40 +57,23 @@ returns-clause-answer c =
     c.in-Some-attribute-2.ensures
 
 pub returns-in-Err-OutOfMemory-clause-answer : goal.returns-in-Err-OutOfMemory-clause-answer
-returns-in-Err-OutOfMemory-clause-answer c = (
-  λ _. (
-    c.in-Ok.ensures.cases.1,
-    (
-      c.in-Some-attribute.escaped.now,
-      (
-        c.in-Some.header,
-        c.in-Some.client_first_message_bare.now,
-        c.in-Some.ensures.0,
-        sym c.in-Ok.ensures.cases.0 ∙ c.in-Some.ensures.1,
-        c.in-Some-attribute.ensures,
-      ),
-      escaped_name c.in-Err-OutOfMemory.field-0 _ _ c.in-Err-OutOfMemory.field-0-is c.in-Err-OutOfMemory.ensures.err,
-    ),
-  ),
-  λ other. absurd (other refl),
-)
+returns-in-Err-OutOfMemory-clause-answer c =
+    let name = c.in-Err-OutOfMemory.ensures.spells c.in-Err-OutOfMemory.field-0-is in (
+      λ _. has_escapes c.args.accepts_unbound c.in-Some.header c.args.text.now c.in-Some.client_first_message_bare.now
+          c.in-Ok.ensures.cases.1 c.in-Some.ensures.0 (sym c.in-Ok.ensures.cases.0 ∙ c.in-Some.ensures.1)
+          c.in-Some-attribute.escaped.now name.0 c.in-Some-attribute.ensures name.1
+          (escaped_name c.in-Err-OutOfMemory.field-0 _ _ c.in-Err-OutOfMemory.field-0-is
+          c.in-Err-OutOfMemory.ensures.err),
+      λ other. absurd (other refl),
+    )
 
 pub returns-clause-borrowed : goal.returns-clause-borrowed
 returns-clause-borrowed c = λ unescaped.
-    go c.in-Ok-unescape_username.username c.in-Ok-unescape_username.ensures.borrowed (λ escapes. unescaped (
-      c.in-Ok.ensures.cases.1,
-      (
-        c.in-Some-attribute.escaped.now,
-        (
-          c.in-Some.header,
-          c.in-Some.client_first_message_bare.now,
-          c.in-Some.ensures.0,
-          sym c.in-Ok.ensures.cases.0 ∙ c.in-Some.ensures.1,
-          c.in-Some-attribute.ensures,
-        ),
-        escapes,
-      ),
-    ))
+    go c.in-Ok-unescape_username.username c.in-Ok-unescape_username.ensures.borrowed (λ escapes. unescaped
+    (has_escapes c.args.accepts_unbound c.in-Some.header c.args.text.now c.in-Some.client_first_message_bare.now
+    c.in-Ok.ensures.cases.1 c.in-Some.ensures.0 (sym c.in-Ok.ensures.cases.0 ∙ c.in-Some.ensures.1)
+    c.in-Some-attribute.escaped.now (cow_str_bytes c.in-Ok-unescape_username.username) c.in-Some-attribute.ensures
+    c.in-Ok-unescape_username.ensures.ok escapes))
   where
     go : {A : Type 0} {None : Type 0} (name : CowStr A) → (IsBorrowedStr name ↔ None) → (¬ (¬ None))
         → IsBorrowedStr name
