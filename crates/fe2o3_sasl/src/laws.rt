@@ -12,7 +12,7 @@ ghost use Rattle.fe2o3_sasl_runs.specs.CostLaws.{ServerRunsCost, ClientRunsCost}
 ghost use Rattle.fe2o3_sasl_runs.specs.OneOfLaws.{OneOfRunsAreSplit, ScramFirstAnswersOkExactly, ScramSecondAnswersOkExactly, OfferingRunsPassOn};
 ghost use Rattle.fe2o3_sasl_runs.specs.OneOfUsers.{OneOfNamesUsers, OfferedNamesUsers};
 ghost use Rattle.fe2o3_sasl_runs.specs.HidingLaws.{HiddenRunsAreRuns, HiddenRunsAreHistories, NobodyIsMet, HiddenOksLogIn};
-ghost use Rattle.fe2o3_sasl_runs.specs.UnknownUsers.{SaltTextsDiffer, UnknownIsMock, UnknownIsMockInBoth};
+ghost use Rattle.fe2o3_sasl_runs.specs.UnknownUsers.{SaltTextsDiffer, UnknownCostsAsMock, UnknownIsMock, UnknownIsMockInBoth};
 ghost use Rattle.fe2o3_sasl_runs.specs.StepLaws.{OksLogIn, PlainOksLogIn, ReportedOksAreSigned};
 ghost use Rattle.fe2o3_sasl_runs.specs.Laws.{OneServerHistory, OneClientHistory, SomeServerHistory, SomeClientHistory, AcceptorRunsAreHistories, AcceptorRunsNameUsers, AgreedUsersAreNamed, ProfileRunsAreHistories, KeyedRunsAreRuns, KeyedRunsAreHistories, OksWithinChallenges, RepeatedResponsesAreRefused, OneResponseOneNonce, RefusalsLeaveOpen, PositionsAreUsedOnce, EqualMessagesAgree, NoShortExtensions, TakenVerifiersAreJudged, ShownProofsAreJudged, OneVerdictEach, OneAuditEach, RepeatedClientPositions, RepeatedServerPositions, RepeatedClientFindings, RepeatedServerFindings, ClientsLogIn, ServersLogIn, ServersWantMemory, ClientsWantMemory, ProfilesWantMemory};
 
@@ -122,12 +122,13 @@ pub fn hidden_users()
 {}
 
 /// Unknown users as a law of pairs. A server with mock authentication that has no record of a name gives the same
-/// replies to the same events as one that has the mock record of that name, in every state; so does a server of two
-/// mechanisms, each over a store of its own. What a stranger can tell of a name is thus no more than whether its
+/// replies to the same events as one that has the mock record of that name, in every state, with as many HMAC
+/// values for each. A server of two mechanisms, each over its own store, gives the same replies too. What a stranger can tell of a name is thus no more than whether its
 /// record is the mock record: a salt and two keys that are HMAC values under the server's secret, and the mock
 /// count. The salts of two mechanisms, or of two names, are HMAC values of two different texts.
 pub fn unknown_users()
     ensures one { UnknownIsMock }
+    ensures cost { UnknownCostsAsMock }
     ensures both { UnknownIsMockInBoth }
     ensures salts { SaltTextsDiffer }
 {}
