@@ -12,7 +12,7 @@ ghost use Rattle.fe2o3_sasl_runs.specs.CostLaws.{ServerRunsCost, ClientRunsCost}
 ghost use Rattle.fe2o3_sasl_runs.specs.OneOfLaws.{OneOfRunsAreSplit, ScramFirstAnswersOkExactly, ScramSecondAnswersOkExactly, OfferingRunsPassOn};
 ghost use Rattle.fe2o3_sasl_runs.specs.OneOfUsers.{OneOfNamesUsers, OfferedNamesUsers};
 ghost use Rattle.fe2o3_sasl_runs.specs.HidingLaws.{HiddenRunsAreRuns, HiddenRunsAreHistories, NobodyIsMet, HiddenOksLogIn};
-ghost use Rattle.fe2o3_sasl_runs.specs.UnknownUsers.{SaltTextsDiffer, UnknownIsMock, UnknownIsMockInBoth};
+ghost use Rattle.fe2o3_sasl_runs.specs.UnknownUsers.{SaltTextsDiffer, UnknownCostsAsMock, UnknownIsMock, UnknownIsMockInBoth};
 ghost use Rattle.fe2o3_sasl_runs.specs.StepLaws.{OksLogIn, PlainOksLogIn, ReportedOksAreSigned};
 ghost use Rattle.fe2o3_sasl_runs.specs.Laws.{EveryServer, EveryClient, OneServerHistory, OneClientHistory, SomeServerHistory, SomeClientHistory, AcceptorRunsAreHistories, AcceptorRunsNameUsers, AgreedUsersAreNamed, ProfileRunsAreHistories, KeyedRunsAreRuns, KeyedRunsAreHistories, OksWithinChallenges, RepeatedResponsesAreRefused, OneResponseOneNonce, RefusalsLeaveOpen, PositionsAreUsedOnce, EqualMessagesAgree, NoShortExtensions, TakenVerifiersAreJudged, ShownProofsAreJudged, OneVerdictEach, OneAuditEach, RepeatedClientPositions, RepeatedServerPositions, RepeatedClientFindings, RepeatedServerFindings, ClientsLogIn, ServersLogIn, ServersWantMemory, ClientsWantMemory, ProfilesWantMemory};
 
@@ -36,7 +36,7 @@ pub fn headline()
     ensures agreement { EveryClient TakenVerifiersAgree }
 {}
 
-/// Where memory is not wanting, a history is a function of its events, on either side.
+/// Without allocation failures a history is a function of its events, on either side.
 pub fn one_history_each()
     ensures server { OneServerHistory }
     ensures client { OneClientHistory }
@@ -61,18 +61,18 @@ pub fn steps()
     ensures client { ReportedOksAreSigned }
 {}
 
-/// What a run costs, whoever takes its steps with one meter: no more HMAC values than the sum over its
-/// bodies, of a SCRAM acceptor two for each response, and of a SCRAM profile as many as its limit and four
-/// more for each challenge. What a step costs stands in its own contract.
+/// What a run costs if its steps share one meter: no more HMAC values than the sum over its bodies. A SCRAM
+/// acceptor computes two for each response. A SCRAM profile computes as many as its limit and four more for each
+/// challenge. The contract of a step says what that step costs.
 pub fn run_costs()
     ensures server { ServerRunsCost }
     ensures client { ClientRunsCost }
 {}
 
-/// Who logged in. Behind a run over any list of bodies a SCRAM acceptor names a user exactly where an
-/// accepted response stands in it with no challenge behind it, and it is the user of the init that this
-/// response answered; the acceptor of PLAIN names its user exactly where some body of the run was answered
-/// Ok; and the user of an agreed finding of an audit is named behind its Ok.
+/// Who logged in, after a run over any list of bodies. A SCRAM acceptor names a user exactly where the run has an
+/// accepted response with no challenge after it: the user of the init that this response answered. The acceptor of
+/// PLAIN names its user exactly where some body of the run was answered Ok. The user of an agreed finding of an
+/// audit is named after its Ok.
 pub fn users()
     ensures runs { AcceptorRunsNameUsers }
     ensures plain { PlainRunsNameUsers }
@@ -108,13 +108,12 @@ pub fn one_of_users<A: HasMechanism, B: HasMechanism>()
     ensures offered { OfferedNamesUsers A.names B.names A.machine B.machine }
 {}
 
-/// Unknown users. A run of an acceptor that hides them, over any list of bodies, is a run of a SCRAM
-/// acceptor over its provider with the made-up records of the bodies' names behind its own, and so a
-/// server history, of which `headline` says what it answers Ok to; and by such a history somebody whom the
-/// provider does not have is accepted only by a proof whose key has the made-up StoredKey as its digest. A
-/// step of it answers Ok only to a response that logs a user in over that provider, and over the provider
-/// alone where this has the user, whom the acceptor then names. A caller's own proof cites this as
-/// `hidden_oks_log_in` of `proofs/lemmas/steps/StepLawLemmas.antt`.
+/// Mock authentication. A run of an acceptor with mock authentication, over any list of bodies, is a run of a SCRAM
+/// acceptor over its provider with the mock records of the bodies' names after its own. It is thus a server
+/// history, and `headline` says what it answers Ok to. In such a history an unknown user is accepted only by a
+/// proof whose key has the mock StoredKey as its digest. A step answers Ok only to a response that logs a user in
+/// over that provider, and over the provider only where it has the user; the acceptor then names that user. A
+/// proof of your own cites this as `hidden_oks_log_in` of `proofs/lemmas/steps/StepLawLemmas.antt`.
 pub fn hidden_users()
     ensures runs { HiddenRunsAreRuns }
     ensures histories { HiddenRunsAreHistories }
@@ -123,12 +122,13 @@ pub fn hidden_users()
 {}
 
 /// Unknown users as a law of pairs. A server with mock authentication that has no record of a name gives the same
-/// replies to the same events as one that has the mock record of that name, in every state; so does a server of two
-/// mechanisms, each over a store of its own. What a stranger can tell of a name is thus no more than whether its
+/// replies to the same events as one that has the mock record of that name, in every state, with as many HMAC
+/// values for each. A server of two mechanisms, each over its own store, gives the same replies too. What a stranger can tell of a name is thus no more than whether its
 /// record is the mock record: a salt and two keys that are HMAC values under the server's secret, and the mock
 /// count. The salts of two mechanisms, or of two names, are HMAC values of two different texts.
 pub fn unknown_users()
     ensures one { UnknownIsMock }
+    ensures cost { UnknownCostsAsMock }
     ensures both { UnknownIsMockInBoth }
     ensures salts { SaltTextsDiffer }
 {}
@@ -140,18 +140,18 @@ pub fn keyed_runs()
     ensures histories { KeyedRunsAreHistories }
 {}
 
-/// What users of a server rely on, whatever it is given: it never accepts more often than it
-/// challenges, an accepted response that comes again before a new challenge is refused, and one
-/// response text under two challenges means one full nonce.
+/// What users of a server rely on, whatever it receives. It never accepts more often than it challenges. An accepted
+/// response that is repeated before a new challenge is rejected. One response text under two challenges means one
+/// full nonce.
 pub fn servers()
     ensures oks { OksWithinChallenges }
     ensures repeated { RepeatedResponsesAreRefused }
     ensures one_nonce { OneResponseOneNonce }
 {}
 
-/// What holds of any list of replies by the definition of "last open", and so says nothing of servers
-/// or clients in particular: two Oks of a server never have one open challenge, two reported Oks of a
-/// client never one answer, two answers never one start; and a refusal leaves open what was open.
+/// What holds of any list of replies by the definition of "last open". Two Oks of a server never have one open
+/// challenge, two reported Oks of a client never one answer, and two answers never one start. A rejection leaves
+/// open what was open.
 pub fn positions()
     ensures used_once { PositionsAreUsedOnce }
     ensures left_open { RefusalsLeaveOpen }
@@ -187,29 +187,28 @@ pub fn repeated_nonces()
     ensures server { RepeatedServerPositions }
 {}
 
-/// The same, said of the list of an audit: agreed findings of one kind repeat a position of the server
-/// only where a nonce of the client was repeated, and with parameters they repeat a position of the
-/// client only where a nonce of the server was.
+/// Repeated positions in the list of an audit. Agreed findings of one kind repeat a position of the server only where
+/// a nonce of the client was repeated. With parameters they repeat a position of the client only where a nonce of
+/// the server was repeated.
 pub fn repeated_findings()
     ensures client { RepeatedClientFindings }
     ensures server { RepeatedServerFindings }
 {}
 
 /// A client logs in where no body is altered on the way, its secret opens the record that the server holds
-/// (a password that is printable ASCII or was handed in as prepared, the keys of the record's password, salt
-/// and count, or such a password beside keys that are of another salt or count), the count is from 1 on and
-/// within the client's limits, memory suffices on both sides, and no frame is too large; an audit of it has
-/// exactly two findings, and in both the sides agree.
+/// (a password that is printable ASCII or was passed as prepared, the keys of the record's password, salt and
+/// count, or such a password beside keys of another salt or count), the count is from 1 on and within the
+/// client's limits, no allocation fails, and no frame is too large. An audit of it has exactly two findings, and in
+/// both the sides agree.
 pub fn unaltered_runs()
     ensures client { ClientsLogIn }
     ensures server { ServersLogIn }
 {}
 
-/// Three worked examples of the definitions: a login that nobody alters, one that the server refuses, and
-/// one with a text that is shifted between two messages. The first meets each premise of the law of
-/// unaltered runs. The second is an unaltered run too: no reply is premised to send a body. In the third
-/// both sides agree although they mean two nonces, so that no more than user name and client nonce can be
-/// had there.
+/// Three worked examples of the definitions: a login that nobody alters, one that the server rejects, and one with a
+/// text that is shifted between two messages. The first meets each premise of the law of unaltered runs. The
+/// second is an unaltered run too: no premise says that a reply sends a body. In the third both sides agree
+/// although they mean two nonces. There they cannot agree on more than user name and client nonce.
 pub fn worked_examples()
     ensures premises_can_be_met { PremisesCanBeMet }
     ensures refusals_are_unaltered { RefusalsAreUnaltered }
@@ -217,8 +216,8 @@ pub fn worked_examples()
 {}
 
 /// Worked examples of clients, each in the first of those logins: one with a hostname, which its init
-/// carries; one with the keys of its password; one with these keys that is first asked by another salt,
-/// refuses that, and logs in by the next challenge; and one that refuses a count below its floor.
+/// carries; one with the keys of its password; one with these keys that rejects a challenge with another salt and
+/// logs in by the next one; and one that rejects a count below its minimum.
 pub fn worked_clients()
     ensures hostname { HostnamesAreSent }
     ensures keys { KeysLogIn }
@@ -228,8 +227,8 @@ pub fn worked_clients()
 
 /// What holds of every mechanism: each acceptor and each profile has at most one reply to a frame; a
 /// server offers what a profile asks for exactly where both are of one mechanism; PLAIN lets in the
-/// same user with the same password and refuses all others, in words without zero bytes (RFC 4616,
-/// section 2); ANONYMOUS lets in whoever asks for it; a server always offers something; and the six
+/// same user with the same password and rejects all others, in words without zero bytes (RFC 4616,
+/// section 2); ANONYMOUS lets in each client that asks for it; a server always offers something; and the six
 /// profiles have six names.
 pub fn mechanisms()
     ensures one_acceptor_reply { OneAcceptorReply }
@@ -249,34 +248,33 @@ pub fn replies()
     ensures profiles { SomeProfileReply }
 {}
 
-/// A hexadecimal text spells at most one list of bytes, and each list of bytes is spelled by one in
-/// digits of either case.
+/// A hexadecimal text spells at most one list of bytes, and each list of bytes has such a text in digits of either
+/// case.
 pub fn hex_texts()
     ensures one { OneBytesOfHex }
     ensures again { HexIsReadAgain }
 {}
 
-/// Over every list of events whose bodies are bytes, each server and each client has a history in which
-/// memory is not wanting: with `one_history_each` it has exactly one.
+/// Over every list of events whose bodies are bytes, each server and each client has a history without allocation
+/// failures: with `one_history_each` it has exactly one.
 pub fn histories_exist()
     ensures server { SomeServerHistory }
     ensures client { SomeClientHistory }
 {}
 
-/// Memory may be wanting at an init and at a response of a server; at a list with the name, at a challenge
-/// and at an outcome with data of a SCRAM client; at such a list and at such an outcome of any profile; and
-/// nowhere else. All other replies are determined: `one_history_each`, `mechanisms`.
+/// Where an allocation may fail: at an init and at a response of a server; at a list with the name, at a challenge
+/// and at an outcome with data of a SCRAM client; at such a list and at such an outcome of any profile; and nowhere
+/// else. All other replies are determined: `one_history_each`, `mechanisms`.
 pub fn want_of_memory()
     ensures server { ServersWantMemory }
     ensures client { ClientsWantMemory }
     ensures profile { ProfilesWantMemory }
 {}
 
-/// Worked examples of frames at which no memory is asked for, so that want of memory is no answer to them,
-/// each of the words that say where it is one: an acceptor at an init of another mechanism and at a response
-/// that is not due, and that of PLAIN always; a profile at a list without its name, a challenge that is not
-/// UTF-8, not due or not for SCRAM, an outcome without data, and one of code Ok for SCRAM that is not UTF-8
-/// or not due; and the like in histories.
+/// Worked examples of frames at which no memory is requested, so that out of memory is no answer to them. An acceptor
+/// requests none at an init of another mechanism and at a response that is not due, and that of PLAIN never. A
+/// profile requests none at a list without its name, a challenge that is not UTF-8, not due or not for SCRAM, an
+/// outcome without data, and one of code Ok for SCRAM that is not UTF-8 or not due. Histories have the like.
 pub fn no_want_of_memory()
     ensures acceptors { AcceptorsAskForNone }
     ensures owned { OwnedAskForNone }

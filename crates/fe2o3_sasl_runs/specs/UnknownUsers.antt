@@ -2,6 +2,7 @@
 -- know a name is what it sees of one that has the mock record of that name (`nobody_record`). RFC 5802 leaves open what
 -- a server answers to an unknown user. Each is the contract of a clause of `laws::unknown_users`.
 use Rattle.std.specs.Prelude.{◌≡◌, ◌↔◌, ℕ, List, Option, take}
+use Rattle.fe2o3_sasl_wire.specs.SaslFrames.{SaslFrame}
 use Rattle.fe2o3_scram.specs.declared.hmac.ScramVersion.{ScramVersion}
 use Rattle.fe2o3_scram.specs.declared.hmac.ScramVersion.TheVariants.{Sha512}
 use Rattle.fe2o3_scram.specs.Credentials.{Provider, Records, records_with, records_without}
@@ -9,7 +10,7 @@ use Rattle.fe2o3_scram.specs.Hmac.{hmac_of}
 use Rattle.fe2o3_scram.specs.Nobody.{Nobody, nobody_record}
 use Rattle.fe2o3_scram.specs.ScramServer.{ServerState}
 use Rattle.fe2o3_sasl_runs.specs.Events.{Given, ServerSays}
-use Rattle.fe2o3_sasl_runs.specs.HidingAcceptor.{hiding_machine, hiding_names}
+use Rattle.fe2o3_sasl_runs.specs.HidingAcceptor.{hiding_hmacs, hiding_machine, hiding_names}
 use Rattle.fe2o3_sasl_runs.specs.HidingLaws.{hiding}
 use Rattle.fe2o3_sasl_runs.specs.OneOf.{one_of_machine}
 use Rattle.fe2o3_sasl_runs.specs.OneOfLaws.{Machine}
@@ -51,6 +52,12 @@ abbrev pub UnknownIsMock : Type 0
 UnknownIsMock = (provider : Provider) (nobody : Nobody) (name : List ℕ) (state : ServerState)
     → GivesAlike hiding_machine (hiding (without_user provider name) nobody state)
     (hiding (with_mock provider nobody name) nobody state)
+
+-- and its answer to a frame takes as many HMAC values (RFC 5802, section 3)
+abbrev pub UnknownCostsAsMock : Type 0
+UnknownCostsAsMock = (provider : Provider) (nobody : Nobody) (name : List ℕ) (state : ServerState) (frame : SaslFrame)
+    (n : ℕ) → hiding_hmacs (hiding (without_user provider name) nobody state) frame n
+    ↔ hiding_hmacs (hiding (with_mock provider nobody name) nobody state) frame n
 
 -- likewise by a server of two mechanisms, each over its own store: one that has the name in neither store gives the
 -- replies of one that has its mock records

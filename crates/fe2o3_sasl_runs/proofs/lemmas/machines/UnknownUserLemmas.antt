@@ -4,7 +4,7 @@ use Rattle.std.proofs.lemmas.Cmp.{nat_list_eq_equiv}
 use Rattle.std.proofs.lemmas.Bool.{cond-true}
 use Rattle.std.proofs.lemmas.Slice.Eq.{bytes_eq-Decides}
 use Rattle.std.specs.Cmp.Lexicographic.{pointwise}
-use Rattle.std.specs.Prelude.{nat_eq, not, codes}
+use Rattle.std.specs.Prelude.{MatchOption, nat_eq, not, codes}
 use Rattle.fe2o3_sasl_wire.specs.SaslFrames as frames
 use Rattle.fe2o3_sasl_wire.specs.SaslFrames.{SaslFrame}
 use Rattle.fe2o3_scram.specs.declared.scram_messages.error.ServerScramErrorKind.{ServerScramErrorKind}
@@ -14,13 +14,14 @@ use Rattle.fe2o3_scram.specs.declared.hmac.ScramVersion.{ScramVersion}
 use Rattle.fe2o3_scram.specs.declared.hmac.ScramVersion.TheVariants.{Sha1, Sha256, Sha512}
 use Rattle.fe2o3_scram.specs.Hmac.{mechanism_name}
 use Rattle.fe2o3_scram.specs.Nobody.{Nobody, nobody_record, with_nobody}
-use Rattle.fe2o3_scram.specs.ScramServer.{ServerState, Initial, ServerFirstSent, ServerFinalSent, ChallengesFrom, ConcludesFrom}
+use Rattle.fe2o3_scram.specs.ScramServer.{ServerState, Initial, ServerFirstSent, ServerFinalSent, ChallengesFrom, ConcludesFrom, FinalCostsFrom, server_against}
+use Rattle.fe2o3_scram.specs.ServerFinal.{FinalCosts}
 use Rattle.fe2o3_sasl_runs.specs.Events.{Given, ServerSays}
-use Rattle.fe2o3_sasl_runs.specs.HidingAcceptor.{NamedAt, hiding_machine, hiding_names}
+use Rattle.fe2o3_sasl_runs.specs.HidingAcceptor.{NamedAt, hiding_hmacs, hiding_machine, hiding_names}
 use Rattle.fe2o3_sasl_runs.specs.HidingLaws.{hiding}
 use Rattle.fe2o3_sasl_runs.specs.OneOf.{one_of_machine}
 use Rattle.fe2o3_sasl_runs.specs.SaslAcceptor.{Acceptor, ScramAcceptor, acceptor_machine}
-use Rattle.fe2o3_sasl_runs.specs.UnknownUsers.{Gives, over, SaltTextsDiffer, UnknownIsMock, UnknownIsMockInBoth}
+use Rattle.fe2o3_sasl_runs.specs.UnknownUsers.{Gives, over, SaltTextsDiffer, UnknownCostsAsMock, UnknownIsMock, UnknownIsMockInBoth}
 use Rattle.fe2o3_sasl_runs.specs.declared.one_of.Part.{Part}
 use Rattle.fe2o3_sasl_runs.proofs.lemmas.machines.AlikeRunLemmas.{MovesAlike, both_alike, both_of, runs_alike}
 
@@ -191,7 +192,48 @@ module _ (provider : Provider) (nobody : Nobody) (records others : Records) (ali
       ),
     )
 
+    -- ---- what an answer costs
+
+    costs_alike : (state : ServerState) (text name : List ℕ) (answer : Result (Option (List ℕ)) ServerScramErrorKind)
+        (n : ℕ) → NamedBy state name → FinalCostsFrom state (of name) text answer 0 n
+        → FinalCostsFrom state (to name) text answer 0 n
+    costs_alike (ServerFirstSent challenge) text name answer n named costs =
+        subst (λ (held : Option Record). MatchOption held (n ≡ 0)
+        (λ stored. FinalCosts (server_against (of name) challenge stored) text answer 0 n))
+        (sym (one name challenge.user named)) costs
+    costs_alike Initial text name answer n named costs = costs
+    costs_alike (ServerFinalSent user) text name answer n named costs = costs
+
+    pub hmacs_alike : (state : ServerState) (frame : SaslFrame) (n : ℕ)
+        → hiding_hmacs (hiding (over provider records) nobody state) frame n
+        → hiding_hmacs (hiding (over provider others) nobody state) frame n
+    hmacs_alike state (frames.Init mechanism (Some text) hostname) n costs = costs
+    hmacs_alike state (frames.Init mechanism None hostname) n costs = costs
+    hmacs_alike state (frames.Response text) n (name, named, (answer, after, from, costs)) = (
+      name,
+      named,
+      (
+        answer,
+        after,
+        final_alike state after text name answer named from,
+        costs_alike state text name answer n named costs,
+      ),
+    )
+    hmacs_alike state (frames.Mechanisms list) n costs = costs
+    hmacs_alike state (frames.Challenge text) n costs = costs
+    hmacs_alike state (frames.Outcome code more) n costs = costs
+
 -- ---- the laws
+
+pub unknown_costs_as_mock : UnknownCostsAsMock
+unknown_costs_as_mock provider nobody name state frame n =
+    let alike : FindAlike nobody (records_without provider.records name)
+    (records_with provider.records name (nobody_record nobody name)) = found_alike nobody name provider.records in (
+      hmacs_alike provider nobody (records_without provider.records name)
+          (records_with provider.records name (nobody_record nobody name)) alike state frame n,
+      hmacs_alike provider nobody (records_with provider.records name (nobody_record nobody name))
+          (records_without provider.records name) (λ user. sym (alike user)) state frame n,
+    )
 
 pub unknown_is_mock : UnknownIsMock
 unknown_is_mock provider nobody name state events replies = (
