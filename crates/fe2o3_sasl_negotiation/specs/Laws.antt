@@ -1,12 +1,10 @@
 -- What holds however the bytes of a connection are cut into calls.
 use Rattle.std.specs.Prelude.{◌≡◌, ◌≢◌, ◌⊎◌, ℕ, Option, List, [], ◌∷◌, ◌++◌, take, drop}
-use Rattle.fe2o3_sasl_runs.specs.SaslAcceptor.{acceptor_names, acceptor_machine}
 use Rattle.fe2o3_sasl_negotiation.specs.declared.standing.Due.{Due}
 use Rattle.fe2o3_sasl_negotiation.specs.declared.standing.Standing.TheVariants.{Wanting}
 use Rattle.fe2o3_sasl_negotiation.specs.ClientNegotiation.{ClientAnswers}
 use Rattle.fe2o3_sasl_negotiation.specs.Framing.{IsPart}
 use Rattle.fe2o3_sasl_negotiation.specs.Negotiations.{Side, Answer, Receives}
-use Rattle.fe2o3_sasl_negotiation.specs.ServerNegotiation.{ServerAnswers}
 
 -- a call: how many of the bytes that are left it is handed, and a nonce
 pub record Call : Type 0 where
@@ -39,18 +37,20 @@ Negotiates {S} Answers side (nonce ∷ nonces) bytes sent last =
     × ¬ IsPart side.due side.limit (side.held ++ bytes) × Receives Answers side bytes nonce taken first next
     × Negotiates Answers next nonces (drop taken bytes) behind last × (sent ≡ first ++ behind)
 
--- however a stream is handed in, the calls do with the bytes that they take what is done with them as a whole, each
--- unit with the nonce of the call that completes it: the cut does not matter
+-- the nonces of some of these calls, in order
+abbrev pub NoncesOf : List Call → List (List ℕ) → Type 0
+NoncesOf [] nonces = nonces ≡ []
+NoncesOf (call ∷ calls) nonces = NoncesOf calls nonces
+    ⊎ ((others : List (List ℕ)) × (nonces ≡ call.nonce ∷ others) × NoncesOf calls others)
+
+-- however a stream is cut into calls, the calls do with the bytes that they take what is done with them as a whole, each
+-- unit with the nonce of a call, in order: the cut does not matter. `Connections` says which call that is
 abbrev pub CutsDoNotMatter : {S : Type 0} → (Due → S → List ℕ → List ℕ → Answer → S → Type 0) → Type 0
 CutsDoNotMatter {S} Answers = (side last : Side S) (calls : List Call) (stream sent rest : List ℕ)
     → IsPart side.due side.limit side.held → Calls Answers side calls stream sent last rest
     → (taken : List ℕ) × (nonces : List (List ℕ)) × (stream ≡ taken ++ rest)
-    × Negotiates Answers side nonces taken sent last
+    × Negotiates Answers side nonces taken sent last × NoncesOf calls nonces
 
--- of each server by an acceptor of `fe2o3_sasl`
-abbrev pub ServerCutsDoNotMatter : Type 0
-ServerCutsDoNotMatter = CutsDoNotMatter (ServerAnswers acceptor_names acceptor_machine)
-
--- and of each client
+-- of each client; of a server `laws::cuts` says it for every acceptor
 abbrev pub ClientCutsDoNotMatter : Type 0
 ClientCutsDoNotMatter = (hostname : Option (List ℕ)) → CutsDoNotMatter (ClientAnswers hostname)

@@ -3,17 +3,18 @@
 
 ghost use Rattle.fe2o3_sasl_negotiation.specs.Connections.{ServersConnect, ClientsConnect, ServersLogIn, ClientsLogIn};
 ghost use Rattle.fe2o3_sasl_negotiation.specs.CostLaws.{ServersCost, ClientsCost, ServersAreBounded, ClientsAreBounded};
-ghost use Rattle.fe2o3_sasl_negotiation.specs.Laws.{ServerCutsDoNotMatter, ClientCutsDoNotMatter};
+ghost use Rattle.fe2o3_sasl_negotiation.specs.Laws.{CutsDoNotMatter, ClientCutsDoNotMatter};
 ghost use Rattle.fe2o3_sasl_negotiation.specs.NamedUsers.{OneOfServersLogIn, OneOfStepsLogIn};
 ghost use Rattle.fe2o3_sasl_negotiation.specs.ScramConnections.{ScramServersServe, ScramClientsLogIn};
+ghost use Rattle.fe2o3_sasl_negotiation.specs.ServerNegotiation.{ServerAnswers};
 ghost use Rattle.fe2o3_sasl_negotiation.specs.UnalteredConnections.{JoinedSidesLogIn};
 
 use fe2o3_sasl_runs::{HasMechanism, NamesUser};
 
 /// However a stream of bytes is cut into calls, what they take of it is answered as it would be as a whole, unit by unit,
-/// for some nonces of the units. Which nonce a frame has, [`connections`] says.
-pub fn cuts()
-    ensures server { ServerCutsDoNotMatter }
+/// each with the nonce of a call, in order. Which call that is for a frame, [`connections`] says.
+pub fn cuts<A: NamesUser>()
+    ensures server { CutsDoNotMatter (ServerAnswers A.names A.machine) }
     ensures client { ClientCutsDoNotMatter }
 {}
 

@@ -15,7 +15,9 @@ mod set_down;
 mod standing;
 
 pub use client::ClientNegotiation;
-pub use pieces::{Piece, Served, scram_server_connection, server_connection};
+pub use pieces::{
+    Negotiated, Piece, client_connection, scram_server_connection, server_connection,
+};
 pub use server::ServerNegotiation;
 pub use set_down::{SetDown, TakeUpError};
 pub use standing::{ClosedBecause, Due, Received, Standing, Turn};

@@ -1,21 +1,24 @@
 //! Whole connections over bytes that arrive in pieces, without a socket: for tests, replays and logs.
 
-ghost use Rattle.std.specs.Prelude.{◌≡◌, ◌≢◌, ◌<◌, ◌≤◌, ◌++◌, List, ℕ, IfOk, length, map, false};
+ghost use Rattle.std.specs.Prelude.{◌≡◌, ◌≢◌, ◌<◌, ◌≤◌, ◌++◌, List, ℕ, IfOk, length, map, false, option_map, string_bytes};
 ghost use Rattle.fe2o3_sasl_wire.specs.SaslFrames.{IsBytes};
 ghost use Rattle.fe2o3_sasl_negotiation.specs.declared.standing.Standing.TheVariants.{Wanting};
 ghost use Rattle.fe2o3_scram.specs.Credentials.{serving};
 ghost use Rattle.fe2o3_scram.specs.ScramServer.{Initial, served_by, state_in};
+ghost use Rattle.fe2o3_sasl_runs.specs.Profiles.{Profile};
+ghost use Rattle.fe2o3_sasl_runs.specs.SaslProfile.{profile_of};
 ghost use Rattle.fe2o3_sasl_runs.specs.SaslAcceptor.{ScramAcceptor, acceptor_machine, acceptor_names};
-ghost use Rattle.fe2o3_sasl_negotiation.specs.Connections.{ServerConnection, ServerNegotiated, bytes_of};
+ghost use Rattle.fe2o3_sasl_negotiation.specs.Connections.{ServerConnection, ServerNegotiated, ClientConnection, bytes_of};
 ghost use Rattle.fe2o3_sasl_negotiation.specs.ScramConnections.{ScramServes};
 ghost use Rattle.fe2o3_sasl_negotiation.specs.Pieces.{piece_of, first_bytes};
-ghost use Rattle.fe2o3_sasl_negotiation.specs.Sides.{server_side};
+ghost use Rattle.fe2o3_sasl_negotiation.specs.Sides.{client_side, hostname_in, server_side};
 ghost use Rattle.fe2o3_sasl_negotiation.specs.private.Pieces.{Continues};
 
+use crate::client::ClientNegotiation;
 use crate::server::ServerNegotiation;
 use crate::standing::Standing;
 use bytes::BytesMut;
-use fe2o3_sasl_runs::{NamesUser, OutOfMemory};
+use fe2o3_sasl_runs::{NamesUser, OutOfMemory, SaslProfile};
 use fe2o3_scram::Meter;
 use fe2o3_scram::credentials::ScramCredentialProvider;
 use fe2o3_scram::scram_server::ScramAuthenticator;
@@ -30,11 +33,11 @@ pub struct Piece<'a> {
     pub nonce: [u8; 32],
 }
 
-/// A server's side of a connection after the pieces that it was passed.
+/// A side of a connection after the pieces that it was passed.
 #[derive(Drop)]
-pub struct Served<A> {
-    /// The side, which says how the negotiation stands and who has logged in.
-    pub side: ServerNegotiation<A>,
+pub struct Negotiated<S> {
+    /// The side, which says how the negotiation stands.
+    pub side: S,
 
     /// What it has sent.
     pub sent: BytesMut,
@@ -77,7 +80,7 @@ pub fn server_connection<A: NamesUser + Drop>(
     alloc: Global,
     acceptor: A,
     pieces: &[Piece<'_>],
-) -> Result<Served<A>, OutOfMemory>
+) -> Result<Negotiated<ServerNegotiation<A>>, OutOfMemory>
     ensures connection { IfOk result (λ served. IsBytes (bytes_of (map piece_of pieces.now))
         → ServerConnection A.names A.machine 512 (A.state acceptor) (map piece_of pieces.now)
         (first_bytes (map piece_of pieces.now) served.pieces served.bytes) served.sent.items
@@ -91,7 +94,7 @@ pub fn server_connection<A: NamesUser + Drop>(
     for piece in pieces {
         let taken = serve_piece(alloc, &mut side, piece, &mut sent)?;
         if taken < piece.bytes.len() {
-            return Ok(Served {
+            return Ok(Negotiated {
                 side,
                 sent,
                 pieces: whole,
@@ -100,7 +103,7 @@ pub fn server_connection<A: NamesUser + Drop>(
         }
         whole += 1;
     }
-    Ok(Served {
+    Ok(Negotiated {
         side,
         sent,
         pieces: whole,
@@ -115,7 +118,7 @@ pub fn scram_server_connection<C: ScramCredentialProvider>(
     alloc: Global,
     credentials: &C,
     pieces: &[Piece<'_>],
-) -> Result<Served<ScramAuthenticator<C>>, OutOfMemory>
+) -> Result<Negotiated<ServerNegotiation<ScramAuthenticator<C>>>, OutOfMemory>
     ensures connection { IfOk result (λ served. IsBytes (bytes_of (map piece_of pieces.now))
         → ServerConnection acceptor_names acceptor_machine 512
         (ScramAcceptor (serving false (C.meaning credentials.now)) Initial) (map piece_of pieces.now)
@@ -130,4 +133,68 @@ pub fn scram_server_connection<C: ScramCredentialProvider>(
 {
     let credentials = credentials.clone()?;
     server_connection(alloc, ScramAuthenticator::new(credentials), pieces)
+}
+
+/// Passes the bytes of a piece to the client's side, up to those that it does not take.
+fn answer_piece(
+    alloc: Global,
+    side: &mut ClientNegotiation,
+    piece: &Piece<'_>,
+    sent: &mut BytesMut,
+) -> Result<usize, OutOfMemory>
+    ensures within { IfOk result (λ taken. taken ≤ length piece.now.bytes.now) }
+    ensures all { IfOk result (λ taken. taken < length piece.now.bytes.now
+        → (client_side side.new).standing ≢ Wanting) }
+    ensures hostname { IfOk result (λ _. hostname_in side.new ≡ hostname_in side.old) }
+    ensures ok { IfOk result (λ taken. (more : List ℕ) × (sent.new.items ≡ sent.old.items ++ more)
+        × ((limit : ℕ) (profile : Profile)
+        → Continues (ClientConnection (hostname_in side.old) limit profile) (client_side side.old) piece.now.bytes.now
+        piece.now.nonce taken more (client_side side.new))) }
+{
+    let mut taken = 0;
+    while taken < piece.bytes.len() && side.standing() == Standing::Wanting {
+        let mut meter = Meter::new();
+        let received = side.receive(alloc, &piece.bytes[taken..], &piece.nonce, &mut meter, sent)?;
+        taken += received.taken;
+    }
+    Ok(taken)
+}
+
+/// Like [`server_connection`], of a client by a profile that no connection has used, with a hostname if any: what it
+/// sends after its own header. What the headline says of its
+/// bodies and replies is the clause `scram_client` of the law `connections`.
+pub fn client_connection(
+    alloc: Global,
+    profile: SaslProfile,
+    hostname: Option<String>,
+    pieces: &[Piece<'_>],
+) -> Result<Negotiated<ClientNegotiation>, OutOfMemory>
+    ensures connection { IfOk result (λ answered. IsBytes (bytes_of (map piece_of pieces.now))
+        → ClientConnection (option_map string_bytes hostname) 512 (profile_of profile) (map piece_of pieces.now)
+        (first_bytes (map piece_of pieces.now) answered.pieces answered.bytes) answered.sent.items
+        (client_side answered.side)) }
+    ensures all { IfOk result (λ answered. (client_side answered.side).standing ≡ Wanting
+        → answered.pieces ≡ length pieces.now) }
+{
+    let mut side = ClientNegotiation::new(alloc, profile, hostname);
+    let mut sent = BytesMut::new(alloc);
+    let mut whole = 0;
+    for piece in pieces {
+        let taken = answer_piece(alloc, &mut side, piece, &mut sent)?;
+        if taken < piece.bytes.len() {
+            return Ok(Negotiated {
+                side,
+                sent,
+                pieces: whole,
+                bytes: taken,
+            });
+        }
+        whole += 1;
+    }
+    Ok(Negotiated {
+        side,
+        sent,
+        pieces: whole,
+        bytes: 0,
+    })
 }

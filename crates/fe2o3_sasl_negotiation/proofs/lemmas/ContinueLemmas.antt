@@ -142,6 +142,14 @@ module _ {X S : Type 0} (f : X → Piece) (Is : List Piece → List ℕ → List
       (subst (λ (l : List ℕ). Is (map f xs) (bytes_of (map f (take i xs)) ++ take k here.bytes) l next) (sym same)
       (one_piece_more side next sent more k are_bytes is continues)))
 
+  -- the same of a connection with an equal hostname
+  pub as_same : {H : Type 0} (Each : H → List Piece → List ℕ → List ℕ → Side S → Type 0) (one two : H)
+      (side next : Side S) (more : List ℕ) (k : ℕ) → one ≡ two → k ≤ length here.bytes
+      → Continues (Each one) side here.bytes here.nonce k more next
+      → Continues (Each two) side here.bytes here.nonce k more next
+  as_same {H} Each one two side next more k same less continues =
+      subst (λ (h : H). Continues (Each h) side here.bytes here.nonce k more next) same continues
+
 -- at the end of the list
 pub after_all : {X : Type 0} (f : X → Piece) (xs : List X) (i : ℕ)
     → bytes_of (map f (take i xs)) ≡ first_bytes (map f xs) i 0

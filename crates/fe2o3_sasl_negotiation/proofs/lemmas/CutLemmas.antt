@@ -9,7 +9,7 @@ use Rattle.fe2o3_sasl_negotiation.specs.declared.standing.Standing.{Standing}
 use Rattle.fe2o3_sasl_negotiation.specs.declared.standing.Standing.TheVariants.{Wanting, LoggedIn, Closed}
 use Rattle.fe2o3_sasl_negotiation.specs.declared.standing.ClosedBecause.TheVariants.{FrameSize}
 use Rattle.fe2o3_sasl_negotiation.specs.Framing.{size_of, Fits, unit_size, IsPart, IsRefused, IsWhole}
-use Rattle.fe2o3_sasl_negotiation.specs.Laws.{Call, Calls, Stops, Negotiates, CutsDoNotMatter}
+use Rattle.fe2o3_sasl_negotiation.specs.Laws.{Call, Calls, Stops, Negotiates, NoncesOf, CutsDoNotMatter}
 use Rattle.fe2o3_sasl_negotiation.specs.Negotiations.{Side, Answer, closes, Ends, Rests, Receives, ReceivesAt}
 use Rattle.fe2o3_sasl_negotiation.proofs.lemmas.FramingLemmas.{size_of-append, part_is_short, refused_is_short}
 
@@ -245,7 +245,7 @@ module _ {S : Type 0} (Answers : Due → S → List ℕ → List ℕ → Answer 
   AreCut calls = (side last : Side S) (stream sent rest : List ℕ) → IsPart side.due side.limit side.held
       → Calls Answers side calls stream sent last rest
       → (taken : List ℕ) × (nonces : List (List ℕ)) × (stream ≡ taken ++ rest)
-      × Negotiates Answers side nonces taken sent last
+      × Negotiates Answers side nonces taken sent last × NoncesOf calls nonces
 
   -- a call that keeps all it is handed
   kept_call : (calls : List Call) → AreCut calls → (side last : Side S) (call : Call) (stream behind rest : List ℕ)
@@ -253,7 +253,7 @@ module _ {S : Type 0} (Answers : Due → S → List ℕ → List ℕ → Answer 
       → Calls Answers (held_more side (take call.handed stream)) calls
       (drop (length (take call.handed stream)) stream) behind last rest
       → (taken : List ℕ) × (nonces : List (List ℕ)) × (stream ≡ taken ++ rest)
-      × Negotiates Answers side nonces taken behind last
+      × Negotiates Answers side nonces taken behind last × NoncesOf calls nonces
   kept_call calls others side last call stream behind rest wanting part more =
       let piece = take call.handed stream in
       let cut = others (held_more side piece) last (drop (length piece) stream) behind rest part more in
@@ -265,6 +265,7 @@ module _ {S : Type 0} (Answers : Due → S → List ℕ → List ℕ → Answer 
         sym (take-append-drop call.handed stream)
             ∙ (ap (λ l. piece ++ l) (sym left ∙ cut.2) ∙ sym (append_assoc piece cut.0 rest)),
         shift side piece cut.1 cut.0 behind last wanting part cut.3,
+        cut.4,
       )
 
   -- a call that ends a unit
@@ -274,7 +275,7 @@ module _ {S : Type 0} (Answers : Due → S → List ℕ → List ℕ → Answer 
       → EndsUnit side (side.held ++ take call.handed stream) call.nonce n taken first next
       → Calls Answers next calls (drop taken stream) behind last rest
       → (all : List ℕ) × (nonces : List (List ℕ)) × (stream ≡ all ++ rest)
-      × Negotiates Answers side nonces all (first ++ behind) last
+      × Negotiates Answers side nonces all (first ++ behind) last × NoncesOf (call ∷ calls) nonces
   unit_call calls others side last next call stream first behind rest n taken wanting part empty unit more =
       let piece = take call.handed stream in
       let within = unit_within side next piece call.nonce first n taken part unit in
@@ -307,6 +308,7 @@ module _ {S : Type 0} (Answers : Due → S → List ℕ → List ℕ → Answer 
               (sym (drop_at (take taken stream) cut.0 taken (length-take-le taken stream some))) cut.3,
           refl,
         ),
+        inr (cut.1, refl, cut.4),
       )
 
   -- a call to a side at its end
@@ -314,7 +316,7 @@ module _ {S : Type 0} (Answers : Due → S → List ℕ → List ℕ → Answer 
       (taken : ℕ) → IsPart side.due side.limit side.held → Rests side taken first next
       → Calls Answers next calls (drop taken stream) behind last rest → sent ≡ first ++ behind
       → (all : List ℕ) × (nonces : List (List ℕ)) × (stream ≡ all ++ rest)
-      × Negotiates Answers side nonces all sent last
+      × Negotiates Answers side nonces all sent last × NoncesOf calls nonces
   ended_call calls others side last next stream first behind sent rest taken part (none, nothing, same) more all =
       let again = subst (λ (s : Side S). Calls Answers s calls stream behind last rest) same
       (subst (λ (k : ℕ). Calls Answers next calls (drop k stream) behind last rest) none more) in
@@ -324,6 +326,7 @@ module _ {S : Type 0} (Answers : Due → S → List ℕ → List ℕ → Answer 
         cut.1,
         cut.2,
         subst (λ (l : List ℕ). Negotiates Answers side cut.1 cut.0 l last) (sym one) cut.3,
+        cut.4,
       )
 
   -- the calls of a list that begins with this one
@@ -333,11 +336,13 @@ module _ {S : Type 0} (Answers : Due → S → List ℕ → List ℕ → Answer 
       → ReceivesAt standing Answers side (take call.handed stream) call.nonce taken first next
       → Calls Answers next calls (drop taken stream) behind last rest → sent ≡ first ++ behind
       → (all : List ℕ) × (nonces : List (List ℕ)) × (stream ≡ all ++ rest)
-      × Negotiates Answers side nonces all sent last
+      × Negotiates Answers side nonces all sent last × NoncesOf (call ∷ calls) nonces
   first_call calls others side last next call stream first behind sent rest taken LoggedIn is part rests more all =
-      ended_call calls others side last next stream first behind sent rest taken part rests more all
+      let cut = ended_call calls others side last next stream first behind sent rest taken part rests more all in
+      (cut.0, cut.1, cut.2, cut.3, inl cut.4)
   first_call calls others side last next call stream first behind sent rest taken (Closed why) is part rests more all =
-      ended_call calls others side last next stream first behind sent rest taken part rests more all
+      let cut = ended_call calls others side last next stream first behind sent rest taken part rests more all in
+      (cut.0, cut.1, cut.2, cut.3, inl cut.4)
   first_call calls others side last next call stream first behind sent rest taken Wanting is part (inl waits) more all =
       let piece = take call.handed stream in
       let again = subst (λ (s : Side S). Calls Answers s calls (drop (length piece) stream) behind last rest) waits.1.2
@@ -348,6 +353,7 @@ module _ {S : Type 0} (Answers : Due → S → List ℕ → List ℕ → Answer 
         cut.1,
         cut.2,
         subst (λ (l : List ℕ). Negotiates Answers side cut.1 cut.0 l last) (sym one) cut.3,
+        inl cut.4,
       )
   first_call calls others side last next call stream first behind sent rest taken Wanting is part (inr (inl refused)) more
       all =
@@ -359,6 +365,7 @@ module _ {S : Type 0} (Answers : Due → S → List ℕ → List ℕ → Answer 
         cut.1,
         cut.2,
         subst (λ (l : List ℕ). Negotiates Answers side cut.1 cut.0 l last) (sym all) cut.3,
+        cut.4,
       )
   first_call calls others side last next call stream first behind sent rest taken Wanting is part (inr (inr whole)) more
       all =
@@ -372,6 +379,7 @@ module _ {S : Type 0} (Answers : Due → S → List ℕ → List ℕ → Answer 
         cut.1,
         cut.2,
         subst (λ (l : List ℕ). Negotiates Answers side cut.1 cut.0 l last) (sym all) cut.3,
+        cut.4,
       )
 
   -- no call at all
@@ -397,13 +405,22 @@ module _ {S : Type 0} (Answers : Due → S → List ℕ → List ℕ → Answer 
 
   pub cuts : (calls : List Call) → AreCut calls
   cuts [] side last stream sent rest part (nothing, same, left) =
-      ([], [], sym left, no_call side last sent side.standing refl part nothing same)
+      ([], [], sym left, no_call side last sent side.standing refl part nothing same, refl)
   cuts (call ∷ calls) side last stream sent rest part (taken, first, next, behind, receives, more, all) =
       first_call calls (cuts calls) side last next call stream first behind sent rest taken side.standing refl part
       receives more all
 
 -- the law
-pub cuts_do_not_matter : {S : Type 0} (Answers : Due → S → List ℕ → List ℕ → Answer → S → Type 0)
+pub cuts_with_nonces : {S : Type 0} (Answers : Due → S → List ℕ → List ℕ → Answer → S → Type 0)
     → CutsDoNotMatter Answers
-cuts_do_not_matter Answers side last calls stream sent rest part made =
+cuts_with_nonces Answers side last calls stream sent rest part made =
     cuts Answers calls side last stream sent rest part made
+
+-- without the nonces
+pub cuts_do_not_matter : {S : Type 0} (Answers : Due → S → List ℕ → List ℕ → Answer → S → Type 0) (side last : Side S)
+    (calls : List Call) (stream sent rest : List ℕ) → IsPart side.due side.limit side.held
+    → Calls Answers side calls stream sent last rest
+    → (taken : List ℕ) × (nonces : List (List ℕ)) × (stream ≡ taken ++ rest)
+    × Negotiates Answers side nonces taken sent last
+cuts_do_not_matter Answers side last calls stream sent rest part made =
+    let cut = cuts Answers calls side last stream sent rest part made in (cut.0, cut.1, cut.2, cut.3)
