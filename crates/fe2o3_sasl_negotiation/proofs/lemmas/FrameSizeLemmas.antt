@@ -2,6 +2,12 @@
 use Rattle.std.proofs.Common.{◌≡◌, ◌≤◌, ◌+◌, ◌^◌, ℕ, suc, Bool, true, false, true≢false, Some, None, List, [], ◌∷◌, ◌++◌, length, nat_lt, if◌then◌else◌, refl, sym, arith}
 use Rattle.std.specs.Prelude.{IsSome}
 use Rattle.std.proofs.lemmas.List.{length-append}
+use Rattle.std.proofs.Common.{codes}
+use Rattle.fe2o3_scram.specs.declared.hmac.ScramVersion.{ScramVersion}
+use Rattle.fe2o3_scram.specs.declared.hmac.ScramVersion.TheVariants as versions
+use Rattle.fe2o3_scram.specs.ClientFirst.{client_first, client_first_bare}
+use Rattle.fe2o3_scram.specs.Escape.{escaped}
+use Rattle.fe2o3_scram.specs.Hmac.{mechanism_name}
 use Rattle.fe2o3_sasl_wire.specs.declared.sasl_frames.forms.Form.{Form}
 use Rattle.fe2o3_sasl_wire.specs.declared.sasl_frames.forms.Form.TheVariants.{Eight, ThirtyTwo}
 use Rattle.fe2o3_sasl_wire.specs.SaslFrames.{SaslFrame, Field, Binary, Text, Symbol, Ubyte, Null, optional, number, content, canonical, canonical_field, canonical_list, canonical_variable, code_of, kind_of, count_of, items_of, list_body, shortest}
@@ -9,7 +15,7 @@ use Rattle.fe2o3_sasl_wire.specs.SaslFrames as frames
 use Rattle.fe2o3_sasl_wire.specs.private.Writing.{width}
 use Rattle.fe2o3_sasl_wire.proofs.lemmas.writing.BodyPartsLemmas.{has_body}
 use Rattle.fe2o3_sasl_wire.proofs.lemmas.writing.CanonicalSpellsLemmas.{length-content}
-use Rattle.fe2o3_sasl_negotiation.specs.FrameSizes.{CanBeSent, InitsFit, TextsFit, OutcomesFit}
+use Rattle.fe2o3_sasl_negotiation.specs.FrameSizes.{CanBeSent, ScramInitsFit, InitsFit, TextsFit, OutcomesFit}
 
 most_width : (form : Form) → width form ≤ 4
 most_width Eight = omega arith
@@ -100,3 +106,29 @@ inits_fit mechanism (Some text) (Some host) few = sent (frames.Init mechanism (S
   length-append (canonical_variable 0xa3 0xb3 mechanism)
       (canonical_variable 0xa0 0xb0 text ++ (canonical_variable 0xa1 0xb1 host ++ [])),
 ))
+
+short_mechanism : (version : ScramVersion) → length (mechanism_name version) ≤ 13
+short_mechanism versions.Sha1 = omega arith
+short_mechanism versions.Sha256 = omega arith
+short_mechanism versions.Sha512 = omega arith
+
+-- a client-first message adds eight bytes to its name and its nonce
+length-client_first : (user nonce : List ℕ)
+    → length (client_first user nonce) ≡ length (escaped user) + length nonce + 8
+length-client_first user nonce = omega (
+  arith,
+  length-append (codes "n,,") (client_first_bare user nonce),
+  length-append (codes "n=" ++ escaped user) (44 ∷ (codes "r=" ++ nonce)),
+  length-append (codes "n=") (escaped user),
+  length-append (codes "r=") nonce,
+)
+
+pub scram_inits_fit : ScramInitsFit
+scram_inits_fit version user nonce hostname long few =
+    inits_fit (mechanism_name version) (Some (client_first user nonce)) hostname (omega (
+      arith,
+      few,
+      short_mechanism version,
+      length-client_first user nonce,
+      long,
+    ))
