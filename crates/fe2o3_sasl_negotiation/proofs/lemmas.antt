@@ -24,3 +24,4 @@ pub mod MemoryLemmas
 pub mod KeptLemmas
 pub mod ClientKeptLemmas
 pub mod RetryLemmas
+pub mod FrameSizeLemmas

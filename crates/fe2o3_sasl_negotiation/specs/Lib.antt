@@ -14,3 +14,4 @@ pub mod private
 pub mod CostLaws
 pub mod Memory
 pub mod Retries
+pub mod FrameSizes

@@ -6,6 +6,7 @@
 #![tactic(auto)]
 
 mod client;
+pub mod frame_sizes;
 mod framing;
 pub mod laws;
 mod pieces;

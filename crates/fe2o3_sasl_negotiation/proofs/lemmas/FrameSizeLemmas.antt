@@ -1,0 +1,134 @@
+-- How many bytes the frames of a login have.
+use Rattle.std.proofs.Common.{◌≡◌, ◌≤◌, ◌+◌, ◌^◌, ℕ, suc, Bool, true, false, true≢false, Some, None, List, [], ◌∷◌, ◌++◌, length, nat_lt, if◌then◌else◌, refl, sym, arith}
+use Rattle.std.specs.Prelude.{IsSome}
+use Rattle.std.proofs.lemmas.List.{length-append}
+use Rattle.std.proofs.Common.{codes}
+use Rattle.fe2o3_scram.specs.declared.hmac.ScramVersion.{ScramVersion}
+use Rattle.fe2o3_scram.specs.declared.hmac.ScramVersion.TheVariants as versions
+use Rattle.fe2o3_scram.specs.ClientFirst.{client_first, client_first_bare}
+use Rattle.fe2o3_scram.specs.Escape.{escaped}
+use Rattle.fe2o3_scram.specs.Hmac.{mechanism_name}
+use Rattle.fe2o3_sasl_wire.specs.declared.sasl_frames.forms.Form.{Form}
+use Rattle.fe2o3_sasl_wire.specs.declared.sasl_frames.forms.Form.TheVariants.{Eight, ThirtyTwo}
+use Rattle.fe2o3_sasl_wire.specs.SaslFrames.{SaslFrame, Field, Binary, Text, Symbol, Ubyte, Null, optional, number, content, canonical, canonical_field, canonical_list, canonical_variable, code_of, kind_of, count_of, items_of, list_body, shortest}
+use Rattle.fe2o3_sasl_wire.specs.SaslFrames as frames
+use Rattle.fe2o3_sasl_wire.specs.private.Writing.{width}
+use Rattle.fe2o3_sasl_wire.proofs.lemmas.writing.BodyPartsLemmas.{has_body}
+use Rattle.fe2o3_sasl_wire.proofs.lemmas.writing.CanonicalSpellsLemmas.{length-content}
+use Rattle.fe2o3_sasl_negotiation.specs.FrameSizes.{CanBeSent, ScramInitsFit, InitsFit, TextsFit, OutcomesFit}
+
+most_width : (form : Form) → width form ≤ 4
+most_width Eight = omega arith
+most_width ThirtyTwo = omega arith
+
+length-number : (form : Form) (n : ℕ) → length (number form n) ≡ width form
+length-number Eight n = refl
+length-number ThirtyTwo n = refl
+
+-- a list adds at most nine bytes to its items
+short_list : (count : ℕ) (items : List ℕ) → length (canonical_list count items) ≤ length items + 9
+short_list count items = go (shortest (length (list_body Eight count items)))
+  where
+    go : (form : Form) → suc (length (content form (list_body form count items))) ≤ length items + 9
+    go form = omega (
+      arith,
+      length-content form (list_body form count items),
+      length-append (number form count) items,
+      length-number form count,
+      most_width form,
+    )
+
+-- a field adds at most five to its text
+short_variable : (short long : ℕ) (bytes : List ℕ) → length (canonical_variable short long bytes) ≤ length bytes + 5
+short_variable short long bytes =
+    omega (arith, length-content (shortest (length bytes)) bytes, most_width (shortest (length bytes)))
+
+-- its body, where it has one
+abbrev whole : SaslFrame → List ℕ
+whole frame = 2 ∷ 1 ∷ 0 ∷ 0 ∷ 0 ∷ 0x53 ∷ code_of (kind_of frame) ∷ canonical_list (count_of frame) (items_of frame)
+
+there : (body : List ℕ) (b : Bool) → IsSome (if b then Some body else None) → length body + 4 ≤ 512
+    → (other : List ℕ) × ((if b then Some body else None) ≡ Some other) × (length other + 4 ≤ 512)
+there body true some small = (body, refl, small)
+there body false some small = absurd (true≢false (sym some))
+
+-- a frame of so few items is sent
+sent : (frame : SaslFrame) → length (items_of frame) ≤ 492 → CanBeSent frame
+unfolding canonical
+sent frame few = there (whole frame) (nat_lt (length (list_body ThirtyTwo (count_of frame) (items_of frame))) (2 ^ 32))
+    (has_body frame (length (items_of frame)) refl (omega (arith, few)))
+    (let l = short_list (count_of frame) (items_of frame) in omega (arith, few, l))
+
+one_text : (text : List ℕ) → length (canonical_variable 0xa0 0xb0 text ++ []) ≤ length text + 5
+one_text text = omega (arith, short_variable 0xa0 0xb0 text, length-append (canonical_variable 0xa0 0xb0 text) [])
+
+pub texts_fit : TextsFit
+texts_fit text few = (
+  sent (frames.Challenge text) (let l = one_text text in omega (arith, few, l)),
+  sent (frames.Response text) (let l = one_text text in omega (arith, few, l)),
+)
+
+pub outcomes_fit : OutcomesFit
+outcomes_fit code None few = sent (frames.Outcome code None) (omega arith)
+outcomes_fit code (Some text) few =
+    sent (frames.Outcome code (Some text)) (let l = one_text text in omega (arith, few, l))
+
+pub inits_fit : InitsFit
+inits_fit mechanism None None few = sent (frames.Init mechanism None None) (omega (
+  arith,
+  few,
+  short_variable 0xa3 0xb3 mechanism,
+  length-append (canonical_variable 0xa3 0xb3 mechanism) [],
+))
+inits_fit mechanism (Some text) None few = sent (frames.Init mechanism (Some text) None) (omega (
+  arith,
+  few,
+  short_variable 0xa3 0xb3 mechanism,
+  one_text text,
+  length-append (canonical_variable 0xa3 0xb3 mechanism) (canonical_variable 0xa0 0xb0 text ++ []),
+))
+inits_fit mechanism None (Some host) few = sent (frames.Init mechanism None (Some host)) (omega (
+  arith,
+  few,
+  short_variable 0xa3 0xb3 mechanism,
+  short_variable 0xa1 0xb1 host,
+  length-append (canonical_variable 0xa1 0xb1 host) [],
+  length-append (canonical_variable 0xa3 0xb3 mechanism) (0x40 ∷ canonical_variable 0xa1 0xb1 host ++ []),
+))
+inits_fit mechanism (Some text) (Some host) few = sent (frames.Init mechanism (Some text) (Some host)) (omega (
+  arith,
+  few,
+  short_variable 0xa3 0xb3 mechanism,
+  short_variable 0xa0 0xb0 text,
+  short_variable 0xa1 0xb1 host,
+  length-append (canonical_variable 0xa1 0xb1 host) [],
+  length-append (canonical_variable 0xa0 0xb0 text) (canonical_variable 0xa1 0xb1 host ++ []),
+  length-append (canonical_variable 0xa3 0xb3 mechanism)
+      (canonical_variable 0xa0 0xb0 text ++ (canonical_variable 0xa1 0xb1 host ++ [])),
+))
+
+short_mechanism : (version : ScramVersion) → length (mechanism_name version) ≤ 13
+short_mechanism versions.Sha1 = omega arith
+short_mechanism versions.Sha256 = omega arith
+short_mechanism versions.Sha512 = omega arith
+
+-- a client-first message adds eight bytes to its name and its nonce
+length-client_first : (user nonce : List ℕ)
+    → length (client_first user nonce) ≡ length (escaped user) + length nonce + 8
+length-client_first user nonce = omega (
+  arith,
+  length-append (codes "n,,") (client_first_bare user nonce),
+  length-append (codes "n=" ++ escaped user) (44 ∷ (codes "r=" ++ nonce)),
+  length-append (codes "n=") (escaped user),
+  length-append (codes "r=") nonce,
+)
+
+pub scram_inits_fit : ScramInitsFit
+scram_inits_fit version user nonce hostname long few =
+    inits_fit (mechanism_name version) (Some (client_first user nonce)) hostname (omega (
+      arith,
+      few,
+      short_mechanism version,
+      length-client_first user nonce,
+      long,
+    ))
