@@ -1040,7 +1040,8 @@ class _ServerSide(_Login):
         an unknown user. EXTERNAL lets in the peer, the name that the transport has authenticated. Where that is None or
         empty, EXTERNAL is not offered, and an init of it is refused."""
         self._record_of, self._mechanisms, self._version = record_of, _number(mechanisms), _number(version)
-        self._iterations, self._peer, self._struct = _number(iterations), _text("" if peer is None else peer), self._fresh()
+        self._iterations, self._struct = _number(iterations), self._fresh()
+        self._peer = _text("" if peer is None else peer)
         self._lock = threading.RLock()
 
     def _fresh(self) -> Any:

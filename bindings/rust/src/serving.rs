@@ -36,7 +36,7 @@ pub struct Offers {
     /// ANONYMOUS (RFC 4505).
     pub anonymous: bool,
 
-    /// EXTERNAL (RFC 4422, appendix A), which is offered only where the transport has authenticated a peer (`with_peer`).
+    /// EXTERNAL (RFC 4422, appendix A), offered only where the transport has authenticated a peer (`with_peer`).
     pub external: bool,
 }
 

@@ -8,6 +8,7 @@ use Rattle.fe2o3_scram.specs.declared.hmac.ScramVersion.TheVariants as versions
 use Rattle.fe2o3_scram.specs.declared.scram_messages.gs2_header.Gs2Header.{Gs2Header}
 use Rattle.fe2o3_scram.specs.declared.scram_messages.gs2_header.Gs2Header.TheVariants.{Unsupported, Unoffered}
 use Rattle.fe2o3_scram.specs.Credentials.{Records, VersionedRecord, versioned}
+use Rattle.fe2o3_scram.specs.Readings.{NoneHolds}
 use Rattle.fe2o3_scram.specs.ScramServer.{ServerState, open_challenge}
 use Rattle.fe2o3_scram.specs.ServerFirst.{Challenge}
 use Rattle.fe2o3_sasl_runs.specs.declared.one_of.Part.{Part}
@@ -24,7 +25,7 @@ use Rattle.sasl_c.specs.declared.server.ScramServer.{ScramServer as ScramStruct}
 use Rattle.sasl_c.specs.declared.status.Status.{Status}
 use Rattle.sasl_c.specs.declared.status.Status.TheVariants as statuses
 use Rattle.sasl_c.specs.Records.{IsVersion, Shows, SpellsStruct}
-use Rattle.sasl_c.specs.SaslServer.{All, Code, Comes, HasNoWords, HasNoStruct, HasRecords, IsAll, IsNoHost, IsOf, IsServer, HasNone, ShowsBy, ShowsOpen, ShowsSide, ShowsStanding, ShowsState, Stands, State, allowed_of, one_where, open_in, server_of, side_in, side_struct, state_names, state_of, state_struct, struct_by, sum_of, user_in}
+use Rattle.sasl_c.specs.SaslServer.{All, Code, Comes, HasNoWords, HasNoStruct, HasRecords, IsAll, IsNoHost, IsOf, IsServer, HasNone, host_tests, ShowsBy, ShowsOpen, ShowsSide, ShowsStanding, ShowsState, Stands, State, allowed_of, one_where, open_in, server_of, side_in, side_struct, state_names, state_of, state_struct, struct_by, sum_of, user_in}
 use Rattle.sasl_c.specs.Server.{HasLoggedIn, HasRoom, IsOpen, open_number}
 use Rattle.sasl_c.specs.Status.{version_number}
 use Rattle.sasl_c.proofs.StatusLemmas.{carried}
@@ -225,7 +226,14 @@ no_offer host version choice scram all names server known sum named is (records,
       ),
     )
 
-pub ruleset acceptor = (no_version, no_choice, no_words)
+pub no_test : (host : Host) (version : ScramVersion) (choice : Choice) → IsVersion host.version version
+    → sum_of choice ≡ host.mechanisms → IsUtf8 host.username.now → IsUtf8 host.peer.now → NoneHolds (host_tests host)
+no_test host version choice known sum name peer = (
+  (λ none. none version known),
+  ((λ none. none choice sum), ((λ wrong. wrong name), ((λ wrong. wrong peer), tt))),
+)
+
+pub ruleset acceptor = (no_version, no_choice, no_words, no_test)
 
 -- ---- what the struct of SCRAM shows
 

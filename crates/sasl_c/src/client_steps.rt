@@ -4,7 +4,8 @@ ghost use Rattle.std.specs.Prelude.{◌≡◌, ◌≢◌, ◌≤◌, ◌^◌, le
 ghost use Rattle.fe2o3_sasl_wire.specs.FrameView.{shown};
 ghost use Rattle.fe2o3_sasl_runs.specs.Runs.{client_reply};
 ghost use Rattle.fe2o3_sasl_runs.specs.SaslProfile.{profile_of};
-ghost use Rattle.sasl_c.specs.Status.{Answers, FillsWithin};
+ghost use Rattle.sasl_c.specs.SaslClient.{HasNoHostname};
+ghost use Rattle.sasl_c.specs.Status.{Answers, AsksWhere, FillsWithin};
 ghost use Rattle.sasl_c.specs.Steps.{ClientHides, ClientNotStepped, ClientStepped, ClientSteps, ClientTells, ProfileNotStepped, ProfileStepped, standing_number};
 ghost use Rattle.sasl_c.specs.declared.status.Status.TheVariants.{OutOfMemory as StatusOutOfMemory, RoomTooSmall};
 
@@ -104,6 +105,7 @@ fn answered(
     ensures fits { IfOk result (λ made. length made.sent.items ≤ 508) }
     ensures err { IfErr result (λ status. status ≢ StatusOutOfMemory
         → ClientNotStepped login.now (record { body = body.now; nonce = nonce.now }) client.now status) }
+    ensures memory { AsksWhere (¬ HasNoHostname login.now) result }
     ensures room { IfErr result (λ status. status ≢ RoomTooSmall) }
 {
     let hostname = match login.hostname(alloc) {
@@ -138,6 +140,7 @@ fn step(
         (record { bytes = out.new; len = len.new }) result }
     ensures stays { OnErr result ((client.new ≡ client.old) × (standing.new ≡ standing.old)) }
     ensures first { IfErr result (λ status. status ≡ RoomTooSmall → meter.new ≡ meter.old) }
+    ensures memory { AsksWhere (¬ HasNoHostname login.now) result }
 {
     has_room(out, len)?;
     let made = match answered(alloc, login, client, body, nonce, meter) {
@@ -174,7 +177,8 @@ pub extern "C" fn fe2o3_sasl_client_step(
     ensures { Answers result (λ answer. FillsWithin 508 (ClientSteps login.now
         (record { body = body.now; nonce = nonce.now }) client.old client.new standing.new)
         (record { bytes = out.old; len = len.old }) (record { bytes = out.new; len = len.new }) answer
-        × OnErr answer ((client.new ≡ client.old) × (standing.new ≡ standing.old))) }
+        × OnErr answer ((client.new ≡ client.old) × (standing.new ≡ standing.old))
+        × AsksWhere (¬ HasNoHostname login.now) answer) }
 {
     let mut meter = Meter::new();
     number(step(

@@ -1,6 +1,6 @@
 //! The server's side of a connection, which stands in a struct between its calls.
 
-ghost use Rattle.std.specs.Prelude.{false, ◌≡◌, ◌≢◌, ◌<◌, ◌≤◌, ◌⊎◌, ◌+◌, ◌^◌, ℕ, List, Ok, length, map, option_map, string_bytes, IfOk, IfErr, IfSome, OnErr, MatchOption};
+ghost use Rattle.std.specs.Prelude.{false, ◌≡◌, ◌≢◌, ◌<◌, ◌≤◌, ◌⊎◌, ◌+◌, ◌^◌, ℕ, List, Ok, length, map, option_map, string_bytes, IfOk, IfErr, IfSome, OnErr, MatchOption, MatchResult};
 ghost use Rattle.std.specs.Str.{IsUtf8};
 ghost use Rattle.fe2o3_scram.specs.ScramServer.{challenge_kept, provider_in, state_in, unbound_in};
 ghost use Rattle.fe2o3_sasl_runs.specs.ExternalAcceptor.{external_of};
@@ -9,7 +9,7 @@ ghost use Rattle.fe2o3_sasl_negotiation.specs.declared.standing.Standing.TheVari
 ghost use Rattle.fe2o3_sasl_negotiation.specs.ServerNegotiation.{ServerReceives};
 ghost use Rattle.fe2o3_sasl_negotiation.specs.SetDown.{IsKept, side_of};
 ghost use Rattle.fe2o3_sasl_negotiation.specs.Sides.{server_side};
-ghost use Rattle.sasl_c.specs.SaslServer.{Comes, HasNoWords, HasNone, HasRecords, IsAll, IsNoHost, NotReceived, Received, Receives, ShowsBy, ShowsStanding, ShowsState, Stands, all_in, all_of, allowed_of, external_mechanism, external_name, name_where, one_where, standing_struct, state_of, state_struct, struct_by, sum_of};
+ghost use Rattle.sasl_c.specs.SaslServer.{Comes, HasNoWords, HasNone, HasRecords, IsAll, IsNoHost, NotReceived, Received, Receives, ShowsBy, ShowsStanding, ShowsState, Stands, all_in, all_of, allowed_of, external_mechanism, external_name, host_tests, name_where, one_where, standing_struct, state_of, state_struct, struct_by, sum_of};
 ghost use Rattle.sasl_c.specs.declared.sasl_server.Choice.{Choice as Choices};
 ghost use Rattle.sasl_c.specs.declared.server.ScramServer.{ScramServer as ScramStruct};
 ghost use Rattle.fe2o3_scram.specs.Readings.{NoneHolds};
@@ -255,12 +255,24 @@ impl SaslHost<'_> {
         Ok(joined(machine, store, self.iterations, external, asked))
     }
 
+    /// Tests that the words of the host are texts.
+    fn words(&self) -> Result<(), Status>
+        ensures { MatchResult result (λ _. IsUtf8 self.now.username.now × IsUtf8 self.now.peer.now)
+            (λ status. HasNoWords self.now status) }
+    {
+        text(self.username)?;
+        text(self.peer)?;
+        Ok(())
+    }
+
     /// The acceptor, in the exchange that the struct of SCRAM shows.
     #[tactic(auto, using(crate::proofs::SaslServerLemmas::acceptor))]
     pub fn acceptor(&self, alloc: Global, scram: &ScramServer) -> Result<Acceptor, Status>
         ensures ok { IfOk result (λ acceptor. Comes self.now Wanting (state_of acceptor)
             × ShowsState scram.now Wanting (state_of acceptor)) }
+        ensures tests { IfOk result (λ _. NoneHolds (host_tests self.now)) }
         ensures err { IfErr result (λ status. status ≢ StatusOutOfMemory → IsNoHost self.now status) }
+        ensures memory { AsksWhere (NoneHolds (host_tests self.now)) result }
         ensures room { IfErr result (λ status. status ≢ RoomTooSmall) }
     {
         let Some(version) = version_of(self.version) else {
@@ -269,6 +281,10 @@ impl SaslHost<'_> {
         let Some(choice) = Choice::of(self.mechanisms) else {
             return Err(Status::NoSuchMechanism);
         };
+        // The words are tested before memory is asked for.
+        if let Err(status) = self.words() {
+            return Err(status);
+        }
         let all = match self.all(alloc, version, choice.unbound, scram) {
             Ok(all) => all,
             Err(status) => return Err(status),
@@ -458,7 +474,7 @@ fn received(
     ensures fits { IfOk result (λ made. length made.sent.items ≤ 520) }
     ensures err { IfErr result (λ status. status ≢ StatusOutOfMemory
         → NotReceived host.now bytes.now nonce.now server.now status) }
-    ensures memory { AsksWhere (NoneHolds (side_tests server.now.connection)) result }
+    ensures memory { AsksWhere (NoneHolds (side_tests server.now.connection) × NoneHolds (host_tests host.now)) result }
     ensures room { IfErr result (λ status. status ≢ RoomTooSmall) }
 {
     let kept = match server.connection.read() {
@@ -495,7 +511,7 @@ fn receive(
         (record { bytes = out.old; len = len.old }) (record { bytes = out.new; len = len.new }) result }
     ensures stays { OnErr result ((server.new ≡ server.old) × (taken.new ≡ taken.old)) }
     ensures first { IfErr result (λ status. status ≡ RoomTooSmall → meter.new ≡ meter.old) }
-    ensures memory { AsksWhere (NoneHolds (side_tests server.old.connection)) result }
+    ensures memory { AsksWhere (NoneHolds (side_tests server.old.connection) × NoneHolds (host_tests host.now)) result }
 {
     if out.len() < SENT_MOST {
         *len = SENT_MOST;
@@ -532,7 +548,7 @@ pub extern "C" fn fe2o3_sasl_server_receive(
         (Receives host.now bytes.now nonce.now server.old server.new taken.new)
         (record { bytes = out.old; len = len.old }) (record { bytes = out.new; len = len.new }) answer
         × OnErr answer ((server.new ≡ server.old) × (taken.new ≡ taken.old))
-        × AsksWhere (NoneHolds (side_tests server.old.connection)) answer) }
+        × AsksWhere (NoneHolds (side_tests server.old.connection) × NoneHolds (host_tests host.now)) answer) }
 {
     let mut meter = Meter::new();
     number(receive(

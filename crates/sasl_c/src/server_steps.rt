@@ -5,8 +5,9 @@ ghost use Rattle.fe2o3_sasl_runs.specs.Events.{ServerSays};
 ghost use Rattle.fe2o3_sasl_runs.specs.Runs.{AcceptorSteps, server_reply};
 ghost use Rattle.fe2o3_sasl_negotiation.specs.ServerNegotiation.{offer_body};
 ghost use Rattle.fe2o3_sasl_negotiation.specs.declared.standing.Turn.TheVariants.{Init, Response};
-ghost use Rattle.sasl_c.specs.SaslServer.{BodyNames, BodyNamesNobody};
-ghost use Rattle.sasl_c.specs.Status.{Answers, Fills, FillsWithin};
+ghost use Rattle.sasl_c.specs.SaslServer.{BodyNames, BodyNamesNobody, host_tests};
+ghost use Rattle.fe2o3_scram.specs.Readings.{NoneHolds};
+ghost use Rattle.sasl_c.specs.Status.{Answers, AsksWhere, Fills, FillsWithin};
 ghost use Rattle.sasl_c.specs.Steps.{IsStepped, NotStepped, Offers, ServerHides, ServerNotStepped, ServerStepped, ServerSteps, ServerTells, StepNames, standing_number};
 ghost use Rattle.sasl_c.specs.declared.status.Status.TheVariants.{FrameTooLarge, OutOfMemory as StatusOutOfMemory, RoomTooSmall};
 
@@ -44,6 +45,7 @@ fn offer_of<A: SaslAcceptor + Drop>(alloc: Global, acceptor: A) -> Result<BytesM
 fn offered(alloc: Global, host: &SaslHost<'_>) -> Result<BytesMut, Status>
     ensures offers { MatchResult result (λ body. Offers host.now (Ok body.items))
         (λ status. status ≢ StatusOutOfMemory → Offers host.now (Err status)) }
+    ensures memory { AsksWhere (NoneHolds (host_tests host.now)) result }
     ensures room { IfErr result (λ status. status ≢ RoomTooSmall) }
 {
     let acceptor = match host.acceptor(alloc, &ScramServer::fresh()) {
@@ -58,8 +60,9 @@ fn offered(alloc: Global, host: &SaslHost<'_>) -> Result<BytesMut, Status>
 
 /// Writes the body with which a host offers its mechanisms.
 fn offer(alloc: Global, host: &SaslHost<'_>, out: &mut [u8], len: &mut usize) -> Result<(), Status>
-    ensures { Fills (Offers host.now) (record { bytes = out.old; len = len.old })
+    ensures text { Fills (Offers host.now) (record { bytes = out.old; len = len.old })
         (record { bytes = out.new; len = len.new }) result }
+    ensures memory { AsksWhere (NoneHolds (host_tests host.now)) result }
 {
     let body = match offered(alloc, host) {
         Ok(body) => body,
@@ -76,8 +79,8 @@ pub extern "C" fn fe2o3_sasl_server_offer(
     out: &mut [u8],
     len: &mut usize,
 ) -> u32
-    ensures { Answers result (Fills (Offers host.now) (record { bytes = out.old; len = len.old })
-        (record { bytes = out.new; len = len.new })) }
+    ensures { Answers result (λ answer. Fills (Offers host.now) (record { bytes = out.old; len = len.old })
+        (record { bytes = out.new; len = len.new }) answer × AsksWhere (NoneHolds (host_tests host.now)) answer) }
 {
     number(offer(alloc, host, out, len))
 }
@@ -157,6 +160,7 @@ fn answered(
     ensures fits { IfOk result (λ made. length made.sent.items ≤ 508) }
     ensures err { IfErr result (λ status. status ≢ StatusOutOfMemory
         → ServerNotStepped host.now (record { body = body.now; nonce = nonce.now }) server.now status) }
+    ensures memory { AsksWhere (NoneHolds (host_tests host.now)) result }
     ensures room { IfErr result (λ status. status ≢ RoomTooSmall) }
 {
     let acceptor = match host.acceptor(alloc, server) {
@@ -187,6 +191,7 @@ fn step(
         (record { bytes = out.new; len = len.new }) result }
     ensures stays { OnErr result ((server.new ≡ server.old) × (standing.new ≡ standing.old)) }
     ensures first { IfErr result (λ status. status ≡ RoomTooSmall → meter.new ≡ meter.old) }
+    ensures memory { AsksWhere (NoneHolds (host_tests host.now)) result }
 {
     has_room(out, len)?;
     let made = match answered(alloc, host, server, body, nonce, meter) {
@@ -226,7 +231,8 @@ pub extern "C" fn fe2o3_sasl_server_step(
     ensures { Answers result (λ answer. FillsWithin 508 (ServerSteps host.now
         (record { body = body.now; nonce = nonce.now }) server.old server.new standing.new)
         (record { bytes = out.old; len = len.old }) (record { bytes = out.new; len = len.new }) answer
-        × OnErr answer ((server.new ≡ server.old) × (standing.new ≡ standing.old))) }
+        × OnErr answer ((server.new ≡ server.old) × (standing.new ≡ standing.old))
+        × AsksWhere (NoneHolds (host_tests host.now)) answer) }
 {
     let mut meter = Meter::new();
     number(step(

@@ -4,9 +4,14 @@ use Rattle.sasl_c.proofs.SaslServerLemmas.{made, no_choice, no_offer, no_words}
 use Rattle.sasl_c.proofs.sasl_server.SaslHost.acceptor.Goals as goal
 
 pub returns-in-Err-clause-err : goal.returns-in-Err-clause-err
-returns-in-Err-clause-err c = λ other.
+returns-in-Err-clause-err c = λ _.
     no_words c.args.self.now c.in-Some.version c.in-Some-of.choice c.in-Err.status c.in-Some.ensures
-    c.in-Some-of.ensures (c.in-Err.ensures.err other)
+    c.in-Some-of.ensures c.in-Err.ensures
+
+pub returns-in-Err-all-clause-err : goal.returns-in-Err-all-clause-err
+returns-in-Err-all-clause-err c = λ other.
+    no_words c.args.self.now c.in-Some.version c.in-Some-of.choice c.in-Err-all.status c.in-Some.ensures
+    c.in-Some-of.ensures (c.in-Err-all.ensures.err other)
 
 pub returns-in-Ok-new-clause-ok : goal.returns-in-Ok-new-clause-ok
 returns-in-Ok-new-clause-ok c =
