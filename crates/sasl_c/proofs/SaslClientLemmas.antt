@@ -1,5 +1,5 @@
 -- What a client of a connection comes to (AMQP 1.0, part 5, section 5.3.2).
-use Rattle.std.proofs.Common.{arith, refl, sym, ap, inl, inr, ◌∙◌, ◌≡◌, ◌≤◌, ◌<◌, ◌⊎◌, ◌+◌, ◌++◌, ℕ, List, [], length}
+use Rattle.std.proofs.Common.{arith, refl, sym, ap, inl, inr, ◌∙◌, ◌≡◌, ◌≤◌, ◌<◌, ◌⊎◌, ◌+◌, ◌++◌, ℕ, List, [], length, IsTrue}
 use Rattle.std.specs.Prelude.{Option, Some, None, false, IfSome, MatchOption, Result, Ok, Err, drop, nat_eq, if◌then◌else◌}
 use Rattle.std.proofs.lemmas.Bool.{cases_lt}
 use Rattle.fe2o3_sasl_wire.specs.declared.amqp_types.SaslCode.TheVariants as outcomes
@@ -24,7 +24,7 @@ use Rattle.fe2o3_sasl_negotiation.specs.declared.standing.Turn.TheVariants as tu
 use Rattle.fe2o3_sasl_negotiation.specs.ClientNegotiation.{ClientAnswers, ClientReceives, Says}
 use Rattle.fe2o3_sasl_negotiation.specs.Framing.{IsPart}
 use Rattle.fe2o3_sasl_negotiation.specs.Negotiations.{Side, Answer, Sends, ReceivesAt}
-use Rattle.fe2o3_sasl_negotiation.specs.SetDown.{IsKept, side_of}
+use Rattle.fe2o3_sasl_negotiation.specs.SetDown.{client_at, client_due, IsClientKept, side_of}
 use Rattle.fe2o3_sasl_negotiation.proofs.lemmas.UnitLemmas.{length-framed}
 use Rattle.sasl_c.specs.declared.client.Login.{Login as Words}
 use Rattle.sasl_c.specs.declared.client.ScramClient.{ScramClient as ScramStruct}
@@ -34,7 +34,7 @@ use Rattle.sasl_c.specs.declared.sasl_client.SaslLogin.{SaslLogin as Login}
 use Rattle.sasl_c.specs.declared.status.Status.{Status}
 use Rattle.sasl_c.specs.declared.status.Status.TheVariants as statuses
 use Rattle.sasl_c.specs.Client.{IsNoLogin, IsReached, IsState, WritesClient, fresh_struct}
-use Rattle.sasl_c.specs.Connection.{Keeps, KeepsNoPart, due_number, side_tests, struct_of}
+use Rattle.sasl_c.specs.Connection.{Keeps, KeepsNoPartOf, due_number, side_tests, struct_of}
 use Rattle.sasl_c.specs.SaslClient.{Comes, HasNoHostname, HasNoWords, IsClient, IsHostname, IsNoClient, IsNoProfile, IsProfile, ReadsClient, Receives, Stands, WritesProfile, WritesSide}
 use Rattle.sasl_c.proofs.ClientLemmas.{answer_fits, answering_login, believing_login, moved_login}
 use Rattle.sasl_c.proofs.StateLemmas.{reached}
@@ -398,17 +398,19 @@ pub one_due : (due other : Due) → due_number due ≡ due_number other → due 
 one_due due other same = sym (named_back due) ∙ (ap due_named same ∙ named_back other)
 
 keeps_no_part : (client : Struct) (kept : SetDown)
-    → Keeps client.connection kept.standing kept.due kept.held.now → kept.limit ≡ 512 → ¬ IsKept kept
-    → KeepsNoPart client.connection
-keeps_no_part client kept keeps limit wrong = λ due held other part.
+    → Keeps client.connection kept.standing kept.due kept.held.now → kept.standing ≡ Wanting → kept.limit ≡ 512
+    → ¬ IsClientKept kept → KeepsNoPartOf client_due client.connection
+keeps_no_part client kept keeps wanting limit wrong = λ due held other unit part.
     let one = one_due due kept.due (other.due ∙ sym keeps.due) in
     let same : held ≡ kept.held.now = other.held ∙ sym keeps.held in
     let less : IsPart kept.due 512 held = carried (λ d. IsPart d 512 held) due kept.due one part in
     let come : IsPart kept.due 512 kept.held.now = carried (λ h. IsPart kept.due 512 h) held kept.held.now same less
     in
     wrong (
-      omega (arith, limit),
-      carried (λ n. IsPart kept.due n kept.held.now) 512 kept.limit (sym limit) come,
+      (omega (arith, limit), carried (λ n. IsPart kept.due n kept.held.now) 512 kept.limit (sym limit) come),
+      carried (λ (s : Standing). IsTrue (client_at s kept.due)) Wanting kept.standing (sym wanting)
+          (carried (λ (d : Due). IsTrue (client_due d)) due kept.due one unit),
+      λ ended. absurd (ended wanting),
     )
 
 -- none of the tests of the struct holds
@@ -450,11 +452,11 @@ no_profile login client kept status keeps wanting named wrong =
 
 pub is_not_kept : (login : Login) (client : Struct) (kept : SetDown) (profile : Profile)
     → Keeps client.connection kept.standing kept.due kept.held.now → kept.standing ≡ Wanting → kept.limit ≡ 512
-    → ¬ HasNoHostname login → IsProfile login client.scram profile → ¬ IsKept kept
+    → ¬ HasNoHostname login → IsProfile login client.scram profile → ¬ IsClientKept kept
     → IsNoClient login client statuses.NotKept
 is_not_kept login client kept profile keeps wanting limit named is wrong = inr (
   none_holds client kept keeps wanting,
-  inr (named, inr (refl, keeps_no_part client kept keeps limit wrong, (profile, is))),
+  inr (named, inr (refl, keeps_no_part client kept keeps wanting limit wrong, (profile, is))),
 )
 
 -- why a login has no profile

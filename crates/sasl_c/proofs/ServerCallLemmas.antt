@@ -1,5 +1,5 @@
 -- What a call makes of a server's side of a connection (AMQP 1.0, part 5, section 5.3.2).
-use Rattle.std.proofs.Common.{arith, refl, sym, ap, inl, inr, ◌∙◌, ◌≡◌, ◌≢◌, ◌≤◌, ◌⊎◌, ◌++◌, ℕ, List, [], length}
+use Rattle.std.proofs.Common.{arith, refl, sym, ap, inl, inr, ◌∙◌, ◌≡◌, ◌≢◌, ◌≤◌, ◌⊎◌, ◌++◌, ℕ, List, [], length, IsTrue}
 use Rattle.std.specs.Prelude.{Bool, true, false, Option, Some, None, Result, Ok, Err, drop}
 use Rattle.std.proofs.lemmas.List.{length-append}
 use Rattle.fe2o3_sasl_wire.specs.declared.amqp_types.SaslCode.{SaslCode}
@@ -37,7 +37,7 @@ use Rattle.fe2o3_sasl_negotiation.specs.declared.standing.Turn.TheVariants as tu
 use Rattle.fe2o3_sasl_negotiation.specs.Framing.{IsPart, framed, sasl_header}
 use Rattle.fe2o3_sasl_negotiation.specs.Negotiations.{Side, Answer, Sends, ReceivesAt, closes}
 use Rattle.fe2o3_sasl_negotiation.specs.ServerNegotiation.{Offers, Says, ServerAnswers, ServerReceives, behind_header, offer_body}
-use Rattle.fe2o3_sasl_negotiation.specs.SetDown.{IsKept, side_of}
+use Rattle.fe2o3_sasl_negotiation.specs.SetDown.{server_at, server_due, IsKept, IsServerKept, side_of}
 use Rattle.fe2o3_sasl_negotiation.proofs.lemmas.UnitLemmas.{length-framed}
 use Rattle.sasl_c.specs.declared.connection.Connection.{Connection}
 use Rattle.sasl_c.specs.declared.sasl_server.Choice.{Choice}
@@ -45,7 +45,7 @@ use Rattle.sasl_c.specs.declared.sasl_server.SaslHost.{SaslHost as Host}
 use Rattle.sasl_c.specs.declared.sasl_server.SaslServer.{SaslServer as Struct}
 use Rattle.sasl_c.specs.declared.status.Status.{Status}
 use Rattle.sasl_c.specs.declared.status.Status.TheVariants as statuses
-use Rattle.sasl_c.specs.Connection.{Keeps, KeepsNoPart, side_tests}
+use Rattle.sasl_c.specs.Connection.{Keeps, KeepsNoPart, side_tests, KeepsNoPartOf}
 use Rattle.sasl_c.specs.SaslServer.{All, Code, Comes, HasNone, IsNoHost, IsNoServer, IsOf, IsServer, Last, NotReceived, Others, Received, ShowsBy, ShowsSide, ShowsState, State, all_machine, all_names, external_names, last_machine, last_names, other_machine, other_names, plain_names, server_of, side_in, side_struct, state_machine, state_names, state_of, struct_by}
 use Rattle.sasl_c.proofs.SaslClientLemmas.{one_due, part_short, tests_without_memory}
 use Rattle.sasl_c.proofs.SaslServerLemmas.{Shown, is_server, no_server, shows_nothing, shows_side, writes_side, written_for}
@@ -474,6 +474,20 @@ keeps_no_part connection kept keeps limit wrong = λ due held other part.
       carried (λ n. IsPart kept.due n kept.held.now) 512 kept.limit (sym limit) come,
     )
 
+-- no server keeps what the struct does, where no server has these values
+pub keeps_no_server : (connection : Connection) (kept : SetDown)
+    → Keeps connection kept.standing kept.due kept.held.now → kept.standing ≡ Wanting → kept.limit ≡ 512
+    → ¬ IsServerKept kept → KeepsNoPartOf server_due connection
+keeps_no_server connection kept keeps wants limit wrong = λ due held other unit part.
+    let one = one_due due kept.due (other.due ∙ sym keeps.due) in
+    keeps_no_part connection kept keeps limit
+    (λ holds. wrong (
+      holds,
+      carried (λ (s : Standing). IsTrue (server_at s kept.due)) Wanting kept.standing (sym wants)
+          (carried (λ (d : Due). IsTrue (server_due d)) due kept.due one unit),
+      λ ended. absurd (ended wants),
+    )) due held other part
+
 pub no_connection : (host : Host) (bytes nonce : List ℕ) (before : Struct) (status : Status)
     → IsFirst (side_tests before.connection) status → NotReceived host bytes nonce before status
 unfolding NotReceived IsNoServer
@@ -488,12 +502,12 @@ no_host host bytes nonce before kept status keeps wants wrong =
 
 pub not_kept : (host : Host) (bytes nonce : List ℕ) (before : Struct) (kept : SetDown) (state : State)
     (status : Status) → Keeps before.connection kept.standing kept.due kept.held.now → kept.standing ≡ Wanting
-    → kept.limit ≡ 512 → Comes host Wanting state → (status ≡ statuses.NotKept) × ¬ IsKept kept
+    → kept.limit ≡ 512 → Comes host Wanting state → (status ≡ statuses.NotKept) × ¬ IsServerKept kept
     → NotReceived host bytes nonce before status
 unfolding NotReceived IsNoServer
 not_kept host bytes nonce before kept state status keeps wants limit comes (is, wrong) = inl (inr (
   none_holds before.connection kept keeps wants,
-  inr (is, keeps_no_part before.connection kept keeps limit wrong, host_has comes),
+  inr (is, keeps_no_server before.connection kept keeps wants limit wrong, host_has comes),
 ))
   where
     host_has : Comes host Wanting state → (at : ServerState) × (asked : Option Part) × (server : State)
@@ -532,7 +546,7 @@ module _ (host : Host) (bytes nonce : List ℕ) (before : Struct) (kept : SetDow
   short_answer after taken sent (next, held, shows, written) =
       behind_short host before taken_side (side_in next) bytes nonce taken sent is wants held
 
-  pub unanswered : (status : Status) → ((status ≡ statuses.NotKept) × ¬ IsKept kept)
+  pub unanswered : (status : Status) → ((status ≡ statuses.NotKept) × ¬ IsServerKept kept)
       ⊎ ((status ≡ statuses.TooLong) × ((next : ServerNegotiation Code) × (taken : ℕ) × (sent : List ℕ)
       × Follows taken sent next × HasNone state_of Shown next)) → NotReceived host bytes nonce before status
   unanswered status (inl wrong) = not_kept host bytes nonce before kept state status keeps wants limit known.0 wrong

@@ -1,5 +1,5 @@
 -- A side of a connection that stands in a struct of C between its calls (AMQP 1.0, part 5, section 5.3.2).
-use Rattle.std.specs.Prelude.{◌≡◌, ◌≢◌, ◌≤◌, ℕ, List, [], ◌∷◌, length, take}
+use Rattle.std.specs.Prelude.{◌≡◌, ◌≢◌, ◌≤◌, ℕ, List, [], ◌∷◌, length, take, Bool, IsTrue}
 use Rattle.fe2o3_sasl_wire.specs.declared.amqp_types.SaslCode.{SaslCode}
 use Rattle.fe2o3_sasl_wire.specs.declared.amqp_types.SaslCode.TheVariants as outcomes
 use Rattle.fe2o3_sasl_wire.specs.declared.sasl_frames.error.Error.{Error}
@@ -111,3 +111,8 @@ side_tests kept = (statuses.Ended, kept.standing ≢ 0)
 -- no side keeps what the struct does: all that is due has come, or a size that no frame may have
 abbrev pub KeepsNoPart : Struct → Type 0
 KeepsNoPart kept = (due : Due) (held : List ℕ) → Keeps kept Wanting due held → ¬ IsPart due 512 held
+
+-- or it is never due to that side
+abbrev pub KeepsNoPartOf : (Due → Bool) → Struct → Type 0
+KeepsNoPartOf is_due kept = (due : Due) (held : List ℕ) → Keeps kept Wanting due held → IsTrue (is_due due)
+    → ¬ IsPart due 512 held

@@ -8,6 +8,7 @@ use Rattle.fe2o3_sasl_negotiation.specs.declared.standing.Standing.TheVariants.{
 use Rattle.fe2o3_sasl_negotiation.specs.ClientNegotiation.{ClientReceives}
 use Rattle.fe2o3_sasl_negotiation.specs.Framing.{sasl_header}
 use Rattle.fe2o3_sasl_negotiation.specs.Negotiations.{Side}
+use Rattle.fe2o3_sasl_negotiation.specs.SetDown.{client_due}
 use Rattle.sasl_c.specs.declared.client.Login.{Login as Words}
 use Rattle.sasl_c.specs.declared.client.ScramClient.{ScramClient as ScramStruct}
 use Rattle.sasl_c.specs.declared.sasl_client.SaslClient.{SaslClient as Struct}
@@ -15,7 +16,7 @@ use Rattle.sasl_c.specs.declared.sasl_client.SaslLogin.{SaslLogin as Login}
 use Rattle.sasl_c.specs.declared.status.Status.{Status}
 use Rattle.sasl_c.specs.declared.status.Status.TheVariants as statuses
 use Rattle.sasl_c.specs.Client.{IsLogin, IsNoLogin, IsReached, IsSide, WritesClient, fresh_struct}
-use Rattle.sasl_c.specs.Connection.{IsSideOf, KeepsNoPart, side_tests, struct_of}
+use Rattle.sasl_c.specs.Connection.{IsSideOf, KeepsNoPartOf, side_tests, struct_of}
 
 -- the hostname of a login: none where it is empty
 abbrev pub IsHostname : Login → Option (List ℕ) → Type 0
@@ -66,7 +67,7 @@ abbrev pub IsNoClient : Login → Struct → Status → Type 0
 IsNoClient login client status = IsFirst (side_tests client.connection) status
     ⊎ (NoneHolds (side_tests client.connection) × (((status ≡ statuses.NotUtf8) × HasNoHostname login)
     ⊎ (¬ HasNoHostname login × (IsNoProfile login status ⊎ ((status ≡ statuses.NotKept)
-    × KeepsNoPart client.connection × ((profile : Profile) × IsProfile login client.scram profile))))))
+    × KeepsNoPartOf client_due client.connection × ((profile : Profile) × IsProfile login client.scram profile))))))
 
 -- none of the tests holds that come before memory is asked for: those of the connection, and that of the hostname
 abbrev pub ReadsClient : Login → Struct → Type 0

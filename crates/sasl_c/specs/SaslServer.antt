@@ -30,6 +30,7 @@ use Rattle.fe2o3_sasl_negotiation.specs.declared.standing.Turn.{Turn}
 use Rattle.fe2o3_sasl_negotiation.specs.declared.standing.Turn.TheVariants as turns
 use Rattle.fe2o3_sasl_negotiation.specs.Negotiations.{Completes, Side}
 use Rattle.fe2o3_sasl_negotiation.specs.ServerNegotiation.{ServerReceives}
+use Rattle.fe2o3_sasl_negotiation.specs.SetDown.{server_due}
 use Rattle.fe2o3_sasl_negotiation.specs.Sides.{acceptor_in, server_side}
 use Rattle.sasl_c.specs.declared.others.Others.{Others as OthersCode}
 use Rattle.sasl_c.specs.declared.sasl_server.Choice.{Choice}
@@ -38,7 +39,7 @@ use Rattle.sasl_c.specs.declared.sasl_server.SaslServer.{SaslServer as Struct}
 use Rattle.sasl_c.specs.declared.server.ScramServer.{ScramServer as ScramStruct}
 use Rattle.sasl_c.specs.declared.status.Status.{Status}
 use Rattle.sasl_c.specs.declared.status.Status.TheVariants as statuses
-use Rattle.sasl_c.specs.Connection.{IsSideOf, Keeps, KeepsNoPart, side_tests, struct_of}
+use Rattle.sasl_c.specs.Connection.{IsSideOf, Keeps, KeepsNoPart, side_tests, struct_of, KeepsNoPartOf}
 use Rattle.sasl_c.specs.Records.{IsVersion, Shows}
 use Rattle.sasl_c.specs.Server.{HasLoggedIn, IsOpen, fresh_struct, logged_in_struct, open_struct}
 
@@ -306,7 +307,7 @@ IsNoHost host status = IsFirst (host_tests host) status
 unfoldable pub IsNoServer : Host → Struct → Status → Type 0
 IsNoServer host server status = IsFirst (side_tests server.connection) status
     ⊎ (NoneHolds (side_tests server.connection) × (IsNoHost host status
-    ⊎ ((status ≡ statuses.NotKept) × KeepsNoPart server.connection
+    ⊎ ((status ≡ statuses.NotKept) × KeepsNoPartOf server_due server.connection
     × ((state : ServerState) × (asked : Option Part) × (kept : State) × IsOf host state asked kept))))
 
 -- a call answers bytes: between two structs, what the library's side of the connection makes of them

@@ -7,7 +7,7 @@ ghost use Rattle.fe2o3_sasl_runs.specs.ExternalAcceptor.{external_of};
 ghost use Rattle.fe2o3_sasl_negotiation.specs.declared.standing.Standing.{Standing as StandingOf};
 ghost use Rattle.fe2o3_sasl_negotiation.specs.declared.standing.Standing.TheVariants.{Wanting};
 ghost use Rattle.fe2o3_sasl_negotiation.specs.ServerNegotiation.{ServerReceives};
-ghost use Rattle.fe2o3_sasl_negotiation.specs.SetDown.{IsKept, side_of};
+ghost use Rattle.fe2o3_sasl_negotiation.specs.SetDown.{IsServerKept, side_of};
 ghost use Rattle.fe2o3_sasl_negotiation.specs.Sides.{server_side};
 ghost use Rattle.sasl_c.specs.SaslServer.{Comes, HasNoWords, HasNone, HasRecords, IsAll, IsNoHost, NotReceived, Received, Receives, ShowsBy, ShowsStanding, ShowsState, Stands, all_in, all_of, allowed_of, external_mechanism, external_name, host_tests, name_where, one_where, standing_struct, state_of, state_struct, struct_by, sum_of};
 ghost use Rattle.sasl_c.specs.declared.sasl_server.Choice.{Choice as Choices};
@@ -320,10 +320,10 @@ fn take_up<A: NamesUser + Drop>(
     meter: &mut Meter,
 ) -> Result<TakenUp<A>, Status>
     requires { meter.old ≤ 2 ^ 63 }
-    ensures ok { IfOk result (λ call. IsKept kept.now
+    ensures ok { IfOk result (λ call. IsServerKept kept.now
         × ServerReceives A.names A.machine (side_of kept.now (A.state acceptor)) bytes.now nonce.now call.taken
         call.sent.items (server_side A.state call.side)) }
-    ensures err { IfErr result (λ status. status ≢ StatusOutOfMemory → (status ≡ StatusNotKept) × ¬ IsKept kept.now) }
+    ensures err { IfErr result (λ status. status ≢ StatusOutOfMemory → (status ≡ StatusNotKept) × ¬ IsServerKept kept.now) }
     ensures room { IfErr result (λ status. status ≢ RoomTooSmall) }
 {
     let mut side = match ServerNegotiation::take_up(alloc, acceptor, kept) {
@@ -438,7 +438,7 @@ fn taken<A: Shows + Drop>(
     ensures ok { IfOk result (λ made. (next : ServerNegotiation A) × ServerReceives A.names A.machine
         (side_of kept.now (A.state acceptor)) bytes.now nonce.now made.taken made.sent.items (server_side A.state next)
         × ShowsBy A.state A.shows made.next next × (made.next ≡ struct_by A.state A.written_for next)) }
-    ensures err { IfErr result (λ status. status ≢ StatusOutOfMemory → ((status ≡ StatusNotKept) × ¬ IsKept kept.now)
+    ensures err { IfErr result (λ status. status ≢ StatusOutOfMemory → ((status ≡ StatusNotKept) × ¬ IsServerKept kept.now)
         ⊎ ((status ≡ StatusTooLong) × ((next : ServerNegotiation A) × (taken : ℕ) × (sent : List ℕ)
         × ServerReceives A.names A.machine (side_of kept.now (A.state acceptor)) bytes.now nonce.now taken sent
         (server_side A.state next) × HasNone A.state A.shows next))) }

@@ -12,7 +12,7 @@ returns-clause-state c = λ login comes limit few.
     let state = (client_side c.args.side.now).state in
     let is = c.in-Some-scram_of.ensures.state login (carried (Comes login) state shown (sym c.profile.ensures) comes) in
     shows_side login c.in-Some.connection c.in-Some-scram_of.scram (client_side c.args.side.now) c.set_down-kept.result
-    c.set_down-kept.ensures limit c.in-Some.ensures.keeps
+    c.set_down-kept.ensures.side limit c.in-Some.ensures.keeps
     (carried (IsProfile login c.in-Some-scram_of.scram) shown state c.profile.ensures is)
 
 pub returns-clause-writes : goal.returns-clause-writes
@@ -20,7 +20,7 @@ returns-clause-writes c =
     let shown = profile_of c.profile.result.now in
     let state = (client_side c.args.side.now).state in
     writes_side c.in-Some.connection c.in-Some-scram_of.scram (client_side c.args.side.now) c.set_down-kept.result
-    c.set_down-kept.ensures c.in-Some.ensures.writes
+    c.set_down-kept.ensures.side c.in-Some.ensures.writes
     (carried (WritesProfile c.in-Some-scram_of.scram) shown state c.profile.ensures c.in-Some-scram_of.ensures.writes)
 
 pub returns-in_default-scram_of-clause-state : goal.returns-in_default-scram_of-clause-state
