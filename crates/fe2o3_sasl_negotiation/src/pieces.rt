@@ -130,6 +130,9 @@ pub fn scram_server_connection<C: ScramCredentialProvider>(
         (server_side (λ server. ScramAcceptor (served_by C.meaning server) (state_in server)) served.side))
         → ScramServes (serving false (C.meaning credentials.now)) negotiated.events negotiated.replies
         (server_side (λ server. ScramAcceptor (served_by C.meaning server) (state_in server)) served.side)) }
+    ensures all { IfOk result (λ served.
+        (server_side (λ server. ScramAcceptor (served_by C.meaning server) (state_in server)) served.side).standing ≡ Wanting
+        → served.pieces ≡ length pieces.now) }
 {
     let credentials = credentials.clone()?;
     server_connection(alloc, ScramAuthenticator::new(credentials), pieces)
@@ -161,8 +164,8 @@ fn answer_piece(
 }
 
 /// Like [`server_connection`], of a client by a profile that no connection has used, with a hostname if any: what it
-/// sends after its own header. What the headline says of its
-/// bodies and replies is the clause `scram_client` of the law `connections`.
+/// sends after its own header. What the headline says of its bodies and replies is the clause `scram_client` of the law
+/// `connections`.
 pub fn client_connection(
     alloc: Global,
     profile: SaslProfile,
