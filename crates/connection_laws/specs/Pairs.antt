@@ -1,0 +1,1 @@
+-- What holds of two connections (RFC 5802, section 5).

@@ -1,0 +1,1 @@
+-- What holds of the connections of each kind of server (AMQP 1.0, part 5, section 5.3).

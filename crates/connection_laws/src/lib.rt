@@ -1,0 +1,6 @@
+//! Laws of whole connections of AMQP's SASL layer, over their bytes: what holds of each kind of server, and of two sides.
+//! A function with an empty body states its contract, which the check has proved for every list of bytes.
+#![tactic(auto)]
+
+pub mod pairs;
+pub mod servers;

@@ -1,0 +1,1 @@
+//! What the bytes of two connections say of both.

@@ -1,0 +1,1 @@
+//! What the bytes of a connection say of each kind of server.
