@@ -211,7 +211,7 @@ class Meters(unittest.TestCase):
                 " &mut Meter::new());\n    "
         self.refused(["made: Meter::new x2", "made: ScramClientKeys::from_prepared_password x2"], C_KEYS,
                      first("let mut meter = Meter::new();", again))
-        verified = "number(verify(alloc, kept, PasswordForm::Typed, password))"
+        verified = "number(verify(kept, PasswordForm::Typed, password))"
         self.refused(["fe2o3_scram_record_verify: verify x2"], C_RECORDS,
                      first(verified, f"let _ = {verified};\n    "))
 
