@@ -1,0 +1,2 @@
+pub mod ServerLemmas
+pub mod OneFrameLemmas

@@ -1,0 +1,12 @@
+use Rattle.connection_laws.proofs.lemmas.ServerLemmas.{one_of_servers_split, scram_first_serves, scram_second_serves}
+use Rattle.connection_laws.proofs.servers.one_of.Goals as goal
+
+pub returns-clause-split : goal.returns-clause-split
+returns-clause-split g c =
+    one_of_servers_split g.A.SaslAcceptor.names g.B.SaslAcceptor.names g.A.SaslAcceptor.machine g.B.SaslAcceptor.machine
+
+pub returns-clause-scram_first : goal.returns-clause-scram_first
+returns-clause-scram_first g c = scram_first_serves g.B.SaslAcceptor.names g.B.SaslAcceptor.machine
+
+pub returns-clause-scram_second : goal.returns-clause-scram_second
+returns-clause-scram_second g c = scram_second_serves g.A.SaslAcceptor.names g.A.SaslAcceptor.machine
