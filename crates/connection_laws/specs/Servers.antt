@@ -12,7 +12,7 @@ use Rattle.fe2o3_sasl_runs.specs.Bodies.{SpellsBody}
 use Rattle.fe2o3_sasl_runs.specs.Events.{Given, ServerSays}
 use Rattle.fe2o3_sasl_runs.specs.ExternalAcceptor.{External, IsInitOf, external_machine, external_user}
 use Rattle.fe2o3_sasl_runs.specs.Headline.{AnswersOkExactly}
-use Rattle.fe2o3_sasl_runs.specs.HidingAcceptor.{hiding_machine}
+use Rattle.fe2o3_sasl_runs.specs.HidingAcceptor.{hiding_machine, hiding_names}
 use Rattle.fe2o3_sasl_runs.specs.HidingLaws.{HoldsName, hiding}
 use Rattle.fe2o3_sasl_runs.specs.OffersOnly.{Offering, offering_machine}
 use Rattle.fe2o3_sasl_runs.specs.OneOf.{Parts, both_names, one_of_machine, part_names}
@@ -47,6 +47,13 @@ MockServersServe = (provider : Provider) (nobody : Nobody) (names : List (List �
     (negotiated : ServerNegotiated hiding_machine limit (hiding provider nobody Initial) pieces taken sent last)
     → AllByRecursion (HoldsName provider.unbound names) negotiated.events
     → MockServes provider nobody names negotiated.events negotiated.replies last
+
+-- there are such names: each negotiation of a server has a list with the names of its inits
+abbrev pub NegotiationsHaveNames : {S : Type 0} → Machine S → Type 0
+NegotiationsHaveNames {S} machine = (unbound : Bool) (limit : ℕ) (state : S) (pieces : List Piece)
+    (taken sent : List ℕ) (last : Side S)
+    (negotiated : ServerNegotiated machine limit state pieces taken sent last)
+    → (names : List (List ℕ)) × AllByRecursion (HoldsName unbound names) negotiated.events
 
 -- ---- several mechanisms
 
@@ -84,6 +91,43 @@ ScramSecondServes {S} names machine = (provider : Provider) (first : S) (limit :
     × Splits names acceptor_names machine acceptor_machine state negotiated.events negotiated.replies last.state marks
     × AnswersAsScram provider (those to_second marks negotiated.events) (those to_second marks negotiated.replies)
     last.state.second
+
+-- SCRAM with mock authentication over these events, from its first state to this one: over its provider with the mock
+-- records of all names that hold those of its inits, it answers Ok exactly as the headline says, and names exactly who
+-- has logged in
+pub record AnswersAsMock (provider : Provider) (nobody : Nobody) (names : List (List ℕ)) (events : List Given)
+    (replies : List ServerSays) (last : HidingServer) : Type 0 where
+  pub exactly : AnswersOkExactly (with_nobody provider nobody names) events replies
+  pub user : (user : List ℕ) → (named_in last.state ≡ Some user)
+      ↔ UserLoggedIn (with_nobody provider nobody names) events replies (length replies) user
+
+-- SCRAM with mock authentication that is the first of two answers so the events that went to it
+abbrev pub MockFirstServes : {T : Type 0} → (T → List (List ℕ)) → Machine T → Type 0
+MockFirstServes {T} others other = (provider : Provider) (nobody : Nobody) (second : T) (limit : ℕ)
+    (pieces : List Piece) (taken sent : List ℕ) (last : Side (Parts HidingServer T))
+    → let state : Parts HidingServer T =
+    record { first = hiding provider nobody Initial; second = second; asked = None } in
+    (negotiated : ServerNegotiated (one_of_machine hiding_names others hiding_machine other) limit state pieces taken
+    sent last)
+    → (marks : List (Option Part))
+    × Splits hiding_names others hiding_machine other state negotiated.events negotiated.replies last.state marks
+    × ((names : List (List ℕ)) → AllByRecursion (HoldsName provider.unbound names) (those to_first marks negotiated.events)
+    → AnswersAsMock provider nobody names (those to_first marks negotiated.events)
+    (those to_first marks negotiated.replies) last.state.first)
+
+-- and so does one that is the second
+abbrev pub MockSecondServes : {S : Type 0} → (S → List (List ℕ)) → Machine S → Type 0
+MockSecondServes {S} names machine = (provider : Provider) (nobody : Nobody) (first : S) (limit : ℕ)
+    (pieces : List Piece) (taken sent : List ℕ) (last : Side (Parts S HidingServer))
+    → let state : Parts S HidingServer =
+    record { first = first; second = hiding provider nobody Initial; asked = None } in
+    (negotiated : ServerNegotiated (one_of_machine names hiding_names machine hiding_machine) limit state pieces taken
+    sent last)
+    → (marks : List (Option Part))
+    × Splits names hiding_names machine hiding_machine state negotiated.events negotiated.replies last.state marks
+    × ((users : List (List ℕ)) → AllByRecursion (HoldsName provider.unbound users) (those to_second marks negotiated.events)
+    → AnswersAsMock provider nobody users (those to_second marks negotiated.events)
+    (those to_second marks negotiated.replies) last.state.second)
 
 -- ---- only some of the names
 

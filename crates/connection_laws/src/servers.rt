@@ -1,26 +1,31 @@
 //! What the bytes of a connection say of each kind of server.
 
-ghost use Rattle.connection_laws.specs.Servers.{MockServersServe, OneOfServersSplit, ScramFirstServes, ScramSecondServes, OfferingServersPassOn, OfferingServersNameUsers, ExternalServersLogIn, PlainServersLogIn};
+ghost use Rattle.fe2o3_sasl_runs.specs.HidingAcceptor.{hiding_machine};
+ghost use Rattle.connection_laws.specs.Servers.{MockServersServe, NegotiationsHaveNames, OneOfServersSplit, ScramFirstServes, ScramSecondServes, MockFirstServes, MockSecondServes, OfferingServersPassOn, OfferingServersNameUsers, ExternalServersLogIn, PlainServersLogIn};
 
 use fe2o3_sasl_runs::one_of::HasMechanism;
 
 /// Mock authentication over the bytes of a connection. Each negotiation of a server with mock authentication is a history
-/// of a SCRAM server over its provider with mock records after its own, for any list with the names of its inits. The
+/// of a SCRAM server over its provider with mock records after its own, for any list with the names of its inits, and there is such a list. The
 /// server answers Ok exactly to a response that fits its open challenge and whose proof meets the stored key. It has
 /// logged a client in exactly where its last reply is an Ok that was sent. It names exactly the user of the challenge
 /// that this Ok closed.
 pub fn mock()
-    ensures { MockServersServe }
+    ensures serves { MockServersServe }
+    ensures names { NegotiationsHaveNames hiding_machine }
 {}
 
 /// A server of several mechanisms over the bytes of a connection. Each event of a negotiation went where `part_for` sends
 /// it in the state before it: to one of two acceptors, or to neither, and then it was rejected. What went to one acceptor
 /// is a run of that acceptor by itself. A SCRAM acceptor, first or second, answers Ok to what went to it exactly as the
-/// headline theorem says, and names exactly who has logged in.
+/// headline theorem says, and names exactly who has logged in. With mock authentication it does so over its provider
+/// with mock records after its own, for any list with the names of the inits that went to it.
 pub fn one_of<A: HasMechanism, B: HasMechanism>()
     ensures split { OneOfServersSplit A.names B.names A.machine B.machine }
     ensures scram_first { ScramFirstServes B.names B.machine }
     ensures scram_second { ScramSecondServes A.names A.machine }
+    ensures mock_first { MockFirstServes B.names B.machine }
+    ensures mock_second { MockSecondServes A.names A.machine }
 {}
 
 /// A server that offers only some of its mechanisms, over the bytes of a connection. Each event of a negotiation was
