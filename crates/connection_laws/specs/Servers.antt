@@ -23,6 +23,7 @@ use Rattle.fe2o3_sasl_runs.specs.Runs.{AcceptorSteps}
 use Rattle.fe2o3_sasl_runs.specs.SaslAcceptor.{Acceptor, ScramAcceptor, acceptor_machine, acceptor_names}
 use Rattle.fe2o3_sasl_runs.specs.ServerHistory.{ServerHistory, LoggedIn as UserLoggedIn}
 use Rattle.fe2o3_sasl_runs.specs.declared.one_of.Part.{Part}
+use Rattle.fe2o3_sasl_runs.specs.declared.one_of.Part.TheVariants.{First, Second}
 use Rattle.fe2o3_sasl_negotiation.specs.declared.standing.Standing.TheVariants.{LoggedIn}
 use Rattle.fe2o3_sasl_negotiation.specs.Connections.{Piece, ServerNegotiated, LastReply, IsOkSent}
 use Rattle.fe2o3_sasl_negotiation.specs.Negotiations.{Side}
@@ -160,6 +161,51 @@ OfferingServersNameUsers {S} {T} names others machine other = (user : S → Opti
     × (parts.asked ≡ Some part)
     × SomeEvent (AcceptorSteps (offering_both names others machine other)) state negotiated.events negotiated.replies
     (AsksOffered names others part)
+
+-- ---- who has logged in at one of several
+
+-- a side with this state of another machine
+abbrev pub in_state : {S T : Type 0} → T → Side S → Side T
+in_state state side = record {
+  standing = side.standing;
+  due = side.due;
+  limit = side.limit;
+  held = side.held;
+  state = state;
+}
+
+-- the bytes are a negotiation of this machine too, between these states of it, with these events and replies
+abbrev pub NegotiatesAs : {S T : Type 0} → Machine T → ℕ → T → List Piece → List ℕ → List ℕ → Side S → T → List Given
+    → List ServerSays → Type 0
+NegotiatesAs machine limit state pieces taken sent last end events replies =
+    (own : ServerNegotiated machine limit state pieces taken sent (in_state end last)) × (own.events ≡ events)
+    × (own.replies ≡ replies)
+
+-- and one of this part of a server of two acceptors
+abbrev pub PartNegotiates : {S T : Type 0} → Machine S → Machine T → Part → ℕ → Parts S T → List Piece → List ℕ
+    → List ℕ → Side (Parts S T) → List Given → List ServerSays → Type 0
+PartNegotiates machine other First limit state pieces taken sent last events replies =
+    NegotiatesAs machine limit state.first pieces taken sent last last.state.first events replies
+PartNegotiates machine other Second limit state pieces taken sent last events replies =
+    NegotiatesAs other limit state.second pieces taken sent last last.state.second events replies
+
+-- a server of two acceptors that has logged its client in is, byte for byte, a server of the acceptor asked last
+abbrev pub OneOfServersActAsPart : {S T : Type 0} → (S → List (List ℕ)) → (T → List (List ℕ)) → Machine S → Machine T
+    → Type 0
+OneOfServersActAsPart {S} {T} names others machine other = (limit : ℕ) (state : Parts S T) (pieces : List Piece)
+    (taken sent : List ℕ) (last : Side (Parts S T))
+    (negotiated : ServerNegotiated (one_of_machine names others machine other) limit state pieces taken sent last)
+    → last.standing ≡ LoggedIn
+    → (part : Part) × (last.state.asked ≡ Some part)
+    × PartNegotiates machine other part limit state pieces taken sent last negotiated.events negotiated.replies
+
+-- and one that offers only some of its names is a server of its acceptor
+abbrev pub OfferingServersActAsInner : {S : Type 0} → (S → List (List ℕ)) → Machine S → Type 0
+OfferingServersActAsInner {S} names machine = (limit : ℕ) (state : Offering S) (pieces : List Piece)
+    (taken sent : List ℕ) (last : Side (Offering S))
+    (negotiated : ServerNegotiated (offering_machine names machine) limit state pieces taken sent last)
+    → last.standing ≡ LoggedIn
+    → NegotiatesAs machine limit state.inner pieces taken sent last last.state.inner negotiated.events negotiated.replies
 
 -- ---- EXTERNAL
 

@@ -30,7 +30,7 @@ OnlyInits {S} machine = (state next : S) (event : Given) (text : List ℕ)
     → SpellsBody event.body (Ok (frames.Response text)) → ¬ SaysOk machine state event next
 
 -- a frame that is due as a response spells one
-response_of : (body : List ℕ) → SpellsTurn turns.Response body
+pub response_of : (body : List ℕ) → SpellsTurn turns.Response body
     → (text : List ℕ) × SpellsBody body (Ok (frames.Response text))
 response_of body (frames.Response text, spells, in_turn) = (text, spells)
 response_of body (frames.Init mechanism response hostname, spells, in_turn) = absurd in_turn
