@@ -2,3 +2,4 @@ pub mod ServerLemmas
 pub mod NameLemmas
 pub mod OneFrameLemmas
 pub mod ActsAsLemmas
+pub mod StayLemmas

@@ -1,6 +1,6 @@
 -- What holds of the connections of each kind of server (AMQP 1.0, part 5, section 5.3). Each law is the contract of a
 -- clause of a function of `servers`.
-use Rattle.std.specs.Prelude.{◌≡◌, ◌↔◌, ℕ, Bool, Option, Some, None, List, [], ◌∷◌, length, Ok}
+use Rattle.std.specs.Prelude.{◌≡◌, ◌≢◌, ◌↔◌, ℕ, Bool, Option, Some, None, List, [], ◌∷◌, length, Ok}
 use Rattle.std.specs.List.{AllByRecursion}
 use Rattle.fe2o3_sasl_wire.specs.SaslFrames as frames
 use Rattle.fe2o3_sasl_wire.specs.SaslFrames.{SaslFrame}
@@ -206,6 +206,14 @@ OfferingServersActAsInner {S} names machine = (limit : ℕ) (state : Offering S)
     (negotiated : ServerNegotiated (offering_machine names machine) limit state pieces taken sent last)
     → last.standing ≡ LoggedIn
     → NegotiatesAs machine limit state.inner pieces taken sent last last.state.inner negotiated.events negotiated.replies
+
+-- ---- who has not logged in
+
+-- the acceptor of a server that has not logged its client in is as it was, so that it names nobody new
+abbrev pub ServersStay : {S : Type 0} → Machine S → Type 0
+ServersStay {S} machine = (limit : ℕ) (state : S) (pieces : List Piece) (taken sent : List ℕ) (last : Side S)
+    (negotiated : ServerNegotiated machine limit state pieces taken sent last)
+    → last.standing ≢ LoggedIn → last.state ≡ state
 
 -- ---- EXTERNAL
 

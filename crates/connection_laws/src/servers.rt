@@ -1,7 +1,9 @@
 //! What the bytes of a connection say of each kind of server.
 
+ghost use Rattle.fe2o3_sasl_runs.specs.ExternalAcceptor.{external_machine};
 ghost use Rattle.fe2o3_sasl_runs.specs.HidingAcceptor.{hiding_machine};
-ghost use Rattle.connection_laws.specs.Servers.{MockServersServe, NegotiationsHaveNames, OneOfServersSplit, ScramFirstServes, ScramSecondServes, MockFirstServes, MockSecondServes, OneOfServersActAsPart, OfferingServersPassOn, OfferingServersActAsInner, OfferingServersNameUsers, ExternalServersLogIn, PlainServersLogIn};
+ghost use Rattle.fe2o3_sasl_runs.specs.PlainAuthenticator.{plain_machine};
+ghost use Rattle.connection_laws.specs.Servers.{MockServersServe, NegotiationsHaveNames, OneOfServersSplit, ScramFirstServes, ScramSecondServes, MockFirstServes, MockSecondServes, OneOfServersActAsPart, OfferingServersPassOn, OfferingServersActAsInner, OfferingServersNameUsers, ServersStay, ExternalServersLogIn, PlainServersLogIn};
 
 use fe2o3_sasl_runs::one_of::HasMechanism;
 
@@ -33,8 +35,8 @@ pub fn one_of<A: HasMechanism, B: HasMechanism>()
 /// A server that offers only some of its mechanisms, over the bytes of a connection. Each event of a negotiation was
 /// passed on as `is_passed_on` says in the state before it. What was passed on is a run of the acceptor by itself, and
 /// the rest was rejected. A server that has logged a client in is, byte for byte, a server of its acceptor, so that all
-/// laws of that acceptor hold of it. Where a server of two acceptors names a user, an init of the negotiation asked that user's
-/// acceptor, by a mechanism that was offered.
+/// laws of that acceptor hold of it. Where a server of two acceptors names a user, an init of the negotiation asked that
+/// user's acceptor, by a mechanism that was offered.
 pub fn offers_only<A: HasMechanism, B: HasMechanism>()
     ensures passes_on { OfferingServersPassOn A.names A.machine }
     ensures logged_in { OfferingServersActAsInner A.names A.machine }
@@ -43,13 +45,16 @@ pub fn offers_only<A: HasMechanism, B: HasMechanism>()
 
 /// EXTERNAL over the bytes of a connection (RFC 4422, appendix A). A server of EXTERNAL that has logged a client in got
 /// one frame only: an init of EXTERNAL that asks for the transport's user, for the empty name or for none. The server
-/// names that user.
+/// names that user. The acceptor of a server that has not logged a client in is unchanged, so that it names nobody new.
 pub fn external()
-    ensures { ExternalServersLogIn }
+    ensures logged_in { ExternalServersLogIn }
+    ensures stays { ServersStay external_machine }
 {}
 
 /// PLAIN over the bytes of a connection (RFC 4616). A server of PLAIN over records that has logged a client in got one
-/// frame only: an init whose message has the password of its user's record. The server names that user.
+/// frame only: an init whose message has the password of its user's record. The server names that user. The acceptor of
+/// a server that has not logged a client in is unchanged, so that it names nobody new.
 pub fn plain()
-    ensures { PlainServersLogIn }
+    ensures logged_in { PlainServersLogIn }
+    ensures stays { ServersStay plain_machine }
 {}
