@@ -1,1 +1,255 @@
--- What holds of the connections of each kind of server (AMQP 1.0, part 5, section 5.3).
+-- What holds of the connections of each kind of server (AMQP 1.0, part 5, section 5.3). Each law is the contract of a
+-- clause of a function of `servers`.
+use Rattle.std.specs.Prelude.{◌≡◌, ◌≢◌, ◌↔◌, ℕ, Bool, Option, Some, None, List, [], ◌∷◌, length, Ok}
+use Rattle.std.specs.List.{AllByRecursion}
+use Rattle.fe2o3_sasl_wire.specs.SaslFrames as frames
+use Rattle.fe2o3_sasl_wire.specs.SaslFrames.{SaslFrame}
+use Rattle.fe2o3_scram.specs.Credentials.{Provider, Store}
+use Rattle.fe2o3_scram.specs.HidingServer.{HidingServer}
+use Rattle.fe2o3_scram.specs.Nobody.{Nobody, with_nobody}
+use Rattle.fe2o3_scram.specs.ScramServer.{Initial, logged_in as named_in}
+use Rattle.fe2o3_sasl_runs.specs.Bodies.{SpellsBody}
+use Rattle.fe2o3_sasl_runs.specs.Events.{Given, ServerSays}
+use Rattle.fe2o3_sasl_runs.specs.ExternalAcceptor.{External, IsInitOf, external_machine, external_user}
+use Rattle.fe2o3_sasl_runs.specs.Headline.{AnswersOkExactly}
+use Rattle.fe2o3_sasl_runs.specs.HidingAcceptor.{hiding_machine, hiding_names}
+use Rattle.fe2o3_sasl_runs.specs.HidingLaws.{HoldsName, hiding}
+use Rattle.fe2o3_sasl_runs.specs.OffersOnly.{Offering, offering_machine}
+use Rattle.fe2o3_sasl_runs.specs.OneOf.{Parts, both_names, one_of_machine, part_names}
+use Rattle.fe2o3_sasl_runs.specs.OneOfLaws.{Machine, Splits, PassesOn, AnswersAsScram, those, to_first, to_second}
+use Rattle.fe2o3_sasl_runs.specs.OneOfUsers.{SomeEvent, AsksOffered}
+use Rattle.fe2o3_sasl_runs.specs.PlainAuthenticator.{PlainServer, PlainLogsIn, plain_machine}
+use Rattle.fe2o3_sasl_runs.specs.Runs.{AcceptorSteps}
+use Rattle.fe2o3_sasl_runs.specs.SaslAcceptor.{Acceptor, ScramAcceptor, acceptor_machine, acceptor_names}
+use Rattle.fe2o3_sasl_runs.specs.ServerHistory.{ServerHistory, LoggedIn as UserLoggedIn}
+use Rattle.fe2o3_sasl_runs.specs.declared.one_of.Part.{Part}
+use Rattle.fe2o3_sasl_runs.specs.declared.one_of.Part.TheVariants.{First, Second}
+use Rattle.fe2o3_sasl_negotiation.specs.declared.standing.Standing.TheVariants.{LoggedIn}
+use Rattle.fe2o3_sasl_negotiation.specs.Connections.{Piece, ServerNegotiated, LastReply, IsOkSent}
+use Rattle.fe2o3_sasl_negotiation.specs.Negotiations.{Side}
+
+-- ---- mock authentication
+
+-- a server with mock authentication answers as a SCRAM server over its provider with the mock records of these names
+-- after its own: it answers Ok exactly as the headline says, has logged a client in exactly where it sent that Ok, and
+-- names the user of that challenge
+pub record MockServes (provider : Provider) (nobody : Nobody) (names : List (List ℕ)) (events : List Given)
+    (replies : List ServerSays) (last : Side HidingServer) : Type 0 where
+  pub history : ServerHistory (with_nobody provider nobody names) events replies
+  pub exactly : AnswersOkExactly (with_nobody provider nobody names) events replies
+  pub logged_in : (last.standing ≡ LoggedIn) ↔ LastReply IsOkSent replies
+  pub user : (user : List ℕ) → (named_in last.state.state ≡ Some user)
+      ↔ UserLoggedIn (with_nobody provider nobody names) events replies (length replies) user
+
+-- every such server that nobody has used, and all names that hold those of its inits
+abbrev pub MockServersServe : Type 0
+MockServersServe = (provider : Provider) (nobody : Nobody) (names : List (List ℕ)) (limit : ℕ) (pieces : List Piece)
+    (taken sent : List ℕ) (last : Side HidingServer)
+    (negotiated : ServerNegotiated hiding_machine limit (hiding provider nobody Initial) pieces taken sent last)
+    → AllByRecursion (HoldsName provider.unbound names) negotiated.events
+    → MockServes provider nobody names negotiated.events negotiated.replies last
+
+-- there are such names: each negotiation of a server has a list with the names of its inits
+abbrev pub NegotiationsHaveNames : {S : Type 0} → Machine S → Type 0
+NegotiationsHaveNames {S} machine = (unbound : Bool) (limit : ℕ) (state : S) (pieces : List Piece)
+    (taken sent : List ℕ) (last : Side S)
+    (negotiated : ServerNegotiated machine limit state pieces taken sent last)
+    → (names : List (List ℕ)) × AllByRecursion (HoldsName unbound names) negotiated.events
+
+-- ---- several mechanisms
+
+-- a server of two acceptors: each event went where `part_for` sends it in the state before it, and what went to one
+-- acceptor is a run of that acceptor by itself
+abbrev pub OneOfServersSplit : {S T : Type 0} → (S → List (List ℕ)) → (T → List (List ℕ)) → Machine S → Machine T
+    → Type 0
+OneOfServersSplit {S} {T} names others machine other = (limit : ℕ) (state : Parts S T) (pieces : List Piece)
+    (taken sent : List ℕ) (last : Side (Parts S T))
+    (negotiated : ServerNegotiated (one_of_machine names others machine other) limit state pieces taken sent last)
+    → (marks : List (Option Part))
+    × Splits names others machine other state negotiated.events negotiated.replies last.state marks
+
+-- SCRAM that is the first of two answers Ok to the events that went to it exactly as the headline says, and names
+-- exactly who has logged in
+abbrev pub ScramFirstServes : {T : Type 0} → (T → List (List ℕ)) → Machine T → Type 0
+ScramFirstServes {T} others other = (provider : Provider) (second : T) (limit : ℕ) (pieces : List Piece)
+    (taken sent : List ℕ) (last : Side (Parts Acceptor T))
+    → let state : Parts Acceptor T = record { first = ScramAcceptor provider Initial; second = second; asked = None } in
+    (negotiated : ServerNegotiated (one_of_machine acceptor_names others acceptor_machine other) limit state pieces taken
+    sent last)
+    → (marks : List (Option Part))
+    × Splits acceptor_names others acceptor_machine other state negotiated.events negotiated.replies last.state marks
+    × AnswersAsScram provider (those to_first marks negotiated.events) (those to_first marks negotiated.replies)
+    last.state.first
+
+-- and SCRAM that is the second
+abbrev pub ScramSecondServes : {S : Type 0} → (S → List (List ℕ)) → Machine S → Type 0
+ScramSecondServes {S} names machine = (provider : Provider) (first : S) (limit : ℕ) (pieces : List Piece)
+    (taken sent : List ℕ) (last : Side (Parts S Acceptor))
+    → let state : Parts S Acceptor = record { first = first; second = ScramAcceptor provider Initial; asked = None } in
+    (negotiated : ServerNegotiated (one_of_machine names acceptor_names machine acceptor_machine) limit state pieces taken
+    sent last)
+    → (marks : List (Option Part))
+    × Splits names acceptor_names machine acceptor_machine state negotiated.events negotiated.replies last.state marks
+    × AnswersAsScram provider (those to_second marks negotiated.events) (those to_second marks negotiated.replies)
+    last.state.second
+
+-- SCRAM with mock authentication over these events, from its first state to this one: over its provider with the mock
+-- records of all names that hold those of its inits, it answers Ok exactly as the headline says, and names exactly who
+-- has logged in
+pub record AnswersAsMock (provider : Provider) (nobody : Nobody) (names : List (List ℕ)) (events : List Given)
+    (replies : List ServerSays) (last : HidingServer) : Type 0 where
+  pub exactly : AnswersOkExactly (with_nobody provider nobody names) events replies
+  pub user : (user : List ℕ) → (named_in last.state ≡ Some user)
+      ↔ UserLoggedIn (with_nobody provider nobody names) events replies (length replies) user
+
+-- SCRAM with mock authentication that is the first of two answers so the events that went to it
+abbrev pub MockFirstServes : {T : Type 0} → (T → List (List ℕ)) → Machine T → Type 0
+MockFirstServes {T} others other = (provider : Provider) (nobody : Nobody) (second : T) (limit : ℕ)
+    (pieces : List Piece) (taken sent : List ℕ) (last : Side (Parts HidingServer T))
+    → let state : Parts HidingServer T =
+    record { first = hiding provider nobody Initial; second = second; asked = None } in
+    (negotiated : ServerNegotiated (one_of_machine hiding_names others hiding_machine other) limit state pieces taken
+    sent last)
+    → (marks : List (Option Part))
+    × Splits hiding_names others hiding_machine other state negotiated.events negotiated.replies last.state marks
+    × ((names : List (List ℕ)) → AllByRecursion (HoldsName provider.unbound names) (those to_first marks negotiated.events)
+    → AnswersAsMock provider nobody names (those to_first marks negotiated.events)
+    (those to_first marks negotiated.replies) last.state.first)
+
+-- and so does one that is the second
+abbrev pub MockSecondServes : {S : Type 0} → (S → List (List ℕ)) → Machine S → Type 0
+MockSecondServes {S} names machine = (provider : Provider) (nobody : Nobody) (first : S) (limit : ℕ)
+    (pieces : List Piece) (taken sent : List ℕ) (last : Side (Parts S HidingServer))
+    → let state : Parts S HidingServer =
+    record { first = first; second = hiding provider nobody Initial; asked = None } in
+    (negotiated : ServerNegotiated (one_of_machine names hiding_names machine hiding_machine) limit state pieces taken
+    sent last)
+    → (marks : List (Option Part))
+    × Splits names hiding_names machine hiding_machine state negotiated.events negotiated.replies last.state marks
+    × ((users : List (List ℕ)) → AllByRecursion (HoldsName provider.unbound users) (those to_second marks negotiated.events)
+    → AnswersAsMock provider nobody users (those to_second marks negotiated.events)
+    (those to_second marks negotiated.replies) last.state.second)
+
+-- ---- only some of the names
+
+-- a server that offers only some of its names: each event was passed on as `is_passed_on` says in the state before it,
+-- what was passed on is a run of its acceptor by itself, and the rest was rejected
+abbrev pub OfferingServersPassOn : {S : Type 0} → (S → List (List ℕ)) → Machine S → Type 0
+OfferingServersPassOn {S} names machine = (limit : ℕ) (state : Offering S) (pieces : List Piece)
+    (taken sent : List ℕ) (last : Side (Offering S))
+    (negotiated : ServerNegotiated (offering_machine names machine) limit state pieces taken sent last)
+    → (marks : List Bool) × PassesOn names machine state negotiated.events negotiated.replies last.state marks
+
+-- the machine of a server of two acceptors that offers only some of their names
+abbrev pub offering_both : {S T : Type 0} → (S → List (List ℕ)) → (T → List (List ℕ)) → Machine S → Machine T
+    → Machine (Offering (Parts S T))
+offering_both {S} {T} names others machine other =
+    offering_machine (λ (parts : Parts S T). both_names (names parts.first) (others parts.second))
+    (one_of_machine names others machine other)
+
+-- where such a server, which nobody had asked, names a user by these names of its acceptors, that is the name by the
+-- acceptor asked last, and an init of the negotiation asked it, by a mechanism of that acceptor that was offered
+abbrev pub OfferingServersNameUsers : {S T : Type 0} → (S → List (List ℕ)) → (T → List (List ℕ)) → Machine S
+    → Machine T → Type 0
+OfferingServersNameUsers {S} {T} names others machine other = (user : S → Option (List ℕ))
+    (other_user : T → Option (List ℕ)) (limit : ℕ) (state : Offering (Parts S T)) (pieces : List Piece)
+    (taken sent : List ℕ) (last : Side (Offering (Parts S T))) (name : List ℕ)
+    (negotiated : ServerNegotiated (offering_both names others machine other) limit state pieces taken sent last)
+    → let parts : Parts S T = last.state.inner in
+    state.inner.asked ≡ None → part_names parts.asked (user parts.first) (other_user parts.second) ≡ Some name
+    → (part : Part) × (part_names (Some part) (user parts.first) (other_user parts.second) ≡ Some name)
+    × (parts.asked ≡ Some part)
+    × SomeEvent (AcceptorSteps (offering_both names others machine other)) state negotiated.events negotiated.replies
+    (AsksOffered names others part)
+
+-- ---- who has logged in at one of several
+
+-- a side with this state of another machine
+abbrev pub in_state : {S T : Type 0} → T → Side S → Side T
+in_state state side = record {
+  standing = side.standing;
+  due = side.due;
+  limit = side.limit;
+  held = side.held;
+  state = state;
+}
+
+-- the bytes are a negotiation of this machine too, between these states of it, with these events and replies
+abbrev pub NegotiatesAs : {S T : Type 0} → Machine T → ℕ → T → List Piece → List ℕ → List ℕ → Side S → T → List Given
+    → List ServerSays → Type 0
+NegotiatesAs machine limit state pieces taken sent last end events replies =
+    (own : ServerNegotiated machine limit state pieces taken sent (in_state end last)) × (own.events ≡ events)
+    × (own.replies ≡ replies)
+
+-- and one of this part of a server of two acceptors
+abbrev pub PartNegotiates : {S T : Type 0} → Machine S → Machine T → Part → ℕ → Parts S T → List Piece → List ℕ
+    → List ℕ → Side (Parts S T) → List Given → List ServerSays → Type 0
+PartNegotiates machine other First limit state pieces taken sent last events replies =
+    NegotiatesAs machine limit state.first pieces taken sent last last.state.first events replies
+PartNegotiates machine other Second limit state pieces taken sent last events replies =
+    NegotiatesAs other limit state.second pieces taken sent last last.state.second events replies
+
+-- a server of two acceptors that has logged its client in is, byte for byte, a server of the acceptor asked last
+abbrev pub OneOfServersActAsPart : {S T : Type 0} → (S → List (List ℕ)) → (T → List (List ℕ)) → Machine S → Machine T
+    → Type 0
+OneOfServersActAsPart {S} {T} names others machine other = (limit : ℕ) (state : Parts S T) (pieces : List Piece)
+    (taken sent : List ℕ) (last : Side (Parts S T))
+    (negotiated : ServerNegotiated (one_of_machine names others machine other) limit state pieces taken sent last)
+    → last.standing ≡ LoggedIn
+    → (part : Part) × (last.state.asked ≡ Some part)
+    × PartNegotiates machine other part limit state pieces taken sent last negotiated.events negotiated.replies
+
+-- and one that offers only some of its names is a server of its acceptor
+abbrev pub OfferingServersActAsInner : {S : Type 0} → (S → List (List ℕ)) → Machine S → Type 0
+OfferingServersActAsInner {S} names machine = (limit : ℕ) (state : Offering S) (pieces : List Piece)
+    (taken sent : List ℕ) (last : Side (Offering S))
+    (negotiated : ServerNegotiated (offering_machine names machine) limit state pieces taken sent last)
+    → last.standing ≡ LoggedIn
+    → NegotiatesAs machine limit state.inner pieces taken sent last last.state.inner negotiated.events negotiated.replies
+
+-- ---- who has not logged in
+
+-- the acceptor of a server that has not logged its client in is as it was, so that it names nobody new
+abbrev pub ServersStay : {S : Type 0} → Machine S → Type 0
+ServersStay {S} machine = (limit : ℕ) (state : S) (pieces : List Piece) (taken sent : List ℕ) (last : Side S)
+    (negotiated : ServerNegotiated machine limit state pieces taken sent last)
+    → last.standing ≢ LoggedIn → last.state ≡ state
+
+-- ---- EXTERNAL
+
+-- a server of EXTERNAL (RFC 4422, appendix A) has logged its client in: the only event is an init of EXTERNAL that asks
+-- for the transport's user, for no name or for the empty one, and the server names that user
+pub record ExternalLogsIn (user : List ℕ) (events : List Given) (last : External) : Type 0 where
+  pub event : Given
+  pub mechanism : List ℕ
+  pub response : Option (List ℕ)
+  pub hostname : Option (List ℕ)
+  pub only : events ≡ event ∷ []
+  pub spells : SpellsBody event.body (Ok (frames.Init mechanism response hostname))
+  pub asks : IsInitOf user mechanism response
+  pub named : external_user last ≡ Some user
+
+-- every server of EXTERNAL
+abbrev pub ExternalServersLogIn : Type 0
+ExternalServersLogIn = (limit : ℕ) (state : External) (pieces : List Piece) (taken sent : List ℕ)
+    (last : Side External) (negotiated : ServerNegotiated external_machine limit state pieces taken sent last)
+    → last.standing ≡ LoggedIn → ExternalLogsIn state.user negotiated.events last.state
+
+-- ---- PLAIN
+
+-- a server of PLAIN over records (RFC 4616) has logged its client in: the only event is an init whose message has the
+-- password of its user's record, and the server names that user
+pub record PlainServes (provider : Store) (events : List Given) (last : PlainServer) : Type 0 where
+  pub event : Given
+  pub frame : SaslFrame
+  pub user : List ℕ
+  pub only : events ≡ event ∷ []
+  pub spells : SpellsBody event.body (Ok frame)
+  pub logs_in : PlainLogsIn provider frame user
+  pub named : last.user ≡ Some user
+
+-- every server of PLAIN over records
+abbrev pub PlainServersLogIn : Type 0
+PlainServersLogIn = (limit : ℕ) (state : PlainServer) (pieces : List Piece) (taken sent : List ℕ)
+    (last : Side PlainServer) (negotiated : ServerNegotiated plain_machine limit state pieces taken sent last)
+    → last.standing ≡ LoggedIn → PlainServes state.provider negotiated.events last.state

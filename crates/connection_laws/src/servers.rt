@@ -1,1 +1,60 @@
 //! What the bytes of a connection say of each kind of server.
+
+ghost use Rattle.fe2o3_sasl_runs.specs.ExternalAcceptor.{external_machine};
+ghost use Rattle.fe2o3_sasl_runs.specs.HidingAcceptor.{hiding_machine};
+ghost use Rattle.fe2o3_sasl_runs.specs.PlainAuthenticator.{plain_machine};
+ghost use Rattle.connection_laws.specs.Servers.{MockServersServe, NegotiationsHaveNames, OneOfServersSplit, ScramFirstServes, ScramSecondServes, MockFirstServes, MockSecondServes, OneOfServersActAsPart, OfferingServersPassOn, OfferingServersActAsInner, OfferingServersNameUsers, ServersStay, ExternalServersLogIn, PlainServersLogIn};
+
+use fe2o3_sasl_runs::one_of::HasMechanism;
+
+/// Mock authentication over the bytes of a connection. Each negotiation of a server with mock authentication is a history
+/// of a SCRAM server over its provider with mock records after its own, for any list with the names of its inits; there
+/// is such a list. The server answers Ok exactly to a response that fits its open challenge and whose proof meets the
+/// stored key. It has logged a client in exactly where its last reply is an Ok that was sent. It names exactly the user
+/// of the challenge that this Ok closed.
+pub fn mock()
+    ensures serves { MockServersServe }
+    ensures names { NegotiationsHaveNames hiding_machine }
+{}
+
+/// A server of several mechanisms over the bytes of a connection. Each event of a negotiation went where `part_for` sends
+/// it in the state before it: to one of two acceptors, or to neither, and then it was rejected. What went to one acceptor
+/// is a run of that acceptor by itself. A SCRAM acceptor, first or second, answers Ok to what went to it exactly as the
+/// headline theorem says, and names exactly who has logged in. With mock authentication it does so over its provider
+/// with mock records after its own, for any list with the names of the inits that went to it. A server that has logged a
+/// client in is, byte for byte, a server of the acceptor asked last, so that all laws of that acceptor hold of it.
+pub fn one_of<A: HasMechanism, B: HasMechanism>()
+    ensures split { OneOfServersSplit A.names B.names A.machine B.machine }
+    ensures scram_first { ScramFirstServes B.names B.machine }
+    ensures scram_second { ScramSecondServes A.names A.machine }
+    ensures mock_first { MockFirstServes B.names B.machine }
+    ensures mock_second { MockSecondServes A.names A.machine }
+    ensures logged_in { OneOfServersActAsPart A.names B.names A.machine B.machine }
+{}
+
+/// A server that offers only some of its mechanisms, over the bytes of a connection. Each event of a negotiation was
+/// passed on as `is_passed_on` says in the state before it. What was passed on is a run of the acceptor by itself, and
+/// the rest was rejected. A server that has logged a client in is, byte for byte, a server of its acceptor, so that all
+/// laws of that acceptor hold of it. Where a server of two acceptors names a user, an init of the negotiation asked that
+/// user's acceptor, by a mechanism that was offered.
+pub fn offers_only<A: HasMechanism, B: HasMechanism>()
+    ensures passes_on { OfferingServersPassOn A.names A.machine }
+    ensures logged_in { OfferingServersActAsInner A.names A.machine }
+    ensures named { OfferingServersNameUsers A.names B.names A.machine B.machine }
+{}
+
+/// EXTERNAL over the bytes of a connection (RFC 4422, appendix A). A server of EXTERNAL that has logged a client in got
+/// one frame only: an init of EXTERNAL that asks for the transport's user, for the empty name or for none. The server
+/// names that user. The acceptor of a server that has not logged a client in is unchanged, so that it names nobody new.
+pub fn external()
+    ensures logged_in { ExternalServersLogIn }
+    ensures stays { ServersStay external_machine }
+{}
+
+/// PLAIN over the bytes of a connection (RFC 4616). A server of PLAIN over records that has logged a client in got one
+/// frame only: an init whose message has the password of its user's record. The server names that user. The acceptor of
+/// a server that has not logged a client in is unchanged, so that it names nobody new.
+pub fn plain()
+    ensures logged_in { PlainServersLogIn }
+    ensures stays { ServersStay plain_machine }
+{}

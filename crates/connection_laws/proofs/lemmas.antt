@@ -1,0 +1,5 @@
+pub mod ServerLemmas
+pub mod NameLemmas
+pub mod OneFrameLemmas
+pub mod ActsAsLemmas
+pub mod StayLemmas

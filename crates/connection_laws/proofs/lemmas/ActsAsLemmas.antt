@@ -1,0 +1,276 @@
+-- A server of several mechanisms that has logged its client in did so as one of its acceptors.
+use Rattle.std.proofs.Common.{◌≡◌, ℕ, suc, Bool, true, false, Option, Some, None, List, [], ◌∷◌, length, refl, sym, ap, ◌∙◌, subst, inl, inr, Ok, Err}
+use Rattle.std.specs.List.{AllByRecursion}
+use Rattle.std.specs.Prelude.{not}
+use Rattle.fe2o3_sasl_wire.specs.declared.amqp_types.SaslCode.TheVariants as outcomes
+use Rattle.fe2o3_sasl_wire.specs.declared.sasl_frames.error.Error.{Error}
+use Rattle.fe2o3_sasl_wire.specs.declared.sasl_frames.error.Error.TheVariants as faults
+use Rattle.fe2o3_sasl_wire.specs.SaslFrames as frames
+use Rattle.fe2o3_sasl_wire.specs.SaslFrames.{SaslFrame, canonical}
+use Rattle.fe2o3_sasl_runs.specs.Bodies.{SpellsBody, carried}
+use Rattle.fe2o3_sasl_runs.specs.Events.{Given, ServerSays, Challenged, Concluded, Failed}
+use Rattle.fe2o3_sasl_runs.specs.OffersOnly.{Offering, offering_machine}
+use Rattle.fe2o3_sasl_runs.specs.OneOf.{Parts, PartReplies, part_for, one_of_machine}
+use Rattle.fe2o3_sasl_runs.specs.OneOfLaws.{Machine, IsRefusal, those}
+use Rattle.fe2o3_sasl_runs.specs.Runs.{Runs, AcceptorSteps, AcceptorAnswers, server_says}
+use Rattle.fe2o3_sasl_runs.specs.SaslAcceptor.{ends_with}
+use Rattle.fe2o3_sasl_runs.specs.declared.one_of.Part.{Part}
+use Rattle.fe2o3_sasl_runs.specs.declared.one_of.Part.TheVariants.{First, Second}
+use Rattle.fe2o3_sasl_runs.proofs.lemmas.frames.SpellingLemmas.{one_spelled_frame}
+use Rattle.fe2o3_sasl_runs.proofs.lemmas.machines.OffersOnlyLemmas.{offering_runs}
+use Rattle.fe2o3_sasl_runs.proofs.lemmas.machines.OneOfLemmas.{Goes, auth_is_refusal, one_goes}
+use Rattle.fe2o3_sasl_negotiation.specs.declared.standing.ClosedBecause.TheVariants.{Refused}
+use Rattle.fe2o3_sasl_negotiation.specs.declared.standing.Due.TheVariants.{Frame}
+use Rattle.fe2o3_sasl_negotiation.specs.declared.standing.Standing.TheVariants.{Wanting}
+use Rattle.fe2o3_sasl_negotiation.specs.declared.standing.Turn.TheVariants as turns
+use Rattle.fe2o3_sasl_negotiation.specs.Connections.{Piece, AreFrames, Replied, ServerNegotiated, LastReply, IsOkSent}
+use Rattle.fe2o3_sasl_negotiation.specs.Negotiations.{Side, Answer}
+use Rattle.fe2o3_sasl_negotiation.specs.ServerNegotiation.{Says}
+use Rattle.fe2o3_sasl_negotiation.proofs.lemmas.ConnectionLemmas.{closed_is_not_wanting}
+use Rattle.fe2o3_sasl_negotiation.proofs.lemmas.KindLemmas.{closes_waits_not, sends_ends}
+use Rattle.fe2o3_sasl_negotiation.proofs.lemmas.LoginLemmas.{servers_log_in}
+use Rattle.connection_laws.specs.Servers.{in_state, NegotiatesAs, PartNegotiates, OneOfServersActAsPart, OfferingServersActAsInner}
+use Rattle.connection_laws.proofs.lemmas.OneFrameLemmas.{response_of}
+
+-- ---- replies
+
+-- a reply that leaves a server waiting is no refusal
+goes_on_is_no_refusal : (says : ServerSays) (answer : Answer) → Says says turns.Init answer
+    → answer.standing ≡ Wanting → ¬ IsRefusal says
+goes_on_is_no_refusal (Challenged body) answer said waits refused = refused
+goes_on_is_no_refusal (Concluded outcomes.Auth body) answer sends waits refused =
+    sends_ends body _ (Frame turns.Init) answer (closed_is_not_wanting (Refused outcomes.Auth)) sends waits
+goes_on_is_no_refusal (Concluded outcomes.Ok body) answer said waits refused = refused
+goes_on_is_no_refusal (Concluded outcomes.Sys body) answer said waits refused = refused
+goes_on_is_no_refusal (Concluded outcomes.SysPerm body) answer said waits refused = refused
+goes_on_is_no_refusal (Concluded outcomes.SysTemp body) answer said waits refused = refused
+goes_on_is_no_refusal (Failed faults.OutOfMemory) answer never waits refused = never
+goes_on_is_no_refusal (Failed faults.DecodeError) answer is waits refused = closes_waits_not _ _ answer is waits
+goes_on_is_no_refusal (Failed faults.NotImplemented) answer is waits refused = closes_waits_not _ _ answer is waits
+goes_on_is_no_refusal (Failed faults.TooLarge) answer is waits refused = closes_waits_not _ _ answer is waits
+
+ok_is_no_refusal : (says : ServerSays) → IsOkSent says → ¬ IsRefusal says
+ok_is_no_refusal says (body, same, fits) refused = subst IsRefusal same refused
+
+-- no reply is a refusal
+abbrev NoneRefuses : List ServerSays → Type 0
+NoneRefuses replies = AllByRecursion (λ (says : ServerSays). ¬ IsRefusal says) replies
+
+none_refuses : (replies : List ServerSays) (answer : Answer)
+    → Replied Says (turns.Init ∷ turns.Response ∷ []) replies answer → LastReply IsOkSent replies → NoneRefuses replies
+none_refuses [] answer replied ok = tt
+none_refuses (says ∷ []) answer replied ok = (ok_is_no_refusal says ok, tt)
+none_refuses (says ∷ then ∷ []) answer (first, rest, said, waits, more, is) ok =
+    (goes_on_is_no_refusal says first said waits, (ok_is_no_refusal then ok, tt))
+none_refuses (says ∷ then ∷ third ∷ replies) answer (first, rest, said, waits, more, is) ok = absurd more.4
+
+-- a run of another machine over the events of a negotiation makes it one of that machine
+negotiates_as : {S T : Type 0} (whole : Machine S) (machine : Machine T) (limit : ℕ) (state : S) (own end : T)
+    (pieces : List Piece) (taken sent : List ℕ) (last : Side S)
+    (n : ServerNegotiated whole limit state pieces taken sent last)
+    → Runs (AcceptorSteps machine) own n.events n.replies end
+    → NegotiatesAs machine limit own pieces taken sent last end n.events n.replies
+negotiates_as {S} {T} whole machine limit state own end pieces taken sent last n run = (
+  record {
+    events = n.events;
+    replies = n.replies;
+    answer = n.answer;
+    tail = n.tail;
+    carried = n.carried;
+    frames = n.frames;
+    run = run;
+    replied = n.replied;
+    sends = n.sends;
+    ends = n.ends;
+    waits = λ waiting. ap (λ (side : Side S). in_state end side) (n.waits waiting);
+  },
+  refl,
+  refl,
+)
+
+-- ---- one of two acceptors
+
+module _ {S T : Type 0} (names : S → List (List ℕ)) (others : T → List (List ℕ)) (machine : Machine S)
+    (other : Machine T) where
+  abbrev whole : Machine (Parts S T)
+  whole = one_of_machine names others machine other
+
+  -- what was answered without a refusal went to the part that is now the one asked
+  asked_now : (parts next : Parts S T) (mark : Option Part) (nonce : List ℕ) (frame : SaslFrame) (says : ServerSays)
+      → ¬ IsRefusal says
+      → AcceptorAnswers (λ (at : Parts S T). PartReplies machine other at mark) parts nonce frame says next
+      → next.asked ≡ mark
+  asked_now parts next mark nonce frame says kept (inl want) = absurd (kept (subst IsRefusal (sym want.0) tt))
+  asked_now parts next mark nonce frame says kept (inr (reply, moved, replies, sent)) = go mark replies
+    where
+      moves : (body : Option (List ℕ)) → says ≡ carried (Failed faults.TooLarge) (server_says reply) body
+          → next ≡ carried parts (λ _. moved) body → next ≡ moved
+      moves None is same = absurd (kept (subst IsRefusal (sym is) tt))
+      moves (Some body) is same = same
+
+      to : next.asked ≡ moved.asked
+      to = ap (λ (p : Parts S T). p.asked) (moves (canonical reply) sent.0 sent.1)
+
+      go : (mark : Option Part) → PartReplies machine other parts mark nonce frame reply moved → next.asked ≡ mark
+      go None is = absurd (kept (subst IsRefusal (sym (sent.0 ∙ ap (λ (r : SaslFrame). carried
+          (Failed faults.TooLarge) (server_says r) (canonical r)) is.0))
+          (auth_is_refusal (canonical (ends_with outcomes.Auth)))))
+      go (Some First) (state, replies, is) = to ∙ ap (λ (p : Parts S T). p.asked) is
+      go (Some Second) (state, replies, is) = to ∙ ap (λ (p : Parts S T). p.asked) is
+
+  -- a step of the part that the frame goes to, which is now the one asked
+  abbrev Acts : Parts S T → Given → ServerSays → Parts S T → Type 0
+  Acts parts event says next = (frame : SaslFrame) × SpellsBody event.body (Ok frame)
+      × ((part : Part) × (part_for names others parts frame ≡ Some part) × (next.asked ≡ Some part)
+      × Goes machine other parts (Some part) event says next)
+
+  of_part : (parts next : Parts S T) (event : Given) (says : ServerSays) (mark : Option Part) → ¬ IsRefusal says
+      → next.asked ≡ mark → Goes machine other parts mark event says next
+      → (part : Part) × (mark ≡ Some part) × (next.asked ≡ Some part)
+      × Goes machine other parts (Some part) event says next
+  of_part parts next event says None kept asked goes = absurd (kept goes.0)
+  of_part parts next event says (Some part) kept asked goes = (part, refl, asked, goes)
+
+  fails : (says : ServerSays) (fault : Error) → ¬ IsRefusal says → says ≡ Failed fault → ⊥
+  fails says fault kept is = kept (subst IsRefusal (sym is) tt)
+
+  acts : (parts next : Parts S T) (event : Given) (says : ServerSays) → ¬ IsRefusal says
+      → AcceptorSteps whole parts event says next → Acts parts event says next
+  acts parts next event says kept (Err fault, spells, gives) = absurd (fails says fault kept gives.0)
+  acts parts next event says kept (Ok (frames.Mechanisms list), spells, gives) =
+      absurd (fails says faults.NotImplemented kept gives.0)
+  acts parts next event says kept (Ok (frames.Challenge text), spells, gives) =
+      absurd (fails says faults.NotImplemented kept gives.0)
+  acts parts next event says kept (Ok (frames.Outcome code more), spells, gives) =
+      absurd (fails says faults.NotImplemented kept gives.0)
+  acts parts next event says kept (Ok (frames.Init mechanism response hostname), spells, gives) =
+      let frame = frames.Init mechanism response hostname in
+      let mark = part_for names others parts frame in (
+        frame,
+        spells,
+        of_part parts next event says mark kept (asked_now parts next mark event.nonce frame says kept gives)
+            (one_goes names others machine other parts event (Ok frame) says next spells gives),
+      )
+  acts parts next event says kept (Ok (frames.Response text), spells, gives) =
+      let frame = frames.Response text in
+      let mark = part_for names others parts frame in (
+        frame,
+        spells,
+        of_part parts next event says mark kept (asked_now parts next mark event.nonce frame says kept gives)
+            (one_goes names others machine other parts event (Ok frame) says next spells gives),
+      )
+
+  -- a run of a part
+  abbrev PartRuns : Part → Parts S T → List Given → List ServerSays → Parts S T → Type 0
+  PartRuns First parts events replies last = Runs (AcceptorSteps machine) parts.first events replies last.first
+  PartRuns Second parts events replies last = Runs (AcceptorSteps other) parts.second events replies last.second
+
+  run_ends : (part : Part) (parts last : Parts S T) (replies : List ServerSays) → replies ≡ [] → last ≡ parts
+      → PartRuns part parts [] replies last
+  run_ends First parts last replies none same = (none, ap (λ (p : Parts S T). p.first) same)
+  run_ends Second parts last replies none same = (none, ap (λ (p : Parts S T). p.second) same)
+
+  run_more : (part : Part) (parts next last : Parts S T) (event : Given) (events : List Given) (says : ServerSays)
+      (replies rest : List ServerSays) → Goes machine other parts (Some part) event says next → replies ≡ says ∷ rest
+      → PartRuns part next events rest last → PartRuns part parts (event ∷ events) replies last
+  run_more First parts next last event events says replies rest goes is run =
+      (says, next.first, rest, goes.0, is, run)
+  run_more Second parts next last event events says replies rest goes is run =
+      (says, next.second, rest, goes.0, is, run)
+
+  -- the part asked at last runs by itself
+  abbrev ActsAs : Parts S T → List Given → List ServerSays → Parts S T → Type 0
+  ActsAs parts events replies last =
+      (part : Part) × (last.asked ≡ Some part) × PartRuns part parts events replies last
+
+  same_part : (one two : Part) → ◌≡◌ {A = Option Part} (Some one) (Some two) → one ≡ two
+  same_part one two same = cc
+
+  acts_as : (pieces : List Piece) (limit : ℕ) (events : List Given) (replies : List ServerSays) (answer : Answer)
+      (state last : Parts S T) → AreFrames pieces limit 8 (turns.Init ∷ turns.Response ∷ []) events
+      → Runs (AcceptorSteps whole) state events replies last
+      → Replied Says (turns.Init ∷ turns.Response ∷ []) replies answer → LastReply IsOkSent replies
+      → ActsAs state events replies last
+  acts_as pieces limit [] replies answer state last due run replied ok =
+      absurd (subst (λ (l : List ServerSays). LastReply IsOkSent l) run.0 ok)
+  acts_as pieces limit (event ∷ []) replies answer state last due (says, next, none, step, is, (empty, end)) replied
+      ok =
+      let all : replies ≡ says ∷ [] = is ∙ ap (λ (l : List ServerSays). says ∷ l) empty in
+      let kept = subst NoneRefuses all (none_refuses replies answer replied ok) in
+      let (frame, spells, (part, goes_to, asked, goes)) = acts state next event says kept.0 step in (
+        part,
+        ap (λ (p : Parts S T). p.asked) end ∙ asked,
+        run_more part state next last event [] says replies none goes is (run_ends part next last none empty end),
+      )
+  acts_as pieces limit (event ∷ second ∷ []) replies answer state last due
+      (says, mid, more, step, is, (then, next, none, step_then, is_then, (empty, end))) replied ok =
+      let all : replies ≡ says ∷ then ∷ [] =
+      is ∙ ap (λ (l : List ServerSays). says ∷ l) (is_then ∙ ap (λ (l : List ServerSays). then ∷ l) empty) in
+      let kept = subst NoneRefuses all (none_refuses replies answer replied ok) in
+      let (frame, spells, (part, goes_to, asked, goes)) = acts state mid event says kept.0 step in
+      let (frame_then, spells_then, (part_then, goes_then_to, asked_then, goes_then)) =
+      acts mid next second then kept.1.0 step_then in
+      let (text, response) = response_of second.body due.3.1 in
+      let one : part_then ≡ part = same_part part_then part (sym goes_then_to ∙ (ap (part_for names others mid)
+      (one_spelled_frame second.body frame_then (frames.Response text) spells_then response) ∙ asked)) in (
+        part,
+        ap (λ (p : Parts S T). p.asked) end ∙ (asked_then ∙ ap (λ (p : Part). Some p) one),
+        run_more part state mid last event (second ∷ []) says replies more goes is
+            (run_more part mid next last second [] then more none
+            (subst (λ (p : Part). Goes machine other mid (Some p) second then next) one goes_then) is_then
+            (run_ends part next last none empty end)),
+      )
+  acts_as pieces limit (event ∷ second ∷ third ∷ events) replies answer state last due run replied ok =
+      absurd due.3.3
+
+  pub one_of_servers_act_as_part : OneOfServersActAsPart names others machine other
+  one_of_servers_act_as_part limit state pieces taken sent last n logged =
+      let (part, asked, run) = acts_as pieces limit n.events n.replies n.answer state last.state n.frames n.run n.replied
+      ((servers_log_in whole limit state pieces taken sent last n).0 logged) in
+      (part, asked, go part run)
+    where
+      go : (part : Part) → PartRuns part state n.events n.replies last.state
+          → PartNegotiates machine other part limit state pieces taken sent last n.events n.replies
+      go First run =
+          negotiates_as whole machine limit state state.first last.state.first pieces taken sent last n run
+      go Second run =
+          negotiates_as whole other limit state state.second last.state.second pieces taken sent last n run
+
+-- ---- only some of the names
+
+run_count : {S : Type 0} (Step : S → Given → ServerSays → S → Type 0) (state last : S) (events : List Given)
+    (replies : List ServerSays) → Runs Step state events replies last → length replies ≡ length events
+run_count Step state last [] replies run = ap length run.0
+run_count Step state last (event ∷ events) replies run =
+    ap length run.4 ∙ ap suc (run_count Step run.1 last events run.2 run.5)
+
+-- where none is refused all were passed on
+all_passed : (marks : List Bool) (events : List Given) (replies : List ServerSays) → length marks ≡ length events
+    → length replies ≡ length events → NoneRefuses replies → AllByRecursion IsRefusal (those not marks replies)
+    → (those (λ mark. mark) marks events ≡ events) × (those (λ mark. mark) marks replies ≡ replies)
+all_passed [] [] [] count many kept rest = (refl, refl)
+all_passed [] [] (says ∷ replies) count many kept rest = absurd (cc)
+all_passed [] (event ∷ events) replies count many kept rest = absurd (cc)
+all_passed (mark ∷ marks) [] replies count many kept rest = absurd (cc)
+all_passed (mark ∷ marks) (event ∷ events) [] count many kept rest = absurd (cc)
+all_passed (true ∷ marks) (event ∷ events) (says ∷ replies) count many (kept, more) rest =
+    let fewer : length marks ≡ length events = cc in
+    let less : length replies ≡ length events = cc in
+    let both = all_passed marks events replies fewer less more rest in
+    (ap (λ (l : List Given). event ∷ l) both.0, ap (λ (l : List ServerSays). says ∷ l) both.1)
+all_passed (false ∷ marks) (event ∷ events) (says ∷ replies) count many (kept, more) (refused, rest) =
+    absurd (kept refused)
+
+pub offering_servers_act_as_inner : {S : Type 0} (names : S → List (List ℕ)) (machine : Machine S)
+    → OfferingServersActAsInner names machine
+offering_servers_act_as_inner {S} names machine limit state pieces taken sent last n logged =
+    let whole : Machine (Offering S) = offering_machine names machine in
+    let ok = (servers_log_in whole limit state pieces taken sent last n).0 logged in
+    let (marks, on) = offering_runs names machine state last.state n.events n.replies n.run in
+    let (all, said) = all_passed marks n.events n.replies on.marked.count
+    (run_count (AcceptorSteps whole) state last.state n.events n.replies n.run)
+    (none_refuses n.replies n.answer n.replied ok) on.rest in
+    negotiates_as whole machine limit state state.inner last.state.inner pieces taken sent last n
+    (subst (λ (events : List Given). Runs (AcceptorSteps machine) state.inner events n.replies last.state.inner) all
+    (subst (λ (replies : List ServerSays). Runs (AcceptorSteps machine) state.inner (those (λ mark. mark) marks n.events)
+    replies last.state.inner) said on.passed))

@@ -1,0 +1,183 @@
+-- A server that answers no response by Ok has logged its client in by its only frame, an init.
+use Rattle.std.proofs.Common.{◌≡◌, ◌≢◌, ℕ, true, Option, Some, None, List, [], ◌∷◌, refl, sym, ap, ◌∙◌, subst, inl, inr, Ok, Err}
+use Rattle.fe2o3_sasl_wire.specs.declared.amqp_types.SaslCode.TheVariants as outcomes
+use Rattle.fe2o3_sasl_wire.specs.declared.sasl_frames.error.Error.TheVariants as faults
+use Rattle.fe2o3_sasl_wire.specs.SaslFrames as frames
+use Rattle.fe2o3_sasl_wire.specs.SaslFrames.{SaslFrame, canonical}
+use Rattle.fe2o3_scram.specs.Credentials.{Store}
+use Rattle.fe2o3_sasl_runs.specs.Bodies.{SpellsBody, carried}
+use Rattle.fe2o3_sasl_runs.specs.Events.{Given, ServerSays, Concluded, Failed}
+use Rattle.fe2o3_sasl_runs.specs.ExternalAcceptor.{External, IsInitOf, external_machine, external_user}
+use Rattle.fe2o3_sasl_runs.specs.OneOfLaws.{Machine}
+use Rattle.fe2o3_sasl_runs.specs.PlainAuthenticator.{PlainServer, PlainLogsIn, plain_machine}
+use Rattle.fe2o3_sasl_runs.specs.Runs.{Runs, AcceptorSteps, Sends, server_says}
+use Rattle.fe2o3_sasl_runs.specs.SaslAcceptor.{ends_with}
+use Rattle.fe2o3_sasl_runs.proofs.lemmas.frames.SpellingLemmas.{one_spelled_frame}
+use Rattle.fe2o3_sasl.proofs.lemmas.steps.StepLawLemmas.{plain_oks_log_in}
+use Rattle.fe2o3_sasl_negotiation.specs.declared.standing.Turn.TheVariants as turns
+use Rattle.fe2o3_sasl_negotiation.specs.Connections.{Piece, SpellsTurn, AreFrames, LastReply, IsOkSent}
+use Rattle.fe2o3_sasl_negotiation.proofs.lemmas.LoginLemmas.{servers_log_in}
+use Rattle.connection_laws.specs.Servers.{ExternalServersLogIn, PlainServersLogIn}
+
+-- a step that answers Ok
+abbrev SaysOk : {S : Type 0} → Machine S → S → Given → S → Type 0
+SaysOk machine state event next =
+    (body : List ℕ) × AcceptorSteps machine state event (Concluded outcomes.Ok body) next
+
+-- a machine that answers no response by Ok
+abbrev OnlyInits : {S : Type 0} → Machine S → Type 0
+OnlyInits {S} machine = (state next : S) (event : Given) (text : List ℕ)
+    → SpellsBody event.body (Ok (frames.Response text)) → ¬ SaysOk machine state event next
+
+-- a frame that is due as a response spells one
+pub response_of : (body : List ℕ) → SpellsTurn turns.Response body
+    → (text : List ℕ) × SpellsBody body (Ok (frames.Response text))
+response_of body (frames.Response text, spells, in_turn) = (text, spells)
+response_of body (frames.Init mechanism response hostname, spells, in_turn) = absurd in_turn
+response_of body (frames.Mechanisms names, spells, in_turn) = absurd in_turn
+response_of body (frames.Challenge text, spells, in_turn) = absurd in_turn
+response_of body (frames.Outcome code more, spells, in_turn) = absurd in_turn
+
+module _ {S : Type 0} (machine : Machine S) (only_inits : OnlyInits machine) where
+  -- the last step of a run whose last reply is an Ok
+  says_ok : (state next last : S) (event : Given) (says : ServerSays) → AcceptorSteps machine state event says next
+      → last ≡ next → IsOkSent says → SaysOk machine state event last
+  says_ok state next last event says step end (body, same, fits) = (
+    body,
+    subst (λ (s : ServerSays). AcceptorSteps machine state event s last) same
+        (subst (λ (s : S). AcceptorSteps machine state event says s) (sym end) step),
+  )
+
+  pub by_one_frame : (pieces : List Piece) (limit : ℕ) (events : List Given) (replies : List ServerSays)
+      (state last : S) → AreFrames pieces limit 8 (turns.Init ∷ turns.Response ∷ []) events
+      → Runs (AcceptorSteps machine) state events replies last → LastReply IsOkSent replies
+      → (event : Given) × (events ≡ event ∷ []) × SaysOk machine state event last
+  by_one_frame pieces limit [] replies state last frames run ok =
+      absurd (subst (λ (l : List ServerSays). LastReply IsOkSent l) run.0 ok)
+  by_one_frame pieces limit (event ∷ []) replies state last frames (says, next, none, step, is, (empty, end)) ok =
+      let all : replies ≡ says ∷ [] = is ∙ ap (λ (l : List ServerSays). says ∷ l) empty in (
+        event,
+        refl,
+        says_ok state next last event says step end
+            (subst (λ (l : List ServerSays). LastReply IsOkSent l) all ok),
+      )
+  by_one_frame pieces limit (event ∷ second ∷ []) replies state last frames
+      (says, mid, more, step, is, (then, next, none, step_then, is_then, (empty, end))) ok =
+      let all : replies ≡ says ∷ then ∷ [] =
+      is ∙ ap (λ (l : List ServerSays). says ∷ l) (is_then ∙ ap (λ (l : List ServerSays). then ∷ l) empty) in
+      let response = response_of second.body frames.3.1 in
+      absurd (only_inits mid last second response.0 response.1 (says_ok mid next last second then step_then end
+      (subst (λ (l : List ServerSays). LastReply IsOkSent l) all ok)))
+  by_one_frame pieces limit (event ∷ second ∷ third ∷ events) replies state last frames run ok = absurd frames.3.3
+
+-- ---- EXTERNAL
+
+-- an outcome Auth is no Ok
+auth_is_no_ok : {S : Type 0} (reply : SaslFrame) (state moved next : S) (body : List ℕ)
+    → reply ≡ ends_with outcomes.Auth
+    → ¬ Sends (Failed faults.TooLarge) (server_says reply) (canonical reply) state moved (Concluded outcomes.Ok body) next
+auth_is_no_ok {S} reply state moved next body is said =
+    none (canonical (ends_with outcomes.Auth))
+    (subst (λ (f : SaslFrame). Sends (Failed faults.TooLarge) (server_says f) (canonical f) state moved
+    (Concluded outcomes.Ok body) next) is said).0
+  where
+    none : (sent : Option (List ℕ)) → Concluded outcomes.Ok body
+        ≢ carried (Failed faults.TooLarge) (server_says (ends_with outcomes.Auth)) sent
+    none None same = absurd (cc)
+    none (Some other) same = absurd (cc)
+
+-- what is sent with an Ok leaves the state that it moved to
+sent_moves : {S : Type 0} (sent : Option (List ℕ)) (body : List ℕ) (state moved next : S)
+    → Sends (Failed faults.TooLarge) (λ b. Concluded outcomes.Ok b) sent state moved (Concluded outcomes.Ok body) next
+    → next ≡ moved
+sent_moves None body state moved next said = let no = said.0 in absurd (cc)
+sent_moves (Some other) body state moved next said = said.1
+
+-- an init that EXTERNAL answers by Ok
+abbrev IsAsked : External → Given → External → Type 0
+IsAsked state event next = (mechanism : List ℕ) × (response : Option (List ℕ)) × (hostname : Option (List ℕ))
+    × SpellsBody event.body (Ok (frames.Init mechanism response hostname)) × IsInitOf state.user mechanism response
+    × (next ≡ record { user = state.user; accepted = true })
+
+external_oks : (state next : External) (event : Given) → SaysOk external_machine state event next
+    → IsAsked state event next
+external_oks state next event (body, (Err fault, spells, gives)) = let no = gives.0 in absurd (cc)
+external_oks state next event (body, (Ok (frames.Mechanisms names), spells, gives)) = let no = gives.0 in absurd (cc)
+external_oks state next event (body, (Ok (frames.Challenge text), spells, gives)) = let no = gives.0 in absurd (cc)
+external_oks state next event (body, (Ok (frames.Outcome code more), spells, gives)) = let no = gives.0 in absurd (cc)
+external_oks state next event (body, (Ok (frames.Init mechanism response hostname), spells, inl wants)) =
+    let no = wants.0 in absurd (cc)
+external_oks state next event
+    (body, (Ok (frames.Init mechanism response hostname), spells, inr (reply, moved, inl (asks, is, to), said))) =
+    let sent = subst (λ (f : SaslFrame). Sends (Failed faults.TooLarge) (server_says f) (canonical f) state moved
+    (Concluded outcomes.Ok body) next) is said in (
+      mechanism,
+      response,
+      hostname,
+      spells,
+      asks,
+      sent_moves (canonical (ends_with outcomes.Ok)) body state moved next sent ∙ to,
+    )
+external_oks state next event
+    (body, (Ok (frames.Init mechanism response hostname), spells, inr (reply, moved, inr (none, is, to), said))) =
+    absurd (auth_is_no_ok reply state moved next body is said)
+external_oks state next event (body, (Ok (frames.Response text), spells, inl wants)) = let no = wants.0 in absurd (cc)
+external_oks state next event (body, (Ok (frames.Response text), spells, inr (reply, moved, (is, to), said))) =
+    absurd (auth_is_no_ok reply state moved next body is said)
+
+-- an init is no response
+init_is_no_response : (mechanism text : List ℕ) (response hostname : Option (List ℕ))
+    → frames.Init mechanism response hostname ≢ frames.Response text
+init_is_no_response mechanism text response hostname same = cc
+
+external_only_inits : OnlyInits external_machine
+external_only_inits state next event text spells ok =
+    let (mechanism, response, hostname, spelled, asks, to) = external_oks state next event ok in
+    init_is_no_response mechanism text response hostname (one_spelled_frame event.body
+    (frames.Init mechanism response hostname) (frames.Response text) spelled spells)
+
+pub external_servers_log_in : ExternalServersLogIn
+external_servers_log_in limit state pieces taken sent last n logged =
+    let (event, only, ok) = by_one_frame external_machine external_only_inits pieces limit n.events n.replies state
+    last.state n.frames n.run
+    ((servers_log_in external_machine limit state pieces taken sent last n).0 logged) in
+    let (mechanism, response, hostname, spells, asks, to) = external_oks state last.state event ok in
+    record {
+      event = event;
+      mechanism = mechanism;
+      response = response;
+      hostname = hostname;
+      only = only;
+      spells = spells;
+      asks = asks;
+      named = ap external_user to;
+    }
+
+-- ---- PLAIN
+
+no_message : (provider : Store) (frame : SaslFrame) (text user : List ℕ) → frame ≡ frames.Response text
+    → ¬ PlainLogsIn provider frame user
+no_message provider frame text user is logs =
+    (subst (λ (f : SaslFrame). PlainLogsIn provider f user) is logs).1
+
+plain_only_inits : OnlyInits plain_machine
+plain_only_inits state next event text spells (body, step) =
+    let (frame, user, spelled, logs, to) = plain_oks_log_in state next event body step in
+    no_message state.provider frame text user (one_spelled_frame event.body frame (frames.Response text) spelled spells)
+    logs
+
+pub plain_servers_log_in : PlainServersLogIn
+plain_servers_log_in limit state pieces taken sent last n logged =
+    let (event, only, ok) = by_one_frame plain_machine plain_only_inits pieces limit n.events n.replies state
+    last.state n.frames n.run
+    ((servers_log_in plain_machine limit state pieces taken sent last n).0 logged) in
+    let (frame, user, spells, logs, to) = plain_oks_log_in state last.state event ok.0 ok.1 in
+    record {
+      event = event;
+      frame = frame;
+      user = user;
+      only = only;
+      spells = spells;
+      logs_in = logs;
+      named = ap (λ (server : PlainServer). server.user) to;
+    }

@@ -1,0 +1,131 @@
+-- The acceptor of a server that has not logged its client in is as it was.
+use Rattle.std.proofs.Common.{◌≡◌, ◌≢◌, ◌⊎◌, ℕ, None, List, [], ◌∷◌, sym, ap, ◌∙◌, subst, inl, inr, arith, Ok, Err}
+use Rattle.fe2o3_sasl_wire.specs.declared.amqp_types.SaslCode.TheVariants as outcomes
+use Rattle.fe2o3_sasl_wire.specs.declared.sasl_frames.error.Error.TheVariants as faults
+use Rattle.fe2o3_sasl_wire.specs.SaslFrames as frames
+use Rattle.fe2o3_sasl_wire.specs.SaslFrames.{SaslFrame, canonical}
+use Rattle.fe2o3_sasl_runs.specs.Bodies.{carried}
+use Rattle.fe2o3_sasl_runs.specs.Events.{Given, ServerSays, Failed}
+use Rattle.fe2o3_sasl_runs.specs.ExternalAcceptor.{External, external_machine}
+use Rattle.fe2o3_sasl_runs.specs.OneOfLaws.{Machine}
+use Rattle.fe2o3_sasl_runs.specs.PlainAuthenticator.{PlainServer, plain_machine}
+use Rattle.fe2o3_sasl_runs.specs.Runs.{Runs, AcceptorSteps, AcceptorAnswers, Sends, server_says}
+use Rattle.fe2o3_sasl_runs.specs.SaslAcceptor.{ends_with}
+use Rattle.fe2o3_sasl_runs.proofs.lemmas.machines.OneOfLemmas.{unmoved}
+use Rattle.fe2o3_sasl_negotiation.specs.declared.standing.Due.TheVariants.{Frame}
+use Rattle.fe2o3_sasl_negotiation.specs.declared.standing.Standing.TheVariants.{Wanting, LoggedIn}
+use Rattle.fe2o3_sasl_negotiation.specs.declared.standing.Turn.TheVariants as turns
+use Rattle.fe2o3_sasl_negotiation.specs.Connections.{Piece, AreFrames, Replied, LastReply, IsOkSent}
+use Rattle.fe2o3_sasl_negotiation.specs.Negotiations.{Answer}
+use Rattle.fe2o3_sasl_negotiation.specs.ServerNegotiation.{Says}
+use Rattle.fe2o3_sasl_negotiation.proofs.lemmas.FrameSizeLemmas.{outcomes_fit}
+use Rattle.fe2o3_sasl_negotiation.proofs.lemmas.KindLemmas.{sends_ends}
+use Rattle.fe2o3_sasl_negotiation.proofs.lemmas.LoginLemmas.{servers_log_in}
+use Rattle.connection_laws.specs.Servers.{ServersStay}
+
+-- a machine that answers by an Ok that is sent, or stays as it is
+abbrev StaysOrOk : {S : Type 0} → Machine S → Type 0
+StaysOrOk {S} machine = (state next : S) (event : Given) (says : ServerSays) → AcceptorSteps machine state event says next
+    → IsOkSent says ⊎ (next ≡ state)
+
+logged_in_waits_not : LoggedIn ≢ Wanting
+logged_in_waits_not same = cc
+
+-- an Ok leaves no server waiting
+ok_ends : (says : ServerSays) (answer : Answer) → Says says turns.Init answer → answer.standing ≡ Wanting
+    → ¬ IsOkSent says
+ok_ends says answer said waits (body, same, fits) =
+    sends_ends body LoggedIn (Frame turns.Init) answer logged_in_waits_not
+    (subst (λ (s : ServerSays). Says s turns.Init answer) same said) waits
+
+module _ {S : Type 0} (machine : Machine S) (steps : StaysOrOk machine) where
+  stays_or_ok : (pieces : List Piece) (limit : ℕ) (events : List Given) (replies : List ServerSays) (answer : Answer)
+      (state last : S) → AreFrames pieces limit 8 (turns.Init ∷ turns.Response ∷ []) events
+      → Runs (AcceptorSteps machine) state events replies last
+      → Replied Says (turns.Init ∷ turns.Response ∷ []) replies answer → LastReply IsOkSent replies ⊎ (last ≡ state)
+  stays_or_ok pieces limit [] replies answer state last due run replied = inr run.1
+  stays_or_ok pieces limit (event ∷ []) replies answer state last due (says, next, none, step, is, (empty, end)) replied =
+      let all : replies ≡ says ∷ [] = is ∙ ap (λ (l : List ServerSays). says ∷ l) empty in
+      elim (steps state next event says step) [
+        | inl ok ↦ inl (subst (λ (l : List ServerSays). LastReply IsOkSent l) (sym all) ok)
+        | inr same ↦ inr (end ∙ same)
+      ]
+  stays_or_ok pieces limit (event ∷ second ∷ []) replies answer state last due
+      (says, mid, more, step, is, (then, next, none, step_then, is_then, (empty, end))) replied =
+      let all : replies ≡ says ∷ then ∷ [] =
+      is ∙ ap (λ (l : List ServerSays). says ∷ l) (is_then ∙ ap (λ (l : List ServerSays). then ∷ l) empty) in
+      let (first, rest, said, waits, _, _) =
+      subst (λ (l : List ServerSays). Replied Says (turns.Init ∷ turns.Response ∷ []) l answer) all replied in
+      elim (steps state mid event says step) [
+        | inl ok ↦ absurd (ok_ends says first said waits ok)
+        | inr same ↦
+            elim (steps mid next second then step_then) [
+              | inl ok ↦ inl (subst (λ (l : List ServerSays). LastReply IsOkSent l) (sym all) ok)
+              | inr again ↦ inr (end ∙ (again ∙ same))
+            ]
+      ]
+  stays_or_ok pieces limit (event ∷ second ∷ third ∷ events) replies answer state last due run replied =
+      absurd due.3.3
+
+  pub servers_stay : ServersStay machine
+  servers_stay limit state pieces taken sent last n out =
+      elim (stays_or_ok pieces limit n.events n.replies n.answer state last.state n.frames n.run n.replied) [
+        | inl ok ↦ absurd (out ((servers_log_in machine limit state pieces taken sent last n).1 ok))
+        | inr same ↦ same
+      ]
+
+-- an outcome Ok is sent
+ok_sent : {S : Type 0} (reply : SaslFrame) (state moved next : S) (says : ServerSays) → reply ≡ ends_with outcomes.Ok
+    → Sends (Failed faults.TooLarge) (server_says reply) (canonical reply) state moved says next → IsOkSent says
+ok_sent reply state moved next says is sent = let (body, some, fits) = outcomes_fit outcomes.Ok None (omega arith) in (
+  body,
+  sent.0 ∙ (ap (λ (r : SaslFrame). carried (Failed faults.TooLarge) (server_says r) (canonical r)) is
+      ∙ ap (λ b. carried (Failed faults.TooLarge) (server_says (ends_with outcomes.Ok)) b) some),
+  fits,
+)
+
+-- ---- EXTERNAL
+
+external_answers : (state next : External) (nonce : List ℕ) (frame : SaslFrame) (says : ServerSays)
+    → AcceptorAnswers external_machine state nonce frame says next → IsOkSent says ⊎ (next ≡ state)
+external_answers state next nonce frame says (inl want) = inr want.1
+external_answers state next nonce (frames.Init mechanism response hostname) says
+    (inr (reply, moved, inl (asks, is, to), sent)) = inl (ok_sent reply state moved next says is sent)
+external_answers state next nonce (frames.Init mechanism response hostname) says
+    (inr (reply, moved, inr (none, is, to), sent)) = inr (unmoved state moved next (canonical reply) to sent.1)
+external_answers state next nonce (frames.Response text) says (inr (reply, moved, (is, to), sent)) =
+    inr (unmoved state moved next (canonical reply) to sent.1)
+external_answers state next nonce (frames.Mechanisms list) says (inr (reply, moved, never, sent)) = absurd never
+external_answers state next nonce (frames.Challenge text) says (inr (reply, moved, never, sent)) = absurd never
+external_answers state next nonce (frames.Outcome code more) says (inr (reply, moved, never, sent)) = absurd never
+
+-- ---- PLAIN
+
+plain_answers : (state next : PlainServer) (nonce : List ℕ) (frame : SaslFrame) (says : ServerSays)
+    → AcceptorAnswers plain_machine state nonce frame says next → IsOkSent says ⊎ (next ≡ state)
+plain_answers state next nonce frame says (inl want) = inr want.1
+plain_answers state next nonce frame says (inr (reply, moved, inl (user, logs, is, to), sent)) =
+    inl (ok_sent reply state moved next says is sent)
+plain_answers state next nonce frame says (inr (reply, moved, inr (none, is, to), sent)) =
+    inr (unmoved state moved next (canonical reply) to sent.1)
+
+-- ---- a step
+
+as_steps : {S : Type 0} (machine : Machine S)
+    → ((state next : S) (nonce : List ℕ) (frame : SaslFrame) (says : ServerSays)
+    → AcceptorAnswers machine state nonce frame says next → IsOkSent says ⊎ (next ≡ state))
+    → StaysOrOk machine
+as_steps machine answers state next event says (Err fault, spells, gives) = inr gives.1
+as_steps machine answers state next event says (Ok (frames.Mechanisms list), spells, gives) = inr gives.1
+as_steps machine answers state next event says (Ok (frames.Challenge text), spells, gives) = inr gives.1
+as_steps machine answers state next event says (Ok (frames.Outcome code more), spells, gives) = inr gives.1
+as_steps machine answers state next event says (Ok (frames.Init mechanism response hostname), spells, gives) =
+    answers state next event.nonce (frames.Init mechanism response hostname) says gives
+as_steps machine answers state next event says (Ok (frames.Response text), spells, gives) =
+    answers state next event.nonce (frames.Response text) says gives
+
+pub external_servers_stay : ServersStay external_machine
+external_servers_stay = servers_stay external_machine (as_steps external_machine external_answers)
+
+pub plain_servers_stay : ServersStay plain_machine
+plain_servers_stay = servers_stay plain_machine (as_steps plain_machine plain_answers)

@@ -1,0 +1,10 @@
+use Rattle.fe2o3_sasl_runs.specs.HidingAcceptor.{hiding_machine}
+use Rattle.connection_laws.proofs.lemmas.NameLemmas.{negotiations_have_names}
+use Rattle.connection_laws.proofs.lemmas.ServerLemmas.{mock_servers_serve}
+use Rattle.connection_laws.proofs.servers.mock.Goals as goal
+
+pub returns-clause-serves : goal.returns-clause-serves
+returns-clause-serves c = mock_servers_serve
+
+pub returns-clause-names : goal.returns-clause-names
+returns-clause-names c = negotiations_have_names hiding_machine
