@@ -1,1 +1,121 @@
--- What holds of two connections (RFC 5802, section 5).
+-- What the bytes of two connections say of both (RFC 5802, sections 3, 5 and 9; AMQP 1.0, part 5, section 5.3). Each law is
+-- the contract of a clause of `pairs`.
+use Rattle.std.specs.Prelude.{◌≡◌, ℕ, suc, Some, List, length, slice_get, Ok}
+use Rattle.std.specs.List.{AllByRecursion}
+use Rattle.fe2o3_sasl_wire.specs.declared.amqp_types.SaslCode.TheVariants as outcomes
+use Rattle.fe2o3_sasl_wire.specs.SaslFrames as frames
+use Rattle.fe2o3_sasl_wire.specs.SaslFrames.{IsBytes}
+use Rattle.fe2o3_scram.specs.Credentials.{Provider}
+use Rattle.fe2o3_scram.specs.ScramServer.{Initial}
+use Rattle.fe2o3_scram.specs.Texts.{Part}
+use Rattle.fe2o3_sasl_runs.specs.Bodies.{SpellsBody}
+use Rattle.fe2o3_sasl_runs.specs.ClientHistory.{Answering}
+use Rattle.fe2o3_sasl_runs.specs.Events.{Given, Login, IsSecret, Concluded, Reported}
+use Rattle.fe2o3_sasl_runs.specs.Headline.{VerifierAgrees}
+use Rattle.fe2o3_sasl_runs.specs.Laws.{HoldsRecords}
+use Rattle.fe2o3_sasl_runs.specs.Positions.{IsLastOpen}
+use Rattle.fe2o3_sasl_runs.specs.Profiles.{Profile, scram_profile}
+use Rattle.fe2o3_sasl_runs.specs.SaslAcceptor.{Acceptor, ScramAcceptor, acceptor_machine, acceptor_user}
+use Rattle.fe2o3_sasl_runs.specs.ServerHistory.{Accepted, AcceptsAt, final_message, is_challenge, is_ok}
+use Rattle.fe2o3_sasl_runs.specs.TwoSides.{Sides, sides_of, OkAt, Shows}
+use Rattle.fe2o3_sasl_runs.specs.Verdicts.{Verdict, JudgesProof}
+use Rattle.fe2o3_sasl_negotiation.specs.declared.standing.Standing.TheVariants.{LoggedIn}
+use Rattle.fe2o3_sasl_negotiation.specs.Connections.{Piece, ServerNegotiated, ClientNegotiated}
+use Rattle.fe2o3_sasl_negotiation.specs.Negotiations.{Side}
+
+-- a connection of a SCRAM client of this login, after the server's header, over any bytes in any pieces
+pub record ClientOf (login : Login) : Type 0 where
+  pub limit : ℕ
+  pub pieces : List Piece
+  pub taken : List ℕ
+  pub sent : List ℕ
+  pub last : Side Profile
+  pub connection : ClientNegotiated login.hostname limit (scram_profile login) pieces taken sent last
+
+-- a connection of a SCRAM server over this provider, after the client's header, over any bytes in any pieces
+pub record ServerOf (provider : Provider) : Type 0 where
+  pub limit : ℕ
+  pub pieces : List Piece
+  pub taken : List ℕ
+  pub sent : List ℕ
+  pub last : Side Acceptor
+  pub connection : ServerNegotiated acceptor_machine limit (ScramAcceptor provider Initial) pieces taken sent last
+
+-- the frame bodies and the replies of both
+abbrev pub sides : {login : Login} {provider : Provider} → ClientOf login → ServerOf provider → Sides
+sides {login} {provider} client server = sides_of login client.connection.events client.connection.replies provider
+    server.connection.events server.connection.replies
+
+-- ---- from the server to the client
+
+-- the client's last reply is at m, and reports an Ok with this data
+pub record ReportsLast {login : Login} (client : ClientOf login) (m : ℕ) (text : List ℕ) : Type 0 where
+  pub last : suc m ≡ length client.connection.replies
+  pub reported : slice_get client.connection.replies m ≡ Some (Reported outcomes.Ok (Some text))
+
+-- a client that has logged in did so on the data of one outcome Ok. If the first part of this data, the verifier
+-- (RFC 5802, section 7), is the server-final message of an Ok of the server, both agree, or their own differing
+-- AuthMessages share one HMAC value. Two joined sides meet the premises (`unaltered_connections`)
+abbrev pub LoggedInClientsAgree : Type 0
+LoggedInClientsAgree = (login : Login) (provider : Provider) (client : ClientOf login) (server : ServerOf provider)
+    → HoldsRecords provider → client.last.standing ≡ LoggedIn
+    → (m : ℕ) × (text : List ℕ) × ReportsLast client m text
+    × ((n : ℕ) (accepted : Accepted) → OkAt (sides client server) n accepted
+    → Part text 0 (final_message provider accepted) → VerifierAgrees (sides client server) m accepted)
+
+-- ---- from the client to the server
+
+-- the server's last reply is at n, an Ok to this text of a response that it accepts, and the server names the user of
+-- the challenge that the response answers
+pub record AcceptsLast {provider : Provider} (server : ServerOf provider) (n : ℕ) (text : List ℕ) (accepted : Accepted)
+    : Type 0 where
+  pub event : Given
+  pub body : List ℕ
+  pub last : suc n ≡ length server.connection.replies
+  pub at : slice_get server.connection.events n ≡ Some event
+  pub spells : SpellsBody event.body (Ok (frames.Response text))
+  pub says : slice_get server.connection.replies n ≡ Some (Concluded outcomes.Ok body)
+  pub accepts : AcceptsAt provider server.connection.events server.connection.replies n accepted
+  pub user : acceptor_user server.last.state ≡ Some accepted.challenge.client.user
+
+-- a server that has logged a client in did so on one response. If the client's connection showed the proof of that
+-- response, the proof has a verdict: both agree; or the client's key is not the one whose digest the server
+-- stores; or their own differing keys have one digest, or their own differing AuthMessages one HMAC value
+abbrev pub LoggedInServersJudge : Type 0
+LoggedInServersJudge = (login : Login) (provider : Provider) (client : ClientOf login) (server : ServerOf provider)
+    → IsSecret login.secret → HoldsRecords provider → server.last.standing ≡ LoggedIn
+    → (n : ℕ) × (text : List ℕ) × (accepted : Accepted) × AcceptsLast server n text accepted
+    × ((k : ℕ) (answer : Answering) → Shows (sides client server) k n answer accepted
+    → (verdict : Verdict) × JudgesProof (sides client server) answer accepted verdict)
+
+-- ---- from one server to another
+
+-- 32 bytes, as every call takes
+abbrev pub IsNonce : List ℕ → Type 0
+IsNonce nonce = IsBytes nonce × (length nonce ≡ 32)
+
+-- each nonce that a call received is one
+abbrev pub AreNonces : List Piece → Type 0
+AreNonces pieces = AllByRecursion (λ (piece : Piece). IsNonce piece.nonce) pieces
+
+-- the challenge that is open at n was made with this nonce: the one of the call that completed its init
+abbrev pub ChallengesWith : {provider : Provider} → ServerOf provider → ℕ → List ℕ → Type 0
+ChallengesWith server n nonce = (j : ℕ) × IsLastOpen is_challenge is_ok server.connection.replies n j
+    × ((event : Given) × (slice_get server.connection.events j ≡ Some event) × (event.nonce ≡ nonce))
+
+-- both challenges have one nonce of the client, one of the server (RFC 5802, section 5.1), and one of their calls
+pub record OneNonce {provider other : Provider} (server : ServerOf provider) (again : ServerOf other) (n m : ℕ)
+    (accepted repeated : Accepted) : Type 0 where
+  pub client_nonce : accepted.challenge.client.nonce ≡ repeated.challenge.client.nonce
+  pub server_nonce : accepted.challenge.nonce ≡ repeated.challenge.nonce
+  pub nonce : List ℕ
+  pub first : ChallengesWith server n nonce
+  pub second : ChallengesWith again m nonce
+
+-- one text of a response that two servers log a client in on, each over a provider of its own, means that both were
+-- given one nonce
+abbrev pub RepeatedResponsesMeanOneNonce : Type 0
+RepeatedResponsesMeanOneNonce = (provider other : Provider) (server : ServerOf provider) (again : ServerOf other) (n m : ℕ)
+    (text : List ℕ) (accepted repeated : Accepted) → AreNonces server.pieces → AreNonces again.pieces
+    → AcceptsLast server n text accepted → AcceptsLast again m text repeated
+    → OneNonce server again n m accepted repeated

@@ -1,1 +1,26 @@
 //! What the bytes of two connections say of both.
+
+ghost use Rattle.connection_laws.specs.Pairs.{LoggedInClientsAgree, LoggedInServersJudge, RepeatedResponsesMeanOneNonce};
+
+/// States what the login of a SCRAM client says of a SCRAM server, each over any bytes. The client logged in on the
+/// data of one outcome Ok. If the verifier in that data is one that the server's connection issued, both agree on
+/// user name and client nonce, or their own differing AuthMessages share one HMAC value.
+pub fn verifiers()
+    ensures { LoggedInClientsAgree }
+{}
+
+/// States what the login of a SCRAM client at a SCRAM server says of a client's connection, each over any bytes. The
+/// server logged in the user of the challenge that one response answers, and names that user. If the client's
+/// connection showed the proof of that response, one of four verdicts holds: both agree; the client's key is not the
+/// one whose digest the server stores; two differing keys of the sides have one digest; or their own differing
+/// AuthMessages share one HMAC value.
+pub fn proofs()
+    ensures { LoggedInServersJudge }
+{}
+
+/// States what a replayed response needs. If two connections of SCRAM servers, each over any provider and any bytes,
+/// both log a client in on one text of a response, the calls that completed the two inits received one nonce. A
+/// recorded login thus logs nobody in on a connection whose nonces are new.
+pub fn replays()
+    ensures { RepeatedResponsesMeanOneNonce }
+{}
