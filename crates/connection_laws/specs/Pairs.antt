@@ -1,7 +1,7 @@
 -- What the bytes of two connections say of both (RFC 5802, sections 3, 5 and 9; AMQP 1.0, part 5, section 5.3). Each law is
 -- the contract of a clause of `pairs`.
-use Rattle.std.specs.Prelude.{◌≡◌, ℕ, suc, Some, List, length, slice_get, Ok}
-use Rattle.std.specs.List.{AllByRecursion}
+use Rattle.std.specs.Prelude.{◌≡◌, ◌≢◌, ℕ, suc, Some, List, length, slice_get, Ok}
+use Rattle.std.specs.List.{Contains}
 use Rattle.fe2o3_sasl_wire.specs.declared.amqp_types.SaslCode.TheVariants as outcomes
 use Rattle.fe2o3_sasl_wire.specs.SaslFrames as frames
 use Rattle.fe2o3_sasl_wire.specs.SaslFrames.{IsBytes}
@@ -78,44 +78,60 @@ pub record AcceptsLast {provider : Provider} (server : ServerOf provider) (n : �
   pub accepts : AcceptsAt provider server.connection.events server.connection.replies n accepted
   pub user : acceptor_user server.last.state ≡ Some accepted.challenge.client.user
 
--- a server that has logged a client in did so on one response. If the client's connection showed the proof of that
--- response, the proof has a verdict: both agree; or the client's key is not the one whose digest the server
--- stores; or their own differing keys have one digest, or their own differing AuthMessages one HMAC value
-abbrev pub LoggedInServersJudge : Type 0
-LoggedInServersJudge = (login : Login) (provider : Provider) (client : ClientOf login) (server : ServerOf provider)
-    → IsSecret login.secret → HoldsRecords provider → server.last.standing ≡ LoggedIn
+-- a server that has logged a client in did so on one response
+abbrev pub LoggedInServersAccept : Type 0
+LoggedInServersAccept = (provider : Provider) (server : ServerOf provider) → server.last.standing ≡ LoggedIn
     → (n : ℕ) × (text : List ℕ) × (accepted : Accepted) × AcceptsLast server n text accepted
-    × ((k : ℕ) (answer : Answering) → Shows (sides client server) k n answer accepted
-    → (verdict : Verdict) × JudgesProof (sides client server) answer accepted verdict)
+
+-- if the client's connection showed the proof of that response, the proof has a verdict: both agree; or the client's
+-- key is not the one whose digest the server stores; or their own differing keys have one digest, or their own
+-- differing AuthMessages one HMAC value. Two joined sides meet the premises (`unaltered_connections`)
+abbrev pub AcceptedProofsAreJudged : Type 0
+AcceptedProofsAreJudged = (login : Login) (provider : Provider) (client : ClientOf login) (server : ServerOf provider)
+    (n : ℕ) (text : List ℕ) (accepted : Accepted) → IsSecret login.secret → HoldsRecords provider
+    → AcceptsLast server n text accepted → (k : ℕ) (answer : Answering) → Shows (sides client server) k n answer accepted
+    → (verdict : Verdict) × JudgesProof (sides client server) answer accepted verdict
 
 -- ---- from one server to another
 
--- 32 bytes, as every call takes
-abbrev pub IsNonce : List ℕ → Type 0
-IsNonce nonce = IsBytes nonce × (length nonce ≡ 32)
-
--- each nonce that a call received is one
+-- each nonce that a call received is 32 bytes
 abbrev pub AreNonces : List Piece → Type 0
-AreNonces pieces = AllByRecursion (λ (piece : Piece). IsNonce piece.nonce) pieces
+AreNonces pieces = (piece : Piece) → Contains pieces piece → IsBytes piece.nonce × (length piece.nonce ≡ 32)
 
--- the challenge that is open at n was made with this nonce: the one of the call that completed its init
-abbrev pub ChallengesWith : {provider : Provider} → ServerOf provider → ℕ → List ℕ → Type 0
-ChallengesWith server n nonce = (j : ℕ) × IsLastOpen is_challenge is_ok server.connection.replies n j
-    × ((event : Given) × (slice_get server.connection.events j ≡ Some event) × (event.nonce ≡ nonce))
+-- the challenge that is open at n was made with the nonce of this call, which completed its init
+abbrev pub ChallengesWith : {provider : Provider} → ServerOf provider → ℕ → Piece → Type 0
+ChallengesWith server n piece = Contains server.pieces piece × ((j : ℕ)
+    × IsLastOpen is_challenge is_ok server.connection.replies n j
+    × ((event : Given) × (slice_get server.connection.events j ≡ Some event) × (piece.nonce ≡ event.nonce)))
 
--- both challenges have one nonce of the client, one of the server (RFC 5802, section 5.1), and one of their calls
+-- both challenges have one nonce of the client and one of the server (RFC 5802, section 5.1), and the calls that
+-- completed their inits received one nonce
 pub record OneNonce {provider other : Provider} (server : ServerOf provider) (again : ServerOf other) (n m : ℕ)
     (accepted repeated : Accepted) : Type 0 where
   pub client_nonce : accepted.challenge.client.nonce ≡ repeated.challenge.client.nonce
   pub server_nonce : accepted.challenge.nonce ≡ repeated.challenge.nonce
-  pub nonce : List ℕ
-  pub first : ChallengesWith server n nonce
-  pub second : ChallengesWith again m nonce
+  pub first : Piece
+  pub second : Piece
+  pub first_call : ChallengesWith server n first
+  pub second_call : ChallengesWith again m second
+  pub same : first.nonce ≡ second.nonce
 
--- one text of a response that two servers log a client in on, each over a provider of its own, means that both were
--- given one nonce
+-- one text of a response that two servers log a client in on, each over a provider of its own, means one nonce. A
+-- connection twice meets the premises
 abbrev pub RepeatedResponsesMeanOneNonce : Type 0
 RepeatedResponsesMeanOneNonce = (provider other : Provider) (server : ServerOf provider) (again : ServerOf other) (n m : ℕ)
     (text : List ℕ) (accepted repeated : Accepted) → AreNonces server.pieces → AreNonces again.pieces
     → AcceptsLast server n text accepted → AcceptsLast again m text repeated
     → OneNonce server again n m accepted repeated
+
+-- no call of one connection received a nonce that a call of the other received
+abbrev pub NoncesDiffer : List Piece → List Piece → Type 0
+NoncesDiffer pieces others = (piece other : Piece) → Contains pieces piece → Contains others other
+    → piece.nonce ≢ other.nonce
+
+-- a server whose nonces are new logs nobody in on a response that was accepted on another connection
+abbrev pub ReplaysAreRejected : Type 0
+ReplaysAreRejected = (provider other : Provider) (server : ServerOf provider) (again : ServerOf other) (n m : ℕ)
+    (text : List ℕ) (accepted repeated : Accepted) → AreNonces server.pieces → AreNonces again.pieces
+    → NoncesDiffer server.pieces again.pieces → AcceptsLast server n text accepted
+    → ¬ AcceptsLast again m text repeated

@@ -1,6 +1,6 @@
 //! What the bytes of two connections say of both.
 
-ghost use Rattle.connection_laws.specs.Pairs.{LoggedInClientsAgree, LoggedInServersJudge, RepeatedResponsesMeanOneNonce};
+ghost use Rattle.connection_laws.specs.Pairs.{LoggedInClientsAgree, LoggedInServersAccept, AcceptedProofsAreJudged, RepeatedResponsesMeanOneNonce, ReplaysAreRejected};
 
 /// States what the login of a SCRAM client says of a SCRAM server, each over any bytes. The client logged in on the
 /// data of one outcome Ok. If the verifier in that data is one that the server's connection issued, both agree on
@@ -15,12 +15,14 @@ pub fn verifiers()
 /// one whose digest the server stores; two differing keys of the sides have one digest; or their own differing
 /// AuthMessages share one HMAC value.
 pub fn proofs()
-    ensures { LoggedInServersJudge }
+    ensures response { LoggedInServersAccept }
+    ensures judged { AcceptedProofsAreJudged }
 {}
 
 /// States what a replayed response needs. If two connections of SCRAM servers, each over any provider and any bytes,
 /// both log a client in on one text of a response, the calls that completed the two inits received one nonce. A
-/// recorded login thus logs nobody in on a connection whose nonces are new.
+/// connection whose calls received other nonces logs nobody in on a recorded response.
 pub fn replays()
-    ensures { RepeatedResponsesMeanOneNonce }
+    ensures one_nonce { RepeatedResponsesMeanOneNonce }
+    ensures rejected { ReplaysAreRejected }
 {}

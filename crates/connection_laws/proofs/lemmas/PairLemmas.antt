@@ -1,6 +1,7 @@
 -- What the bytes of two connections say of both.
 use Rattle.std.proofs.Common.{◌≡◌, ◌⊎◌, ℕ, zero, suc, ◌+◌, Some, List, [], ◌∷◌, ◌++◌, length, replicate, codes, refl, sym, ap, ◌∙◌, subst, arith, ⊎_elim, inl, inr, Ok}
 use Rattle.std.specs.Prelude.{slice_get, flat_map}
+use Rattle.std.specs.List.{Contains}
 use Rattle.std.proofs.lemmas.List.{length-append}
 use Rattle.std.proofs.lemmas.Option.{same_Some}
 use Rattle.fe2o3_sasl_wire.specs.declared.amqp_types.SaslCode.TheVariants as outcomes
@@ -23,12 +24,11 @@ use Rattle.fe2o3_sasl_runs.proofs.lemmas.positions.PositionLemmas.{opens_here}
 use Rattle.fe2o3_sasl_runs.proofs.lemmas.two_sides.EqualMessageLemmas.{accepts_open, is_challenging}
 use Rattle.fe2o3_sasl_runs.proofs.lemmas.two_sides.HeadlineLemmas.{verifier_agrees}
 use Rattle.fe2o3_sasl.proofs.lemmas.two_sides.VerdictLemmas.{shown_proofs_are_judged}
-use Rattle.fe2o3_sasl_negotiation.specs.declared.standing.Standing.TheVariants.{LoggedIn}
 use Rattle.fe2o3_sasl_negotiation.specs.declared.standing.Turn.{Turn}
 use Rattle.fe2o3_sasl_negotiation.specs.declared.standing.Turn.TheVariants as turns
 use Rattle.fe2o3_sasl_negotiation.specs.Connections.{Piece, NonceAt, AreFrames, LastReply, IsOkSent, IsOkReported}
 use Rattle.fe2o3_sasl_negotiation.proofs.lemmas.LoginLemmas.{scram_servers_serve, scram_clients_log_in}
-use Rattle.connection_laws.specs.Pairs.{ServerOf, sides, LoggedInClientsAgree, LoggedInServersJudge, AcceptsLast, IsNonce, AreNonces, ChallengesWith, RepeatedResponsesMeanOneNonce}
+use Rattle.connection_laws.specs.Pairs.{ServerOf, sides, LoggedInClientsAgree, LoggedInServersAccept, AcceptedProofsAreJudged, AcceptsLast, ChallengesWith, RepeatedResponsesMeanOneNonce, ReplaysAreRejected}
 
 -- the last reply, and where it is
 last_at : {A : Type 0} (Is : A → Type 0) (replies : List A) → LastReply Is replies
@@ -70,9 +70,8 @@ logged_in_clients_agree login provider client server records logged =
 
 -- ---- from the client to the server
 
-accepts_last : (provider : Provider) (server : ServerOf provider) → server.last.standing ≡ LoggedIn
-    → (n : ℕ) × (text : List ℕ) × (accepted : Accepted) × AcceptsLast server n text accepted
-accepts_last provider server logged =
+pub logged_in_servers_accept : LoggedInServersAccept
+logged_in_servers_accept provider server logged =
     let events = server.connection.events in
     let replies = server.connection.replies in
     let serves = scram_servers_serve provider server.limit server.pieces server.taken server.sent server.last
@@ -100,21 +99,15 @@ accepts_last provider server logged =
       },
     )
 
-pub logged_in_servers_judge : LoggedInServersJudge
-logged_in_servers_judge login provider client server secret records logged =
+pub accepted_proofs_are_judged : AcceptedProofsAreJudged
+accepted_proofs_are_judged login provider client server n text accepted secret records accepts k answer shows =
     let logs = scram_clients_log_in login client.limit client.pieces client.taken client.sent client.last
     client.connection in
     let serves = scram_servers_serve provider server.limit server.pieces server.taken server.sent server.last
     server.connection in
-    let last = accepts_last provider server logged in (
-      last.0,
-      last.1,
-      last.2,
-      last.3,
-      λ k answer shows. shown_proofs_are_judged (sides client server) k last.0 answer last.2
-          (record { client = logs.history; server = serves.history }) secret
-          (held (sides client server) last.0 last.2 records shows.ok) shows,
-    )
+    shown_proofs_are_judged (sides client server) k n answer accepted
+    (record { client = logs.history; server = serves.history }) secret
+    (held (sides client server) n accepted records shows.ok) shows
 
 -- ---- from one server to another
 
@@ -126,25 +119,27 @@ copies (suc n) nonce rest zero found is = inl (same_Some nonce found is)
 copies (suc n) nonce rest (suc k) found is = copies n nonce rest k found is
 
 -- the nonce at a byte is that of a piece
-nonce_at : (pieces : List Piece) (n : ℕ) (nonce : List ℕ) → AreNonces pieces → NonceAt pieces n nonce → IsNonce nonce
-nonce_at [] n nonce are at = absurd (cc)
-nonce_at (piece ∷ pieces) n nonce are at =
-    ⊎_elim (λ (same : piece.nonce ≡ nonce). subst IsNonce same are.0)
-    (λ (later : (j : ℕ) × NonceAt pieces j nonce). nonce_at pieces later.0 nonce are.1 later.1)
-    (copies (length piece.bytes) piece.nonce
+piece_at : (pieces : List Piece) (n : ℕ) (nonce : List ℕ) → NonceAt pieces n nonce
+    → (piece : Piece) × Contains pieces piece × (piece.nonce ≡ nonce)
+piece_at [] n nonce at = absurd (cc)
+piece_at (first ∷ pieces) n nonce at =
+    ⊎_elim (λ (same : first.nonce ≡ nonce). (first, (zero, omega arith, refl), same))
+    (λ (later : (j : ℕ) × NonceAt pieces j nonce). let rest = piece_at pieces later.0 nonce later.1 in
+    (rest.0, (suc rest.1.0, omega (arith, rest.1.1), rest.1.2), rest.2))
+    (copies (length first.bytes) first.nonce
     (flat_map (λ (other : Piece). replicate (length other.bytes) other.nonce) pieces) n nonce at)
 
 -- and that of an event is
-event_nonce : (pieces : List Piece) (limit at : ℕ) (turns : List Turn) (events : List Given) → AreNonces pieces
+event_piece : (pieces : List Piece) (limit at : ℕ) (turns : List Turn) (events : List Given)
     → AreFrames pieces limit at turns events → (j : ℕ) (event : Given) → slice_get events j ≡ Some event
-    → IsNonce event.nonce
-event_nonce pieces limit at turns [] are frames j event is = absurd (cc)
-event_nonce pieces limit at [] (first ∷ events) are frames j event is = absurd frames
-event_nonce pieces limit at (turn ∷ turns) (first ∷ events) are frames zero event is =
-    subst (λ (e : Given). IsNonce e.nonce) (same_Some first event is)
-    (nonce_at pieces (at + (length first.body + 3)) first.nonce are frames.2)
-event_nonce pieces limit at (turn ∷ turns) (first ∷ events) are frames (suc j) event is =
-    event_nonce pieces limit (at + (length first.body + 4)) turns events are frames.3 j event is
+    → (piece : Piece) × Contains pieces piece × (piece.nonce ≡ event.nonce)
+event_piece pieces limit at turns [] frames j event is = absurd (cc)
+event_piece pieces limit at [] (first ∷ events) frames j event is = absurd frames
+event_piece pieces limit at (turn ∷ turns) (first ∷ events) frames zero event is =
+    let found = piece_at pieces (at + (length first.body + 3)) first.nonce frames.2 in
+    (found.0, found.1, found.2 ∙ ap (λ (e : Given). e.nonce) (same_Some first event is))
+event_piece pieces limit at (turn ∷ turns) (first ∷ events) frames (suc j) event is =
+    event_piece pieces limit (at + (length first.body + 4)) turns events frames.3 j event is
 
 same_text : (text other : List ℕ) → ◌≡◌ {A = SaslFrame} (frames.Response text) (frames.Response other) → text ≡ other
 same_text text other same = cc
@@ -161,20 +156,20 @@ second_part {provider} server n text accepted accepts =
     (subst (λ (e : Given). SpellsBody e.body (Ok (frames.Response response.1))) one response.3) accepts.spells) in
     subst (λ (z : List ℕ). Part z 1 (codes "r=" ++ full_nonce accepted.challenge)) texts response.5.nonce
 
--- the nonce that the server's challenge was made with
+-- the call that completed the init which the server's challenge answers
 made_with : {provider : Provider} (server : ServerOf provider) (n : ℕ) (text : List ℕ) (accepted : Accepted)
-    → AreNonces server.pieces → AcceptsLast server n text accepted
-    → (nonce : List ℕ) × IsNonce nonce × (accepted.challenge.nonce ≡ base64_text nonce) × ChallengesWith server n nonce
-made_with {provider} server n text accepted are accepts =
+    → AcceptsLast server n text accepted → (piece : Piece) × (accepted.challenge.nonce ≡ base64_text piece.nonce)
+    × ChallengesWith server n piece
+made_with {provider} server n text accepted accepts =
     let events = server.connection.events in
     let opened = accepts_open provider events server.connection.replies n accepted accepts.accepts in
     let at = opened.2 in
-    let event = at.0 in (
-      event.nonce,
-      event_nonce server.pieces server.limit 8 (turns.Init ∷ turns.Response ∷ []) events are server.connection.frames
-          opened.0 event at.2,
-      (is_challenging provider event at.1 accepted.challenge at.4).nonce,
-      (opened.0, opened.1, (event, at.2, refl)),
+    let event = at.0 in
+    let piece = event_piece server.pieces server.limit 8 (turns.Init ∷ turns.Response ∷ []) events
+    server.connection.frames opened.0 event at.2 in (
+      piece.0,
+      (is_challenging provider event at.1 accepted.challenge at.4).nonce ∙ ap base64_text (sym piece.2),
+      (piece.1, (opened.0, opened.1, (event, at.2, piece.2))),
     )
 
 -- two texts whose ends are equally long
@@ -193,23 +188,32 @@ one_split (x ∷ front) back (y ∷ first) second same long =
 
 pub repeated_responses_mean_one_nonce : RepeatedResponsesMeanOneNonce
 repeated_responses_mean_one_nonce provider other server again n m text accepted repeated are too accepts reaccepts =
-    let first = made_with server n text accepted are accepts in
-    let second = made_with again m text repeated too reaccepts in
+    let first = made_with server n text accepted accepts in
+    let second = made_with again m text repeated reaccepts in
+    let one = are first.0 first.2.0 in
+    let two = too second.0 second.2.0 in
     let parts : codes "r=" ++ full_nonce accepted.challenge ≡ codes "r=" ++ full_nonce repeated.challenge =
     one_part text 1 (codes "r=" ++ full_nonce accepted.challenge) (codes "r=" ++ full_nonce repeated.challenge)
     (second_part server n text accepted accepts) (second_part again m text repeated reaccepts) in
     let fulls : full_nonce accepted.challenge ≡ full_nonce repeated.challenge = cc in
     let long : length accepted.challenge.nonce ≡ length repeated.challenge.nonce =
-    ap length first.2 ∙ (length-base64_text first.0 first.1.1
-    ∙ sym (ap length second.2 ∙ length-base64_text second.0 second.1.1)) in
+    ap length first.1 ∙ (length-base64_text first.0.nonce one.1
+    ∙ sym (ap length second.1 ∙ length-base64_text second.0.nonce two.1)) in
     let nonces = one_split accepted.challenge.client.nonce accepted.challenge.nonce repeated.challenge.client.nonce
     repeated.challenge.nonce fulls long in
-    let one : first.0 ≡ second.0 = one_spelled (base64_text first.0) first.0 second.0 (first.1.0, refl)
-    (second.1.0, sym first.2 ∙ (nonces.1 ∙ second.2)) in
     record {
       client_nonce = nonces.0;
       server_nonce = nonces.1;
-      nonce = second.0;
-      first = subst (ChallengesWith server n) one first.3;
-      second = second.3;
+      first = first.0;
+      second = second.0;
+      first_call = first.2;
+      second_call = second.2;
+      same = one_spelled (base64_text first.0.nonce) first.0.nonce second.0.nonce (one.0, refl)
+          (two.0, sym first.1 ∙ (nonces.1 ∙ second.1));
     }
+
+pub replays_are_rejected : ReplaysAreRejected
+replays_are_rejected provider other server again n m text accepted repeated are too differ accepts reaccepts =
+    let one = repeated_responses_mean_one_nonce provider other server again n m text accepted repeated are too accepts
+    reaccepts in
+    differ one.first one.second one.first_call.0 one.second_call.0 one.same
