@@ -1,1 +1,3 @@
 pub mod PairLemmas
+pub mod ShapeLemmas
+pub mod UnalteredPairLemmas

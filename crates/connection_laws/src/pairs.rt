@@ -1,6 +1,6 @@
 //! What the bytes of two connections say of both.
 
-ghost use Rattle.connection_laws.specs.Pairs.{LoggedInClientsAgree, LoggedInServersAccept, AcceptedProofsAreJudged, RepeatedResponsesMeanOneNonce, ReplaysAreRejected};
+ghost use Rattle.connection_laws.specs.Pairs.{LoggedInClientsAgree, LoggedInServersAccept, AcceptedProofsAreJudged, RepeatedResponsesMeanOneNonce, ReplaysAreRejected, UnalteredConnectionsAgree};
 
 /// States what the login of a SCRAM client says of a SCRAM server, each over any bytes. The client logged in on the
 /// data of one outcome Ok. If the verifier in that data is one that the server's connection issued, both agree on
@@ -25,4 +25,11 @@ pub fn proofs()
 pub fn replays()
     ensures one_nonce { RepeatedResponsesMeanOneNonce }
     ensures rejected { ReplaysAreRejected }
+{}
+
+/// States that both sides of an unaltered login mean one login. Where a SCRAM client and a SCRAM server have both
+/// logged in, each over the bytes that the other sent, and the client's secret opens the server's record, their
+/// AuthMessages are equal: both for the verifier that the client took and for the proof that the server accepted.
+pub fn unaltered()
+    ensures { UnalteredConnectionsAgree }
 {}

@@ -14,7 +14,8 @@ use Rattle.fe2o3_scram.proofs.lemmas.texts.PartsLemmas.{one_part}
 use Rattle.fe2o3_sasl_runs.specs.Bodies.{SpellsBody}
 use Rattle.fe2o3_sasl_runs.proofs.lemmas.frames.SpellingLemmas.{one_spelled_frame}
 use Rattle.fe2o3_sasl.proofs.lemmas.examples.ExampleTextLemmas.{length-base64_text}
-use Rattle.fe2o3_sasl_runs.specs.Events.{Given, IsRecord, Reported}
+use Rattle.fe2o3_sasl_runs.specs.Events.{Given, Login, IsRecord, Reported}
+use Rattle.fe2o3_sasl_runs.specs.Headline.{SignedAt}
 use Rattle.fe2o3_sasl_runs.specs.Laws.{HoldsRecords}
 use Rattle.fe2o3_sasl_runs.specs.Positions.{test_at}
 use Rattle.fe2o3_sasl_runs.specs.ServerHistory.{Accepted, LoggedIn as UserLoggedIn, full_nonce, is_challenge, is_ok}
@@ -24,11 +25,12 @@ use Rattle.fe2o3_sasl_runs.proofs.lemmas.positions.PositionLemmas.{opens_here}
 use Rattle.fe2o3_sasl_runs.proofs.lemmas.two_sides.EqualMessageLemmas.{accepts_open, is_challenging}
 use Rattle.fe2o3_sasl_runs.proofs.lemmas.two_sides.HeadlineLemmas.{verifier_agrees}
 use Rattle.fe2o3_sasl.proofs.lemmas.two_sides.VerdictLemmas.{shown_proofs_are_judged}
+use Rattle.fe2o3_sasl_negotiation.specs.declared.standing.Standing.TheVariants.{LoggedIn}
 use Rattle.fe2o3_sasl_negotiation.specs.declared.standing.Turn.{Turn}
 use Rattle.fe2o3_sasl_negotiation.specs.declared.standing.Turn.TheVariants as turns
 use Rattle.fe2o3_sasl_negotiation.specs.Connections.{Piece, NonceAt, AreFrames, LastReply, IsOkSent, IsOkReported}
 use Rattle.fe2o3_sasl_negotiation.proofs.lemmas.LoginLemmas.{scram_servers_serve, scram_clients_log_in}
-use Rattle.connection_laws.specs.Pairs.{ServerOf, sides, LoggedInClientsAgree, LoggedInServersAccept, AcceptedProofsAreJudged, AcceptsLast, ChallengesWith, RepeatedResponsesMeanOneNonce, ReplaysAreRejected}
+use Rattle.connection_laws.specs.Pairs.{ClientOf, ServerOf, ReportsLast, sides, LoggedInClientsAgree, LoggedInServersAccept, AcceptedProofsAreJudged, AcceptsLast, ChallengesWith, RepeatedResponsesMeanOneNonce, ReplaysAreRejected}
 
 -- the last reply, and where it is
 last_at : {A : Type 0} (Is : A → Type 0) (replies : List A) → LastReply Is replies
@@ -49,23 +51,33 @@ held sides n accepted records ok =
 
 -- ---- from the server to the client
 
+-- the last reply of a client that has logged in
+pub reports_last : (login : Login) (client : ClientOf login) → client.last.standing ≡ LoggedIn
+    → (m : ℕ) × (text : List ℕ) × ReportsLast client m text
+    × SignedAt login client.connection.events client.connection.replies m text
+reports_last login client logged =
+    let logs = scram_clients_log_in login client.limit client.pieces client.taken client.sent client.last
+    client.connection in
+    let last = last_at IsOkReported client.connection.replies (logs.logged_in.0 logged) in
+    let at = last.3 ∙ ap Some last.4.1 in
+    let signed = logs.exactly.only last.0 last.4.0 at in
+    let reported = at ∙ ap (λ more. Some (Reported outcomes.Ok more)) signed.1 in
+    (last.0, signed.0, record { last = last.2; reported = reported }, signed.2)
+
 pub logged_in_clients_agree : LoggedInClientsAgree
 logged_in_clients_agree login provider client server records logged =
     let logs = scram_clients_log_in login client.limit client.pieces client.taken client.sent client.last
     client.connection in
     let serves = scram_servers_serve provider server.limit server.pieces server.taken server.sent server.last
     server.connection in
-    let last = last_at IsOkReported client.connection.replies (logs.logged_in.0 logged) in
-    let at = last.3 ∙ ap Some last.4.1 in
-    let signed = logs.exactly.only last.0 last.4.0 at in
-    let reported = at ∙ ap (λ more. Some (Reported outcomes.Ok more)) signed.1 in (
+    let last = reports_last login client logged in (
       last.0,
-      signed.0,
-      record { last = last.2; reported = reported },
+      last.1,
+      last.2,
       λ n accepted ok one. verifier_agrees (sides client server) last.0 n accepted
           (record { client = logs.history; server = serves.history })
           (held (sides client server) n accepted records ok)
-          (record { text = signed.0; reported = reported; ok = ok; one = one }),
+          (record { text = last.1; reported = last.2.reported; ok = ok; one = one }),
     )
 
 -- ---- from the client to the server
@@ -111,9 +123,10 @@ accepted_proofs_are_judged login provider client server n text accepted secret r
 
 -- ---- from one server to another
 
--- what is in a list behind copies of one nonce
+-- what is in a list that starts with copies of one nonce
 copies : (n : ℕ) (nonce : List ℕ) (rest : List (List ℕ)) (k : ℕ) (found : List ℕ)
-    → slice_get (replicate n nonce ++ rest) k ≡ Some found → (nonce ≡ found) ⊎ ((j : ℕ) × (slice_get rest j ≡ Some found))
+    → slice_get (replicate n nonce ++ rest) k ≡ Some found
+    → (nonce ≡ found) ⊎ ((j : ℕ) × (slice_get rest j ≡ Some found))
 copies zero nonce rest k found is = inr (k, is)
 copies (suc n) nonce rest zero found is = inl (same_Some nonce found is)
 copies (suc n) nonce rest (suc k) found is = copies n nonce rest k found is
@@ -173,7 +186,7 @@ made_with {provider} server n text accepted accepts =
     )
 
 -- two texts whose ends are equally long
-one_split : (front back first second : List ℕ) → front ++ back ≡ first ++ second → length back ≡ length second
+pub one_split : (front back first second : List ℕ) → front ++ back ≡ first ++ second → length back ≡ length second
     → (front ≡ first) × (back ≡ second)
 one_split [] back [] second same long = (refl, same)
 one_split [] back (x ∷ first) second same long =
