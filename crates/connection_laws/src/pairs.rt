@@ -1,1 +1,35 @@
 //! What the bytes of two connections say of both.
+
+ghost use Rattle.connection_laws.specs.Pairs.{LoggedInClientsAgree, LoggedInServersAccept, AcceptedProofsAreJudged, RepeatedResponsesMeanOneNonce, ReplaysAreRejected, UnalteredConnectionsAgree};
+
+/// States what the login of a SCRAM client says of a SCRAM server, each over any bytes. The client logged in on the
+/// data of one outcome Ok. If the verifier in that data is one that the server's connection issued, both agree on
+/// user name and client nonce, or their own differing AuthMessages share one HMAC value.
+pub fn verifiers()
+    ensures { LoggedInClientsAgree }
+{}
+
+/// States what the login of a SCRAM client at a SCRAM server says of a client's connection, each over any bytes. The
+/// server logged in the user of the challenge that one response answers, and names that user. If the client's
+/// connection showed the proof of that response, one of four verdicts holds: both agree; the client's key is not the
+/// one whose digest the server stores; two differing keys of the sides have one digest; or their own differing
+/// AuthMessages share one HMAC value.
+pub fn proofs()
+    ensures response { LoggedInServersAccept }
+    ensures judged { AcceptedProofsAreJudged }
+{}
+
+/// States what a replayed response needs. If two connections of SCRAM servers, each over any provider and any bytes,
+/// both log a client in on one text of a response, the calls that completed the two inits received one nonce. A
+/// connection whose calls received other nonces logs nobody in on a recorded response.
+pub fn replays()
+    ensures one_nonce { RepeatedResponsesMeanOneNonce }
+    ensures rejected { ReplaysAreRejected }
+{}
+
+/// States that both sides of an unaltered login mean one login. Where a SCRAM client and a SCRAM server have both
+/// logged in, each over the bytes that the other sent, and the client's secret opens the server's record, their
+/// AuthMessages are equal: both for the verifier that the client took and for the proof that the server accepted.
+pub fn unaltered()
+    ensures { UnalteredConnectionsAgree }
+{}
