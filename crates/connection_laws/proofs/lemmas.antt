@@ -6,3 +6,5 @@ pub mod StayLemmas
 pub mod PairLemmas
 pub mod ShapeLemmas
 pub mod UnalteredPairLemmas
+pub mod CutLemmas
+pub mod CutStepLemmas

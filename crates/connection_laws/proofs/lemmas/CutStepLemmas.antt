@@ -1,0 +1,280 @@
+-- Steps of servers and clients whose machines are functions, and the connections that are made of them.
+use Rattle.std.proofs.Common.{◌≡◌, ◌≢◌, ℕ, Option, List, [], ◌∷◌, refl, sym, ap, ◌∙◌, subst, inl, inr, arith, Result, Ok, Err}
+use Rattle.fe2o3_sasl_wire.specs.declared.amqp_types.SaslCode.TheVariants as outcomes
+use Rattle.fe2o3_sasl_wire.specs.declared.sasl_frames.error.Error.{Error}
+use Rattle.fe2o3_sasl_wire.specs.declared.sasl_frames.error.Error.TheVariants as faults
+use Rattle.fe2o3_sasl_wire.specs.SaslFrames.{SaslFrame, canonical}
+use Rattle.fe2o3_sasl_wire.specs.SaslFrames as frames
+use Rattle.fe2o3_sasl_runs.specs.Bodies.{carried}
+use Rattle.fe2o3_sasl_runs.specs.Events.{Given, ServerSays, Challenged, Concluded, Failed, ClientSays, Started, Answered, Reported, Refused as ClientRefused, ClientFault, NotImplemented, Scram, OtherKeys, Frame as FrameFault, OutOfMemory}
+use Rattle.fe2o3_sasl_runs.specs.OneOfLaws.{Machine}
+use Rattle.fe2o3_sasl_runs.specs.Profiles.{Profile}
+use Rattle.fe2o3_sasl_runs.specs.ProfileFaults.{client_fault}
+use Rattle.fe2o3_sasl_runs.specs.Runs.{AcceptorAnswers, AcceptorGives, AcceptorSteps, ProfileGives, ProfileReplies, ProfileSteps, Replies, server_says}
+use Rattle.fe2o3_sasl_runs.specs.SaslAcceptor.{acceptor_machine}
+use Rattle.fe2o3_sasl_runs.specs.declared.sasl_profile.error.ProfileError.{ProfileError}
+use Rattle.fe2o3_sasl_runs.specs.declared.sasl_profile.error.ProfileError.TheVariants as kinds
+use Rattle.fe2o3_sasl_runs.proofs.lemmas.frames.SpellingLemmas.{one_spelling}
+use Rattle.fe2o3_sasl_runs.proofs.lemmas.machines.OneReplyLemmas.{one_acceptor_reply, one_profile_reply}
+use Rattle.fe2o3_sasl_negotiation.specs.declared.standing.ClosedBecause.TheVariants.{Refused, Profile as ProfileRefused}
+use Rattle.fe2o3_sasl_negotiation.specs.declared.standing.Due.{Due}
+use Rattle.fe2o3_sasl_negotiation.specs.declared.standing.Due.TheVariants.{Frame}
+use Rattle.fe2o3_sasl_negotiation.specs.declared.standing.Standing.{Standing}
+use Rattle.fe2o3_sasl_negotiation.specs.declared.standing.Standing.TheVariants.{Wanting, LoggedIn}
+use Rattle.fe2o3_sasl_negotiation.specs.declared.standing.Turn.{Turn}
+use Rattle.fe2o3_sasl_negotiation.specs.declared.standing.Turn.TheVariants as turns
+use Rattle.fe2o3_sasl_negotiation.specs.ClientNegotiation as of_client
+use Rattle.fe2o3_sasl_negotiation.specs.ServerNegotiation as of_server
+use Rattle.fe2o3_sasl_negotiation.specs.Negotiations.{Answer, Sends, closes}
+use Rattle.fe2o3_sasl_negotiation.proofs.lemmas.ConnectionLemmas.{closed_is_not_wanting, logged_in_is_not_wanting}
+use Rattle.fe2o3_sasl_negotiation.proofs.lemmas.KindLemmas.{standing_of, closes_waits_not, sends_goes_on, sends_ends}
+use Rattle.connection_laws.specs.Cuts.{IsFunction, ServersEndEqually, FunctionsEndEqually, ClientsEndEqually}
+use Rattle.connection_laws.proofs.lemmas.CutLemmas.{one_result}
+
+-- a body is sent in one way
+one_sent : (body : List ℕ) (standing : Standing) (due : Due) (answer reply : Answer) → Sends body standing due answer
+    → Sends body standing due reply → answer ≡ reply
+one_sent body standing due answer reply (inl (fits, is)) (inl (also, too)) = is ∙ sym too
+one_sent body standing due answer reply (inl (fits, is)) (inr (long, too)) = absurd (omega (arith, fits, long))
+one_sent body standing due answer reply (inr (long, is)) (inl (fits, too)) = absurd (omega (arith, fits, long))
+one_sent body standing due answer reply (inr (long, is)) (inr (also, too)) = is ∙ sym too
+
+-- ---- a server
+
+server_answer : (says : ServerSays) (turn : Turn) (answer reply : Answer) → of_server.Says says turn answer
+    → of_server.Says says turn reply → answer ≡ reply
+server_answer (Challenged body) turns.Init answer reply is too = one_sent body _ _ answer reply is too
+server_answer (Challenged body) turns.Mechanisms answer reply is too = is ∙ sym too
+server_answer (Challenged body) turns.Challenge answer reply is too = is ∙ sym too
+server_answer (Challenged body) turns.Response answer reply is too = is ∙ sym too
+server_answer (Challenged body) turns.Outcome answer reply is too = is ∙ sym too
+server_answer (Concluded outcomes.Ok body) turn answer reply is too = one_sent body _ _ answer reply is too
+server_answer (Concluded outcomes.Auth body) turn answer reply is too = one_sent body _ _ answer reply is too
+server_answer (Concluded outcomes.Sys body) turn answer reply is too = one_sent body _ _ answer reply is too
+server_answer (Concluded outcomes.SysPerm body) turn answer reply is too = one_sent body _ _ answer reply is too
+server_answer (Concluded outcomes.SysTemp body) turn answer reply is too = one_sent body _ _ answer reply is too
+server_answer (Failed faults.OutOfMemory) turn answer reply is too = absurd is
+server_answer (Failed faults.DecodeError) turn answer reply is too = is ∙ sym too
+server_answer (Failed faults.NotImplemented) turn answer reply is too = is ∙ sym too
+server_answer (Failed faults.TooLarge) turn answer reply is too = is ∙ sym too
+
+server_due : (says : ServerSays) (answer : Answer) → of_server.Says says turns.Init answer → answer.standing ≡ Wanting
+    → answer.due ≡ Frame turns.Response
+server_due (Challenged body) answer sends waits = sends_goes_on body turns.Response answer sends waits
+server_due (Concluded outcomes.Ok body) answer sends waits =
+    absurd (sends_ends body LoggedIn (Frame turns.Init) answer logged_in_is_not_wanting sends waits)
+server_due (Concluded outcomes.Auth body) answer sends waits =
+    absurd (sends_ends body _ (Frame turns.Init) answer (closed_is_not_wanting (Refused outcomes.Auth)) sends waits)
+server_due (Concluded outcomes.Sys body) answer sends waits =
+    absurd (sends_ends body _ (Frame turns.Init) answer (closed_is_not_wanting (Refused outcomes.Sys)) sends waits)
+server_due (Concluded outcomes.SysPerm body) answer sends waits =
+    absurd (sends_ends body _ (Frame turns.Init) answer (closed_is_not_wanting (Refused outcomes.SysPerm)) sends waits)
+server_due (Concluded outcomes.SysTemp body) answer sends waits =
+    absurd (sends_ends body _ (Frame turns.Init) answer (closed_is_not_wanting (Refused outcomes.SysTemp)) sends waits)
+server_due (Failed faults.OutOfMemory) answer never waits = absurd never
+server_due (Failed faults.DecodeError) answer is waits = absurd (closes_waits_not _ _ answer is waits)
+server_due (Failed faults.NotImplemented) answer is waits = absurd (closes_waits_not _ _ answer is waits)
+server_due (Failed faults.TooLarge) answer is waits = absurd (closes_waits_not _ _ answer is waits)
+
+server_has_memory : (says : ServerSays) (turn : Turn) (answer : Answer) → of_server.Says says turn answer
+    → says ≢ Failed faults.OutOfMemory
+server_has_memory says turn answer said is =
+    subst (λ (s : ServerSays). of_server.Says s turn answer) is said
+
+module _ {S : Type 0} (machine : Machine S) (function : IsFunction machine) where
+  server_answers : (state : S) (nonce : List ℕ) (frame : SaslFrame) (says other : ServerSays) (next end : S)
+      → says ≢ Failed faults.OutOfMemory → other ≢ Failed faults.OutOfMemory
+      → AcceptorAnswers machine state nonce frame says next → AcceptorAnswers machine state nonce frame other end
+      → (says ≡ other) × (next ≡ end)
+  server_answers state nonce frame says other next end memory too (inl wants) two = absurd (memory wants.0)
+  server_answers state nonce frame says other next end memory too (inr one) (inl wants) = absurd (too wants.0)
+  server_answers state nonce frame says other next end memory too (inr (reply, moved, is, sends))
+      (inr (again, went, also, sent)) =
+      let (reply_is, moved_is) = function state nonce frame reply again moved went is also in (
+        sends.0 ∙ (ap (λ (f : SaslFrame). carried (Failed faults.TooLarge) (server_says f) (canonical f)) reply_is
+            ∙ sym sent.0),
+        sends.1 ∙ ((λ i. carried state (λ _. moved_is i) (canonical (reply_is i))) ∙ sym sent.1),
+      )
+
+  server_gives : (spelled : Result SaslFrame Error) (state : S) (event : Given) (says other : ServerSays) (next end : S)
+      → says ≢ Failed faults.OutOfMemory → other ≢ Failed faults.OutOfMemory
+      → AcceptorGives machine state event spelled says next → AcceptorGives machine state event spelled other end
+      → (says ≡ other) × (next ≡ end)
+  server_gives (Err fault) state event says other next end memory too one two = (one.0 ∙ sym two.0, one.1 ∙ sym two.1)
+  server_gives (Ok (frames.Mechanisms names)) state event says other next end memory too one two =
+      (one.0 ∙ sym two.0, one.1 ∙ sym two.1)
+  server_gives (Ok (frames.Challenge text)) state event says other next end memory too one two =
+      (one.0 ∙ sym two.0, one.1 ∙ sym two.1)
+  server_gives (Ok (frames.Outcome code more)) state event says other next end memory too one two =
+      (one.0 ∙ sym two.0, one.1 ∙ sym two.1)
+  server_gives (Ok (frames.Init mechanism response hostname)) state event says other next end memory too one two =
+      server_answers state event.nonce (frames.Init mechanism response hostname) says other next end memory too one two
+  server_gives (Ok (frames.Response text)) state event says other next end memory too one two =
+      server_answers state event.nonce (frames.Response text) says other next end memory too one two
+
+  server_step : (turn : Turn) (state : S) (event : Given) (says other : ServerSays) (answer reply : Answer) (next end : S)
+      → AcceptorSteps machine state event says next → of_server.Says says turn answer
+      → AcceptorSteps machine state event other end → of_server.Says other turn reply
+      → (says ≡ other) × (next ≡ end) × (answer ≡ reply)
+  server_step turn state event says other answer reply next end (spelled, spells, gives) said (read, reads, goes) told =
+      let same = one_spelling event.body spelled read spells reads in
+      let (says_are, ends_are) = server_gives read state event says other next end
+      (server_has_memory says turn answer said) (server_has_memory other turn reply told)
+      (subst (λ (r : Result SaslFrame Error). AcceptorGives machine state event r says next) same gives) goes in (
+        says_are,
+        ends_are,
+        server_answer other turn answer reply (subst (λ (s : ServerSays). of_server.Says s turn answer) says_are said)
+            told,
+      )
+
+pub functions_end_equally : {S : Type 0} (machine : Machine S) → FunctionsEndEqually machine
+functions_end_equally machine function limit state pieces others taken sent out last end small first second nonces =
+    one_result limit small (AcceptorSteps machine) of_server.Says (server_step machine function)
+    (turns.Init ∷ turns.Response ∷ []) state pieces others taken sent out last end (server_due, tt) first second nonces
+
+pub servers_end_equally : ServersEndEqually acceptor_machine
+servers_end_equally = functions_end_equally acceptor_machine one_acceptor_reply
+
+-- ---- a client
+
+one_kind : (kind other : ProfileError) → client_fault kind ≡ client_fault other → kind ≡ other
+one_kind kinds.NotImplemented kinds.NotImplemented same = refl
+one_kind (kinds.Scram kind) (kinds.Scram other) same = let e : kind ≡ other = cc in ap (λ k. kinds.Scram k) e
+one_kind kinds.OtherKeys kinds.OtherKeys same = refl
+one_kind (kinds.Frame fault) (kinds.Frame other) same = let e : fault ≡ other = cc in ap (λ k. kinds.Frame k) e
+one_kind kinds.OutOfMemory kinds.OutOfMemory same = refl
+one_kind _ _ same = cc
+
+one_refusal : (fault : ClientFault) (turn : Turn) (answer reply : Answer)
+    → (kind : ProfileError) × (client_fault kind ≡ fault) × (answer ≡ closes (ProfileRefused kind) (Frame turn))
+    → (kind : ProfileError) × (client_fault kind ≡ fault) × (reply ≡ closes (ProfileRefused kind) (Frame turn))
+    → answer ≡ reply
+one_refusal fault turn answer reply (kind, is, one) (other, also, two) =
+    one ∙ (ap (λ (k : ProfileError). closes (ProfileRefused k) (Frame turn)) (one_kind kind other (is ∙ sym also))
+    ∙ sym two)
+
+client_answer : (says : ClientSays) (turn : Turn) (answer reply : Answer) → of_client.Says says turn answer
+    → of_client.Says says turn reply → answer ≡ reply
+client_answer (Started body) turns.Mechanisms answer reply is too = one_sent body _ _ answer reply is too
+client_answer (Started body) turns.Init answer reply is too = is ∙ sym too
+client_answer (Started body) turns.Challenge answer reply is too = is ∙ sym too
+client_answer (Started body) turns.Response answer reply is too = is ∙ sym too
+client_answer (Started body) turns.Outcome answer reply is too = is ∙ sym too
+client_answer (Answered body) turns.Challenge answer reply is too = one_sent body _ _ answer reply is too
+client_answer (Answered body) turns.Mechanisms answer reply is too = is ∙ sym too
+client_answer (Answered body) turns.Init answer reply is too = is ∙ sym too
+client_answer (Answered body) turns.Response answer reply is too = is ∙ sym too
+client_answer (Answered body) turns.Outcome answer reply is too = is ∙ sym too
+client_answer (Reported outcomes.Ok more) turn answer reply is too = is ∙ sym too
+client_answer (Reported outcomes.Auth more) turn answer reply is too = is ∙ sym too
+client_answer (Reported outcomes.Sys more) turn answer reply is too = is ∙ sym too
+client_answer (Reported outcomes.SysPerm more) turn answer reply is too = is ∙ sym too
+client_answer (Reported outcomes.SysTemp more) turn answer reply is too = is ∙ sym too
+client_answer (ClientRefused OutOfMemory) turn answer reply is too = absurd is
+client_answer (ClientRefused NotImplemented) turn answer reply is too = one_refusal _ turn answer reply is too
+client_answer (ClientRefused (Scram fault)) turn answer reply is too = one_refusal _ turn answer reply is too
+client_answer (ClientRefused OtherKeys) turn answer reply is too = one_refusal _ turn answer reply is too
+client_answer (ClientRefused (FrameFault fault)) turn answer reply is too = one_refusal _ turn answer reply is too
+
+client_first_due : (says : ClientSays) (answer : Answer) → of_client.Says says turns.Mechanisms answer
+    → answer.standing ≡ Wanting → answer.due ≡ Frame turns.Challenge
+client_first_due (Started body) answer sends waits = sends_goes_on body turns.Challenge answer sends waits
+client_first_due (Answered body) answer is waits = absurd (closes_waits_not _ _ answer is waits)
+client_first_due (Reported outcomes.Ok more) answer is waits =
+    absurd (logged_in_is_not_wanting (sym (standing_of answer _ is) ∙ waits))
+client_first_due (Reported outcomes.Auth more) answer is waits = absurd (closes_waits_not _ _ answer is waits)
+client_first_due (Reported outcomes.Sys more) answer is waits = absurd (closes_waits_not _ _ answer is waits)
+client_first_due (Reported outcomes.SysPerm more) answer is waits = absurd (closes_waits_not _ _ answer is waits)
+client_first_due (Reported outcomes.SysTemp more) answer is waits = absurd (closes_waits_not _ _ answer is waits)
+client_first_due (ClientRefused OutOfMemory) answer never waits = absurd never
+client_first_due (ClientRefused NotImplemented) answer closed waits =
+    absurd (closes_waits_not _ _ answer closed.2 waits)
+client_first_due (ClientRefused (Scram fault)) answer closed waits =
+    absurd (closes_waits_not _ _ answer closed.2 waits)
+client_first_due (ClientRefused OtherKeys) answer closed waits = absurd (closes_waits_not _ _ answer closed.2 waits)
+client_first_due (ClientRefused (FrameFault fault)) answer closed waits =
+    absurd (closes_waits_not _ _ answer closed.2 waits)
+
+client_second_due : (says : ClientSays) (answer : Answer) → of_client.Says says turns.Challenge answer
+    → answer.standing ≡ Wanting → answer.due ≡ Frame turns.Outcome
+client_second_due (Started body) answer is waits = absurd (closes_waits_not _ _ answer is waits)
+client_second_due (Answered body) answer sends waits = sends_goes_on body turns.Outcome answer sends waits
+client_second_due (Reported outcomes.Ok more) answer is waits =
+    absurd (logged_in_is_not_wanting (sym (standing_of answer _ is) ∙ waits))
+client_second_due (Reported outcomes.Auth more) answer is waits = absurd (closes_waits_not _ _ answer is waits)
+client_second_due (Reported outcomes.Sys more) answer is waits = absurd (closes_waits_not _ _ answer is waits)
+client_second_due (Reported outcomes.SysPerm more) answer is waits = absurd (closes_waits_not _ _ answer is waits)
+client_second_due (Reported outcomes.SysTemp more) answer is waits = absurd (closes_waits_not _ _ answer is waits)
+client_second_due (ClientRefused OutOfMemory) answer never waits = absurd never
+client_second_due (ClientRefused NotImplemented) answer closed waits =
+    absurd (closes_waits_not _ _ answer closed.2 waits)
+client_second_due (ClientRefused (Scram fault)) answer closed waits =
+    absurd (closes_waits_not _ _ answer closed.2 waits)
+client_second_due (ClientRefused OtherKeys) answer closed waits = absurd (closes_waits_not _ _ answer closed.2 waits)
+client_second_due (ClientRefused (FrameFault fault)) answer closed waits =
+    absurd (closes_waits_not _ _ answer closed.2 waits)
+
+client_has_memory : (says : ClientSays) (turn : Turn) (answer : Answer) → of_client.Says says turn answer
+    → says ≢ ClientRefused OutOfMemory
+client_has_memory says turn answer said is =
+    subst (λ (s : ClientSays). of_client.Says s turn answer) is said
+
+-- what is made of one reply
+client_says : (reply : Result SaslFrame ClientFault) (profile moved : Profile) (says other : ClientSays)
+    (next end : Profile) → Replies profile moved reply says next → Replies profile moved reply other end
+    → (says ≡ other) × (next ≡ end)
+client_says (Err fault) profile moved says other next end one two = (one.0 ∙ sym two.0, one.1 ∙ sym two.1)
+client_says (Ok (frames.Init mechanism response hostname)) profile moved says other next end one two =
+    (one.0 ∙ sym two.0, one.1 ∙ sym two.1)
+client_says (Ok (frames.Outcome code more)) profile moved says other next end one two =
+    (one.0 ∙ sym two.0, one.1 ∙ sym two.1)
+client_says (Ok (frames.Mechanisms names)) profile moved says other next end one two =
+    (one.0 ∙ sym two.0, one.1 ∙ sym two.1)
+client_says (Ok (frames.Challenge text)) profile moved says other next end one two =
+    (one.0 ∙ sym two.0, one.1 ∙ sym two.1)
+client_says (Ok (frames.Response text)) profile moved says other next end one two =
+    (one.0 ∙ sym two.0, one.1 ∙ sym two.1)
+
+client_replies : (hostname : Option (List ℕ)) (profile : Profile) (nonce : List ℕ) (frame : SaslFrame)
+    (says other : ClientSays) (next end : Profile) → says ≢ ClientRefused OutOfMemory
+    → other ≢ ClientRefused OutOfMemory → ProfileReplies hostname profile nonce frame says next
+    → ProfileReplies hostname profile nonce frame other end → (says ≡ other) × (next ≡ end)
+client_replies hostname profile nonce frame says other next end memory too (inl wants) two = absurd (memory wants.1)
+client_replies hostname profile nonce frame says other next end memory too (inr one) (inl wants) = absurd (too wants.1)
+client_replies hostname profile nonce frame says other next end memory too (inr (reply, moved, is, sends))
+    (inr (again, went, also, sent)) =
+    let (reply_is, moved_is) = one_profile_reply profile hostname nonce frame reply again moved went is also in
+    client_says again profile went says other next end
+    (subst (λ (p : Profile). Replies profile p again says next) moved_is
+    (subst (λ (r : Result SaslFrame ClientFault). Replies profile moved r says next) reply_is sends)) sent
+
+client_gives : (spelled : Result SaslFrame Error) (hostname : Option (List ℕ)) (profile : Profile) (event : Given)
+    (says other : ClientSays) (next end : Profile) → says ≢ ClientRefused OutOfMemory
+    → other ≢ ClientRefused OutOfMemory → ProfileGives hostname profile event spelled says next
+    → ProfileGives hostname profile event spelled other end → (says ≡ other) × (next ≡ end)
+client_gives (Err fault) hostname profile event says other next end memory too one two =
+    (one.0 ∙ sym two.0, one.1 ∙ sym two.1)
+client_gives (Ok frame) hostname profile event says other next end memory too one two =
+    client_replies hostname profile event.nonce frame says other next end memory too one two
+
+client_step : (hostname : Option (List ℕ)) (turn : Turn) (profile : Profile) (event : Given) (says other : ClientSays)
+    (answer reply : Answer) (next end : Profile) → ProfileSteps hostname profile event says next
+    → of_client.Says says turn answer → ProfileSteps hostname profile event other end → of_client.Says other turn reply
+    → (says ≡ other) × (next ≡ end) × (answer ≡ reply)
+client_step hostname turn profile event says other answer reply next end (spelled, spells, gives) said
+    (read, reads, goes) told =
+    let same = one_spelling event.body spelled read spells reads in
+    let (says_are, ends_are) = client_gives read hostname profile event says other next end
+    (client_has_memory says turn answer said) (client_has_memory other turn reply told)
+    (subst (λ (r : Result SaslFrame Error). ProfileGives hostname profile event r says next) same gives) goes in (
+      says_are,
+      ends_are,
+      client_answer other turn answer reply (subst (λ (s : ClientSays). of_client.Says s turn answer) says_are said)
+          told,
+    )
+
+pub clients_end_equally : ClientsEndEqually
+clients_end_equally hostname limit profile pieces others taken sent out last end small first second nonces =
+    one_result limit small (ProfileSteps hostname) of_client.Says (client_step hostname)
+    (turns.Mechanisms ∷ turns.Challenge ∷ turns.Outcome ∷ []) profile pieces others taken sent out last end
+    (client_first_due, (client_second_due, tt)) first second nonces
