@@ -8,3 +8,4 @@ pub mod ShapeLemmas
 pub mod UnalteredPairLemmas
 pub mod CutLemmas
 pub mod CutStepLemmas
+pub mod CutConnectionLemmas

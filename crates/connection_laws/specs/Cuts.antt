@@ -1,12 +1,12 @@
 -- What two divisions of one stream of bytes into calls have in common (AMQP 1.0, part 5, section 5.3.2). Each law is the
 -- contract of a clause in `cuts`.
-use Rattle.std.specs.Prelude.{◌≡◌, ℕ, ◌<◌, ◌^◌, Option, List, [], ◌∷◌}
+use Rattle.std.specs.Prelude.{◌≡◌, ℕ, ◌+◌, ◌<◌, ◌^◌, Option, List, ◌++◌, length, flat_map}
 use Rattle.fe2o3_sasl_wire.specs.SaslFrames.{SaslFrame}
-use Rattle.fe2o3_sasl_runs.specs.Events.{Given}
 use Rattle.fe2o3_sasl_runs.specs.OneOfLaws.{Machine}
 use Rattle.fe2o3_sasl_runs.specs.Profiles.{Profile}
 use Rattle.fe2o3_sasl_negotiation.specs.declared.standing.Standing.TheVariants.{Wanting}
-use Rattle.fe2o3_sasl_negotiation.specs.Connections.{Piece, ServerNegotiated, ClientNegotiated}
+use Rattle.fe2o3_sasl_negotiation.specs.Connections.{Piece, NonceAt, ServerNegotiated, ClientNegotiated, ServerConnection, ClientConnection}
+use Rattle.fe2o3_sasl_negotiation.specs.Framing.{sasl_header, framed}
 use Rattle.fe2o3_sasl_negotiation.specs.Negotiations.{Side}
 
 -- the machine has one reply at most to each frame, and one state after it
@@ -14,12 +14,17 @@ abbrev pub IsFunction : {S : Type 0} → Machine S → Type 0
 IsFunction {S} machine = (state : S) (nonce : List ℕ) (frame reply other : SaslFrame) (next last : S)
     → machine state nonce frame reply next → machine state nonce frame other last → (reply ≡ other) × (next ≡ last)
 
--- frame by frame, both connections have one nonce: the first frames of both, the second frames, and further while both
--- have one. The nonce of a frame is that of the call in which its last byte arrives (`AreFrames`)
-abbrev pub HaveOneNonceEach : List Given → List Given → Type 0
-HaveOneNonceEach [] others = Unit {0}
-HaveOneNonceEach (event ∷ events) [] = Unit {0}
-HaveOneNonceEach (event ∷ events) (other ∷ others) = (event.nonce ≡ other.nonce) × HaveOneNonceEach events others
+-- byte number n of the stream, counted from 0, is the last byte of a frame: before it are the header of SASL, whole frames
+-- and the rest of that frame (part 2, section 2.3.1)
+abbrev pub EndsFrame : List ℕ → ℕ → Type 0
+EndsFrame stream n = (bodies : List (List ℕ)) × (body : List ℕ) × (tail : List ℕ)
+    × (stream ≡ sasl_header ++ (flat_map framed bodies ++ (framed body ++ tail)))
+    × (n ≡ 8 + (length (flat_map framed bodies) + (length body + 3)))
+
+-- the calls in which the last byte of a frame arrives have one nonce in both divisions of the stream
+abbrev pub HaveOneNonceEach : List Piece → List Piece → List ℕ → Type 0
+HaveOneNonceEach pieces others stream = (n : ℕ) (nonce other : List ℕ) → EndsFrame stream n → NonceAt pieces n nonce
+    → NonceAt others n other → nonce ≡ other
 
 -- two sides have sent the same bytes, have ended or not in the same way, and have the same state of their machine. While
 -- they wait they are equal in the bytes of a frame that they hold, too
@@ -29,24 +34,48 @@ pub record EndEqually {S : Type 0} (sent out : List ℕ) (last end : Side S) : T
   pub state : last.state ≡ end.state
   pub waits : last.standing ≡ Wanting → last ≡ end
 
+-- ---- after the other side's header
+
 -- two connections of servers from one state over the same bytes, after the client's header, in any two divisions: they
 -- answer the same frames by the same replies, and end equally. A size is four bytes (part 2, section 2.3.1)
-abbrev pub ServersEndEqually : {S : Type 0} → Machine S → Type 0
-ServersEndEqually {S} machine = (limit : ℕ) (state : S) (pieces others : List Piece) (taken sent out : List ℕ)
+abbrev pub ServersNegotiateEqually : {S : Type 0} → Machine S → Type 0
+ServersNegotiateEqually {S} machine = (limit : ℕ) (state : S) (pieces others : List Piece) (taken sent out : List ℕ)
     (last end : Side S) → limit < 2 ^ 32 → (first : ServerNegotiated machine limit state pieces taken sent last)
     (second : ServerNegotiated machine limit state others taken out end)
-    → HaveOneNonceEach first.events second.events
+    → HaveOneNonceEach pieces others taken
     → (first.events ≡ second.events) × (first.replies ≡ second.replies) × EndEqually sent out last end
 
--- of every server whose machine is a function
-abbrev pub FunctionsEndEqually : {S : Type 0} → Machine S → Type 0
-FunctionsEndEqually machine = IsFunction machine → ServersEndEqually machine
+-- every two of a server whose machine is a function
+abbrev pub FunctionsNegotiateEqually : {S : Type 0} → Machine S → Type 0
+FunctionsNegotiateEqually machine = IsFunction machine → ServersNegotiateEqually machine
 
--- and two connections of clients, after the server's header
-abbrev pub ClientsEndEqually : Type 0
-ClientsEndEqually = (hostname : Option (List ℕ)) (limit : ℕ) (profile : Profile) (pieces others : List Piece)
+-- and every two connections of clients, after the server's header
+abbrev pub ClientsNegotiateEqually : Type 0
+ClientsNegotiateEqually = (hostname : Option (List ℕ)) (limit : ℕ) (profile : Profile) (pieces others : List Piece)
     (taken sent out : List ℕ) (last end : Side Profile) → limit < 2 ^ 32
     → (first : ClientNegotiated hostname limit profile pieces taken sent last)
     (second : ClientNegotiated hostname limit profile others taken out end)
-    → HaveOneNonceEach first.events second.events
+    → HaveOneNonceEach pieces others taken
     → (first.events ≡ second.events) × (first.replies ≡ second.replies) × EndEqually sent out last end
+
+-- ---- from the first byte
+
+-- two connections of servers from one fresh side over the same bytes, in any two divisions, end equally. The law
+-- `connections` of `fe2o3_sasl_negotiation` says that calls make such connections
+abbrev pub ServersEndEqually : {S : Type 0} → (S → List (List ℕ)) → Machine S → Type 0
+ServersEndEqually {S} names machine = (limit : ℕ) (state : S) (pieces others : List Piece) (taken sent out : List ℕ)
+    (last end : Side S) → limit < 2 ^ 32 → ServerConnection names machine limit state pieces taken sent last
+    → ServerConnection names machine limit state others taken out end → HaveOneNonceEach pieces others taken
+    → EndEqually sent out last end
+
+-- every two of a server whose machine is a function
+abbrev pub FunctionsEndEqually : {S : Type 0} → (S → List (List ℕ)) → Machine S → Type 0
+FunctionsEndEqually names machine = IsFunction machine → ServersEndEqually names machine
+
+-- and every two connections of clients
+abbrev pub ClientsEndEqually : Type 0
+ClientsEndEqually = (hostname : Option (List ℕ)) (limit : ℕ) (profile : Profile) (pieces others : List Piece)
+    (taken sent out : List ℕ) (last end : Side Profile) → limit < 2 ^ 32
+    → ClientConnection hostname limit profile pieces taken sent last
+    → ClientConnection hostname limit profile others taken out end → HaveOneNonceEach pieces others taken
+    → EndEqually sent out last end

@@ -1,5 +1,7 @@
 -- Two negotiations over the same bytes have the same frames, replies and end.
 use Rattle.std.proofs.Common.{◌≡◌, ◌≢◌, ◌⊎◌, ℕ, ◌+◌, ◌<◌, ◌≤◌, ◌^◌, List, [], ◌∷◌, ◌++◌, length, refl, sym, ap, ◌∙◌, subst, inl, inr, append_assoc, arith, Result, Ok, Err}
+use Rattle.std.specs.Prelude.{flat_map}
+use Rattle.std.proofs.lemmas.Grind.{flat_map-append}
 use Rattle.std.proofs.lemmas.List.{append-nil, length-append}
 use Rattle.fe2o3_sasl_wire.specs.declared.sasl_frames.error.Error.{Error}
 use Rattle.fe2o3_sasl_wire.specs.SaslFrames.{SaslFrame}
@@ -13,7 +15,7 @@ use Rattle.fe2o3_sasl_negotiation.specs.declared.standing.Due.TheVariants.{Frame
 use Rattle.fe2o3_sasl_negotiation.specs.declared.standing.Standing.{Standing}
 use Rattle.fe2o3_sasl_negotiation.specs.declared.standing.Standing.TheVariants.{Wanting, Closed}
 use Rattle.fe2o3_sasl_negotiation.specs.declared.standing.Turn.{Turn}
-use Rattle.fe2o3_sasl_negotiation.specs.Connections.{Piece, frames_of, SpellsTurn, AreFrames, LeftOver, Unanswered, Replied, Negotiated}
+use Rattle.fe2o3_sasl_negotiation.specs.Connections.{Piece, NonceAt, frames_of, SpellsTurn, AreFrames, LeftOver, Unanswered, Replied, Negotiated}
 use Rattle.fe2o3_sasl_negotiation.specs.Framing.{sasl_header, framed, size_of, Fits, IsPart}
 use Rattle.fe2o3_sasl_negotiation.specs.Negotiations.{Side, Answer, IsInTurn}
 use Rattle.fe2o3_sasl_negotiation.proofs.lemmas.UnitLemmas.{size_of-framed, length-framed}
@@ -23,6 +25,12 @@ use Rattle.connection_laws.proofs.lemmas.ShapeLemmas.{one_frame}
 
 one_turn : (turn other : Turn) (due : Due) → due ≡ Frame turn → due ≡ Frame other → turn ≡ other
 one_turn turn other due one two = let same : Frame turn ≡ Frame other = sym one ∙ two in cc
+
+-- the first frames of both have one nonce, the second frames, and further while both have one
+abbrev PairNonces : List Given → List Given → Type 0
+PairNonces [] others = Unit {0}
+PairNonces (event ∷ events) [] = Unit {0}
+PairNonces (event ∷ events) (other ∷ others) = (event.nonce ≡ other.nonce) × PairNonces events others
 
 -- ---- what is left over
 
@@ -131,6 +139,59 @@ module _ (limit : ℕ) (small : limit < 2 ^ 32) where
   one_end answer tail standing other (inl waiting) (inr ended) = absurd (ended.0 waiting.1)
   one_end answer tail standing other (inr ended) (inl waiting) = absurd (ended.0 waiting.1)
   one_end answer tail standing other (inr ended) (inr too) = ended.1 ∙ sym too.1
+
+  -- ---- nonces
+
+  pair_nonces : (turns : List Turn) (pieces others : List Piece) (at : ℕ) (bodies : List (List ℕ))
+      (events more : List Given) (stream tail rest : List ℕ) → HaveOneNonceEach pieces others stream
+      → at ≡ 8 + length (flat_map framed bodies)
+      → stream ≡ sasl_header ++ (flat_map framed bodies ++ (frames_of events ++ tail))
+      → AreFrames pieces limit at turns events → AreFrames others limit at turns more
+      → frames_of events ++ tail ≡ frames_of more ++ rest → PairNonces events more
+  pair_nonces turns pieces others at bodies [] more stream tail rest one place is frames also same = tt
+  pair_nonces turns pieces others at bodies (event ∷ events) [] stream tail rest one place is frames also same = tt
+  pair_nonces [] pieces others at bodies (event ∷ events) (other ∷ more) stream tail rest one place is frames also same =
+      absurd frames
+  pair_nonces (turn ∷ turns) pieces others at bodies (event ∷ events) (other ∷ more) stream tail rest one place is frames
+      also same =
+      let start : stream ≡ sasl_header
+      ++ (flat_map framed bodies ++ (framed event.body ++ (frames_of events ++ tail))) =
+      is ∙ ap (λ l. sasl_header ++ (flat_map framed bodies ++ l))
+      (append_assoc (framed event.body) (frames_of events) tail) in
+      let both = one_frame event.body (frames_of events ++ tail) other.body (frames_of more ++ rest)
+      (fits_small (length event.body + 4) frames.0) (fits_small (length other.body + 4) also.0)
+      (sym (append_assoc (framed event.body) (frames_of events) tail)
+      ∙ (same ∙ append_assoc (framed other.body) (frames_of more) rest)) in
+      let longer : flat_map framed (bodies ++ event.body ∷ []) ≡ flat_map framed bodies ++ framed event.body =
+      flat_map-append framed bodies (event.body ∷ [])
+      ∙ ap (λ l. flat_map framed bodies ++ l) (append-nil (framed event.body)) in (
+        one (at + (length event.body + 3)) event.nonce other.nonce (
+          bodies,
+          event.body,
+          frames_of events ++ tail,
+          start,
+          place_of at (length (flat_map framed bodies))
+              (length event.body) place,
+        ) frames.2
+            (subst (λ (b : List ℕ). NonceAt others (at + (length b + 3)) other.nonce) (sym both.0) also.2),
+        pair_nonces turns pieces others (at + (length event.body + 4)) (bodies ++ event.body ∷ []) events more stream tail
+            rest one
+            (next_place at (length (flat_map framed bodies)) (length event.body) place
+            ∙ ap (λ n. 8 + n) (sym (ap length longer ∙ (length-append (flat_map framed bodies) (framed event.body)
+            ∙ ap (λ n. length (flat_map framed bodies) + n) (length-framed event.body)))))
+            (start ∙ ap (λ l. sasl_header ++ l)
+            (sym (append_assoc (flat_map framed bodies) (framed event.body) (frames_of events ++ tail))
+            ∙ ap (λ l. l ++ (frames_of events ++ tail)) (sym longer)))
+            frames.3
+            (subst (λ (b : List ℕ). AreFrames others limit (at + (length b + 4)) turns more) (sym both.0) also.3)
+            both.1,
+      )
+    where
+      place_of : (at front body : ℕ) → at ≡ 8 + front → at + (body + 3) ≡ 8 + (front + (body + 3))
+      place_of at front body is = omega (arith, is)
+
+      next_place : (at front body : ℕ) → at ≡ 8 + front → at + (body + 4) ≡ 8 + (front + (body + 4))
+      next_place at front body is = omega (arith, is)
 
   -- ---- frames and replies
 
@@ -245,7 +306,7 @@ module _ (limit : ℕ) (small : limit < 2 ^ 32) where
     same : (turns : List Turn) (pieces others : List Piece) (at from : ℕ) (state : S) (events more : List Given)
         (replies again : List A) (answer reply : Answer) (tail rest : List ℕ) (last end : S) (standing stood : Standing)
         → Follow turns → AreFrames pieces limit at turns events → AreFrames others limit from turns more
-        → HaveOneNonceEach events more → frames_of events ++ tail ≡ frames_of more ++ rest
+        → PairNonces events more → frames_of events ++ tail ≡ frames_of more ++ rest
         → Runs Steps state events replies last → Runs Steps state more again end → Replied Says turns replies answer
         → Replied Says turns again reply → EndsIn answer tail standing → EndsIn reply rest stood
         → Same events more replies again answer reply tail rest last end
@@ -337,16 +398,18 @@ module _ (limit : ℕ) (small : limit < 2 ^ 32) where
         (last end : Side S) → Follow turns
         → (first : Negotiated Steps Says turns limit state pieces taken sent last)
         (second : Negotiated Steps Says turns limit state others taken out end)
-        → HaveOneNonceEach first.events second.events
+        → HaveOneNonceEach pieces others taken
         → (first.events ≡ second.events) × (first.replies ≡ second.replies) × EndEqually sent out last end
     one_result turns state pieces others taken sent out last end follow first second nonces =
         let behind : frames_of first.events ++ first.tail ≡ frames_of second.events ++ second.tail =
         (one_split sasl_header (frames_of first.events ++ first.tail) sasl_header (frames_of second.events ++ second.tail)
         (sym first.carried ∙ second.carried) (same_length (sym first.carried ∙ second.carried))).1 in
+        let paired = pair_nonces turns pieces others 8 [] first.events second.events taken first.tail second.tail nonces
+        refl first.carried first.frames second.frames behind in
         let (events_are, replies_are, answers_are, tails_are, states_are) =
         same turns pieces others 8 8 state first.events second.events first.replies second.replies first.answer
         second.answer first.tail second.tail last.state end.state last.standing end.standing follow first.frames
-        second.frames nonces behind first.run second.run first.replied second.replied first.ends second.ends in
+        second.frames paired behind first.run second.run first.replied second.replied first.ends second.ends in
         let standings_are : last.standing ≡ end.standing =
         one_end second.answer second.tail last.standing end.standing
         (subst (λ (t : List ℕ). EndsIn second.answer t last.standing) tails_are

@@ -28,7 +28,7 @@ use Rattle.fe2o3_sasl_negotiation.specs.ServerNegotiation as of_server
 use Rattle.fe2o3_sasl_negotiation.specs.Negotiations.{Answer, Sends, closes}
 use Rattle.fe2o3_sasl_negotiation.proofs.lemmas.ConnectionLemmas.{closed_is_not_wanting, logged_in_is_not_wanting}
 use Rattle.fe2o3_sasl_negotiation.proofs.lemmas.KindLemmas.{standing_of, closes_waits_not, sends_goes_on, sends_ends}
-use Rattle.connection_laws.specs.Cuts.{IsFunction, ServersEndEqually, FunctionsEndEqually, ClientsEndEqually}
+use Rattle.connection_laws.specs.Cuts.{IsFunction, ServersNegotiateEqually, FunctionsNegotiateEqually, ClientsNegotiateEqually}
 use Rattle.connection_laws.proofs.lemmas.CutLemmas.{one_result}
 
 -- a body is sent in one way
@@ -127,13 +127,13 @@ module _ {S : Type 0} (machine : Machine S) (function : IsFunction machine) wher
             told,
       )
 
-pub functions_end_equally : {S : Type 0} (machine : Machine S) → FunctionsEndEqually machine
-functions_end_equally machine function limit state pieces others taken sent out last end small first second nonces =
+pub functions_negotiate_equally : {S : Type 0} (machine : Machine S) → FunctionsNegotiateEqually machine
+functions_negotiate_equally machine function limit state pieces others taken sent out last end small first second nonces =
     one_result limit small (AcceptorSteps machine) of_server.Says (server_step machine function)
     (turns.Init ∷ turns.Response ∷ []) state pieces others taken sent out last end (server_due, tt) first second nonces
 
-pub servers_end_equally : ServersEndEqually acceptor_machine
-servers_end_equally = functions_end_equally acceptor_machine one_acceptor_reply
+pub servers_negotiate_equally : ServersNegotiateEqually acceptor_machine
+servers_negotiate_equally = functions_negotiate_equally acceptor_machine one_acceptor_reply
 
 -- ---- a client
 
@@ -273,8 +273,8 @@ client_step hostname turn profile event says other answer reply next end (spelle
           told,
     )
 
-pub clients_end_equally : ClientsEndEqually
-clients_end_equally hostname limit profile pieces others taken sent out last end small first second nonces =
+pub clients_negotiate_equally : ClientsNegotiateEqually
+clients_negotiate_equally hostname limit profile pieces others taken sent out last end small first second nonces =
     one_result limit small (ProfileSteps hostname) of_client.Says (client_step hostname)
     (turns.Mechanisms ∷ turns.Challenge ∷ turns.Outcome ∷ []) profile pieces others taken sent out last end
     (client_first_due, (client_second_due, tt)) first second nonces
