@@ -9,3 +9,4 @@ pub mod UnalteredPairLemmas
 pub mod CutLemmas
 pub mod CutStepLemmas
 pub mod CutConnectionLemmas
+pub mod CutCallLemmas

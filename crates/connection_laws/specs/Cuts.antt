@@ -1,13 +1,17 @@
 -- What two divisions of one stream of bytes into calls have in common (AMQP 1.0, part 5, section 5.3.2). Each law is the
 -- contract of a clause in `cuts`.
-use Rattle.std.specs.Prelude.{◌≡◌, ℕ, ◌+◌, ◌<◌, ◌^◌, Option, List, ◌++◌, length, flat_map}
-use Rattle.fe2o3_sasl_wire.specs.SaslFrames.{SaslFrame}
+use Rattle.std.specs.Prelude.{◌≡◌, ℕ, ◌+◌, ◌<◌, ◌^◌, Option, List, [], ◌∷◌, ◌++◌, length, take, drop, flat_map}
+use Rattle.fe2o3_sasl_wire.specs.SaslFrames.{SaslFrame, IsBytes}
 use Rattle.fe2o3_sasl_runs.specs.OneOfLaws.{Machine}
 use Rattle.fe2o3_sasl_runs.specs.Profiles.{Profile}
+use Rattle.fe2o3_sasl_negotiation.specs.declared.standing.Due.{Due}
 use Rattle.fe2o3_sasl_negotiation.specs.declared.standing.Standing.TheVariants.{Wanting}
-use Rattle.fe2o3_sasl_negotiation.specs.Connections.{Piece, NonceAt, ServerNegotiated, ClientNegotiated, ServerConnection, ClientConnection}
+use Rattle.fe2o3_sasl_negotiation.specs.ClientNegotiation.{ClientAnswers}
+use Rattle.fe2o3_sasl_negotiation.specs.Connections.{Piece, NonceAt, ServerNegotiated, ClientNegotiated, ServerConnection, ClientConnection, fresh}
 use Rattle.fe2o3_sasl_negotiation.specs.Framing.{sasl_header, framed}
-use Rattle.fe2o3_sasl_negotiation.specs.Negotiations.{Side}
+use Rattle.fe2o3_sasl_negotiation.specs.Laws.{Call, Calls}
+use Rattle.fe2o3_sasl_negotiation.specs.Negotiations.{Side, Answer}
+use Rattle.fe2o3_sasl_negotiation.specs.ServerNegotiation.{ServerAnswers}
 
 -- the machine has one reply at most to each frame, and one state after it
 abbrev pub IsFunction : {S : Type 0} → Machine S → Type 0
@@ -15,7 +19,7 @@ IsFunction {S} machine = (state : S) (nonce : List ℕ) (frame reply other : Sas
     → machine state nonce frame reply next → machine state nonce frame other last → (reply ≡ other) × (next ≡ last)
 
 -- byte number n of the stream, counted from 0, is the last byte of a frame: before it are the header of SASL, whole frames
--- and the rest of that frame (part 2, section 2.3.1)
+-- and the other bytes of that frame (part 2, section 2.3.1)
 abbrev pub EndsFrame : List ℕ → ℕ → Type 0
 EndsFrame stream n = (bodies : List (List ℕ)) × (body : List ℕ) × (tail : List ℕ)
     × (stream ≡ sasl_header ++ (flat_map framed bodies ++ (framed body ++ tail)))
@@ -26,8 +30,8 @@ abbrev pub HaveOneNonceEach : List Piece → List Piece → List ℕ → Type 0
 HaveOneNonceEach pieces others stream = (n : ℕ) (nonce other : List ℕ) → EndsFrame stream n → NonceAt pieces n nonce
     → NonceAt others n other → nonce ≡ other
 
--- two sides have sent the same bytes, have ended or not in the same way, and have the same state of their machine. While
--- they wait they are equal in the bytes of a frame that they hold, too
+-- two sides have sent the same bytes and have one standing: both wait, both have logged in, or both have closed for one
+-- reason. Their machines have one state. While they wait, the sides are equal, also in the part of a frame that they hold
 pub record EndEqually {S : Type 0} (sent out : List ℕ) (last end : Side S) : Type 0 where
   pub sends : sent ≡ out
   pub standing : last.standing ≡ end.standing
@@ -37,7 +41,7 @@ pub record EndEqually {S : Type 0} (sent out : List ℕ) (last end : Side S) : T
 -- ---- after the other side's header
 
 -- two connections of servers from one state over the same bytes, after the client's header, in any two divisions: they
--- answer the same frames by the same replies, and end equally. A size is four bytes (part 2, section 2.3.1)
+-- answer the same frames by the same replies, and end equally. The size of a frame has 32 bits (part 2, section 2.3.1)
 abbrev pub ServersNegotiateEqually : {S : Type 0} → Machine S → Type 0
 ServersNegotiateEqually {S} machine = (limit : ℕ) (state : S) (pieces others : List Piece) (taken sent out : List ℕ)
     (last end : Side S) → limit < 2 ^ 32 → (first : ServerNegotiated machine limit state pieces taken sent last)
@@ -79,3 +83,51 @@ ClientsEndEqually = (hostname : Option (List ℕ)) (limit : ℕ) (profile : Prof
     → ClientConnection hostname limit profile pieces taken sent last
     → ClientConnection hostname limit profile others taken out end → HaveOneNonceEach pieces others taken
     → EndEqually sent out last end
+
+-- ---- of calls
+
+-- calls over a stream, from this side on: what they send, how the side ends, and the bytes that they leave
+pub record CallsOver {S : Type 0} (Answers : Due → S → List ℕ → List ℕ → Answer → S → Type 0) (side : Side S)
+    (stream : List ℕ) : Type 0 where
+  pub calls : List Call
+  pub sent : List ℕ
+  pub last : Side S
+  pub rest : List ℕ
+  pub made : Calls Answers side calls stream sent last rest
+
+-- the bytes that each call took, with its nonce
+abbrev pub taken_pieces : {S : Type 0} (Answers : Due → S → List ℕ → List ℕ → Answer → S → Type 0) (side : Side S)
+    (calls : List Call) (stream sent : List ℕ) (last : Side S) (rest : List ℕ)
+    → Calls Answers side calls stream sent last rest → List Piece
+taken_pieces Answers side [] stream sent last rest made = []
+taken_pieces Answers side (call ∷ calls) stream sent last rest (taken, first, next, later, receives, made, all) =
+    record { bytes = take taken (take call.handed stream); nonce = call.nonce }
+    ∷ taken_pieces Answers next calls (drop taken stream) later last rest made
+
+-- likewise of such calls
+abbrev pub pieces_of : {S : Type 0} (Answers : Due → S → List ℕ → List ℕ → Answer → S → Type 0) (side : Side S)
+    (stream : List ℕ) → CallsOver Answers side stream → List Piece
+pieces_of Answers side stream over =
+    taken_pieces Answers side over.calls stream over.sent over.last over.rest over.made
+
+-- calls over one stream of bytes that leave the same rest of it end equally, where the calls in which the last byte of a
+-- frame arrives have one nonce
+abbrev pub CallsEndEqually : {S : Type 0} → (Due → S → List ℕ → List ℕ → Answer → S → Type 0) → S → Type 0
+CallsEndEqually {S} Answers state = (limit : ℕ) (stream : List ℕ) → limit < 2 ^ 32 → IsBytes stream
+    → (first second : CallsOver Answers (fresh limit state) stream) → first.rest ≡ second.rest
+    → HaveOneNonceEach (pieces_of Answers (fresh limit state) stream first)
+    (pieces_of Answers (fresh limit state) stream second) stream
+    → EndEqually first.sent second.sent first.last second.last
+
+-- those of a server, from each state
+abbrev pub ServerCallsEndEqually : {S : Type 0} → (S → List (List ℕ)) → Machine S → Type 0
+ServerCallsEndEqually {S} names machine = (state : S) → CallsEndEqually (ServerAnswers names machine) state
+
+-- of every server whose machine is a function
+abbrev pub FunctionCallsEndEqually : {S : Type 0} → (S → List (List ℕ)) → Machine S → Type 0
+FunctionCallsEndEqually names machine = IsFunction machine → ServerCallsEndEqually names machine
+
+-- and those of a client
+abbrev pub ClientCallsEndEqually : Type 0
+ClientCallsEndEqually = (hostname : Option (List ℕ)) (profile : Profile)
+    → CallsEndEqually (ClientAnswers hostname) profile

@@ -1,23 +1,33 @@
-//! What two divisions of one stream of bytes have in common.
+//! What two divisions of one stream of bytes into calls have in common.
 
 ghost use Rattle.fe2o3_sasl_runs.specs.SaslAcceptor.{acceptor_names, acceptor_machine};
-ghost use Rattle.connection_laws.specs.Cuts.{FunctionsEndEqually, ServersEndEqually, ClientsEndEqually, FunctionsNegotiateEqually, ServersNegotiateEqually, ClientsNegotiateEqually};
+ghost use Rattle.connection_laws.specs.Cuts.{FunctionCallsEndEqually, ServerCallsEndEqually, ClientCallsEndEqually};
+ghost use Rattle.connection_laws.specs.Cuts.{FunctionsEndEqually, ServersEndEqually, ClientsEndEqually};
+ghost use Rattle.connection_laws.specs.Cuts.{FunctionsNegotiateEqually, ServersNegotiateEqually, ClientsNegotiateEqually};
 
 use fe2o3_sasl_runs::one_of::HasMechanism;
 
-/// States that the division of a stream into calls does not change the result. Two connections from one fresh side take
-/// the same bytes, in any two divisions, and the calls that complete a frame have one nonce in both. Both then send the
-/// same bytes, end in the same way, have the same state of their machine, and hold the same part of a frame. This holds
-/// of every server whose acceptor has at most one reply to each frame, as the acceptors of SCRAM, PLAIN and ANONYMOUS
-/// do, and of every client.
+/// States that the division of a stream into calls does not change the result. Two lists of calls pass one stream of
+/// bytes to one fresh side, in any two divisions, and leave the same rest of it. The calls that complete a frame have one
+/// nonce in both. Both lists then send the same bytes, and both sides end in the same way with the same state of their
+/// machine; a side that waits holds the same part of a frame. This holds of every client, and of every server whose
+/// acceptor has at most one reply to each frame, as those of SCRAM, PLAIN and ANONYMOUS do.
 pub fn one_result<A: HasMechanism>()
+    ensures functions { FunctionCallsEndEqually A.names A.machine }
+    ensures acceptors { ServerCallsEndEqually acceptor_names acceptor_machine }
+    ensures clients { ClientCallsEndEqually }
+{}
+
+/// States for connections what [`one_result`] states for calls. Two connections from one fresh side over the same bytes,
+/// in any two divisions into pieces, send the same bytes and end equally, if each frame has one nonce in both.
+pub fn one_connection<A: HasMechanism>()
     ensures functions { FunctionsEndEqually A.names A.machine }
     ensures acceptors { ServersEndEqually acceptor_names acceptor_machine }
     ensures clients { ClientsEndEqually }
 {}
 
-/// States that two divisions of a stream into calls have one negotiation. Under the premises of [`one_result`], after
-/// the other side's header, both connections answer the same frames by the same replies.
+/// States that two divisions of a stream have one negotiation. Two connections from one state over the same bytes, after
+/// the other side's header, answer the same frames by the same replies, if each frame has one nonce in both.
 pub fn one_negotiation<A: HasMechanism>()
     ensures functions { FunctionsNegotiateEqually A.machine }
     ensures acceptors { ServersNegotiateEqually acceptor_machine }

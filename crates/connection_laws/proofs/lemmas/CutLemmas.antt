@@ -330,7 +330,7 @@ module _ (limit : ℕ) (small : limit < 2 ^ 32) where
         ran too finishes)
     same (turn ∷ turns) pieces others at from state (event ∷ []) (other ∷ []) replies again answer reply tail rest last
         end standing stood follow frames also nonces carried run ran replied too ends finishes =
-        let (one, behind) = first_frame turn turns pieces others at from event other [] [] tail rest frames also carried
+        let (one, later) = first_frame turn turns pieces others at from event other [] [] tail rest frames also carried
         nonces.0 in
         let (says, next, step, all, ended, said) = single turn turns state event replies answer last run replied in
         let (also_says, mid, went, every, stopped, told) = single turn turns state other again reply end ran too in
@@ -339,12 +339,12 @@ module _ (limit : ℕ) (small : limit < 2 ^ 32) where
           ap (λ (e : Given). e ∷ []) one,
           all ∙ (ap (λ (a : A). a ∷ []) reply_is ∙ sym every),
           answer_is,
-          behind,
+          later,
           ended ∙ (state_is ∙ sym stopped),
         )
     same (turn ∷ turns) pieces others at from state (event ∷ []) (other ∷ second ∷ more) replies again answer reply tail
         rest last end standing stood follow frames also nonces carried run ran replied too ends finishes =
-        let (one, behind) = first_frame turn turns pieces others at from event other [] (second ∷ more) tail rest frames
+        let (one, later) = first_frame turn turns pieces others at from event other [] (second ∷ more) tail rest frames
         also carried nonces.0 in
         let (says, next, step, all, ended, said) = single turn turns state event replies answer last run replied in
         let (also_says, mid, left, first, rest_answer, went, every, goes, told, waits, then, sum) =
@@ -352,10 +352,10 @@ module _ (limit : ℕ) (small : limit < 2 ^ 32) where
         let (reply_is, state_is, answer_is) = one_step turn state other says also_says answer first next mid
         (subst (λ (e : Given). Steps state e says next) one step) said went told in
         absurd (one_and_more turn turns others (from + (length other.body + 4)) state other second more says answer tail
-        rest standing follow also.3 behind said (ap (λ (a : Answer). a.standing) answer_is ∙ waits) ends)
+        rest standing follow also.3 later said (ap (λ (a : Answer). a.standing) answer_is ∙ waits) ends)
     same (turn ∷ turns) pieces others at from state (event ∷ second ∷ events) (other ∷ []) replies again answer reply tail
         rest last end standing stood follow frames also nonces carried run ran replied too ends finishes =
-        let (one, behind) = first_frame turn turns pieces others at from event other (second ∷ events) [] tail rest frames
+        let (one, later) = first_frame turn turns pieces others at from event other (second ∷ events) [] tail rest frames
         also carried nonces.0 in
         let (says, next, left, first, rest_answer, step, all, goes, said, waits, then, sum) =
         more_of turn turns state event second events replies answer last run replied in
@@ -363,11 +363,11 @@ module _ (limit : ℕ) (small : limit < 2 ^ 32) where
         let (reply_is, state_is, answer_is) = one_step turn state other says also_says first reply next mid
         (subst (λ (e : Given). Steps state e says next) one step) said went told in
         absurd (one_and_more turn turns pieces (at + (length event.body + 4)) state event second events also_says reply
-        rest tail stood follow frames.3 (sym behind) told (sym (ap (λ (a : Answer). a.standing) answer_is) ∙ waits)
+        rest tail stood follow frames.3 (sym later) told (sym (ap (λ (a : Answer). a.standing) answer_is) ∙ waits)
         finishes)
     same (turn ∷ turns) pieces others at from state (event ∷ second ∷ events) (other ∷ third ∷ more) replies again answer
         reply tail rest last end standing stood follow frames also nonces carried run ran replied too ends finishes =
-        let (one, behind) = first_frame turn turns pieces others at from event other (second ∷ events) (third ∷ more) tail
+        let (one, later) = first_frame turn turns pieces others at from event other (second ∷ events) (third ∷ more) tail
         rest frames also carried nonces.0 in
         let (says, next, left, first, rest_answer, step, all, goes, said, waits, then, sum) =
         more_of turn turns state event second events replies answer last run replied in
@@ -378,7 +378,7 @@ module _ (limit : ℕ) (small : limit < 2 ^ 32) where
         let (events_are, replies_are, answers_are, tails_are, ends_are) =
         same turns pieces others (at + (length event.body + 4)) (from + (length other.body + 4)) mid (second ∷ events)
         (third ∷ more) left over rest_answer last_answer tail rest last end standing stood (follow_on turns frames.3 follow)
-        frames.3 also.3 nonces.1 behind (subst (λ (s : S). Runs Steps s (second ∷ events) left last) state_is goes) runs
+        frames.3 also.3 nonces.1 later (subst (λ (s : S). Runs Steps s (second ∷ events) left last) state_is goes) runs
         then follows (subst (λ (a : Answer). EndsIn a tail standing) sum ends)
         (subst (λ (a : Answer). EndsIn a rest stood) total finishes) in (
           (λ i. one i ∷ events_are i),
@@ -401,15 +401,15 @@ module _ (limit : ℕ) (small : limit < 2 ^ 32) where
         → HaveOneNonceEach pieces others taken
         → (first.events ≡ second.events) × (first.replies ≡ second.replies) × EndEqually sent out last end
     one_result turns state pieces others taken sent out last end follow first second nonces =
-        let behind : frames_of first.events ++ first.tail ≡ frames_of second.events ++ second.tail =
+        let later : frames_of first.events ++ first.tail ≡ frames_of second.events ++ second.tail =
         (one_split sasl_header (frames_of first.events ++ first.tail) sasl_header (frames_of second.events ++ second.tail)
         (sym first.carried ∙ second.carried) (same_length (sym first.carried ∙ second.carried))).1 in
         let paired = pair_nonces turns pieces others 8 [] first.events second.events taken first.tail second.tail nonces
-        refl first.carried first.frames second.frames behind in
+        refl first.carried first.frames second.frames later in
         let (events_are, replies_are, answers_are, tails_are, states_are) =
         same turns pieces others 8 8 state first.events second.events first.replies second.replies first.answer
         second.answer first.tail second.tail last.state end.state last.standing end.standing follow first.frames
-        second.frames paired behind first.run second.run first.replied second.replied first.ends second.ends in
+        second.frames paired later first.run second.run first.replied second.replied first.ends second.ends in
         let standings_are : last.standing ≡ end.standing =
         one_end second.answer second.tail last.standing end.standing
         (subst (λ (t : List ℕ). EndsIn second.answer t last.standing) tails_are
