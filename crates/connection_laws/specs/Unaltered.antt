@@ -12,7 +12,7 @@ use Rattle.fe2o3_sasl_runs.specs.Runs.{Runs, AcceptorSteps, ProfileSteps}
 use Rattle.fe2o3_sasl_runs.specs.SaslAcceptor.{Acceptor, ScramAcceptor, acceptor_machine, acceptor_user}
 use Rattle.fe2o3_sasl_runs.specs.ServerHistory.{Accepted, AcceptsAt}
 use Rattle.fe2o3_sasl_runs.specs.TwoSides.{sides_of, client_message, server_message}
-use Rattle.fe2o3_sasl_runs.specs.UnalteredRuns.{HoldsLogin}
+use Rattle.fe2o3_sasl_runs.specs.UnalteredRuns.{HoldsLogin, UnalteredRun, LogsIn}
 use Rattle.fe2o3_sasl_negotiation.specs.declared.standing.Standing.TheVariants.{LoggedIn}
 use Rattle.fe2o3_sasl_negotiation.specs.Connections.{frames_of}
 use Rattle.fe2o3_sasl_negotiation.specs.FrameSizes.{length_of}
@@ -39,11 +39,12 @@ pub record TakesFrames {login : Login} {provider : Provider} {client : Side Prof
   pub client_nonces : AllByRecursion HasNonce joined.client_calls
   pub server_nonces : AllByRecursion HasNonce joined.server_calls
 
--- both have logged in, the server names the client's user, and both have one AuthMessage (RFC 5802, section 3): each side
--- went from its first state to its last in a run over the frames of the bytes that the other side sent after its header,
--- and the client's open answer and the response that the server accepted have the AuthMessage in common
+-- both have logged in, the server names the client's user, and both have one AuthMessage (RFC 5802, section 3). Each side
+-- went from its first state to its last in a run over the frames of the bytes that the other side sent after its header.
+-- The two runs are one unaltered login, in which an audit finds both sides agreed. The client's open answer and the
+-- response that the server accepted have the AuthMessage in common
 pub record BothLogIn {login : Login} {provider : Provider} {client : Side Profile} {server : Side Acceptor}
-    (joined : Joined login provider client server) : Type 0 where
+    (joined : Joined login provider client server) (salt : List ℕ) (count : ℕ) : Type 0 where
   pub client_events : List Given
   pub client_replies : List ClientSays
   pub server_events : List Given
@@ -58,6 +59,8 @@ pub record BothLogIn {login : Login} {provider : Provider} {client : Side Profil
   pub client_run : Runs (ProfileSteps login.hostname) (scram_profile login) client_events client_replies client.state
   pub server_run : Runs (AcceptorSteps acceptor_machine) (ScramAcceptor provider Initial) server_events server_replies
       server.state
+  pub unaltered : UnalteredRun (sides_of login client_events client_replies provider server_events server_replies)
+  pub logs_in : LogsIn unaltered salt count
   pub answers : OpenAnswer login client_events client_replies 2 answer
   pub accepts : AcceptsAt provider server_events server_replies 1 accepted
   pub one_message : client_message login answer ≡ server_message accepted
@@ -68,4 +71,4 @@ abbrev pub UnalteredSidesLogIn : Type 0
 UnalteredSidesLogIn = (login : Login) (provider : Provider) (password salt : List ℕ) (count : ℕ) (client : Side Profile)
     (server : Side Acceptor) (joined : Joined login provider client server) → IsLogin login
     → HoldsLogin (sides_of login [] [] provider [] []) password salt count → FitsFrames login salt → TakesFrames joined
-    → BothLogIn joined
+    → BothLogIn joined salt count

@@ -2,11 +2,14 @@
 
 ghost use Rattle.connection_laws.specs.Unaltered.{UnalteredSidesLogIn};
 
-/// A SCRAM client and a SCRAM server that are joined both log in, in whatever pieces their bytes arrive, and the server
-/// names the client's user. Each premise can be tested before the first byte is sent:
+/// A SCRAM client and a SCRAM server that are joined both log in, in whatever pieces their bytes arrive. Each premise can
+/// be tested before the first byte is sent:
 /// - the server holds a record that the client's secret opens, with a count from 1 on and within the client's limits;
 /// - the escaped user name and the hostname have at most 412 bytes together, and the salt has at most 285;
 /// - each side takes frames of 512 bytes, and the nonce of each call has 32 bytes.
+///
+/// The server names the client's user. Each side is run over the frames that the other side sent, the two runs are one
+/// unaltered login, and the client's open answer and the accepted response have one AuthMessage.
 pub fn unaltered()
     ensures { UnalteredSidesLogIn }
 {}

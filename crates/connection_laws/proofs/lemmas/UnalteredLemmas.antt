@@ -32,12 +32,13 @@ use Rattle.fe2o3_sasl_runs.specs.Runs.{AcceptorSteps, ProfileSteps, Runs}
 use Rattle.fe2o3_sasl_runs.specs.SaslAcceptor.{Acceptor, ScramAcceptor, acceptor_names, acceptor_machine}
 use Rattle.fe2o3_sasl_runs.specs.ServerHistory.{FitsAsInit, AcceptsAt, final_message}
 use Rattle.fe2o3_sasl_runs.specs.TwoSides.{Sides, sides_of, Histories}
-use Rattle.fe2o3_sasl_runs.specs.UnalteredRuns.{Suffices, HoldsLogin, client_body, server_body}
+use Rattle.fe2o3_sasl_runs.specs.UnalteredRuns.{Suffices, HoldsLogin, Arrives, UnalteredRun, LogsIn, client_body, server_body}
 use Rattle.fe2o3_sasl_runs.proofs.lemmas.frames.SpellingLemmas.{spells_mechanisms, spells_init, spells_challenge, spells_response, spells_outcome}
 use Rattle.fe2o3_sasl_runs.proofs.lemmas.machines.ClientMachineLemmas.{profile_runs_are_histories}
 use Rattle.fe2o3_sasl_runs.proofs.lemmas.machines.ServerMachineLemmas.{acceptor_runs_are_histories}
 use Rattle.fe2o3_sasl_runs.proofs.lemmas.positions.PositionLemmas.{opens_here}
 use Rattle.fe2o3_sasl_runs.proofs.lemmas.unaltered.UnalteredReplyLemmas.{open_value}
+use Rattle.fe2o3_sasl_runs.proofs.lemmas.unaltered.UnalteredRunLemmas.{clients_log_in}
 use Rattle.fe2o3_sasl_runs.proofs.lemmas.unaltered.UnalteredStepLemmas as step
 use Rattle.fe2o3_sasl_negotiation.specs.declared.standing.Due.{Due}
 use Rattle.fe2o3_sasl_negotiation.specs.declared.standing.Due.TheVariants.{Header, Frame}
@@ -563,6 +564,27 @@ module _ (login : Login) (provider : Provider) (password salt : List ℕ) (count
                 (event challenge second.nonce) (event outcome fourth.nonce) has_started has_answered
                 (refl, sent_outcome))
 
+            unaltered_run : UnalteredRun (met all_events all_replies last_events last_replies)
+            unaltered_run = record {
+              offer = event offer zeroth.nonce;
+              challenge = event challenge second.nonce;
+              outcome = event outcome fourth.nonce;
+              init = event init first.nonce;
+              response = event response third.nonce;
+              client_events = refl;
+              server_events = refl;
+              offered = offered;
+              started = subst (λ (s : ClientSays). Arrives (client_body (Some s)) init) (sym started) refl;
+              challenged = subst (λ (s : ServerSays). Arrives (server_body (Some s)) challenge) (sym challenged) refl;
+              answered = subst (λ (s : ClientSays). Arrives (client_body (Some s)) response) (sym answered) refl;
+              concluded = subst (λ (s : ServerSays). Arrives (server_body (Some s)) outcome) (sym accepted) refl;
+            }
+
+            logs_in : LogsIn unaltered_run salt count
+            logs_in = clients_log_in login all_events all_replies all_histories.client is provider last_events
+                last_replies all_histories.server password salt count unaltered_run
+                (held all_events all_replies last_events last_replies) all_suffices
+
             open_answer : OpenAnswer login all_events all_replies 2 (step.answering_in exchange)
             open_answer = step.open_answer (met all_events all_replies last_events last_replies) password salt count
                 (event offer zeroth.nonce) (event init first.nonce) all_histories is
@@ -609,7 +631,7 @@ module _ (login : Login) (provider : Provider) (password salt : List ℕ) (count
           from_response : joined.server_sent ≡ sasl_header ++ (framed offer ++ (framed challenge ++ server_ends))
               → joined.client_sent ≡ framed init ++ (framed response ++ client_ends)
               → ClientMakes login.hostname client_limit (Frame turns.Outcome) second.next second.nonces server_ends
-              client_ends client → BothLogIn joined
+              client_ends client → BothLogIn joined salt count
           from_response server_all client_all waits =
               let (outcome, accepted, sent_outcome) = accepts in
               let small = fits_as (frames.Outcome outcomes.Ok (Some final_sent)) outcome
@@ -643,7 +665,7 @@ module _ (login : Login) (provider : Provider) (password salt : List ℕ) (count
                     limit = server_limit;
                     held = [];
                     state = third.next;
-                  } → BothLogIn joined
+                  } → BothLogIn joined salt count
               ended outcome more accepted sent_outcome fourth server_all client_all server_rests =
                   let rests = client_ends_well outcome more accepted sent_outcome fourth in
                   let client_in : client.standing ≡ LoggedIn = ap (λ (s : Side Profile). s.standing) rests.2 in
@@ -670,6 +692,8 @@ module _ (login : Login) (provider : Provider) (password salt : List ℕ) (count
                         (all_run outcome more accepted sent_outcome fourth);
                     server_run = subst (λ (a : Acceptor). Runs (AcceptorSteps acceptor_machine) first_acceptor
                         last_events last_replies a) (sym (ap (λ (s : Side Acceptor). s.state) server_rests)) server_runs;
+                    unaltered = unaltered_run outcome more accepted sent_outcome fourth;
+                    logs_in = logs_in outcome more accepted sent_outcome fourth;
                     answers = open_answer outcome more accepted sent_outcome fourth;
                     accepts = accepts_at outcome more accepted sent_outcome fourth;
                     one_message = refl;
@@ -678,7 +702,7 @@ module _ (login : Login) (provider : Provider) (password salt : List ℕ) (count
         from_challenge : joined.server_sent ≡ sasl_header ++ (framed offer ++ (framed challenge ++ server_ends))
             → joined.client_sent ≡ framed init ++ client_sends
             → ServerMakes server_limit (Frame turns.Response) first.next first.nonces client_sends server_ends server
-            → BothLogIn joined
+            → BothLogIn joined salt count
         from_challenge server_all client_all waits =
             let (response, answered, sent_response) = answers in
             let small = fits_as (frames.Response (answer_in exchange).message) response response_fits sent_response in
@@ -694,7 +718,7 @@ module _ (login : Login) (provider : Provider) (password salt : List ℕ) (count
     from_init : joined.server_sent ≡ sasl_header ++ (framed offer ++ server_sends)
         → joined.client_sent ≡ framed init ++ client_sends
         → ClientMakes login.hostname client_limit (Frame turns.Challenge) zeroth.next zeroth.nonces server_sends
-        client_sends client → BothLogIn joined
+        client_sends client → BothLogIn joined salt count
     from_init server_all client_all waits =
         let (challenge, challenged, sent_challenge) = challenges in
         let small = fits_as (frames.Challenge (first_in exchange)) challenge challenge_fits sent_challenge in
@@ -712,7 +736,7 @@ module _ (login : Login) (provider : Provider) (password salt : List ℕ) (count
       (zeroth : ClientTakes login client_limit turns.Mechanisms first_profile offer server_sends joined.client_sent
       client) → joined.server_sent ≡ sasl_header ++ (framed offer ++ server_sends)
       → ServerMakes server_limit (Frame turns.Init) first_acceptor server_nonces joined.client_sent server_sends server
-      → BothLogIn joined
+      → BothLogIn joined salt count
   from_offer offer server_sends server_nonces offered zeroth server_all waits =
       let (init, started, sent_init) = starts offer server_sends joined.client_sent offered zeroth in
       let text : List ℕ = client_first login.user (base64_text zeroth.nonce) in
@@ -731,12 +755,12 @@ module _ (login : Login) (provider : Provider) (password salt : List ℕ) (count
       → ClientMakes login.hostname client_limit Header first_profile client_nonces joined.server_sent joined.client_sent
       client
       → ServerMakes server_limit Header first_acceptor server_nonces (sasl_header ++ joined.client_sent)
-      joined.server_sent server → BothLogIn joined
+      joined.server_sent server → BothLogIn joined salt count
   log_in client_nonces server_nonces client_made server_made =
       opened_by (server_header provider server_limit server_nonces joined.client_sent joined.server_sent server
       server_made)
     where
-      opened_by : ServerOffers provider server_limit joined.client_sent joined.server_sent server → BothLogIn joined
+      opened_by : ServerOffers provider server_limit joined.client_sent joined.server_sent server → BothLogIn joined salt count
       opened_by offer =
           let offered : canonical (frames.Mechanisms (mechanism_name login.version ∷ [])) ≡ Some offer.body =
           ap (λ (v : ScramVersion). canonical (frames.Mechanisms (mechanism_name v ∷ []))) (sym holds.version)
