@@ -5,3 +5,6 @@ pub mod ActsAsLemmas
 pub mod SmallReplyLemmas
 pub mod ExactSideLemmas
 pub mod UnalteredLemmas
+pub mod NegotiatedLemmas
+pub mod OneLoginLemmas
+pub mod NegotiationAgreeLemmas

@@ -242,11 +242,11 @@ module _ (login : Login) (events : List Given) (replies : List ClientSays) (k : 
 module _ (provider : Provider) (events : List Given) (replies : List ServerSays) (k : ℕ) (event : Given)
     (says : ServerSays) (history : ServerHistory provider events replies) (at : slice_get events k ≡ Some event)
     (said : slice_get replies k ≡ Some says) where
-  abbrev ServerRow : Result SaslFrame Error → Type 0
+  abbrev pub ServerRow : Result SaslFrame Error → Type 0
   ServerRow spelled = (ServerAllocates spelled × (says ≡ Failed faults.OutOfMemory))
       ⊎ ServerAnswers provider (Open provider events replies k) event spelled says
 
-  server_row : (frame : SaslFrame) → SpellsBody event.body (Ok frame) → ServerRow (Ok frame)
+  pub server_row : (frame : SaslFrame) → SpellsBody event.body (Ok frame) → ServerRow (Ok frame)
   server_row frame spells =
       let row = history.each k event says at said in
       subst (λ (spelled : Result SaslFrame Error). ServerRow spelled)

@@ -24,21 +24,20 @@ use Rattle.fe2o3_scram.specs.Texts.{base64_text}
 use Rattle.fe2o3_scram.proofs.lemmas.messages.ExchangeLemmas.{succeeds, nonce_text, opened}
 use Rattle.fe2o3_scram.proofs.lemmas.texts.AsciiLemmas.{IsUtf8-base64_text, IsUtf8-literal}
 use Rattle.fe2o3_sasl_runs.specs.Bodies.{SpellsBody}
-use Rattle.fe2o3_sasl_runs.specs.ClientHistory.{ReadsChallenge, IsDue, NonceAt, OpenAnswer, is_start, is_answer}
+use Rattle.fe2o3_sasl_runs.specs.ClientHistory.{ReadsChallenge, IsDue, NonceAt, is_start, is_answer}
 use Rattle.fe2o3_sasl_runs.specs.Events.{Given, Login, IsLogin, ServerSays, Challenged, Concluded, Failed, ClientSays, Started, Answered, Reported, Refused, Frame as FrameFault, OutOfMemory}
 use Rattle.fe2o3_sasl_runs.specs.Positions.{IsLastOpen, test_at}
 use Rattle.fe2o3_sasl_runs.specs.Profiles.{Profile, scram_profile}
 use Rattle.fe2o3_sasl_runs.specs.Runs.{AcceptorSteps, ProfileSteps, Runs}
 use Rattle.fe2o3_sasl_runs.specs.SaslAcceptor.{Acceptor, ScramAcceptor, acceptor_names, acceptor_machine}
-use Rattle.fe2o3_sasl_runs.specs.ServerHistory.{FitsAsInit, AcceptsAt, final_message}
+use Rattle.fe2o3_sasl_runs.specs.ServerHistory.{FitsAsInit, final_message}
 use Rattle.fe2o3_sasl_runs.specs.TwoSides.{Sides, sides_of, Histories}
-use Rattle.fe2o3_sasl_runs.specs.UnalteredRuns.{Suffices, HoldsLogin, Arrives, UnalteredRun, LogsIn, client_body, server_body}
+use Rattle.fe2o3_sasl_runs.specs.UnalteredRuns.{Suffices, HoldsLogin, Arrives, UnalteredRun, client_body, server_body}
 use Rattle.fe2o3_sasl_runs.proofs.lemmas.frames.SpellingLemmas.{spells_mechanisms, spells_init, spells_challenge, spells_response, spells_outcome}
 use Rattle.fe2o3_sasl_runs.proofs.lemmas.machines.ClientMachineLemmas.{profile_runs_are_histories}
 use Rattle.fe2o3_sasl_runs.proofs.lemmas.machines.ServerMachineLemmas.{acceptor_runs_are_histories}
 use Rattle.fe2o3_sasl_runs.proofs.lemmas.positions.PositionLemmas.{opens_here}
 use Rattle.fe2o3_sasl_runs.proofs.lemmas.unaltered.UnalteredReplyLemmas.{open_value}
-use Rattle.fe2o3_sasl_runs.proofs.lemmas.unaltered.UnalteredRunLemmas.{clients_log_in}
 use Rattle.fe2o3_sasl_runs.proofs.lemmas.unaltered.UnalteredStepLemmas as step
 use Rattle.fe2o3_sasl_negotiation.specs.declared.standing.Due.{Due}
 use Rattle.fe2o3_sasl_negotiation.specs.declared.standing.Due.TheVariants.{Header, Frame}
@@ -61,6 +60,7 @@ use Rattle.fe2o3_sasl_negotiation.proofs.lemmas.UnalteredConnectionLemmas.{joine
 use Rattle.fe2o3_sasl_negotiation.proofs.lemmas.UnitLemmas.{behind_answer}
 use Rattle.connection_laws.specs.Unaltered.{FitsFrames, TakesFrames, BothLogIn, UnalteredSidesLogIn}
 use Rattle.connection_laws.proofs.lemmas.ExactSideLemmas.{Exact, exact_calls, ClientMakes, ServerMakes, client_header, ServerOffers, server_header, Takes, takes, goes_on_with}
+use Rattle.connection_laws.proofs.lemmas.OneLoginLemmas.{one_login}
 use Rattle.connection_laws.proofs.lemmas.SmallReplyLemmas.{nonce_length, first_length, proof_length, response_length, fits_as, long_enough, start_is_small, answer_is_small, report_is_small, challenge_is_small, ok_is_small, ok_fits}
 
 -- ---- what is said is neither that memory ran out nor too large
@@ -580,29 +580,6 @@ module _ (login : Login) (provider : Provider) (password salt : List ℕ) (count
               concluded = subst (λ (s : ServerSays). Arrives (server_body (Some s)) outcome) (sym accepted) refl;
             }
 
-            logs_in : LogsIn unaltered_run salt count
-            logs_in = clients_log_in login all_events all_replies all_histories.client is provider last_events
-                last_replies all_histories.server password salt count unaltered_run
-                (held all_events all_replies last_events last_replies) all_suffices
-
-            open_answer : OpenAnswer login all_events all_replies 2 (step.answering_in exchange)
-            open_answer = step.open_answer (met all_events all_replies last_events last_replies) password salt count
-                (event offer zeroth.nonce) (event init first.nonce) all_histories is
-                (held all_events all_replies last_events last_replies) all_suffices (event challenge second.nonce)
-                has_started has_answered
-
-            accepts_at : AcceptsAt provider last_events last_replies 1 (step.accepted_in exchange)
-            accepts_at = (
-              event response third.nonce,
-              frames.Response (answer_in exchange).message,
-              refl,
-              spells_response (answer_in exchange).message response sent_response,
-              step.response_fits (met all_events all_replies last_events last_replies) password salt count
-                  (event offer zeroth.nonce) (event init first.nonce) all_histories is
-                  (held all_events all_replies last_events last_replies) all_suffices
-                  ((refl, sent_init), (challenge, some_challenged)),
-            )
-
             client_ends_well : (more ≡ []) × (client_ends ≡ [])
                 × (client ≡ record {
                   standing = LoggedIn;
@@ -675,8 +652,6 @@ module _ (login : Login) (provider : Provider) (password salt : List ℕ) (count
                     client_replies = all_replies outcome more accepted sent_outcome fourth;
                     server_events = last_events;
                     server_replies = last_replies;
-                    answer = step.answering_in exchange;
-                    accepted = step.accepted_in exchange;
                     client_standing = client_in;
                     server_standing = server_in;
                     user = (joined_sides_log_in login provider password salt count client server is holds joined
@@ -692,11 +667,13 @@ module _ (login : Login) (provider : Provider) (password salt : List ℕ) (count
                         (all_run outcome more accepted sent_outcome fourth);
                     server_run = subst (λ (a : Acceptor). Runs (AcceptorSteps acceptor_machine) first_acceptor
                         last_events last_replies a) (sym (ap (λ (s : Side Acceptor). s.state) server_rests)) server_runs;
-                    unaltered = unaltered_run outcome more accepted sent_outcome fourth;
-                    logs_in = logs_in outcome more accepted sent_outcome fourth;
-                    answers = open_answer outcome more accepted sent_outcome fourth;
-                    accepts = accepts_at outcome more accepted sent_outcome fourth;
-                    one_message = refl;
+                    one_login = one_login login (all_events outcome more accepted sent_outcome fourth)
+                        (all_replies outcome more accepted sent_outcome fourth) provider last_events last_replies
+                        password salt count (unaltered_run outcome more accepted sent_outcome fourth)
+                        (all_histories outcome more accepted sent_outcome fourth) is
+                        (held (all_events outcome more accepted sent_outcome fourth)
+                        (all_replies outcome more accepted sent_outcome fourth) last_events last_replies)
+                        (all_suffices outcome more accepted sent_outcome fourth);
                   }
 
         from_challenge : joined.server_sent ≡ sasl_header ++ (framed offer ++ (framed challenge ++ server_ends))
