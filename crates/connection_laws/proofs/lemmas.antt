@@ -6,3 +6,9 @@ pub mod StayLemmas
 pub mod PairLemmas
 pub mod ShapeLemmas
 pub mod UnalteredPairLemmas
+pub mod SmallReplyLemmas
+pub mod ExactSideLemmas
+pub mod UnalteredLemmas
+pub mod NegotiatedLemmas
+pub mod OneLoginLemmas
+pub mod NegotiationAgreeLemmas

@@ -4,3 +4,4 @@
 
 pub mod pairs;
 pub mod servers;
+pub mod unaltered;
