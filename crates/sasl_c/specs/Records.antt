@@ -1,5 +1,5 @@
 -- What a server keeps of a password, as a struct of C (RFC 5802, section 3).
-use Rattle.std.specs.Prelude.{◌≡◌, ◌≢◌, ◌<◌, ◌≤◌, ◌⊎◌, ℕ, List, [], ◌∷◌, length, take, Result, Ok, Err}
+use Rattle.std.specs.Prelude.{◌≡◌, ◌<◌, ◌≤◌, ◌⊎◌, ℕ, List, [], ◌∷◌, length, take, Result, Ok, Err}
 use Rattle.std.specs.Str.{IsUtf8}
 use Rattle.fe2o3_scram.specs.declared.hmac.ScramVersion.{ScramVersion}
 use Rattle.fe2o3_scram.specs.Credentials.{MeetsRecord, Record, VersionedRecord, record_of, versioned}

@@ -10,9 +10,9 @@ use Rattle.fe2o3_scram.specs.Escape.{escaped}
 use Rattle.fe2o3_scram.specs.Hmac.{mechanism_name}
 use Rattle.fe2o3_sasl_wire.specs.declared.sasl_frames.forms.Form.{Form}
 use Rattle.fe2o3_sasl_wire.specs.declared.sasl_frames.forms.Form.TheVariants.{Eight, ThirtyTwo}
-use Rattle.fe2o3_sasl_wire.specs.SaslFrames.{SaslFrame, Field, Binary, Text, Symbol, Ubyte, Null, optional, number, content, canonical, canonical_field, canonical_list, canonical_variable, code_of, kind_of, count_of, items_of, list_body, shortest}
+use Rattle.fe2o3_sasl_wire.specs.SaslFrames.{SaslFrame, Field, Binary, Text, Symbol, Ubyte, Null, optional, descriptor_of, number, content, canonical, canonical_field, list_body, shortest}
 use Rattle.fe2o3_sasl_wire.specs.SaslFrames as frames
-use Rattle.fe2o3_sasl_wire.specs.private.Writing.{width}
+use Rattle.fe2o3_sasl_wire.specs.private.Writing.{width, canonical_variable, canonical_list, count_of, items_of}
 use Rattle.fe2o3_sasl_wire.proofs.lemmas.writing.BodyPartsLemmas.{has_body}
 use Rattle.fe2o3_sasl_wire.proofs.lemmas.writing.CanonicalSpellsLemmas.{length-content}
 use Rattle.fe2o3_sasl_negotiation.specs.FrameSizes.{CanBeSent, ScramInitsFit, InitsFit, TextsFit, OutcomesFit}
@@ -45,7 +45,7 @@ short_variable short long bytes =
 
 -- its body, where it has one
 abbrev whole : SaslFrame → List ℕ
-whole frame = 2 ∷ 1 ∷ 0 ∷ 0 ∷ 0 ∷ 0x53 ∷ code_of (kind_of frame) ∷ canonical_list (count_of frame) (items_of frame)
+whole frame = 2 ∷ 1 ∷ 0 ∷ 0 ∷ 0 ∷ 0x53 ∷ (descriptor_of frame).0 ∷ canonical_list (count_of frame) (items_of frame)
 
 there : (body : List ℕ) (b : Bool) → IsSome (if b then Some body else None) → length body + 4 ≤ 512
     → (other : List ℕ) × ((if b then Some body else None) ≡ Some other) × (length other + 4 ≤ 512)
