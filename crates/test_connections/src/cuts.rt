@@ -86,12 +86,6 @@ fn cut<'a, R: Abort + AllocGlobal>(
     pieces
 }
 
-/// Frees a list of pieces. Each is taken apart, because `Piece` is not `Drop`.
-fn end_all(mut pieces: Vec<Piece<'_>>) {
-    while let Some(Piece { bytes: _, nonce: _ }) = pieces.pop() {}
-    pieces.destroy_empty();
-}
-
 /// Checks the call over each row, cut into pieces of each length.
 pub fn all_end<R: Abort + AllocGlobal, C: Call>(rt: &R, call: &C, rows: &[Row]) {
     for row in rows {
@@ -103,9 +97,7 @@ pub fn all_end<R: Abort + AllocGlobal, C: Call>(rt: &R, call: &C, rows: &[Row]) 
                 standing: row.standing,
                 stop: *stop,
             };
-            let is_right = call.ends(rt, &pieces, &end);
-            end_all(pieces);
-            assert!(rt; is_right, "{} {len}", row.name);
+            assert!(rt; call.ends(rt, &pieces, &end), "{} {len}", row.name);
         }
     }
 }
