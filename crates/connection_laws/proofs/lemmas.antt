@@ -10,3 +10,9 @@ pub mod CutLemmas
 pub mod CutStepLemmas
 pub mod CutConnectionLemmas
 pub mod CutCallLemmas
+pub mod SmallReplyLemmas
+pub mod ExactSideLemmas
+pub mod UnalteredLemmas
+pub mod NegotiatedLemmas
+pub mod OneLoginLemmas
+pub mod NegotiationAgreeLemmas

@@ -1,3 +1,4 @@
 pub mod Servers
 pub mod Pairs
 pub mod Cuts
+pub mod Unaltered

@@ -5,3 +5,4 @@
 pub mod cuts;
 pub mod pairs;
 pub mod servers;
+pub mod unaltered;

@@ -30,6 +30,6 @@ pub fn replays()
 /// States that both sides of an unaltered login mean one login. Where a SCRAM client and a SCRAM server have both
 /// logged in, each over the bytes that the other sent, and the client's secret opens the server's record, their
 /// AuthMessages are equal: both for the verifier that the client took and for the proof that the server accepted.
-pub fn unaltered()
+pub fn unaltered_logins()
     ensures { UnalteredConnectionsAgree }
 {}

@@ -25,6 +25,7 @@ use fe2o3_scram::scram_server::ScramAuthenticator;
 use std::alloc::Global;
 
 /// Bytes that arrive together, and 32 random bytes: the nonce of each frame whose last byte is among them.
+#[derive(Drop)]
 pub struct Piece<'a> {
     /// The bytes.
     pub bytes: &'a [u8],

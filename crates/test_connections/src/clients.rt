@@ -1,0 +1,73 @@
+//! A client of SCRAM over whole connections.
+
+use crate::cuts::{Call, End, Row, all_end, text};
+use crate::units::*;
+use fe2o3_sasl::sasl_profile::{SaslProfile, SaslScramSha256};
+use fe2o3_sasl_negotiation::{ClosedBecause, Piece, Standing, client_connection};
+use fe2o3_sasl_wire::SaslCode;
+use std::process::Abort;
+
+/// A client of SCRAM-SHA-256 by [`client_connection`].
+struct Client;
+
+impl Call for Client {
+    const NONCE: (u8, usize) = (1, 40);
+
+    fn ends<R: Abort + AllocGlobal>(&self, rt: &R, pieces: &[Piece<'_>], end: &End<'_>) -> bool {
+        let scram = SaslScramSha256::new(text(rt, USER), text(rt, PASSWORD));
+        let answered = client_connection(rt.alloc(), SaslProfile::from(scram), None, pieces);
+        let answered = answered.expect(rt, "memory");
+        end.is(&answered, answered.side.standing())
+    }
+}
+
+/// Connections to a client.
+static ROWS: [Row; 6] = [
+    Row {
+        name: "A login by SCRAM-SHA-256, all at once, with AMQP's header after it",
+        given: &[SASL, MECHANISMS, CHALLENGE, OUTCOME, AMQP],
+        sent: &[INIT, RESPONSE],
+        standing: Standing::LoggedIn,
+        stops: [(0, 261), (261, 0), (37, 2)],
+    },
+    Row {
+        name: "A login by SCRAM-SHA-256, unit by unit, up to the response",
+        given: &[SASL, MECHANISMS, CHALLENGE],
+        sent: &[INIT, RESPONSE],
+        standing: Standing::Wanting,
+        stops: [(1, 0), (197, 0), (29, 0)],
+    },
+    Row {
+        name: "The refusal in place of the outcome",
+        given: &[SASL, MECHANISMS, CHALLENGE, OUTCOME_AUTH, AMQP],
+        sent: &[INIT, RESPONSE],
+        standing: Standing::Closed(ClosedBecause::Refused(SaslCode::Auth)),
+        stops: [(0, 213), (213, 0), (30, 3)],
+    },
+    Row {
+        name: "Another header",
+        given: &[OTHER_HEADER, SASL],
+        sent: &[],
+        standing: Standing::Closed(ClosedBecause::OtherHeader),
+        stops: [(0, 8), (8, 0), (1, 1)],
+    },
+    Row {
+        name: "The size 513 in place of the list",
+        given: &[SASL, SIZE_513, AMQP],
+        sent: &[],
+        standing: Standing::Closed(ClosedBecause::FrameSize),
+        stops: [(0, 12), (12, 0), (1, 5)],
+    },
+    Row {
+        name: "No bytes at all",
+        given: &[],
+        sent: &[],
+        standing: Standing::Wanting,
+        stops: [(0, 0); 3],
+    },
+];
+
+#[test]
+fn clients_end(rt: HostRuntime) {
+    all_end(&rt, &Client, &ROWS);
+}
