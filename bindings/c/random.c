@@ -307,12 +307,12 @@ static void with_a_text(void)
     answered("saslprep", fe2o3_saslprep(GIVEN(typed), below(8) == 0 ? any() : below(2), ROOM));
 }
 
-/* What a server sends next, to a client of this mechanism. */
+/* What a server sends next, to a client of this mechanism, and now and then what is not due. */
 static void to_client(uint32_t mechanism, const struct fe2o3_sasl_client *side, struct text *came)
 {
     struct text body = {{0}, 0}, message;
     uint8_t code = (uint8_t)(mechanism != FE2O3_SCRAM ? 1 + below(4) : below(4) ? 0 : below(6));
-    switch (side->connection.due) {
+    switch (below(8) == 0 ? below(6) : side->connection.due) {
     case 0:
         ADD(came, "AMQP\3\1\0\0");
         break;
@@ -352,11 +352,11 @@ static void with_a_side_of_a_client(void)
     answered("sasl_client_receive", status);
 }
 
-/* What a client sends next. */
+/* What a client sends next, and now and then what is not due. */
 static void to_server(const struct fe2o3_sasl_server *side, struct text *came)
 {
     struct text body = {{0}, 0}, message = {{0}, 0};
-    switch (side->connection.due) {
+    switch (below(8) == 0 ? below(6) : side->connection.due) {
     case 0:
         ADD(came, "AMQP\3\1\0\0");
         break;
