@@ -6,12 +6,12 @@ use Rattle.fe2o3_sasl_runs.specs.OneOfLaws.{Machine}
 use Rattle.fe2o3_sasl_runs.specs.Profiles.{Profile}
 use Rattle.fe2o3_sasl_negotiation.specs.declared.standing.Due.{Due}
 use Rattle.fe2o3_sasl_negotiation.specs.declared.standing.Standing.TheVariants.{Wanting}
-use Rattle.fe2o3_sasl_negotiation.specs.ClientNegotiation.{ClientAnswers}
-use Rattle.fe2o3_sasl_negotiation.specs.Connections.{Piece, NonceAt, ServerNegotiated, ClientNegotiated, ServerConnection, ClientConnection, fresh}
+use Rattle.fe2o3_sasl_negotiation.specs.ClientNegotiation.{ClientSideAnswers}
+use Rattle.fe2o3_sasl_negotiation.specs.Connections.{Piece, PieceNonceAt, ServerNegotiated, ClientNegotiated, ServerConnection, ClientConnection, fresh}
 use Rattle.fe2o3_sasl_negotiation.specs.Framing.{sasl_header, framed}
 use Rattle.fe2o3_sasl_negotiation.specs.Laws.{Call, Calls}
-use Rattle.fe2o3_sasl_negotiation.specs.Negotiations.{Side, Answer}
-use Rattle.fe2o3_sasl_negotiation.specs.ServerNegotiation.{ServerAnswers}
+use Rattle.fe2o3_sasl_negotiation.specs.Negotiations.{Side, SideOutput}
+use Rattle.fe2o3_sasl_negotiation.specs.ServerNegotiation.{ServerSideAnswers}
 
 -- the machine has one reply at most to each frame, and one state after it
 abbrev pub IsFunction : {S : Type 0} → Machine S → Type 0
@@ -27,8 +27,8 @@ EndsFrame stream n = (bodies : List (List ℕ)) × (body : List ℕ) × (tail : 
 
 -- the calls in which the last byte of a frame arrives have one nonce in both divisions of the stream
 abbrev pub HaveOneNonceEach : List Piece → List Piece → List ℕ → Type 0
-HaveOneNonceEach pieces others stream = (n : ℕ) (nonce other : List ℕ) → EndsFrame stream n → NonceAt pieces n nonce
-    → NonceAt others n other → nonce ≡ other
+HaveOneNonceEach pieces others stream = (n : ℕ) (nonce other : List ℕ) → EndsFrame stream n → PieceNonceAt pieces n nonce
+    → PieceNonceAt others n other → nonce ≡ other
 
 -- two sides have sent the same bytes and have one standing: both wait, both have logged in, or both have closed for one
 -- reason. Their machines have one state. While they wait, the sides are equal, also in the part of a frame that they hold
@@ -87,7 +87,7 @@ ClientsEndEqually = (hostname : Option (List ℕ)) (limit : ℕ) (profile : Prof
 -- ---- of calls
 
 -- calls over a stream, from this side on: what they send, how the side ends, and the bytes that they leave
-pub record CallsOver {S : Type 0} (Answers : Due → S → List ℕ → List ℕ → Answer → S → Type 0) (side : Side S)
+pub record CallsOver {S : Type 0} (Answers : Due → S → List ℕ → List ℕ → SideOutput → S → Type 0) (side : Side S)
     (stream : List ℕ) : Type 0 where
   pub calls : List Call
   pub sent : List ℕ
@@ -96,7 +96,7 @@ pub record CallsOver {S : Type 0} (Answers : Due → S → List ℕ → List ℕ
   pub made : Calls Answers side calls stream sent last rest
 
 -- the bytes that each call took, with its nonce
-abbrev pub taken_pieces : {S : Type 0} (Answers : Due → S → List ℕ → List ℕ → Answer → S → Type 0) (side : Side S)
+abbrev pub taken_pieces : {S : Type 0} (Answers : Due → S → List ℕ → List ℕ → SideOutput → S → Type 0) (side : Side S)
     (calls : List Call) (stream sent : List ℕ) (last : Side S) (rest : List ℕ)
     → Calls Answers side calls stream sent last rest → List Piece
 taken_pieces Answers side [] stream sent last rest made = []
@@ -105,14 +105,14 @@ taken_pieces Answers side (call ∷ calls) stream sent last rest (taken, first, 
     ∷ taken_pieces Answers next calls (drop taken stream) later last rest made
 
 -- likewise of such calls
-abbrev pub pieces_of : {S : Type 0} (Answers : Due → S → List ℕ → List ℕ → Answer → S → Type 0) (side : Side S)
+abbrev pub pieces_of : {S : Type 0} (Answers : Due → S → List ℕ → List ℕ → SideOutput → S → Type 0) (side : Side S)
     (stream : List ℕ) → CallsOver Answers side stream → List Piece
 pieces_of Answers side stream over =
     taken_pieces Answers side over.calls stream over.sent over.last over.rest over.made
 
 -- calls over one stream of bytes that leave the same rest of it end equally, where the calls in which the last byte of a
 -- frame arrives have one nonce
-abbrev pub CallsEndEqually : {S : Type 0} → (Due → S → List ℕ → List ℕ → Answer → S → Type 0) → S → Type 0
+abbrev pub CallsEndEqually : {S : Type 0} → (Due → S → List ℕ → List ℕ → SideOutput → S → Type 0) → S → Type 0
 CallsEndEqually {S} Answers state = (limit : ℕ) (stream : List ℕ) → limit < 2 ^ 32 → IsBytes stream
     → (first second : CallsOver Answers (fresh limit state) stream) → first.rest ≡ second.rest
     → HaveOneNonceEach (pieces_of Answers (fresh limit state) stream first)
@@ -121,7 +121,7 @@ CallsEndEqually {S} Answers state = (limit : ℕ) (stream : List ℕ) → limit 
 
 -- those of a server, from each state
 abbrev pub ServerCallsEndEqually : {S : Type 0} → (S → List (List ℕ)) → Machine S → Type 0
-ServerCallsEndEqually {S} names machine = (state : S) → CallsEndEqually (ServerAnswers names machine) state
+ServerCallsEndEqually {S} names machine = (state : S) → CallsEndEqually (ServerSideAnswers names machine) state
 
 -- of every server whose machine is a function
 abbrev pub FunctionCallsEndEqually : {S : Type 0} → (S → List (List ℕ)) → Machine S → Type 0
@@ -130,4 +130,4 @@ FunctionCallsEndEqually names machine = IsFunction machine → ServerCallsEndEqu
 -- and those of a client
 abbrev pub ClientCallsEndEqually : Type 0
 ClientCallsEndEqually = (hostname : Option (List ℕ)) (profile : Profile)
-    → CallsEndEqually (ClientAnswers hostname) profile
+    → CallsEndEqually (ClientSideAnswers hostname) profile

@@ -15,7 +15,7 @@ use Rattle.fe2o3_sasl_runs.specs.Headline.{AnswersOkExactly}
 use Rattle.fe2o3_sasl_runs.specs.HidingAcceptor.{hiding_machine, hiding_names}
 use Rattle.fe2o3_sasl_runs.specs.HidingLaws.{HoldsName, hiding}
 use Rattle.fe2o3_sasl_runs.specs.OffersOnly.{Offering, offering_machine}
-use Rattle.fe2o3_sasl_runs.specs.OneOf.{Parts, both_names, one_of_machine, part_names}
+use Rattle.fe2o3_sasl_runs.specs.OneOf.{BothStates, both_names, one_of_machine, part_names}
 use Rattle.fe2o3_sasl_runs.specs.OneOfLaws.{Machine, Splits, PassesOn, AnswersAsScram, those, to_first, to_second}
 use Rattle.fe2o3_sasl_runs.specs.OneOfUsers.{SomeEvent, AsksOffered}
 use Rattle.fe2o3_sasl_runs.specs.PlainAuthenticator.{PlainServer, PlainLogsIn, plain_machine}
@@ -62,8 +62,8 @@ NegotiationsHaveNames {S} machine = (unbound : Bool) (limit : ℕ) (state : S) (
 -- acceptor is a run of that acceptor by itself
 abbrev pub OneOfServersSplit : {S T : Type 0} → (S → List (List ℕ)) → (T → List (List ℕ)) → Machine S → Machine T
     → Type 0
-OneOfServersSplit {S} {T} names others machine other = (limit : ℕ) (state : Parts S T) (pieces : List Piece)
-    (taken sent : List ℕ) (last : Side (Parts S T))
+OneOfServersSplit {S} {T} names others machine other = (limit : ℕ) (state : BothStates S T) (pieces : List Piece)
+    (taken sent : List ℕ) (last : Side (BothStates S T))
     (negotiated : ServerNegotiated (one_of_machine names others machine other) limit state pieces taken sent last)
     → (marks : List (Option Part))
     × Splits names others machine other state negotiated.events negotiated.replies last.state marks
@@ -72,8 +72,8 @@ OneOfServersSplit {S} {T} names others machine other = (limit : ℕ) (state : Pa
 -- exactly who has logged in
 abbrev pub ScramFirstServes : {T : Type 0} → (T → List (List ℕ)) → Machine T → Type 0
 ScramFirstServes {T} others other = (provider : Provider) (second : T) (limit : ℕ) (pieces : List Piece)
-    (taken sent : List ℕ) (last : Side (Parts Acceptor T))
-    → let state : Parts Acceptor T = record { first = ScramAcceptor provider Initial; second = second; asked = None } in
+    (taken sent : List ℕ) (last : Side (BothStates Acceptor T))
+    → let state : BothStates Acceptor T = record { first = ScramAcceptor provider Initial; second = second; asked = None } in
     (negotiated : ServerNegotiated (one_of_machine acceptor_names others acceptor_machine other) limit state pieces taken
     sent last)
     → (marks : List (Option Part))
@@ -84,8 +84,8 @@ ScramFirstServes {T} others other = (provider : Provider) (second : T) (limit : 
 -- and SCRAM that is the second
 abbrev pub ScramSecondServes : {S : Type 0} → (S → List (List ℕ)) → Machine S → Type 0
 ScramSecondServes {S} names machine = (provider : Provider) (first : S) (limit : ℕ) (pieces : List Piece)
-    (taken sent : List ℕ) (last : Side (Parts S Acceptor))
-    → let state : Parts S Acceptor = record { first = first; second = ScramAcceptor provider Initial; asked = None } in
+    (taken sent : List ℕ) (last : Side (BothStates S Acceptor))
+    → let state : BothStates S Acceptor = record { first = first; second = ScramAcceptor provider Initial; asked = None } in
     (negotiated : ServerNegotiated (one_of_machine names acceptor_names machine acceptor_machine) limit state pieces taken
     sent last)
     → (marks : List (Option Part))
@@ -105,8 +105,8 @@ pub record AnswersAsMock (provider : Provider) (nobody : Nobody) (names : List (
 -- SCRAM with mock authentication that is the first of two answers so the events that went to it
 abbrev pub MockFirstServes : {T : Type 0} → (T → List (List ℕ)) → Machine T → Type 0
 MockFirstServes {T} others other = (provider : Provider) (nobody : Nobody) (second : T) (limit : ℕ)
-    (pieces : List Piece) (taken sent : List ℕ) (last : Side (Parts HidingServer T))
-    → let state : Parts HidingServer T =
+    (pieces : List Piece) (taken sent : List ℕ) (last : Side (BothStates HidingServer T))
+    → let state : BothStates HidingServer T =
     record { first = hiding provider nobody Initial; second = second; asked = None } in
     (negotiated : ServerNegotiated (one_of_machine hiding_names others hiding_machine other) limit state pieces taken
     sent last)
@@ -119,8 +119,8 @@ MockFirstServes {T} others other = (provider : Provider) (nobody : Nobody) (seco
 -- and so does one that is the second
 abbrev pub MockSecondServes : {S : Type 0} → (S → List (List ℕ)) → Machine S → Type 0
 MockSecondServes {S} names machine = (provider : Provider) (nobody : Nobody) (first : S) (limit : ℕ)
-    (pieces : List Piece) (taken sent : List ℕ) (last : Side (Parts S HidingServer))
-    → let state : Parts S HidingServer =
+    (pieces : List Piece) (taken sent : List ℕ) (last : Side (BothStates S HidingServer))
+    → let state : BothStates S HidingServer =
     record { first = first; second = hiding provider nobody Initial; asked = None } in
     (negotiated : ServerNegotiated (one_of_machine names hiding_names machine hiding_machine) limit state pieces taken
     sent last)
@@ -142,9 +142,9 @@ OfferingServersPassOn {S} names machine = (limit : ℕ) (state : Offering S) (pi
 
 -- the machine of a server of two acceptors that offers only some of their names
 abbrev pub offering_both : {S T : Type 0} → (S → List (List ℕ)) → (T → List (List ℕ)) → Machine S → Machine T
-    → Machine (Offering (Parts S T))
+    → Machine (Offering (BothStates S T))
 offering_both {S} {T} names others machine other =
-    offering_machine (λ (parts : Parts S T). both_names (names parts.first) (others parts.second))
+    offering_machine (λ (parts : BothStates S T). both_names (names parts.first) (others parts.second))
     (one_of_machine names others machine other)
 
 -- where such a server, which nobody had asked, names a user by these names of its acceptors, that is the name by the
@@ -152,10 +152,10 @@ offering_both {S} {T} names others machine other =
 abbrev pub OfferingServersNameUsers : {S T : Type 0} → (S → List (List ℕ)) → (T → List (List ℕ)) → Machine S
     → Machine T → Type 0
 OfferingServersNameUsers {S} {T} names others machine other = (user : S → Option (List ℕ))
-    (other_user : T → Option (List ℕ)) (limit : ℕ) (state : Offering (Parts S T)) (pieces : List Piece)
-    (taken sent : List ℕ) (last : Side (Offering (Parts S T))) (name : List ℕ)
+    (other_user : T → Option (List ℕ)) (limit : ℕ) (state : Offering (BothStates S T)) (pieces : List Piece)
+    (taken sent : List ℕ) (last : Side (Offering (BothStates S T))) (name : List ℕ)
     (negotiated : ServerNegotiated (offering_both names others machine other) limit state pieces taken sent last)
-    → let parts : Parts S T = last.state.inner in
+    → let parts : BothStates S T = last.state.inner in
     state.inner.asked ≡ None → part_names parts.asked (user parts.first) (other_user parts.second) ≡ Some name
     → (part : Part) × (part_names (Some part) (user parts.first) (other_user parts.second) ≡ Some name)
     × (parts.asked ≡ Some part)
@@ -165,8 +165,8 @@ OfferingServersNameUsers {S} {T} names others machine other = (user : S → Opti
 -- ---- who has logged in at one of several
 
 -- a side with this state of another machine
-abbrev pub in_state : {S T : Type 0} → T → Side S → Side T
-in_state state side = record {
+abbrev pub side_with : {S T : Type 0} → T → Side S → Side T
+side_with state side = record {
   standing = side.standing;
   due = side.due;
   limit = side.limit;
@@ -178,12 +178,12 @@ in_state state side = record {
 abbrev pub NegotiatesAs : {S T : Type 0} → Machine T → ℕ → T → List Piece → List ℕ → List ℕ → Side S → T → List Given
     → List ServerSays → Type 0
 NegotiatesAs machine limit state pieces taken sent last end events replies =
-    (own : ServerNegotiated machine limit state pieces taken sent (in_state end last)) × (own.events ≡ events)
+    (own : ServerNegotiated machine limit state pieces taken sent (side_with end last)) × (own.events ≡ events)
     × (own.replies ≡ replies)
 
 -- and one of this part of a server of two acceptors
-abbrev pub PartNegotiates : {S T : Type 0} → Machine S → Machine T → Part → ℕ → Parts S T → List Piece → List ℕ
-    → List ℕ → Side (Parts S T) → List Given → List ServerSays → Type 0
+abbrev pub PartNegotiates : {S T : Type 0} → Machine S → Machine T → Part → ℕ → BothStates S T → List Piece → List ℕ
+    → List ℕ → Side (BothStates S T) → List Given → List ServerSays → Type 0
 PartNegotiates machine other First limit state pieces taken sent last events replies =
     NegotiatesAs machine limit state.first pieces taken sent last last.state.first events replies
 PartNegotiates machine other Second limit state pieces taken sent last events replies =
@@ -192,8 +192,8 @@ PartNegotiates machine other Second limit state pieces taken sent last events re
 -- a server of two acceptors that has logged its client in is, byte for byte, a server of the acceptor asked last
 abbrev pub OneOfServersActAsPart : {S T : Type 0} → (S → List (List ℕ)) → (T → List (List ℕ)) → Machine S → Machine T
     → Type 0
-OneOfServersActAsPart {S} {T} names others machine other = (limit : ℕ) (state : Parts S T) (pieces : List Piece)
-    (taken sent : List ℕ) (last : Side (Parts S T))
+OneOfServersActAsPart {S} {T} names others machine other = (limit : ℕ) (state : BothStates S T) (pieces : List Piece)
+    (taken sent : List ℕ) (last : Side (BothStates S T))
     (negotiated : ServerNegotiated (one_of_machine names others machine other) limit state pieces taken sent last)
     → last.standing ≡ LoggedIn
     → (part : Part) × (last.state.asked ≡ Some part)

@@ -26,14 +26,14 @@ verdict_of (verdicts.SameHash client_key recovered) = SameHash client_key.items 
 verdict_of verdicts.OtherKey = OtherKey
 
 -- the kind that the code's value is
-abbrev pub kind_of : code_kind.FindingKind → FindingKind
-kind_of kinds.Verifier = OfVerifier
-kind_of kinds.Proof = OfProof
+abbrev pub finding_kind : code_kind.FindingKind → FindingKind
+finding_kind kinds.Verifier = OfVerifier
+finding_kind kinds.Proof = OfProof
 
 -- the finding that the code's value is
 abbrev pub finding_of : code_finding.Finding → Finding
 finding_of finding = record {
-  kind = kind_of finding.kind;
+  kind = finding_kind finding.kind;
   client = finding.client;
   server = finding.server;
   verdict = verdict_of finding.verdict;

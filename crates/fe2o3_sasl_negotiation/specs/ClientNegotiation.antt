@@ -18,62 +18,62 @@ use Rattle.fe2o3_sasl_negotiation.specs.declared.standing.Turn.{Turn}
 use Rattle.fe2o3_sasl_negotiation.specs.declared.standing.Turn.TheVariants as turns
 use Rattle.fe2o3_sasl_negotiation.specs.declared.standing.Standing.TheVariants.{Wanting, LoggedIn}
 use Rattle.fe2o3_sasl_negotiation.specs.Framing.{sasl_header}
-use Rattle.fe2o3_sasl_negotiation.specs.Negotiations.{Side, Answer, closes, Sends, IsInTurn, AnswersTo, Receives, Completes}
+use Rattle.fe2o3_sasl_negotiation.specs.Negotiations.{Side, SideOutput, closes, Sends, IsInTurn, AnswersTo, Receives, Completes}
 
 -- what it answers to a header: the one of SASL it waits for, another closes
-abbrev pub Opens : List ℕ → Answer → Type 0
-Opens header answer =
+abbrev pub ClientOpens : List ℕ → SideOutput → Type 0
+ClientOpens header answer =
     ((header ≢ sasl_header) × (answer ≡ closes OtherHeader Header))
     ⊎ ((header ≡ sasl_header) × (answer ≡ record { sent = []; standing = Wanting; due = Frame turns.Mechanisms }))
 
 -- what it sends of what its profile says: an init to a list of mechanisms, a response to a challenge, and nothing
 -- behind an outcome or a refusal, which end the negotiation
-abbrev pub Says : ClientSays → Turn → Answer → Type 0
-Says (Started body) turns.Mechanisms answer = Sends body Wanting (Frame turns.Challenge) answer
-Says (Started body) turn answer = answer ≡ closes OutOfTurn (Frame turn)
-Says (Answered body) turns.Challenge answer = Sends body Wanting (Frame turns.Outcome) answer
-Says (Answered body) turn answer = answer ≡ closes OutOfTurn (Frame turn)
-Says (Reported outcomes.Ok more) turn answer = answer ≡ record { sent = []; standing = LoggedIn; due = Frame turn }
-Says (Reported code more) turn answer = answer ≡ closes (Refused code) (Frame turn)
-Says (ClientRefused OutOfMemory) turn answer = ⊥
-Says (ClientRefused fault) turn answer = (kind : ProfileError) × (client_fault kind ≡ fault)
+abbrev pub ClientOutputs : ClientSays → Turn → SideOutput → Type 0
+ClientOutputs (Started body) turns.Mechanisms answer = Sends body Wanting (Frame turns.Challenge) answer
+ClientOutputs (Started body) turn answer = answer ≡ closes OutOfTurn (Frame turn)
+ClientOutputs (Answered body) turns.Challenge answer = Sends body Wanting (Frame turns.Outcome) answer
+ClientOutputs (Answered body) turn answer = answer ≡ closes OutOfTurn (Frame turn)
+ClientOutputs (Reported outcomes.Ok more) turn answer = answer ≡ record { sent = []; standing = LoggedIn; due = Frame turn }
+ClientOutputs (Reported code more) turn answer = answer ≡ closes (Refused code) (Frame turn)
+ClientOutputs (ClientRefused OutOfMemory) turn answer = ⊥
+ClientOutputs (ClientRefused fault) turn answer = (kind : ProfileError) × (client_fault kind ≡ fault)
     × (answer ≡ closes (ProfileRefused kind) (Frame turn))
 
 -- it asks its profile, by a step over the body
-abbrev pub AsksProfile : Option (List ℕ) → Turn → Profile → Given → Answer → Profile → Type 0
+abbrev pub AsksProfile : Option (List ℕ) → Turn → Profile → Given → SideOutput → Profile → Type 0
 AsksProfile hostname turn profile event answer next =
-    (says : ClientSays) × ProfileSteps hostname profile event says next × Says says turn answer
+    (says : ClientSays) × ProfileSteps hostname profile event says next × ClientOutputs says turn answer
 
 -- what it answers to the body of a frame
-abbrev pub Replies : Option (List ℕ) → Turn → Profile → Given → Answer → Profile → Type 0
-Replies hostname turn profile event answer next = (spelled : Result SaslFrame Error) × SpellsBody event.body spelled
+abbrev pub ClientReplies : Option (List ℕ) → Turn → Profile → Given → SideOutput → Profile → Type 0
+ClientReplies hostname turn profile event answer next = (spelled : Result SaslFrame Error) × SpellsBody event.body spelled
     × AnswersTo (AsksProfile hostname turn profile event) turn profile spelled answer next
 
 -- what a client answers to a unit
-abbrev pub ClientAnswers : Option (List ℕ) → Due → Profile → List ℕ → List ℕ → Answer → Profile → Type 0
-ClientAnswers hostname Header profile nonce unit answer next = Opens unit answer × (next ≡ profile)
-ClientAnswers hostname (Frame turn) profile nonce unit answer next =
-    Replies hostname turn profile (record { body = drop 4 unit; nonce = nonce }) answer next
+abbrev pub ClientSideAnswers : Option (List ℕ) → Due → Profile → List ℕ → List ℕ → SideOutput → Profile → Type 0
+ClientSideAnswers hostname Header profile nonce unit answer next = ClientOpens unit answer × (next ≡ profile)
+ClientSideAnswers hostname (Frame turn) profile nonce unit answer next =
+    ClientReplies hostname turn profile (record { body = drop 4 unit; nonce = nonce }) answer next
 
 -- what a call makes of the bytes that it is handed
 abbrev pub ClientReceives : Option (List ℕ) → Side Profile → List ℕ → List ℕ → ℕ → List ℕ → Side Profile → Type 0
 ClientReceives hostname side bytes nonce taken sent next =
-    Receives (ClientAnswers hostname) side bytes nonce taken sent next
+    Receives (ClientSideAnswers hostname) side bytes nonce taken sent next
 
 -- the HMAC values of an answer to a body: none, or those of the profile's step over a body in turn
-abbrev pub ReplyCosts : Turn → Profile → Given → ℕ → ℕ → Type 0
-ReplyCosts turn profile event before after = (after ≡ before)
+abbrev pub ClientReplyCosts : Turn → Profile → Given → ℕ → ℕ → Type 0
+ClientReplyCosts turn profile event before after = (after ≡ before)
     ⊎ ((frame : SaslFrame) × (reply : Result ClientReply ProfileError) × SpellsBody event.body (Ok frame)
     × IsInTurn turn frame × ProfileStepCosts profile event reply before after)
 
 -- of an answer to a unit: a header takes none
-abbrev pub UnitCosts : Due → Profile → List ℕ → List ℕ → ℕ → ℕ → Type 0
-UnitCosts Header profile nonce unit before after = after ≡ before
-UnitCosts (Frame turn) profile nonce unit before after =
-    ReplyCosts turn profile (record { body = drop 4 unit; nonce = nonce }) before after
+abbrev pub ClientUnitCosts : Due → Profile → List ℕ → List ℕ → ℕ → ℕ → Type 0
+ClientUnitCosts Header profile nonce unit before after = after ≡ before
+ClientUnitCosts (Frame turn) profile nonce unit before after =
+    ClientReplyCosts turn profile (record { body = drop 4 unit; nonce = nonce }) before after
 
 -- and of a call: none, or those of the answer to a body that it completes
 abbrev pub ClientCosts : Side Profile → List ℕ → List ℕ → ℕ → ℕ → Type 0
 ClientCosts side bytes nonce before after = (after ≡ before)
     ⊎ ((turn : Turn) × (body : List ℕ) × Completes side bytes turn body
-    × ReplyCosts turn side.state (record { body = body; nonce = nonce }) before after)
+    × ClientReplyCosts turn side.state (record { body = body; nonce = nonce }) before after)

@@ -15,12 +15,12 @@ use Rattle.fe2o3_sasl_negotiation.specs.declared.standing.Standing.{Standing}
 use Rattle.fe2o3_sasl_negotiation.specs.declared.standing.Standing.TheVariants.{Wanting, LoggedIn, Closed}
 use Rattle.fe2o3_sasl_negotiation.specs.declared.standing.Turn.{Turn}
 use Rattle.fe2o3_sasl_negotiation.specs.declared.standing.Turn.TheVariants as turns
-use Rattle.fe2o3_sasl_negotiation.specs.ClientNegotiation.{ClientAnswers}
+use Rattle.fe2o3_sasl_negotiation.specs.ClientNegotiation.{ClientSideAnswers}
 use Rattle.fe2o3_sasl_negotiation.specs.ClientNegotiation as of_client
 use Rattle.fe2o3_sasl_negotiation.specs.Framing.{sasl_header, framed, size_of, Fits, IsPart}
 use Rattle.fe2o3_sasl_negotiation.specs.Laws.{Call, Calls}
-use Rattle.fe2o3_sasl_negotiation.specs.Negotiations.{Side, Answer, IsInTurn}
-use Rattle.fe2o3_sasl_negotiation.specs.ServerNegotiation.{offer_body, ServerAnswers}
+use Rattle.fe2o3_sasl_negotiation.specs.Negotiations.{Side, SideOutput, IsInTurn}
+use Rattle.fe2o3_sasl_negotiation.specs.ServerNegotiation.{offer_body, ServerSideAnswers}
 use Rattle.fe2o3_sasl_negotiation.specs.ServerNegotiation as of_server
 
 -- ---- the bytes that arrive
@@ -35,8 +35,8 @@ abbrev pub bytes_of : List Piece → List ℕ
 bytes_of pieces = flat_map (λ (piece : Piece). piece.bytes) pieces
 
 -- the nonce of the piece in which byte number n arrives, counted from 0
-abbrev pub NonceAt : List Piece → ℕ → List ℕ → Type 0
-NonceAt pieces n nonce =
+abbrev pub PieceNonceAt : List Piece → ℕ → List ℕ → Type 0
+PieceNonceAt pieces n nonce =
     slice_get (flat_map (λ (piece : Piece). replicate (length piece.bytes) piece.nonce) pieces) n ≡ Some nonce
 
 -- the frames of these bodies, one after the other (part 2, section 2.3.1)
@@ -53,7 +53,7 @@ abbrev pub AreFrames : List Piece → ℕ → ℕ → List Turn → List Given �
 AreFrames pieces limit at turns [] = Unit {0}
 AreFrames pieces limit at [] (event ∷ events) = ⊥
 AreFrames pieces limit at (turn ∷ turns) (event ∷ events) = let size = length event.body + 4 in
-    Fits limit size × SpellsTurn turn event.body × NonceAt pieces (at + (length event.body + 3)) event.nonce
+    Fits limit size × SpellsTurn turn event.body × PieceNonceAt pieces (at + (length event.body + 3)) event.nonce
     × AreFrames pieces limit (at + size) turns events
 
 -- why a body is not answered where a frame of this turn is due: it is not read, or it is a frame out of turn
@@ -75,22 +75,22 @@ LeftOver turn limit tail standing =
 -- what a side sends with these replies, one for each of the first turns, and how the last reply leaves it. `Says` gives
 -- that for one reply. Before the first reply the side waits for a frame of the first turn, and every reply but the last
 -- is sent and leaves it waiting
-abbrev pub Replied : {A : Type 0} → (A → Turn → Answer → Type 0) → List Turn → List A → Answer → Type 0
+abbrev pub Replied : {A : Type 0} → (A → Turn → SideOutput → Type 0) → List Turn → List A → SideOutput → Type 0
 Replied Says [] replies answer = ⊥
 Replied Says (turn ∷ turns) [] answer = answer ≡ record { sent = []; standing = Wanting; due = Frame turn }
 Replied Says (turn ∷ turns) (says ∷ []) answer = Says says turn answer
 Replied Says (turn ∷ turns) (says ∷ next ∷ replies) answer =
-    (first : Answer) × (rest : Answer) × Says says turn first × (first.standing ≡ Wanting)
+    (first : SideOutput) × (rest : SideOutput) × Says says turn first × (first.standing ≡ Wanting)
     × Replied Says turns (next ∷ replies) rest × (answer ≡ record rest { sent = first.sent ++ rest.sent })
 
 -- a side after the header of the other side, over all bytes that it has taken: every frame up to the one that ended the
 -- negotiation is answered, in a run over the bodies
-pub record Negotiated {S A : Type 0} (Steps : S → Given → A → S → Type 0) (Says : A → Turn → Answer → Type 0)
+pub record Negotiated {S A : Type 0} (Steps : S → Given → A → S → Type 0) (Says : A → Turn → SideOutput → Type 0)
     (turns : List Turn) (limit : ℕ) (state : S) (pieces : List Piece) (taken sent : List ℕ) (last : Side S) : Type 0
   where
     pub events : List Given
     pub replies : List A
-    pub answer : Answer
+    pub answer : SideOutput
     pub tail : List ℕ
     pub carried : taken ≡ sasl_header ++ (frames_of events ++ tail)
     pub frames : AreFrames pieces limit 8 turns events
@@ -109,12 +109,12 @@ pub record Negotiated {S A : Type 0} (Steps : S → Given → A → S → Type 0
 abbrev pub ServerNegotiated : {S : Type 0} → (S → List ℕ → SaslFrame → SaslFrame → S → Type 0) → ℕ → S → List Piece
     → List ℕ → List ℕ → Side S → Type 0
 ServerNegotiated machine limit state pieces taken sent last =
-    Negotiated (AcceptorSteps machine) of_server.Says (turns.Init ∷ turns.Response ∷ []) limit state pieces taken sent last
+    Negotiated (AcceptorSteps machine) of_server.ServerOutputs (turns.Init ∷ turns.Response ∷ []) limit state pieces taken sent last
 
 -- and of a client: a list of mechanisms is due, then a challenge or at once an outcome, and after a challenge an outcome
 abbrev pub ClientNegotiated : Option (List ℕ) → ℕ → Profile → List Piece → List ℕ → List ℕ → Side Profile → Type 0
 ClientNegotiated hostname limit profile pieces taken sent last =
-    Negotiated (ProfileSteps hostname) of_client.Says (turns.Mechanisms ∷ turns.Challenge ∷ turns.Outcome ∷ []) limit
+    Negotiated (ProfileSteps hostname) of_client.ClientOutputs (turns.Mechanisms ∷ turns.Challenge ∷ turns.Outcome ∷ []) limit
     profile pieces taken sent last
 
 -- ---- from the first byte
@@ -171,7 +171,7 @@ abbrev pub ServersConnect : {S : Type 0} → (S → List (List ℕ)) → (S → 
     → Type 0
 ServersConnect {S} names machine = (limit : ℕ) (state : S) (calls : List Call) (stream sent rest : List ℕ)
     (last : Side S) → IsBytes stream
-    → Calls (ServerAnswers names machine) (fresh limit state) calls stream sent last rest
+    → Calls (ServerSideAnswers names machine) (fresh limit state) calls stream sent last rest
     → (pieces : List Piece) × ArePieces calls pieces × (stream ≡ bytes_of pieces ++ rest)
     × ServerConnection names machine limit state pieces (bytes_of pieces) sent last
 
@@ -179,7 +179,7 @@ ServersConnect {S} names machine = (limit : ℕ) (state : S) (calls : List Call)
 abbrev pub ClientsConnect : Type 0
 ClientsConnect = (hostname : Option (List ℕ)) (limit : ℕ) (profile : Profile) (calls : List Call)
     (stream sent rest : List ℕ) (last : Side Profile) → IsBytes stream
-    → Calls (ClientAnswers hostname) (fresh limit profile) calls stream sent last rest
+    → Calls (ClientSideAnswers hostname) (fresh limit profile) calls stream sent last rest
     → (pieces : List Piece) × ArePieces calls pieces × (stream ≡ bytes_of pieces ++ rest)
     × ClientConnection hostname limit profile pieces (bytes_of pieces) sent last
 
@@ -198,14 +198,14 @@ abbrev pub IsOkReported : ClientSays → Type 0
 IsOkReported says = (more : Option (List ℕ)) × (says ≡ Reported outcomes.Ok more)
 
 -- a server has logged its client in exactly where its last reply is an Ok that it sent
-abbrev pub ServersLogIn : {S : Type 0} → (S → List ℕ → SaslFrame → SaslFrame → S → Type 0) → Type 0
-ServersLogIn {S} machine = (limit : ℕ) (state : S) (pieces : List Piece) (taken sent : List ℕ) (last : Side S)
+abbrev pub ServerConnectionsLogIn : {S : Type 0} → (S → List ℕ → SaslFrame → SaslFrame → S → Type 0) → Type 0
+ServerConnectionsLogIn {S} machine = (limit : ℕ) (state : S) (pieces : List Piece) (taken sent : List ℕ) (last : Side S)
     (negotiated : ServerNegotiated machine limit state pieces taken sent last)
     → (last.standing ≡ LoggedIn) ↔ LastReply IsOkSent negotiated.replies
 
 -- and a client has logged in exactly where its last reply reports an Ok
-abbrev pub ClientsLogIn : Type 0
-ClientsLogIn = (hostname : Option (List ℕ)) (limit : ℕ) (profile : Profile) (pieces : List Piece)
+abbrev pub ClientConnectionsLogIn : Type 0
+ClientConnectionsLogIn = (hostname : Option (List ℕ)) (limit : ℕ) (profile : Profile) (pieces : List Piece)
     (taken sent : List ℕ) (last : Side Profile)
     (negotiated : ClientNegotiated hostname limit profile pieces taken sent last)
     → (last.standing ≡ LoggedIn) ↔ LastReply IsOkReported negotiated.replies

@@ -8,15 +8,15 @@ use Rattle.fe2o3_sasl_runs.specs.Costs.{acceptor_hmacs}
 use Rattle.fe2o3_sasl_runs.specs.Profiles.{Profile, ScramProfile}
 use Rattle.fe2o3_sasl_runs.specs.SaslAcceptor.{Acceptor, ScramAcceptor, acceptor_names, acceptor_machine}
 use Rattle.fe2o3_sasl_negotiation.specs.declared.standing.Due.{Due}
-use Rattle.fe2o3_sasl_negotiation.specs.ClientNegotiation.{ClientAnswers, ClientCosts}
+use Rattle.fe2o3_sasl_negotiation.specs.ClientNegotiation.{ClientSideAnswers, ClientCosts}
 use Rattle.fe2o3_sasl_negotiation.specs.Connections.{fresh}
 use Rattle.fe2o3_sasl_negotiation.specs.Laws.{Call, Calls}
-use Rattle.fe2o3_sasl_negotiation.specs.Negotiations.{Side, Answer, Receives}
-use Rattle.fe2o3_sasl_negotiation.specs.ServerNegotiation.{ServerAnswers, ServerCosts}
+use Rattle.fe2o3_sasl_negotiation.specs.Negotiations.{Side, SideOutput, Receives}
+use Rattle.fe2o3_sasl_negotiation.specs.ServerNegotiation.{ServerSideAnswers, ServerCosts}
 
 -- calls over a stream, each handed any number of the bytes that the calls before it left, with what one meter shows
 -- before and behind them
-abbrev pub MeteredCalls : {S : Type 0} → (Due → S → List ℕ → List ℕ → Answer → S → Type 0)
+abbrev pub MeteredCalls : {S : Type 0} → (Due → S → List ℕ → List ℕ → SideOutput → S → Type 0)
     → (Side S → List ℕ → List ℕ → ℕ → ℕ → Type 0) → Side S → List Call → List ℕ → ℕ → ℕ → Type 0
 MeteredCalls Answers Costs side [] stream before after = after ≡ before
 MeteredCalls {S} Answers Costs side (call ∷ calls) stream before after =
@@ -28,14 +28,14 @@ MeteredCalls {S} Answers Costs side (call ∷ calls) stream before after =
 -- a connection of a SCRAM server takes two HMAC values at most (RFC 5802, section 3)
 abbrev pub ServersCost : Type 0
 ServersCost = (provider : Provider) (state : ServerState) (limit : ℕ) (calls : List Call) (stream : List ℕ)
-    (before after : ℕ) → MeteredCalls (ServerAnswers acceptor_names acceptor_machine) (ServerCosts acceptor_hmacs)
+    (before after : ℕ) → MeteredCalls (ServerSideAnswers acceptor_names acceptor_machine) (ServerCosts acceptor_hmacs)
     (fresh limit (ScramAcceptor provider state)) calls stream before after
     → (before ≤ after) × (after ≤ before + 2)
 
 -- and one of a SCRAM client as many as its limit of iterations and four more
 abbrev pub ClientsCost : Type 0
 ClientsCost = (hostname : Option (List ℕ)) (client : ClientSide) (limit : ℕ) (calls : List Call) (stream : List ℕ)
-    (before after : ℕ) → MeteredCalls (ClientAnswers hostname) ClientCosts (fresh limit (ScramProfile client)) calls
+    (before after : ℕ) → MeteredCalls (ClientSideAnswers hostname) ClientCosts (fresh limit (ScramProfile client)) calls
     stream before after
     → (before ≤ after) × (after ≤ before + (client.limits.most + 4))
 
@@ -48,12 +48,12 @@ Bounded most limit sent last = (length sent ≤ most) × ((length last.held < 8)
 abbrev pub ServersAreBounded : Type 0
 ServersAreBounded = (acceptor : Acceptor) (limit : ℕ) (calls : List Call) (stream sent rest : List ℕ)
     (last : Side Acceptor)
-    → Calls (ServerAnswers acceptor_names acceptor_machine) (fresh limit acceptor) calls stream sent last rest
+    → Calls (ServerSideAnswers acceptor_names acceptor_machine) (fresh limit acceptor) calls stream sent last rest
     → Bounded (8 + 3 * 512) limit sent last
 
 -- and a client, behind its header, one init and one response
 abbrev pub ClientsAreBounded : Type 0
 ClientsAreBounded = (hostname : Option (List ℕ)) (profile : Profile) (limit : ℕ) (calls : List Call)
     (stream sent rest : List ℕ) (last : Side Profile)
-    → Calls (ClientAnswers hostname) (fresh limit profile) calls stream sent last rest
+    → Calls (ClientSideAnswers hostname) (fresh limit profile) calls stream sent last rest
     → Bounded (2 * 512) limit sent last

@@ -2,9 +2,9 @@
 use Rattle.std.specs.Prelude.{◌≡◌, ◌≢◌, ◌⊎◌, ℕ, Option, List, [], ◌∷◌, ◌++◌, take, drop}
 use Rattle.fe2o3_sasl_negotiation.specs.declared.standing.Due.{Due}
 use Rattle.fe2o3_sasl_negotiation.specs.declared.standing.Standing.TheVariants.{Wanting}
-use Rattle.fe2o3_sasl_negotiation.specs.ClientNegotiation.{ClientAnswers}
+use Rattle.fe2o3_sasl_negotiation.specs.ClientNegotiation.{ClientSideAnswers}
 use Rattle.fe2o3_sasl_negotiation.specs.Framing.{IsPart}
-use Rattle.fe2o3_sasl_negotiation.specs.Negotiations.{Side, Answer, Receives}
+use Rattle.fe2o3_sasl_negotiation.specs.Negotiations.{Side, SideOutput, Receives}
 
 -- a call: how many of the bytes that are left it is handed, and a nonce
 pub record Call : Type 0 where
@@ -13,7 +13,7 @@ pub record Call : Type 0 where
 
 -- calls over a stream, each handed any number of the bytes that the calls before it left: what they send, how the side
 -- stands behind them, and the bytes that are left in the end
-abbrev pub Calls : {S : Type 0} → (Due → S → List ℕ → List ℕ → Answer → S → Type 0) → Side S → List Call → List ℕ
+abbrev pub Calls : {S : Type 0} → (Due → S → List ℕ → List ℕ → SideOutput → S → Type 0) → Side S → List Call → List ℕ
     → List ℕ → Side S → List ℕ → Type 0
 Calls Answers side [] stream sent last rest = (sent ≡ []) × (last ≡ side) × (rest ≡ stream)
 Calls {S} Answers side (call ∷ calls) stream sent last rest =
@@ -29,7 +29,7 @@ Stops side bytes sent last = (sent ≡ [])
     ⊎ ((side.standing ≢ Wanting) × (bytes ≡ []) × (last ≡ side)))
 
 -- the same of the bytes as a whole, unit by unit, each with its nonce
-abbrev pub Negotiates : {S : Type 0} → (Due → S → List ℕ → List ℕ → Answer → S → Type 0) → Side S → List (List ℕ)
+abbrev pub Negotiates : {S : Type 0} → (Due → S → List ℕ → List ℕ → SideOutput → S → Type 0) → Side S → List (List ℕ)
     → List ℕ → List ℕ → Side S → Type 0
 Negotiates Answers side [] bytes sent last = Stops side bytes sent last
 Negotiates {S} Answers side (nonce ∷ nonces) bytes sent last =
@@ -45,7 +45,7 @@ NoncesOf (call ∷ calls) nonces = NoncesOf calls nonces
 
 -- however a stream is cut into calls, the calls do with the bytes that they take what is done with them as a whole, each
 -- unit with the nonce of a call, in order: the cut does not matter. `Connections` says which call that is
-abbrev pub CutsDoNotMatter : {S : Type 0} → (Due → S → List ℕ → List ℕ → Answer → S → Type 0) → Type 0
+abbrev pub CutsDoNotMatter : {S : Type 0} → (Due → S → List ℕ → List ℕ → SideOutput → S → Type 0) → Type 0
 CutsDoNotMatter {S} Answers = (side last : Side S) (calls : List Call) (stream sent rest : List ℕ)
     → IsPart side.due side.limit side.held → Calls Answers side calls stream sent last rest
     → (taken : List ℕ) × (nonces : List (List ℕ)) × (stream ≡ taken ++ rest)
@@ -53,4 +53,4 @@ CutsDoNotMatter {S} Answers = (side last : Side S) (calls : List Call) (stream s
 
 -- of each client; of a server `laws::cuts` says it for every acceptor
 abbrev pub ClientCutsDoNotMatter : Type 0
-ClientCutsDoNotMatter = (hostname : Option (List ℕ)) → CutsDoNotMatter (ClientAnswers hostname)
+ClientCutsDoNotMatter = (hostname : Option (List ℕ)) → CutsDoNotMatter (ClientSideAnswers hostname)

@@ -6,7 +6,7 @@ use Rattle.fe2o3_sasl_wire.specs.SaslFrames as frames
 use Rattle.fe2o3_sasl_wire.specs.SaslFrames.{SaslFrame}
 use Rattle.fe2o3_sasl_runs.specs.Bodies.{SpellsBody}
 use Rattle.fe2o3_sasl_runs.specs.Events.{Given, ServerSays, Concluded}
-use Rattle.fe2o3_sasl_runs.specs.OneOf.{Parts, part_with, one_of_machine}
+use Rattle.fe2o3_sasl_runs.specs.OneOf.{BothStates, part_with, one_of_machine}
 use Rattle.fe2o3_sasl_runs.specs.Runs.{AcceptorSteps}
 use Rattle.fe2o3_sasl_runs.specs.declared.one_of.Part.{Part}
 use Rattle.fe2o3_sasl_runs.specs.declared.one_of.Part.TheVariants.{First, Second}
@@ -16,13 +16,13 @@ use Rattle.fe2o3_sasl_negotiation.specs.Negotiations.{Side}
 
 -- a step of this part of a server of two acceptors
 abbrev pub PartSteps : {S T : Type 0} → (S → List ℕ → SaslFrame → SaslFrame → S → Type 0)
-    → (T → List ℕ → SaslFrame → SaslFrame → T → Type 0) → Part → Parts S T → Given → ServerSays → Parts S T → Type 0
+    → (T → List ℕ → SaslFrame → SaslFrame → T → Type 0) → Part → BothStates S T → Given → ServerSays → BothStates S T → Type 0
 PartSteps machine other First before event says after = AcceptorSteps machine before.first event says after.first
 PartSteps machine other Second before event says after = AcceptorSteps other before.second event says after.second
 
 -- the first of these bodies is an init for this mechanism
-abbrev pub AsksFor : List Given → List ℕ → Type 0
-AsksFor events mechanism = (event : Given) × (others : List Given) × (response : Option (List ℕ))
+abbrev pub InitAsksFor : List Given → List ℕ → Type 0
+InitAsksFor events mechanism = (event : Given) × (others : List Given) × (response : Option (List ℕ))
     × (hostname : Option (List ℕ)) × (events ≡ event ∷ others)
     × SpellsBody event.body (Ok (frames.Init mechanism response hostname))
 
@@ -30,13 +30,13 @@ AsksFor events mechanism = (event : Given) × (others : List Given) × (response
 -- answers Ok to the last frame, and the server names that part's user, as `part_names` says
 pub record OneOfLogsIn {S T : Type 0} (names : S → List (List ℕ)) (others : T → List (List ℕ))
     (machine : S → List ℕ → SaslFrame → SaslFrame → S → Type 0)
-    (other : T → List ℕ → SaslFrame → SaslFrame → T → Type 0) (events : List Given) (state last : Parts S T) : Type 0
+    (other : T → List ℕ → SaslFrame → SaslFrame → T → Type 0) (events : List Given) (state last : BothStates S T) : Type 0
   where
     pub mechanism : List ℕ
     pub part : Part
-    pub asked : AsksFor events mechanism
+    pub asked : InitAsksFor events mechanism
     pub has : part_with (names state.first) (others state.second) mechanism ≡ Some part
-    pub before : Parts S T
+    pub before : BothStates S T
     pub event : Given
     pub ended : (earlier : List Given) × (events ≡ earlier ++ event ∷ [])
     pub body : List ℕ
@@ -46,15 +46,15 @@ pub record OneOfLogsIn {S T : Type 0} (names : S → List (List ℕ)) (others : 
 -- every server of two acceptors
 abbrev pub OneOfServersLogIn : {S T : Type 0} → (S → List (List ℕ)) → (T → List (List ℕ))
     → (S → List ℕ → SaslFrame → SaslFrame → S → Type 0) → (T → List ℕ → SaslFrame → SaslFrame → T → Type 0) → Type 0
-OneOfServersLogIn {S} {T} names others machine other = (limit : ℕ) (state : Parts S T) (pieces : List Piece)
-    (taken sent : List ℕ) (last : Side (Parts S T))
+OneOfServersLogIn {S} {T} names others machine other = (limit : ℕ) (state : BothStates S T) (pieces : List Piece)
+    (taken sent : List ℕ) (last : Side (BothStates S T))
     (negotiated : ServerNegotiated (one_of_machine names others machine other) limit state pieces taken sent last)
     → last.standing ≡ LoggedIn → OneOfLogsIn names others machine other negotiated.events state last.state
 
 -- and a step of one that answers Ok is a step of one of its parts that answers Ok, which may be such a server itself
 abbrev pub OneOfStepsLogIn : {S T : Type 0} → (S → List (List ℕ)) → (T → List (List ℕ))
     → (S → List ℕ → SaslFrame → SaslFrame → S → Type 0) → (T → List ℕ → SaslFrame → SaslFrame → T → Type 0) → Type 0
-OneOfStepsLogIn {S} {T} names others machine other = (before after : Parts S T) (event : Given) (body : List ℕ)
+OneOfStepsLogIn {S} {T} names others machine other = (before after : BothStates S T) (event : Given) (body : List ℕ)
     → AcceptorSteps (one_of_machine names others machine other) before event (Concluded outcomes.Ok body) after
     → (part : Part) × (after.asked ≡ Some part)
     × PartSteps machine other part before event (Concluded outcomes.Ok body) after

@@ -23,17 +23,17 @@ pub record Side (S : Type 0) : Type 0 where
   pub state : S
 
 -- what it answers to a unit: the bytes that it sends, how it stands then, and what is due then
-pub record Answer : Type 0 where
+pub record SideOutput : Type 0 where
   pub sent : List ℕ
   pub standing : Standing
   pub due : Due
 
 -- it sends nothing and closes
-abbrev pub closes : ClosedBecause → Due → Answer
+abbrev pub closes : ClosedBecause → Due → SideOutput
 closes why due = record { sent = []; standing = Closed why; due = due }
 
 -- it sends a body as a frame of at most 512 bytes (part 5, section 5.3.1), or closes where that has more
-abbrev pub Sends : List ℕ → Standing → Due → Answer → Type 0
+abbrev pub Sends : List ℕ → Standing → Due → SideOutput → Type 0
 Sends body standing due answer =
     ((length body + 4 ≤ 512) × (answer ≡ record { sent = framed body; standing = standing; due = due }))
     ⊎ ((512 < length body + 4) × (answer ≡ closes ReplyTooLarge due))
@@ -50,7 +50,7 @@ IsInTurn turn frame = ⊥
 
 -- what it answers to a body that spells this: what spells no frame and what is out of turn closes, before the machine
 -- is asked
-abbrev pub AnswersTo : {S : Type 0} → (Answer → S → Type 0) → Turn → S → Result SaslFrame Error → Answer → S → Type 0
+abbrev pub AnswersTo : {S : Type 0} → (SideOutput → S → Type 0) → Turn → S → Result SaslFrame Error → SideOutput → S → Type 0
 AnswersTo Asks turn state (Err fault) answer next = (answer ≡ closes (Unread fault) (Frame turn)) × (next ≡ state)
 AnswersTo Asks turn state (Ok frame) answer next =
     (¬ IsInTurn turn frame × (answer ≡ closes OutOfTurn (Frame turn)) × (next ≡ state))
@@ -62,7 +62,7 @@ Waits side bytes taken sent next =
     (taken ≡ length bytes) × (sent ≡ []) × (next ≡ record side { held = side.held ++ bytes })
 
 -- a call takes what is missing of a unit of n bytes, and leaves the bytes behind it
-abbrev pub Ends : {S : Type 0} → Side S → ℕ → Answer → S → ℕ → List ℕ → Side S → Type 0
+abbrev pub Ends : {S : Type 0} → Side S → ℕ → SideOutput → S → ℕ → List ℕ → Side S → Type 0
 Ends side n answer state taken sent next =
     (taken ≡ n - length side.held) × (sent ≡ answer.sent)
     × (next ≡ record { standing = answer.standing; due = answer.due; limit = side.limit; held = []; state = state })
@@ -73,19 +73,19 @@ Rests side taken sent next = (taken ≡ 0) × (sent ≡ []) × (next ≡ side)
 
 -- what a call makes of the bytes that it is handed, by how the side stands: they count as one with those that have
 -- come of the unit
-abbrev pub ReceivesAt : {S : Type 0} → Standing → (Due → S → List ℕ → List ℕ → Answer → S → Type 0) → Side S → List ℕ
+abbrev pub ReceivesAt : {S : Type 0} → Standing → (Due → S → List ℕ → List ℕ → SideOutput → S → Type 0) → Side S → List ℕ
     → List ℕ → ℕ → List ℕ → Side S → Type 0
 ReceivesAt {S} Wanting Answers side bytes nonce taken sent next = let come = side.held ++ bytes in
     (IsPart side.due side.limit come × Waits side bytes taken sent next)
     ⊎ (IsRefused side.due side.limit come × Ends side 4 (closes FrameSize side.due) side.state taken sent next)
-    ⊎ ((answer : Answer) × (state : S) × IsWhole side.due side.limit come
+    ⊎ ((answer : SideOutput) × (state : S) × IsWhole side.due side.limit come
     × Answers side.due side.state nonce (take (unit_size side.due come) come) answer state
     × Ends side (unit_size side.due come) answer state taken sent next)
 ReceivesAt LoggedIn Answers side bytes nonce taken sent next = Rests side taken sent next
 ReceivesAt (Closed why) Answers side bytes nonce taken sent next = Rests side taken sent next
 
 -- what a call makes of them
-abbrev pub Receives : {S : Type 0} → (Due → S → List ℕ → List ℕ → Answer → S → Type 0) → Side S → List ℕ → List ℕ → ℕ
+abbrev pub Receives : {S : Type 0} → (Due → S → List ℕ → List ℕ → SideOutput → S → Type 0) → Side S → List ℕ → List ℕ → ℕ
     → List ℕ → Side S → Type 0
 Receives Answers side bytes nonce taken sent next = ReceivesAt side.standing Answers side bytes nonce taken sent next
 

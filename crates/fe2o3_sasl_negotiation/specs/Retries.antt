@@ -8,15 +8,15 @@ use Rattle.fe2o3_sasl_runs.specs.Costs.{acceptor_hmacs}
 use Rattle.fe2o3_sasl_runs.specs.Profiles.{ScramProfile}
 use Rattle.fe2o3_sasl_runs.specs.SaslAcceptor.{ScramAcceptor, acceptor_names, acceptor_machine}
 use Rattle.fe2o3_sasl_negotiation.specs.declared.standing.Due.{Due}
-use Rattle.fe2o3_sasl_negotiation.specs.ClientNegotiation.{ClientAnswers, ClientCosts}
+use Rattle.fe2o3_sasl_negotiation.specs.ClientNegotiation.{ClientSideAnswers, ClientCosts}
 use Rattle.fe2o3_sasl_negotiation.specs.Connections.{fresh}
 use Rattle.fe2o3_sasl_negotiation.specs.Laws.{Call}
-use Rattle.fe2o3_sasl_negotiation.specs.Negotiations.{Side, Answer, Receives}
-use Rattle.fe2o3_sasl_negotiation.specs.ServerNegotiation.{ServerAnswers, ServerCosts}
+use Rattle.fe2o3_sasl_negotiation.specs.Negotiations.{Side, SideOutput, Receives}
+use Rattle.fe2o3_sasl_negotiation.specs.ServerNegotiation.{ServerSideAnswers, ServerCosts}
 
 -- calls over a stream, of which this many run out of memory, with what one meter shows before and after them: such a
 -- call leaves the side and the stream as they are, and what it costs stays on the meter
-abbrev pub RetriedCalls : {S : Type 0} → (Due → S → List ℕ → List ℕ → Answer → S → Type 0)
+abbrev pub RetriedCalls : {S : Type 0} → (Due → S → List ℕ → List ℕ → SideOutput → S → Type 0)
     → (Side S → List ℕ → List ℕ → ℕ → ℕ → Type 0) → Side S → List Call → List ℕ → ℕ → ℕ → ℕ → Type 0
 RetriedCalls Answers Costs side [] stream failed before after = (failed ≡ 0) × (after ≡ before)
 RetriedCalls {S} Answers Costs side (call ∷ calls) stream failed before after = (between : ℕ)
@@ -29,13 +29,13 @@ RetriedCalls {S} Answers Costs side (call ∷ calls) stream failed before after 
 -- a connection of a SCRAM server takes two HMAC values at most, and two for each call that ran out of memory
 abbrev pub ServersRetry : Type 0
 ServersRetry = (provider : Provider) (state : ServerState) (limit : ℕ) (calls : List Call) (stream : List ℕ)
-    (failed before after : ℕ) → RetriedCalls (ServerAnswers acceptor_names acceptor_machine)
+    (failed before after : ℕ) → RetriedCalls (ServerSideAnswers acceptor_names acceptor_machine)
     (ServerCosts acceptor_hmacs) (fresh limit (ScramAcceptor provider state)) calls stream failed before after
     → (before ≤ after) × (after ≤ before + (failed * 2 + 2))
 
 -- and one of a SCRAM client as many as its limit of iterations and four more, and that for each such call
 abbrev pub ClientsRetry : Type 0
 ClientsRetry = (hostname : Option (List ℕ)) (client : ClientSide) (limit : ℕ) (calls : List Call) (stream : List ℕ)
-    (failed before after : ℕ) → RetriedCalls (ClientAnswers hostname) ClientCosts (fresh limit (ScramProfile client))
+    (failed before after : ℕ) → RetriedCalls (ClientSideAnswers hostname) ClientCosts (fresh limit (ScramProfile client))
     calls stream failed before after
     → (before ≤ after) × (after ≤ before + (failed * (client.limits.most + 4) + (client.limits.most + 4)))

@@ -22,40 +22,40 @@ abbrev pub EndsEmpty : SetDown → Type 0
 EndsEmpty kept = kept.standing ≢ Wanting → kept.held.now ≡ []
 
 -- a frame is due to a server: an init or a response (AMQP 1.0, part 5, section 5.3.2)
-abbrev pub server_frame : Due → Bool
-server_frame (Frame turns.Init) = true
-server_frame (Frame turns.Response) = true
-server_frame due = false
+abbrev pub server_awaits : Due → Bool
+server_awaits (Frame turns.Init) = true
+server_awaits (Frame turns.Response) = true
+server_awaits due = false
 
 -- the client's header is due to a server, or a frame
 abbrev pub server_due : Due → Bool
 server_due Header = true
-server_due due = server_frame due
+server_due due = server_awaits due
 
 -- a server with this standing can have this due. One that waits, or whose answer was too large, can have any; another
 -- header closes at the header, and all else ends it at a frame. No server is closed for memory, by an Ok, or by a
 -- profile
-abbrev pub server_at : Standing → Due → Bool
-server_at Wanting due = server_due due
-server_at (Closed ReplyTooLarge) due = server_due due
-server_at (Closed OtherHeader) Header = true
-server_at (Closed OtherHeader) (Frame turn) = false
-server_at (Closed (Unread faults.OutOfMemory)) due = false
-server_at (Closed (Refused outcomes.Ok)) due = false
-server_at (Closed (ProfileRefused fault)) due = false
-server_at standing due = server_frame due
+abbrev pub server_fits : Standing → Due → Bool
+server_fits Wanting due = server_due due
+server_fits (Closed ReplyTooLarge) due = server_due due
+server_fits (Closed OtherHeader) Header = true
+server_fits (Closed OtherHeader) (Frame turn) = false
+server_fits (Closed (Unread faults.OutOfMemory)) due = false
+server_fits (Closed (Refused outcomes.Ok)) due = false
+server_fits (Closed (ProfileRefused fault)) due = false
+server_fits standing due = server_awaits due
 
 -- a frame is due to a client: the mechanisms, a challenge or an outcome
-abbrev pub client_frame : Due → Bool
-client_frame (Frame turns.Mechanisms) = true
-client_frame (Frame turns.Challenge) = true
-client_frame (Frame turns.Outcome) = true
-client_frame due = false
+abbrev pub client_awaits : Due → Bool
+client_awaits (Frame turns.Mechanisms) = true
+client_awaits (Frame turns.Challenge) = true
+client_awaits (Frame turns.Outcome) = true
+client_awaits due = false
 
 -- the server's header is due to a client, or a frame
 abbrev pub client_due : Due → Bool
 client_due Header = true
-client_due due = client_frame due
+client_due due = client_awaits due
 
 -- a frame is due to a client that has had the mechanisms: a challenge or an outcome
 abbrev pub outcome_due : Due → Bool
@@ -66,24 +66,24 @@ outcome_due due = false
 -- a client with this standing can have this due. One that waits can have any; another header closes at the header; an
 -- outcome, and an answer that was too large, end it after the mechanisms, and all else at any frame. No client is closed
 -- for memory, or by an Ok
-abbrev pub client_at : Standing → Due → Bool
-client_at Wanting due = client_due due
-client_at LoggedIn due = outcome_due due
-client_at (Closed ReplyTooLarge) due = outcome_due due
-client_at (Closed OtherHeader) Header = true
-client_at (Closed OtherHeader) (Frame turn) = false
-client_at (Closed (Unread faults.OutOfMemory)) due = false
-client_at (Closed (Refused outcomes.Ok)) due = false
-client_at (Closed (Refused code)) due = outcome_due due
-client_at (Closed (ProfileRefused profile_faults.OutOfMemory)) due = false
-client_at (Closed why) due = client_frame due
+abbrev pub client_fits : Standing → Due → Bool
+client_fits Wanting due = client_due due
+client_fits LoggedIn due = outcome_due due
+client_fits (Closed ReplyTooLarge) due = outcome_due due
+client_fits (Closed OtherHeader) Header = true
+client_fits (Closed OtherHeader) (Frame turn) = false
+client_fits (Closed (Unread faults.OutOfMemory)) due = false
+client_fits (Closed (Refused outcomes.Ok)) due = false
+client_fits (Closed (Refused code)) due = outcome_due due
+client_fits (Closed (ProfileRefused profile_faults.OutOfMemory)) due = false
+client_fits (Closed why) due = client_awaits due
 
 -- a server can have these values, and a client
 abbrev pub IsServerKept : SetDown → Type 0
-IsServerKept kept = IsKept kept × IsTrue (server_at kept.standing kept.due) × EndsEmpty kept
+IsServerKept kept = IsKept kept × IsTrue (server_fits kept.standing kept.due) × EndsEmpty kept
 
 abbrev pub IsClientKept : SetDown → Type 0
-IsClientKept kept = IsKept kept × IsTrue (client_at kept.standing kept.due) × EndsEmpty kept
+IsClientKept kept = IsKept kept × IsTrue (client_fits kept.standing kept.due) × EndsEmpty kept
 
 -- the side of these values, whose machine is in this state
 abbrev pub side_of : {S : Type 0} → SetDown → S → Side S

@@ -13,12 +13,12 @@ use Rattle.fe2o3_sasl_runs.specs.UnalteredRuns.{HoldsLogin}
 use Rattle.fe2o3_sasl_negotiation.specs.declared.standing.ClosedBecause.TheVariants.{FrameSize, ReplyTooLarge, Unread, Profile as ProfileRefused}
 use Rattle.fe2o3_sasl_negotiation.specs.declared.standing.Standing.{Standing}
 use Rattle.fe2o3_sasl_negotiation.specs.declared.standing.Standing.TheVariants.{LoggedIn, Closed}
-use Rattle.fe2o3_sasl_negotiation.specs.ClientNegotiation.{ClientAnswers}
+use Rattle.fe2o3_sasl_negotiation.specs.ClientNegotiation.{ClientSideAnswers}
 use Rattle.fe2o3_sasl_negotiation.specs.Connections.{fresh}
 use Rattle.fe2o3_sasl_negotiation.specs.Framing.{sasl_header}
 use Rattle.fe2o3_sasl_negotiation.specs.Laws.{Call, Calls}
 use Rattle.fe2o3_sasl_negotiation.specs.Negotiations.{Side}
-use Rattle.fe2o3_sasl_negotiation.specs.ServerNegotiation.{ServerAnswers}
+use Rattle.fe2o3_sasl_negotiation.specs.ServerNegotiation.{ServerSideAnswers}
 
 -- a SCRAM client and a SCRAM server that are joined: each is handed what the other sends, the server behind the
 -- client's header, in whatever calls, and in the end each has taken all of it
@@ -29,9 +29,9 @@ pub record Joined (login : Login) (provider : Provider) (client : Side Profile) 
   pub server_calls : List Call
   pub client_sent : List ℕ
   pub server_sent : List ℕ
-  pub client_takes : Calls (ClientAnswers login.hostname) (fresh client_limit (scram_profile login)) client_calls
+  pub client_takes : Calls (ClientSideAnswers login.hostname) (fresh client_limit (scram_profile login)) client_calls
       server_sent client_sent client []
-  pub server_takes : Calls (ServerAnswers acceptor_names acceptor_machine)
+  pub server_takes : Calls (ServerSideAnswers acceptor_names acceptor_machine)
       (fresh server_limit (ScramAcceptor provider Initial)) server_calls (sasl_header ++ client_sent) server_sent
       server []
 

@@ -5,8 +5,8 @@ ghost use Rattle.fe2o3_sasl_runs.specs.Runs.{ProfileSteps, client_answer, client
 ghost use Rattle.fe2o3_sasl_runs.specs.SaslProfile.{profile_of};
 ghost use Rattle.fe2o3_sasl_runs.specs.Costs.{ProfileStepCosts};
 ghost use Rattle.fe2o3_sasl_negotiation.specs.Framing.{IsPart, IsPart-prop, sasl_header};
-ghost use Rattle.fe2o3_sasl_negotiation.specs.ClientNegotiation.{Opens, Says, Replies, ClientAnswers, ClientReceives, ReplyCosts, UnitCosts, ClientCosts};
-ghost use Rattle.fe2o3_sasl_negotiation.specs.SetDown.{IsClientKept, client_at, side_of};
+ghost use Rattle.fe2o3_sasl_negotiation.specs.ClientNegotiation.{ClientOpens, ClientOutputs, ClientReplies, ClientSideAnswers, ClientReceives, ClientReplyCosts, ClientUnitCosts, ClientCosts};
+ghost use Rattle.fe2o3_sasl_negotiation.specs.SetDown.{IsClientKept, client_fits, side_of};
 ghost use Rattle.fe2o3_sasl_negotiation.specs.private.Units.{Appends, Screens, ClientUnitAsks};
 ghost use Rattle.fe2o3_sasl_runs.specs.Events.{Reported, Refused};
 ghost use Rattle.fe2o3_sasl_runs.specs.ProfileFaults.{client_fault};
@@ -35,13 +35,13 @@ pub struct ClientNegotiation {
     held: Vec<u8>,
     ghost part: { IsPart due limit held.items } by { IsPart-prop due limit held.items },
     ghost most: { limit ≤ 512 },
-    ghost at: { IsTrue (client_at standing due) },
+    ghost at: { IsTrue (client_fits standing due) },
     ghost empty: { standing ≢ Wanting → held.items ≡ [] },
 }
 
 /// What a client makes of the server's header: it waits for that of SASL.
 fn open(header: &[u8]) -> Step
-    ensures { (out : List ℕ) → Appends (Opens header.now) out out result }
+    ensures { (out : List ℕ) → Appends (ClientOpens header.now) out out result }
 {
     if is_sasl(header) {
         Step {
@@ -56,7 +56,7 @@ fn open(header: &[u8]) -> Step
 /// Sends what the profile replies.
 fn send_reply(out: &mut BytesMut, turn: Turn, reply: ClientReply) -> Step
     requires { 512 ≤ out.old.spare }
-    ensures { Appends (Says (client_reply reply) turn) out.old.items out.new.items result }
+    ensures { Appends (ClientOutputs (client_reply reply) turn) out.old.items out.new.items result }
 {
     let due = Due::Frame(turn);
     match reply {
@@ -74,7 +74,7 @@ fn send_reply(out: &mut BytesMut, turn: Turn, reply: ClientReply) -> Step
 
 /// How a client stands behind an outcome that its profile reports.
 fn concluded(turn: Turn, code: SaslCode) -> Step
-    ensures { (out : List ℕ) (more : Option (List ℕ)) → Appends (Says (Reported code more) turn) out out result }
+    ensures { (out : List ℕ) (more : Option (List ℕ)) → Appends (ClientOutputs (Reported code more) turn) out out result }
 {
     match code {
         SaslCode::Ok => Step {
@@ -88,7 +88,7 @@ fn concluded(turn: Turn, code: SaslCode) -> Step
 /// What the profile refuses closes, but for want of memory.
 fn refuse(turn: Turn, fault: ProfileError) -> Result<Step, OutOfMemory>
     ensures ok { IfOk result (λ step. (out : List ℕ)
-        → Appends (Says (Refused (client_fault fault)) turn) out out step) }
+        → Appends (ClientOutputs (Refused (client_fault fault)) turn) out out step) }
     ensures err { OnErr result (fault ≡ ProfileWantsMemory) }
 {
     match fault {
@@ -114,13 +114,13 @@ fn reply(
     out: &mut BytesMut,
 ) -> Result<Step, OutOfMemory>
     requires { meter.old ≤ 2 ^ 63 }
-    ensures ok { IfOk result (λ step. Appends (λ answer. Replies (shown hostname.entry) turn (profile_of profile.old)
+    ensures ok { IfOk result (λ step. Appends (λ answer. ClientReplies (shown hostname.entry) turn (profile_of profile.old)
         (record { body = body.now; nonce = nonce.now }) answer (profile_of profile.new))
         out.old.items out.new.items step) }
     ensures unsent { OnErr result (out.new.items ≡ out.old.items) }
     ensures unchanged { OnErr result (profile_of profile.new ≡ profile_of profile.old) }
     ensures memory { OnErr result (Screens turn body.now None) }
-    ensures cost { ReplyCosts turn (profile_of profile.old) (record { body = body.now; nonce = nonce.now })
+    ensures cost { ClientReplyCosts turn (profile_of profile.old) (record { body = body.now; nonce = nonce.now })
         meter.old meter.new }
 {
     if let Some(why) = screen(turn, body) {
@@ -146,12 +146,12 @@ fn answer(
 ) -> Result<Step, OutOfMemory>
     requires four { 4 ≤ length unit.now }
     requires meter { meter.old ≤ 2 ^ 63 }
-    ensures ok { IfOk result (λ step. Appends (λ answer. ClientAnswers (shown hostname.entry) due
+    ensures ok { IfOk result (λ step. Appends (λ answer. ClientSideAnswers (shown hostname.entry) due
         (profile_of profile.old) nonce.now unit.now answer (profile_of profile.new)) out.old.items out.new.items step) }
     ensures unsent { OnErr result (out.new.items ≡ out.old.items) }
     ensures unchanged { OnErr result (profile_of profile.new ≡ profile_of profile.old) }
     ensures memory { OnErr result (ClientUnitAsks due unit.now) }
-    ensures cost { UnitCosts due (profile_of profile.old) nonce.now unit.now meter.old meter.new }
+    ensures cost { ClientUnitCosts due (profile_of profile.old) nonce.now unit.now meter.old meter.new }
 {
     match due {
         Due::Header => Ok(open(unit)),

@@ -5,7 +5,7 @@ ghost use Rattle.std.specs.Prelude.{◌≡◌, ◌↔◌, ◌+◌, ◌-◌, ◌<
 ghost use Rattle.fe2o3_sasl_wire.specs.FrameView.{viewed_frame};
 ghost use Rattle.fe2o3_sasl_negotiation.specs.Framing.{sasl_header, size_of, Fits, IsPart};
 ghost use Rattle.fe2o3_sasl_negotiation.specs.Negotiations.{IsInTurn, Sends, closes};
-ghost use Rattle.fe2o3_sasl_negotiation.specs.private.Units.{Takes, Appends, Screens};
+ghost use Rattle.fe2o3_sasl_negotiation.specs.private.Units.{TakesUnit, Appends, Screens};
 ghost use Rattle.fe2o3_sasl_negotiation.specs.declared.standing.Due.TheVariants.{Header, Frame};
 ghost use Rattle.fe2o3_sasl_negotiation.specs.declared.standing.Standing.TheVariants.{Closed};
 
@@ -79,7 +79,7 @@ pub(crate) fn size(bytes: &[u8]) -> Option<usize>
 fn take_header(held: &mut Vec<u8>, bytes: &[u8]) -> Result<Arrived, OutOfMemory>
     requires { length held.old.items < 8 }
     ensures ok { IfOk result (λ arrived. (limit : ℕ)
-        → Takes Header limit (held.old.items ++ bytes.now) arrived held.new.items) }
+        → TakesUnit Header limit (held.old.items ++ bytes.now) arrived held.new.items) }
     ensures err { OnErr result (held.new.items ≡ held.old.items) }
     ensures memory { OnErr result (vec_capacity held.old < 8) }
     ensures capacity { vec_capacity held.old ≤ vec_capacity held.new }
@@ -119,7 +119,7 @@ fn take_frame(
     bytes: &[u8],
 ) -> Result<Arrived, OutOfMemory>
     requires { IsPart (Frame turn) limit held.old.items }
-    ensures ok { IfOk result (λ arrived. Takes (Frame turn) limit (held.old.items ++ bytes.now) arrived
+    ensures ok { IfOk result (λ arrived. TakesUnit (Frame turn) limit (held.old.items ++ bytes.now) arrived
         held.new.items) }
     ensures err { OnErr result (held.new.items ≡ held.old.items) }
     ensures memory { OnErr result (vec_capacity held.old < max limit 8) }
@@ -153,7 +153,7 @@ pub fn take_unit(
     bytes: &[u8],
 ) -> Result<Arrived, OutOfMemory>
     requires { IsPart due limit held.old.items }
-    ensures ok { IfOk result (λ arrived. Takes due limit (held.old.items ++ bytes.now) arrived held.new.items) }
+    ensures ok { IfOk result (λ arrived. TakesUnit due limit (held.old.items ++ bytes.now) arrived held.new.items) }
     ensures err { OnErr result (held.new.items ≡ held.old.items) }
     ensures memory { OnErr result (vec_capacity held.old < max limit 8) }
     ensures room { OnOk result (max limit 8 ≤ vec_capacity held.new) }

@@ -1,12 +1,12 @@
 //! Laws of the definitions. A function with an empty body says nothing but its contract: a statement about
 //! every list of bytes, which the check has proved.
 
-ghost use Rattle.fe2o3_sasl_negotiation.specs.Connections.{ServersConnect, ClientsConnect, ServersLogIn, ClientsLogIn};
+ghost use Rattle.fe2o3_sasl_negotiation.specs.Connections.{ServersConnect, ClientsConnect, ServerConnectionsLogIn, ClientConnectionsLogIn};
 ghost use Rattle.fe2o3_sasl_negotiation.specs.CostLaws.{ServersCost, ClientsCost, ServersAreBounded, ClientsAreBounded};
 ghost use Rattle.fe2o3_sasl_negotiation.specs.Laws.{CutsDoNotMatter, ClientCutsDoNotMatter};
 ghost use Rattle.fe2o3_sasl_negotiation.specs.NamedUsers.{OneOfServersLogIn, OneOfStepsLogIn};
 ghost use Rattle.fe2o3_sasl_negotiation.specs.ScramConnections.{ScramServersServe, ScramClientsLogIn};
-ghost use Rattle.fe2o3_sasl_negotiation.specs.ServerNegotiation.{ServerAnswers};
+ghost use Rattle.fe2o3_sasl_negotiation.specs.ServerNegotiation.{ServerSideAnswers};
 ghost use Rattle.fe2o3_sasl_negotiation.specs.UnalteredConnections.{JoinedSidesLogIn};
 
 use fe2o3_sasl_runs::{HasMechanism, NamesUser};
@@ -14,7 +14,7 @@ use fe2o3_sasl_runs::{HasMechanism, NamesUser};
 /// However a stream of bytes is cut into calls, what they take of it is answered as it would be as a whole, unit by unit,
 /// each with the nonce of a call, in order. Which call that is for a frame, [`connections`] says.
 pub fn cuts<A: NamesUser>()
-    ensures server { CutsDoNotMatter (ServerAnswers A.names A.machine) }
+    ensures server { CutsDoNotMatter (ServerSideAnswers A.names A.machine) }
     ensures client { ClientCutsDoNotMatter }
 {}
 
@@ -29,8 +29,8 @@ pub fn cuts<A: NamesUser>()
 pub fn connections<A: NamesUser>()
     ensures server { ServersConnect A.names A.machine }
     ensures client { ClientsConnect }
-    ensures server_logged_in { ServersLogIn A.machine }
-    ensures client_logged_in { ClientsLogIn }
+    ensures server_logged_in { ServerConnectionsLogIn A.machine }
+    ensures client_logged_in { ClientConnectionsLogIn }
     ensures scram_server { ScramServersServe }
     ensures scram_client { ScramClientsLogIn }
 {}

@@ -5,9 +5,9 @@ ghost use Rattle.fe2o3_sasl_runs.specs.Runs.{AcceptorSteps, server_reply, server
 ghost use Rattle.fe2o3_sasl_runs.specs.Events.{Failed};
 ghost use Rattle.fe2o3_sasl_runs.specs.Costs.{AcceptorStepCosts};
 ghost use Rattle.fe2o3_sasl_negotiation.specs.Framing.{IsPart, IsPart-prop};
-ghost use Rattle.fe2o3_sasl_negotiation.specs.Negotiations.{Completes, Answer, Receives};
-ghost use Rattle.fe2o3_sasl_negotiation.specs.ServerNegotiation.{offer_body as offer_of, Opens, Says, Replies, ReplyCosts, UnitCosts, ServerAnswers, ServerReceives, ServerCosts};
-ghost use Rattle.fe2o3_sasl_negotiation.specs.SetDown.{IsServerKept, server_at, side_of};
+ghost use Rattle.fe2o3_sasl_negotiation.specs.Negotiations.{Completes, SideOutput, Receives};
+ghost use Rattle.fe2o3_sasl_negotiation.specs.ServerNegotiation.{offer_body as offer_of, ServerOpens, ServerOutputs, ServerReplies, ServerReplyCosts, ServerUnitCosts, ServerSideAnswers, ServerReceives, ServerCosts};
+ghost use Rattle.fe2o3_sasl_negotiation.specs.SetDown.{IsServerKept, server_fits, side_of};
 ghost use Rattle.fe2o3_sasl_negotiation.specs.private.Units.{Appends, Screens, ServerUnitAsks};
 ghost use Rattle.fe2o3_sasl_wire.specs.declared.sasl_frames.error.Error.TheVariants.{OutOfMemory as WireOutOfMemory};
 ghost use Rattle.fe2o3_sasl_negotiation.specs.declared.standing.Due.TheVariants.{Header, Frame as FrameDue};
@@ -34,7 +34,7 @@ pub struct ServerNegotiation<A> {
     held: Vec<u8>,
     ghost part: { IsPart due limit held.items } by { IsPart-prop due limit held.items },
     ghost most: { limit ≤ 512 },
-    ghost at: { IsTrue (server_at standing due) },
+    ghost at: { IsTrue (server_fits standing due) },
     ghost empty: { standing ≢ Wanting → held.items ≡ [] },
 }
 
@@ -59,7 +59,7 @@ fn open<A: SaslAcceptor>(
     out: &mut BytesMut,
 ) -> Result<Step, OutOfMemory>
     ensures ok { IfOk result (λ step.
-        Appends (Opens (A.names (A.state acceptor.now)) header.now) out.old.items out.new.items step) }
+        Appends (ServerOpens (A.names (A.state acceptor.now)) header.now) out.old.items out.new.items step) }
     ensures err { OnErr result (out.new.items ≡ out.old.items) }
 {
     let sasl = <[u8; 8]>::from(ProtocolHeader::sasl());
@@ -84,7 +84,7 @@ fn open<A: SaslAcceptor>(
 /// Sends what the acceptor replies.
 fn send_reply(out: &mut BytesMut, turn: Turn, reply: ServerReply) -> Step
     requires { 512 ≤ out.old.spare }
-    ensures { Appends (Says (server_reply reply) turn) out.old.items out.new.items result }
+    ensures { Appends (ServerOutputs (server_reply reply) turn) out.old.items out.new.items result }
 {
     let due = Due::Frame(turn);
     match reply {
@@ -109,7 +109,7 @@ fn send_reply(out: &mut BytesMut, turn: Turn, reply: ServerReply) -> Step
 
 /// A fault of the acceptor's step closes, but for want of memory.
 fn refuse(turn: Turn, fault: Error) -> Result<Step, OutOfMemory>
-    ensures ok { IfOk result (λ step. (out : List ℕ) → Appends (Says (Failed fault) turn) out out step) }
+    ensures ok { IfOk result (λ step. (out : List ℕ) → Appends (ServerOutputs (Failed fault) turn) out out step) }
     ensures err { OnErr result (fault ≡ WireOutOfMemory) }
 {
     match fault {
@@ -132,13 +132,13 @@ fn reply<A: SaslAcceptor>(
 ) -> Result<Step, OutOfMemory>
     requires four { 4 ≤ length unit.now }
     requires meter { meter.old ≤ 2 ^ 63 }
-    ensures ok { IfOk result (λ step. Appends (λ answer. Replies A.machine turn (A.state acceptor.old)
+    ensures ok { IfOk result (λ step. Appends (λ answer. ServerReplies A.machine turn (A.state acceptor.old)
         (record { body = drop 4 unit.now; nonce = nonce.now }) answer (A.state acceptor.new))
         out.old.items out.new.items step) }
     ensures unsent { OnErr result (out.new.items ≡ out.old.items) }
     ensures unchanged { OnErr result (A.state acceptor.new ≡ A.state acceptor.old) }
     ensures memory { OnErr result (Screens turn (drop 4 unit.now) None) }
-    ensures cost { ReplyCosts A.hmacs turn (A.state acceptor.old) (record { body = drop 4 unit.now; nonce = nonce.now })
+    ensures cost { ServerReplyCosts A.hmacs turn (A.state acceptor.old) (record { body = drop 4 unit.now; nonce = nonce.now })
         meter.old meter.new }
 {
     let body = &unit[4..];
@@ -164,12 +164,12 @@ fn answer<A: SaslAcceptor>(
 ) -> Result<Step, OutOfMemory>
     requires four { 4 ≤ length unit.now }
     requires meter { meter.old ≤ 2 ^ 63 }
-    ensures ok { IfOk result (λ step. Appends (λ answer. ServerAnswers A.names A.machine due (A.state acceptor.old)
+    ensures ok { IfOk result (λ step. Appends (λ answer. ServerSideAnswers A.names A.machine due (A.state acceptor.old)
         nonce.now unit.now answer (A.state acceptor.new)) out.old.items out.new.items step) }
     ensures unsent { OnErr result (out.new.items ≡ out.old.items) }
     ensures unchanged { OnErr result (A.state acceptor.new ≡ A.state acceptor.old) }
     ensures memory { OnErr result (ServerUnitAsks due unit.now) }
-    ensures cost { UnitCosts A.hmacs due (A.state acceptor.old) nonce.now unit.now meter.old meter.new }
+    ensures cost { ServerUnitCosts A.hmacs due (A.state acceptor.old) nonce.now unit.now meter.old meter.new }
 {
     match due {
         Due::Header => open(alloc, acceptor, unit, out),

@@ -3,7 +3,7 @@
 ghost use Rattle.std.specs.Prelude.{◌≡◌, ◌≢◌, ◌↔◌, ℕ, List, IsTrue, IfOk, IfErr, MatchOption};
 ghost use Rattle.fe2o3_sasl_negotiation.specs.Framing.{IsPart};
 ghost use Rattle.fe2o3_sasl_negotiation.specs.Negotiations.{Completes};
-ghost use Rattle.fe2o3_sasl_negotiation.specs.SetDown.{IsKept, IsServerKept, IsClientKept, EndsEmpty, server_frame, server_due, server_at, client_frame, client_due, outcome_due, client_at, side_kept};
+ghost use Rattle.fe2o3_sasl_negotiation.specs.SetDown.{IsKept, IsServerKept, IsClientKept, EndsEmpty, server_awaits, server_due, server_fits, client_awaits, client_due, outcome_due, client_fits, side_kept};
 ghost use Rattle.fe2o3_sasl_negotiation.specs.declared.standing.Due.TheVariants.{Header};
 ghost use Rattle.fe2o3_sasl_negotiation.specs.declared.standing.Standing.TheVariants.{Wanting};
 ghost use Rattle.fe2o3_sasl_negotiation.specs.declared.standing.Turn.{Turn as TurnKind};
@@ -121,7 +121,7 @@ impl SetDown<'_> {
 
 /// Whether a server with this standing can have this due.
 fn is_server_at(standing: Standing, due: Due) -> bool
-    ensures { result ≡ server_at standing due }
+    ensures { result ≡ server_fits standing due }
 {
     let is_frame = matches!(due, Due::Frame(Turn::Init | Turn::Response));
     match standing {
@@ -140,7 +140,7 @@ fn is_server_at(standing: Standing, due: Due) -> bool
 
 /// Whether a client with this standing can have this due.
 fn is_client_at(standing: Standing, due: Due) -> bool
-    ensures { result ≡ client_at standing due }
+    ensures { result ≡ client_fits standing due }
 {
     let is_outcome = matches!(due, Due::Frame(Turn::Challenge | Turn::Outcome));
     let is_frame = matches!(due, Due::Frame(Turn::Mechanisms)) || is_outcome;

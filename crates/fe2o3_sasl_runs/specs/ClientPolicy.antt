@@ -7,7 +7,7 @@ use Rattle.fe2o3_scram.specs.declared.client_secret.IterationLimits.{IterationLi
 use Rattle.fe2o3_scram.specs.ClientSecret.{Secret, Password, Keys, Both, up_to, no_limit}
 use Rattle.fe2o3_scram.specs.Hmac.{mechanism_name}
 use Rattle.fe2o3_scram.specs.Passwords.{password_bytes}
-use Rattle.fe2o3_scram.specs.ScramClient.{ClientSide, Initial, with_limits}
+use Rattle.fe2o3_scram.specs.ScramClient.{ClientSide, ClientInitial, with_limits}
 use Rattle.fe2o3_sasl_runs.specs.Profiles.{Profile, ScramProfile, PlainProfile, AnonymousProfile, ExternalProfile}
 use Rattle.fe2o3_sasl_runs.specs.declared.client_policy.ClientPolicy.{ClientPolicy}
 use Rattle.fe2o3_sasl_runs.specs.declared.client_policy.Mechanism.{Mechanism}
@@ -18,13 +18,13 @@ abbrev pub by_strength : List Mechanism
 by_strength = ScramSha512 ∷ ScramSha256 ∷ ScramSha1 ∷ External ∷ Plain ∷ Anonymous ∷ []
 
 -- the name of a mechanism
-abbrev pub name_of : Mechanism → List ℕ
-name_of ScramSha512 = mechanism_name Sha512
-name_of ScramSha256 = mechanism_name Sha256
-name_of ScramSha1 = mechanism_name Sha1
-name_of External = codes "EXTERNAL"
-name_of Plain = codes "PLAIN"
-name_of Anonymous = codes "ANONYMOUS"
+abbrev pub policy_name : Mechanism → List ℕ
+policy_name ScramSha512 = mechanism_name Sha512
+policy_name ScramSha256 = mechanism_name Sha256
+policy_name ScramSha1 = mechanism_name Sha1
+policy_name External = codes "EXTERNAL"
+policy_name Plain = codes "PLAIN"
+policy_name Anonymous = codes "ANONYMOUS"
 
 -- SCRAM by hashes that are no weaker than this one's; it is asked of SCRAM alone
 abbrev pub is_allowed_from : ScramVersion → Mechanism → Bool
@@ -42,18 +42,18 @@ is_allowed policy Anonymous = policy.anonymous
 is_allowed policy mechanism = is_allowed_from policy.floor mechanism
 
 -- the one or the other, by whether keys of the second version are of the first
-abbrev pub keys_for : ScramVersion → ScramVersion → Option Secret → Option Secret → Option Secret
-keys_for Sha1 Sha1 same other = same
-keys_for Sha256 Sha256 same other = same
-keys_for Sha512 Sha512 same other = same
-keys_for version of same other = other
+abbrev pub keys_for_version : ScramVersion → ScramVersion → Option Secret → Option Secret → Option Secret
+keys_for_version Sha1 Sha1 same other = same
+keys_for_version Sha256 Sha256 same other = same
+keys_for_version Sha512 Sha512 same other = same
+keys_for_version version of same other = other
 
 -- what a secret is for SCRAM of a version (RFC 5802, section 3): keys serve only for the version that they are of
 abbrev pub secret_for : ScramVersion → Secret → Option Secret
 secret_for version (Password password) = Some (Password password)
-secret_for version (Keys keys) = keys_for version keys.version (Some (Keys keys)) None
+secret_for version (Keys keys) = keys_for_version version keys.version (Some (Keys keys)) None
 secret_for version (Both password keys) =
-    keys_for version keys.version (Some (Both password keys)) (Some (Password password))
+    keys_for_version version keys.version (Some (Both password keys)) (Some (Password password))
 
 -- a client of the user by such a secret, which has sent nothing and accepts every count
 abbrev pub fresh_client : List ℕ → ScramVersion → Secret → ClientSide
@@ -62,7 +62,7 @@ fresh_client user version secret = record {
   secret = secret;
   version = version;
   limits = up_to no_limit;
-  state = Initial;
+  state = ClientInitial;
 }
 
 -- the profile of the user by such a secret within these limits, if there is one
@@ -88,7 +88,7 @@ profile_by limits user secret Anonymous = Some AnonymousProfile
 -- a mechanism can be taken: the policy allows it, the secret serves for it, and it is offered
 abbrev pub CanTake : ClientPolicy → List ℕ → Secret → List (List ℕ) → Mechanism → Type 0
 CanTake policy user secret names mechanism = (is_allowed policy mechanism ≡ true)
-    × (profile_by policy.limits user secret mechanism ≢ None) × Contains names (name_of mechanism)
+    × (profile_by policy.limits user secret mechanism ≢ None) × Contains names (policy_name mechanism)
 
 -- of a list of mechanisms it is the first that can be taken
 abbrev pub IsFirstTaken : ClientPolicy → List ℕ → Secret → List (List ℕ) → List Mechanism → Mechanism → Type 0

@@ -21,7 +21,7 @@ abbrev pub both_names : List (List ℕ) → List (List ℕ) → List (List ℕ)
 both_names names others = names ++ filter (λ name. not (has_name names name)) others
 
 -- the two in their states, and the one that the last init went to
-pub record Parts (S T : Type 0) : Type 0 where
+pub record BothStates (S T : Type 0) : Type 0 where
   pub first : S
   pub second : T
   pub asked : Option Part
@@ -32,15 +32,15 @@ part_with names others mechanism =
     if has_name names mechanism then Some First else if has_name others mechanism then Some Second else None
 
 -- the one that a frame goes to: an init by its mechanism, a response to the one that the last init went to
-abbrev pub part_for : {S T : Type 0} → (S → List (List ℕ)) → (T → List (List ℕ)) → Parts S T → SaslFrame → Option Part
+abbrev pub part_for : {S T : Type 0} → (S → List (List ℕ)) → (T → List (List ℕ)) → BothStates S T → SaslFrame → Option Part
 part_for names others parts (frames.Init mechanism response hostname) =
     part_with (names parts.first) (others parts.second) mechanism
 part_for names others parts frame = parts.asked
 
 -- the reply is that of this part, and the other stays as it is; what goes to neither is Auth
 abbrev pub PartReplies : {S T : Type 0} → (S → List ℕ → SaslFrame → SaslFrame → S → Type 0)
-    → (T → List ℕ → SaslFrame → SaslFrame → T → Type 0) → Parts S T → Option Part → List ℕ → SaslFrame → SaslFrame
-    → Parts S T → Type 0
+    → (T → List ℕ → SaslFrame → SaslFrame → T → Type 0) → BothStates S T → Option Part → List ℕ → SaslFrame → SaslFrame
+    → BothStates S T → Type 0
 PartReplies machine other parts None nonce frame reply next = (reply ≡ ends_with outcomes.Auth) × (next ≡ parts)
 PartReplies {S} machine other parts (Some First) nonce frame reply next =
     (moved : S) × machine parts.first nonce frame reply moved
@@ -52,12 +52,12 @@ PartReplies {S} {T} machine other parts (Some Second) nonce frame reply next =
 -- the machine of both
 abbrev pub one_of_machine : {S T : Type 0} → (S → List (List ℕ)) → (T → List (List ℕ))
     → (S → List ℕ → SaslFrame → SaslFrame → S → Type 0) → (T → List ℕ → SaslFrame → SaslFrame → T → Type 0)
-    → Parts S T → List ℕ → SaslFrame → SaslFrame → Parts S T → Type 0
+    → BothStates S T → List ℕ → SaslFrame → SaslFrame → BothStates S T → Type 0
 one_of_machine names others machine other parts nonce frame reply next =
     PartReplies machine other parts (part_for names others parts frame) nonce frame reply next
 
 -- this part asks for memory; none does for what goes to neither
-abbrev pub PartAllocates : {S T : Type 0} → (S → SaslFrame → Type 0) → (T → SaslFrame → Type 0) → Parts S T
+abbrev pub PartAllocates : {S T : Type 0} → (S → SaslFrame → Type 0) → (T → SaslFrame → Type 0) → BothStates S T
     → Option Part → SaslFrame → Type 0
 PartAllocates allocates other parts None frame = ⊥
 PartAllocates allocates other parts (Some First) frame = allocates parts.first frame
@@ -65,12 +65,12 @@ PartAllocates allocates other parts (Some Second) frame = other parts.second fra
 
 -- where both together ask for memory: where the part does that the frame goes to
 abbrev pub one_of_allocates : {S T : Type 0} → (S → List (List ℕ)) → (T → List (List ℕ)) → (S → SaslFrame → Type 0)
-    → (T → SaslFrame → Type 0) → Parts S T → SaslFrame → Type 0
+    → (T → SaslFrame → Type 0) → BothStates S T → SaslFrame → Type 0
 one_of_allocates names others allocates other parts frame =
     PartAllocates allocates other parts (part_for names others parts frame) frame
 
 -- this part makes so many HMAC values, and none are made for what goes to neither
-abbrev pub PartTakes : {S T : Type 0} → (S → SaslFrame → ℕ → Type 0) → (T → SaslFrame → ℕ → Type 0) → Parts S T
+abbrev pub PartTakes : {S T : Type 0} → (S → SaslFrame → ℕ → Type 0) → (T → SaslFrame → ℕ → Type 0) → BothStates S T
     → Option Part → SaslFrame → ℕ → Type 0
 PartTakes hmacs other parts None frame n = n ≡ 0
 PartTakes hmacs other parts (Some First) frame n = hmacs parts.first frame n
@@ -78,7 +78,7 @@ PartTakes hmacs other parts (Some Second) frame n = other parts.second frame n
 
 -- how many both together make (RFC 5802, section 3): as many as the part does that the frame goes to
 abbrev pub one_of_hmacs : {S T : Type 0} → (S → List (List ℕ)) → (T → List (List ℕ)) → (S → SaslFrame → ℕ → Type 0)
-    → (T → SaslFrame → ℕ → Type 0) → Parts S T → SaslFrame → ℕ → Type 0
+    → (T → SaslFrame → ℕ → Type 0) → BothStates S T → SaslFrame → ℕ → Type 0
 one_of_hmacs names others hmacs other parts frame n =
     PartTakes hmacs other parts (part_for names others parts frame) frame n
 

@@ -12,7 +12,7 @@ use Rattle.fe2o3_sasl_runs.specs.Bodies.{SpellsBody}
 use Rattle.fe2o3_sasl_runs.specs.Events.{Given, ServerSays, Concluded, Failed}
 use Rattle.fe2o3_sasl_runs.specs.Headline.{AnswersOkExactly}
 use Rattle.fe2o3_sasl_runs.specs.OffersOnly.{Offering, is_passed_on, offering_machine}
-use Rattle.fe2o3_sasl_runs.specs.OneOf.{Parts, one_of_machine, part_for}
+use Rattle.fe2o3_sasl_runs.specs.OneOf.{BothStates, one_of_machine, part_for}
 use Rattle.fe2o3_sasl_runs.specs.Runs.{Runs, AcceptorGives, AcceptorSteps}
 use Rattle.fe2o3_sasl_runs.specs.SaslAcceptor.{Acceptor, ScramAcceptor, acceptor_machine, acceptor_names, acceptor_user}
 use Rattle.fe2o3_sasl_runs.specs.ServerHistory.{LoggedIn}
@@ -75,7 +75,7 @@ IsRefusal says = ⊥
 -- each body went where `part_for` sends it in the state before it: what went to a part is a run of that part by itself,
 -- and what went to neither is refused
 pub record Splits {S T : Type 0} (names : S → List (List ℕ)) (others : T → List (List ℕ)) (machine : Machine S)
-    (other : Machine T) (parts : Parts S T) (events : List Given) (replies : List ServerSays) (last : Parts S T)
+    (other : Machine T) (parts : BothStates S T) (events : List Given) (replies : List ServerSays) (last : BothStates S T)
     (marks : List (Option Part)) : Type 0 where
   pub marked : MarkedRuns (one_of_machine names others machine other) None (part_for names others) parts events replies
       last marks
@@ -89,7 +89,7 @@ pub record Splits {S T : Type 0} (names : S → List (List ℕ)) (others : T →
 abbrev pub OneOfRunsAreSplit : {S T : Type 0} → (S → List (List ℕ)) → (T → List (List ℕ)) → Machine S → Machine T
     → Type 0
 OneOfRunsAreSplit {S} {T} names others machine other =
-    (parts last : Parts S T) (events : List Given) (replies : List ServerSays)
+    (parts last : BothStates S T) (events : List Given) (replies : List ServerSays)
     → Runs (AcceptorSteps (one_of_machine names others machine other)) parts events replies last
     → (marks : List (Option Part)) × Splits names others machine other parts events replies last marks
 
@@ -103,7 +103,7 @@ pub record AnswersAsScram (provider : Provider) (events : List Given) (replies :
 
 -- SCRAM that is the first of two does so with the bodies that went to it
 abbrev pub ScramFirstAnswersOkExactly : {T : Type 0} → (T → List (List ℕ)) → Machine T → Type 0
-ScramFirstAnswersOkExactly {T} others other = (provider : Provider) (second : T) (last : Parts Acceptor T)
+ScramFirstAnswersOkExactly {T} others other = (provider : Provider) (second : T) (last : BothStates Acceptor T)
     (events : List Given) (replies : List ServerSays)
     → Runs (AcceptorSteps (one_of_machine acceptor_names others acceptor_machine other))
     (record { first = ScramAcceptor provider server_states.Initial; second = second; asked = None }) events replies last
@@ -115,7 +115,7 @@ ScramFirstAnswersOkExactly {T} others other = (provider : Provider) (second : T)
 
 -- and so does SCRAM that is the second
 abbrev pub ScramSecondAnswersOkExactly : {S : Type 0} → (S → List (List ℕ)) → Machine S → Type 0
-ScramSecondAnswersOkExactly {S} names machine = (provider : Provider) (first : S) (last : Parts S Acceptor)
+ScramSecondAnswersOkExactly {S} names machine = (provider : Provider) (first : S) (last : BothStates S Acceptor)
     (events : List Given) (replies : List ServerSays)
     → Runs (AcceptorSteps (one_of_machine names acceptor_names machine acceptor_machine))
     (record { first = first; second = ScramAcceptor provider server_states.Initial; asked = None }) events replies last

@@ -5,7 +5,7 @@ use Rattle.fe2o3_sasl_wire.specs.SaslFrames as frames
 use Rattle.fe2o3_sasl_runs.specs.Bodies.{SpellsBody}
 use Rattle.fe2o3_sasl_runs.specs.Events.{Given, ServerSays}
 use Rattle.fe2o3_sasl_runs.specs.OffersOnly.{Offering, is_passed_on, offering_machine}
-use Rattle.fe2o3_sasl_runs.specs.OneOf.{Parts, both_names, one_of_machine, part_for, part_names}
+use Rattle.fe2o3_sasl_runs.specs.OneOf.{BothStates, both_names, one_of_machine, part_for, part_names}
 use Rattle.fe2o3_sasl_runs.specs.OneOfLaws.{Machine}
 use Rattle.fe2o3_sasl_runs.specs.Runs.{Runs, AcceptorSteps}
 use Rattle.fe2o3_sasl_runs.specs.declared.one_of.Part.{Part}
@@ -21,7 +21,7 @@ pub record SomeEvent {S A : Type 0} (Step : S → Given → A → S → Type 0) 
   pub holds : Holds before event
 
 -- the body is an init of a mechanism of this part: the server sends it there
-abbrev pub AsksPart : {S T : Type 0} → (S → List (List ℕ)) → (T → List (List ℕ)) → Part → Parts S T → Given → Type 0
+abbrev pub AsksPart : {S T : Type 0} → (S → List (List ℕ)) → (T → List (List ℕ)) → Part → BothStates S T → Given → Type 0
 AsksPart names others part parts event = (mechanism : List ℕ) × (response hostname : Option (List ℕ))
     × SpellsBody event.body (Ok (frames.Init mechanism response hostname))
     × (part_for names others parts (frames.Init mechanism response hostname) ≡ Some part)
@@ -30,7 +30,7 @@ AsksPart names others part parts event = (mechanism : List ℕ) × (response hos
 -- of the run with a mechanism of that part
 abbrev pub OneOfNamesUsers : {S T : Type 0} → (S → List (List ℕ)) → (T → List (List ℕ)) → Machine S → Machine T → Type 0
 OneOfNamesUsers {S} {T} names others machine other = (user : S → Option (List ℕ)) (other_user : T → Option (List ℕ))
-    (parts last : Parts S T) (events : List Given) (replies : List ServerSays) (name : List ℕ)
+    (parts last : BothStates S T) (events : List Given) (replies : List ServerSays) (name : List ℕ)
     → let Step = AcceptorSteps (one_of_machine names others machine other) in
     Runs Step parts events replies last → parts.asked ≡ None
     → part_names last.asked (user last.first) (other_user last.second) ≡ Some name
@@ -38,12 +38,12 @@ OneOfNamesUsers {S} {T} names others machine other = (user : S → Option (List 
     × (last.asked ≡ Some part) × SomeEvent Step parts events replies (AsksPart names others part)
 
 -- such an init of a server that offers only some of its names, of a mechanism that is offered
-abbrev pub AsksOffered : {S T : Type 0} → (S → List (List ℕ)) → (T → List (List ℕ)) → Part → Offering (Parts S T)
+abbrev pub AsksOffered : {S T : Type 0} → (S → List (List ℕ)) → (T → List (List ℕ)) → Part → Offering (BothStates S T)
     → Given → Type 0
 AsksOffered {S} {T} names others part offering event = (mechanism : List ℕ) × (response hostname : Option (List ℕ))
     × SpellsBody event.body (Ok (frames.Init mechanism response hostname))
     × (part_for names others offering.inner (frames.Init mechanism response hostname) ≡ Some part)
-    × (is_passed_on (λ (parts : Parts S T). both_names (names parts.first) (others parts.second)) offering
+    × (is_passed_on (λ (parts : BothStates S T). both_names (names parts.first) (others parts.second)) offering
     (frames.Init mechanism response hostname) ≡ true)
 
 -- where it names a user after a run, that is the name by the part asked last, by an init of the run with a mechanism of
@@ -51,10 +51,10 @@ AsksOffered {S} {T} names others part offering event = (mechanism : List ℕ) ×
 abbrev pub OfferedNamesUsers : {S T : Type 0} → (S → List (List ℕ)) → (T → List (List ℕ)) → Machine S → Machine T
     → Type 0
 OfferedNamesUsers {S} {T} names others machine other = (user : S → Option (List ℕ))
-    (other_user : T → Option (List ℕ)) (offering last : Offering (Parts S T)) (events : List Given)
+    (other_user : T → Option (List ℕ)) (offering last : Offering (BothStates S T)) (events : List Given)
     (replies : List ServerSays) (name : List ℕ)
     → let Step = AcceptorSteps (offering_machine
-    (λ (parts : Parts S T). both_names (names parts.first) (others parts.second))
+    (λ (parts : BothStates S T). both_names (names parts.first) (others parts.second))
     (one_of_machine names others machine other)) in
     Runs Step offering events replies last → offering.inner.asked ≡ None
     → part_names last.inner.asked (user last.inner.first) (other_user last.inner.second) ≡ Some name

@@ -115,13 +115,13 @@ scram_profile login = ScramProfile (record {
   secret = login.secret;
   version = login.version;
   limits = login.limits;
-  state = client_states.Initial;
+  state = client_states.ClientInitial;
 })
 
 -- the state of its client; a profile that is not of SCRAM has sent no message of SCRAM
 abbrev pub profile_state : Profile → ClientState
 profile_state (ScramProfile client) = client.state
-profile_state profile = client_states.Initial
+profile_state profile = client_states.ClientInitial
 
 -- the same profile with its client in this state; one that is not of SCRAM stays as it is
 abbrev pub in_state : Profile → ClientState → Profile

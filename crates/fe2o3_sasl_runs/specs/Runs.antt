@@ -23,8 +23,8 @@ use Rattle.fe2o3_sasl_runs.specs.declared.events.ServerReply.TheVariants as serv
 use Rattle.fe2o3_sasl_runs.specs.declared.sasl_profile.error.ProfileError.{ProfileError}
 
 -- a frame is sent in its canonical body, and only then the next state holds; a frame without one leaves the state
-abbrev pub Sends : {S A : Type 0} → A → (List ℕ → A) → Option (List ℕ) → S → S → A → S → Type 0
-Sends too_large says body state moved reply next =
+abbrev pub SendsCanonical : {S A : Type 0} → A → (List ℕ → A) → Option (List ℕ) → S → S → A → S → Type 0
+SendsCanonical too_large says body state moved reply next =
     (reply ≡ carried too_large says body) × (next ≡ carried state (λ _. moved) body)
 
 -- what a server says with a frame in this body
@@ -38,7 +38,7 @@ abbrev pub AcceptorAnswers : {S : Type 0} → (S → List ℕ → SaslFrame → 
 AcceptorAnswers {S} machine state nonce frame says next =
     ((says ≡ Failed faults.OutOfMemory) × (next ≡ state))
     ⊎ ((reply : SaslFrame) × (moved : S) × machine state nonce frame reply moved
-    × Sends (Failed faults.TooLarge) (server_says reply) (canonical reply) state moved says next)
+    × SendsCanonical (Failed faults.TooLarge) (server_says reply) (canonical reply) state moved says next)
 
 -- what it does with a body that spells this: it takes inits and responses
 abbrev pub AcceptorGives : {S : Type 0} → (S → List ℕ → SaslFrame → SaslFrame → S → Type 0) → S → Given
@@ -62,10 +62,10 @@ AcceptorSteps machine state event says next = (spelled : Result SaslFrame Error)
 abbrev pub Replies : Profile → Profile → Result SaslFrame ClientFault → ClientSays → Profile → Type 0
 Replies profile moved (Err fault) says next = (says ≡ Refused fault) × (next ≡ moved)
 Replies profile moved (Ok (frames.Init mechanism response hostname)) says next =
-    Sends (Refused (Frame faults.TooLarge)) (λ body. Started body)
+    SendsCanonical (Refused (Frame faults.TooLarge)) (λ body. Started body)
     (canonical (frames.Init mechanism response hostname)) profile moved says next
 Replies profile moved (Ok (frames.Outcome code more)) says next = (says ≡ Reported code more) × (next ≡ moved)
-Replies profile moved (Ok frame) says next = Sends (Refused (Frame faults.TooLarge)) (λ body. Answered body)
+Replies profile moved (Ok frame) says next = SendsCanonical (Refused (Frame faults.TooLarge)) (λ body. Answered body)
     (canonical frame) profile moved says next
 
 -- what a profile replies to a frame: what its machine says, or want of memory, where the profile stays

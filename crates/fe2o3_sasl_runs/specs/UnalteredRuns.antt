@@ -9,7 +9,7 @@ use Rattle.fe2o3_sasl_runs.specs.ClientHistory.{ClientHistory}
 use Rattle.fe2o3_scram.specs.Credentials.{Provider, record_at, record_of}
 use Rattle.fe2o3_sasl_runs.specs.Events.{Given, Login, IsLogin, ServerSays, Challenged, Concluded, Failed, ClientSays, Started, Answered, Reported, Refused, Frame}
 use Rattle.fe2o3_scram.specs.Hmac.{mechanism_name}
-use Rattle.fe2o3_scram.specs.Exchanges.{Opens}
+use Rattle.fe2o3_scram.specs.Exchanges.{OpensRecord}
 use Rattle.fe2o3_sasl_runs.specs.ServerHistory.{ServerHistory}
 use Rattle.fe2o3_sasl_runs.specs.TwoSides.{Sides, sides_of}
 use Rattle.fe2o3_sasl_runs.specs.Verdicts.{Verdict, Agreed, Finding, OfVerifier, OfProof, Audits}
@@ -62,14 +62,14 @@ pub record HoldsLogin (sides : Sides) (password salt : List ℕ) (count : ℕ) :
   pub stored : record_at sides.provider.records sides.login.user
       ≡ Some (record_of sides.login.version password salt count)
   pub bytes : IsBytes salt
-  pub opens : Opens sides.login.version sides.login.secret password salt count
+  pub opens : OpensRecord sides.login.version sides.login.secret password salt count
   pub some : 1 ≤ count
   pub least : sides.login.limits.least ≤ count
   pub within : count ≤ sides.login.limits.most
 
 -- the values on which both sides agree
-abbrev pub agreed : {sides : Sides} → UnalteredRun sides → List ℕ → ℕ → Verdict
-agreed {sides} run salt count =
+abbrev pub agreed_verdict : {sides : Sides} → UnalteredRun sides → List ℕ → ℕ → Verdict
+agreed_verdict {sides} run salt count =
     let client_nonce = base64_text run.offer.nonce in
     Agreed sides.login.user client_nonce
     (Some (record { full_nonce = client_nonce ++ base64_text run.init.nonce; salt = salt; iterations = count }))
@@ -77,8 +77,8 @@ agreed {sides} run salt count =
 -- an audit finds the client's Ok and its answer with the server's Ok, and nothing else; in both the sides agree
 abbrev pub agreed_findings : {sides : Sides} → UnalteredRun sides → List ℕ → ℕ → List Finding
 agreed_findings run salt count =
-    record { kind = OfVerifier; client = 2; server = 1; verdict = agreed run salt count }
-    ∷ record { kind = OfProof; client = 1; server = 1; verdict = agreed run salt count } ∷ []
+    record { kind = OfVerifier; client = 2; server = 1; verdict = agreed_verdict run salt count }
+    ∷ record { kind = OfProof; client = 1; server = 1; verdict = agreed_verdict run salt count } ∷ []
 
 -- the client starts, answers and reports Ok, the server challenges and concludes with Ok, each in the body that
 -- arrived, and these are the findings

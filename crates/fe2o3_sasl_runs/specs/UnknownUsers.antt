@@ -18,8 +18,8 @@ use Rattle.fe2o3_sasl_runs.specs.Runs.{Runs, AcceptorSteps}
 use Rattle.fe2o3_sasl_runs.specs.declared.one_of.Part.{Part}
 
 -- a server in this state gives these replies to these events
-abbrev pub Gives : {S : Type 0} → Machine S → S → List Given → List ServerSays → Type 0
-Gives {S} machine state events replies = (last : S) × Runs (AcceptorSteps machine) state events replies last
+abbrev pub GivesReplies : {S : Type 0} → Machine S → S → List Given → List ServerSays → Type 0
+GivesReplies {S} machine state events replies = (last : S) × Runs (AcceptorSteps machine) state events replies last
 
 -- the provider with these records in place of its own
 abbrev pub over : Provider → Records → Provider
@@ -45,7 +45,7 @@ SaltTextsDiffer = (text : ScramVersion → List ℕ → List ℕ)
 -- both give the same replies to the same events
 abbrev pub GivesAlike : {S : Type 0} → Machine S → S → S → Type 0
 GivesAlike machine state other = (events : List Given) (replies : List ServerSays)
-    → Gives machine state events replies ↔ Gives machine other events replies
+    → GivesReplies machine state events replies ↔ GivesReplies machine other events replies
 
 -- an unknown user is answered as a user whose record is the mock record of the name
 abbrev pub UnknownIsMock : Type 0

@@ -4,7 +4,7 @@ ghost use Rattle.std.specs.Prelude.{◌≡◌, ◌≢◌, ◌↔◌, true, false
 ghost use Rattle.std.specs.List.{AllByRecursion, Contains};
 ghost use Rattle.fe2o3_scram.specs.ClientSecret.{Both, secret_of, up_to, no_limit};
 ghost use Rattle.fe2o3_scram.specs.Passwords.{Typed, Prepared};
-ghost use Rattle.fe2o3_sasl_runs.specs.ClientPolicy.{by_strength, name_of, is_allowed, secret_for, fresh_client, scram_by, plain_by, profile_by, CanTake, IsFirstTaken};
+ghost use Rattle.fe2o3_sasl_runs.specs.ClientPolicy.{by_strength, policy_name, is_allowed, secret_for, fresh_client, scram_by, plain_by, profile_by, CanTake, IsFirstTaken};
 ghost use Rattle.fe2o3_sasl_runs.specs.SaslProfile.{profile_of};
 ghost use Rattle.fe2o3_sasl_runs.specs.declared.client_policy.ChoiceError.TheVariants.{OutOfMemory as OutOfMemoryError};
 
@@ -54,7 +54,7 @@ const BY_STRENGTH: [Mechanism; 6] = [
 impl Mechanism {
     /// Its name.
     pub fn name(self) -> &'static str
-        ensures { result.now ≡ name_of self }
+        ensures { result.now ≡ policy_name self }
     {
         match self {
             Mechanism::ScramSha512 => ScramVersion::Sha512.mechanism(),

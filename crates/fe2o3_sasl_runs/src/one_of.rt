@@ -2,7 +2,7 @@
 //! part 5, section 5.3.3.2).
 
 ghost use Rattle.std.specs.Prelude.{◌≡◌, ◌≢◌, ◌≤◌, ◌^◌, ◌++◌, ℕ, List, Option, Some, None, IfOk, IfErr, OnErr, OnOk, not, filter, take};
-ghost use Rattle.fe2o3_sasl_runs.specs.OneOf.{Parts, has_name, both_names, part_with, one_of_machine, one_of_allocates, one_of_hmacs, part_names};
+ghost use Rattle.fe2o3_sasl_runs.specs.OneOf.{BothStates, has_name, both_names, part_with, one_of_machine, one_of_allocates, one_of_hmacs, part_names};
 ghost use Rattle.fe2o3_sasl_runs.specs.SaslAcceptor.{ends_with, sent_frame};
 ghost use Rattle.fe2o3_sasl_wire.specs.declared.amqp_types.SaslCode.TheVariants.{Auth};
 
@@ -73,11 +73,11 @@ pub struct OneOf<A, B> {
 }
 
 impl<A: HasMechanism, B: HasMechanism> OneOf<A, B> {
-    ghost use Rattle.fe2o3_sasl_runs.specs.OneOfSides.{parts_of};
+    ghost use Rattle.fe2o3_sasl_runs.specs.OneOfSides.{both_states};
 
     /// A server of both, which nobody has asked.
     pub fn new(first: A, second: B) -> Self
-        ensures { parts_of A.state B.state result
+        ensures { both_states A.state B.state result
             ≡ record { first = A.state first; second = B.state second; asked = None } }
     {
         Self {
@@ -90,7 +90,7 @@ impl<A: HasMechanism, B: HasMechanism> OneOf<A, B> {
     /// A server of both, of which the last init went to this one, as `asked` told it of a server that was set down
     /// between two calls.
     pub fn with_asked(first: A, second: B, asked: Option<Part>) -> Self
-        ensures { parts_of A.state B.state result
+        ensures { both_states A.state B.state result
             ≡ record { first = A.state first; second = B.state second; asked = asked } }
     {
         Self {
@@ -102,21 +102,21 @@ impl<A: HasMechanism, B: HasMechanism> OneOf<A, B> {
 
     /// The acceptor that was given first.
     pub fn first(&self) -> &A
-        ensures { A.state result.now ≡ (parts_of A.state B.state self.now).first }
+        ensures { A.state result.now ≡ (both_states A.state B.state self.now).first }
     {
         &self.first
     }
 
     /// The other acceptor.
     pub fn second(&self) -> &B
-        ensures { B.state result.now ≡ (parts_of A.state B.state self.now).second }
+        ensures { B.state result.now ≡ (both_states A.state B.state self.now).second }
     {
         &self.second
     }
 
     /// The one that the last init went to, and `None` where none went to either.
     pub fn asked(&self) -> Option<Part>
-        ensures { result ≡ (parts_of A.state B.state self.now).asked }
+        ensures { result ≡ (both_states A.state B.state self.now).asked }
     {
         self.asked
     }
@@ -150,11 +150,11 @@ impl<A: HasMechanism, B: HasMechanism> Clone for OneOf<A, B> {
 }
 
 impl<A: HasMechanism, B: HasMechanism> SaslAcceptor for OneOf<A, B> {
-    ghost use Rattle.fe2o3_sasl_runs.specs.OneOfSides.{parts_of};
+    ghost use Rattle.fe2o3_sasl_runs.specs.OneOfSides.{both_states};
 
-    ghost State = { Parts A.State B.State };
+    ghost State = { BothStates A.State B.State };
 
-    ghost state = { parts_of A.state B.state };
+    ghost state = { both_states A.state B.state };
 
     ghost names = { λ parts. both_names (A.names parts.first) (B.names parts.second) };
 

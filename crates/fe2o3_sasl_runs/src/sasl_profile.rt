@@ -7,7 +7,7 @@ ghost use Rattle.fe2o3_sasl_wire.specs.FrameView.{shown, viewed_frame};
 ghost use Rattle.fe2o3_sasl_wire.specs.Owned.{owned_frame};
 ghost use Rattle.fe2o3_sasl_wire.specs.SaslFrames.{Init, Challenge, Outcome};
 ghost use Rattle.fe2o3_scram.specs.ClientKeys.{ClientKeys};
-ghost use Rattle.fe2o3_scram.specs.ScramClient.{Initial, ClientFirstSent, ClientFinalSent, answer_keys, login_keys};
+ghost use Rattle.fe2o3_scram.specs.ScramClient.{ClientInitial, ClientFirstSent, ClientFinalSent, answer_keys, login_keys};
 ghost use Rattle.fe2o3_scram.specs.Texts.{base64_text};
 ghost use Rattle.fe2o3_sasl_runs.specs.Costs.{ProfileCosts};
 ghost use Rattle.fe2o3_sasl_runs.specs.Profiles.{ScramProfile, PlainProfile, scram_profile, profile_name, is_scram, profile_state, in_state, initial_response, after_init, FrameAllocates, ViewAllocates, StepAllocates, ProfileAnswers};
@@ -127,7 +127,7 @@ impl SaslProfile {
     /// Returns the client of a SCRAM profile, and `None` of another profile. The variant of the profile names the
     /// version of that client.
     pub fn scram_client(&self) -> Option<&ScramClient>
-        ensures state { MatchOption result (profile_state (profile_of self.now) ≡ Initial)
+        ensures state { MatchOption result (profile_state (profile_of self.now) ≡ ClientInitial)
             (λ client. profile_state (profile_of self.now) ≡ client.now.state) }
         ensures side { MatchOption result (is_scram (profile_of self.now) ≡ false)
             (λ client. profile_of self.now ≡ ScramProfile client.now) }

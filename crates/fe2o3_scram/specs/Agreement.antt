@@ -12,7 +12,7 @@ use Rattle.fe2o3_scram.specs.Keys.{auth_message}
 use Rattle.fe2o3_scram.specs.Laws.{HoldsBytes}
 use Rattle.fe2o3_scram.specs.ScramClient.{ClientSide, AnswersIn, BelievesIn, holding, started}
 use Rattle.fe2o3_scram.specs.ScramServer.{ServerState, ChallengesFrom, ConcludesFrom, server_against}
-use Rattle.fe2o3_scram.specs.ServerFirst.{Challenge, ServerFirst, ReadsServerFirst, challenge_of}
+use Rattle.fe2o3_scram.specs.ServerFirst.{ServerChallenge, ServerFirst, ReadsServerFirst, challenge_of}
 use Rattle.fe2o3_scram.specs.Texts.{Part, Parts, base64_text}
 
 -- a client's calls: it started with this nonce, answered this server-first message, and believed this server-final
@@ -26,7 +26,7 @@ pub record Believed (side : ClientSide) (nonce first last : List ℕ) : Type 0 w
 
 -- a server's calls: with this nonce it answered this client-first message by a challenge, and then this client-final
 -- message, which it accepted, by this server-final message
-pub record Accepted (provider : Provider) (nonce init response last : List ℕ) : Type 0 where
+pub record AcceptedTexts (provider : Provider) (nonce init response last : List ℕ) : Type 0 where
   pub state : ServerState
   pub waiting : ServerState
   pub done : ServerState
@@ -55,19 +55,19 @@ abbrev pub keys_known : {side : ClientSide} {nonce text : List ℕ} → ClientKn
 keys_known {side} client = keys_for side.version side.secret client.first
 
 -- AuthMessage, of the messages as the client has them
-abbrev pub client_message : {side : ClientSide} {nonce text : List ℕ} → ClientKnows side nonce text → List ℕ
-client_message {side} {nonce} {text} client =
+abbrev pub client_auth_message : {side : ClientSide} {nonce text : List ℕ} → ClientKnows side nonce text → List ℕ
+client_auth_message {side} {nonce} {text} client =
     auth_message (client_first_bare side.user (base64_text nonce)) text (without_proof client.first.nonce)
 
 -- the server's challenge
 abbrev pub challenge_known : {provider : Provider} {nonce init response : List ℕ}
-    → ServerKnows provider nonce init response → Challenge
+    → ServerKnows provider nonce init response → ServerChallenge
 challenge_known {provider} {nonce} server = challenge_of server.client (base64_text nonce) server.stored
 
 -- AuthMessage, of the messages as the server has them
-abbrev pub server_message : {provider : Provider} {nonce init response : List ℕ}
+abbrev pub server_auth_message : {provider : Provider} {nonce init response : List ℕ}
     → ServerKnows provider nonce init response → List ℕ
-server_message server = auth_message server.client.bare (challenge_known server).first server.final.without
+server_auth_message server = auth_message server.client.bare (challenge_known server).first server.final.without
 
 -- the text has that many parts, as commas cut it (RFC 5802, section 7)
 abbrev pub InParts : ℕ → List ℕ → Type 0
@@ -78,37 +78,37 @@ abbrev pub IsPlain : List ℕ → Type 0
 IsPlain bare = InParts 2 bare
 
 -- one of the two sides received no attribute of RFC 5802 in the place of an extension
-abbrev pub NoneMisplacedIn : {side : ClientSide} {provider : Provider} {own text its init response : List ℕ}
+abbrev pub NoneMisplacedInTexts : {side : ClientSide} {provider : Provider} {own text its init response : List ℕ}
     → ClientKnows side own text → ServerKnows provider its init response → Type 0
-NoneMisplacedIn {text} client server = NoneMisplaced text server.client.bare server.final.without
+NoneMisplacedInTexts {text} client server = NoneMisplaced text server.client.bare server.final.without
 
 -- both sides mean one login: one version of keys, user name and client nonce. Where the client-first message was plain,
 -- or one side received no misplaced attribute, also one nonce of both sides, salt and count; in the second case also one
 -- GS2 header, which is `n,,`, as this client sends it
-pub record Agree {side : ClientSide} {provider : Provider} {own text its init response : List ℕ}
+pub record TextsAgree {side : ClientSide} {provider : Provider} {own text its init response : List ℕ}
     (client : ClientKnows side own text) (server : ServerKnows provider its init response) : Type 0 where
   pub version : (keys_known client).version ≡ provider.version
-  pub header : NoneMisplacedIn client server → Unsupported ≡ server.client.header
+  pub header : NoneMisplacedInTexts client server → Unsupported ≡ server.client.header
   pub user : side.user ≡ server.client.user
   pub nonce : base64_text own ≡ server.client.nonce
-  pub full_nonce : IsPlain server.client.bare ⊎ NoneMisplacedIn client server
+  pub full_nonce : IsPlain server.client.bare ⊎ NoneMisplacedInTexts client server
       → client.first.nonce ≡ (challenge_known server).nonce
-  pub salt : IsPlain server.client.bare ⊎ NoneMisplacedIn client server → client.first.salt ≡ server.stored.salt
-  pub count : IsPlain server.client.bare ⊎ NoneMisplacedIn client server → client.first.count ≡ server.stored.count
+  pub salt : IsPlain server.client.bare ⊎ NoneMisplacedInTexts client server → client.first.salt ≡ server.stored.salt
+  pub count : IsPlain server.client.bare ⊎ NoneMisplacedInTexts client server → client.first.count ≡ server.stored.count
 
 -- the AuthMessages share one HMAC value, each under its side's ServerKey, at one version
 pub record Collide {side : ClientSide} {provider : Provider} {own text its init response : List ℕ}
     (client : ClientKnows side own text) (server : ServerKnows provider its init response) : Type 0 where
   pub version : (keys_known client).version ≡ provider.version
-  pub one : hmac_of provider.version (keys_known client).server_key (client_message client)
-      ≡ hmac_of provider.version server.stored.server_key (server_message server)
+  pub one : hmac_of provider.version (keys_known client).server_key (client_auth_message client)
+      ≡ hmac_of provider.version server.stored.server_key (server_auth_message server)
 
 -- a client that believed the message by which a server accepted: both sides agree where their AuthMessages are equal,
 -- and where these differ they collide
 abbrev pub BelievedTextsAgree : Type 0
 BelievedTextsAgree = (side : ClientSide) (provider : Provider) (own text last its init response verifier : List ℕ)
-    → Believed side own text last → Accepted provider its init response verifier → Part last 0 verifier
+    → Believed side own text last → AcceptedTexts provider its init response verifier → Part last 0 verifier
     → (client : ClientKnows side own text) × (server : ServerKnows provider its init response)
     × (HoldsBytes (server.client.user, server.stored)
-    → (client_message client ≡ server_message server → Agree client server)
-    × (client_message client ≢ server_message server → Collide client server))
+    → (client_auth_message client ≡ server_auth_message server → TextsAgree client server)
+    × (client_auth_message client ≢ server_auth_message server → Collide client server))

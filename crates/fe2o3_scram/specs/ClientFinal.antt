@@ -135,8 +135,8 @@ binding_tests header text =
     ∷ []
 
 -- its tests of the nonce (RFC 5802, section 5.1)
-abbrev pub nonce_tests : List ℕ → List ℕ → List (ServerScramErrorKind × Type 0)
-nonce_tests nonce text =
+abbrev pub final_nonce_tests : List ℕ → List ℕ → List (ServerScramErrorKind × Type 0)
+final_nonce_tests nonce text =
     (CannotParseClientFinalMessage, (rest : List ℕ) → ¬ Part text 1 (codes "r=" ++ rest))
     ∷ (IncorrectClientFinalNonce, ¬ Part text 1 (codes "r=" ++ nonce))
     ∷ []
@@ -151,7 +151,7 @@ spelling_tests text =
 -- all its tests of the text (UTF-8: RFC 3629, section 3), in their order
 abbrev pub final_text_tests : Gs2Header → List ℕ → List ℕ → List (ServerScramErrorKind × Type 0)
 final_text_tests header nonce text = (Utf8Error, ¬ IsUtf8 text)
-    ∷ (binding_tests header text ++ (nonce_tests nonce text ++ spelling_tests text))
+    ∷ (binding_tests header text ++ (final_nonce_tests nonce text ++ spelling_tests text))
 
 -- the server comes to a channel binding that is not its own, for which it asks for memory (RFC 5802, section 5.1)
 abbrev pub ReachesBinding : Gs2Header → List ℕ → Type 0
@@ -161,7 +161,7 @@ ReachesBinding header text =
 -- the server comes to the proof, for which it asks for memory: binding and nonce have passed their tests, and the last
 -- part is a proof (RFC 5802, section 5.1)
 abbrev pub ReachesProof : Gs2Header → List ℕ → List ℕ → Type 0
-ReachesProof header nonce text = NoneHolds (binding_tests header text) × NoneHolds (nonce_tests nonce text)
+ReachesProof header nonce text = NoneHolds (binding_tests header text) × NoneHolds (final_nonce_tests nonce text)
     × ((before : List ℕ) × (rest : List ℕ) × LastPart text before (codes "p=" ++ rest))
 
 -- the server comes to ask for memory (RFC 5802, section 5.1), with this header and this nonce of both sides

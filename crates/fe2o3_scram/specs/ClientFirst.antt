@@ -9,7 +9,7 @@ use Rattle.fe2o3_scram.specs.declared.scram_messages.gs2_header.Gs2Header.{Gs2He
 use Rattle.fe2o3_scram.specs.declared.scram_messages.gs2_header.Gs2Header.TheVariants.{Unsupported, Unoffered}
 use Rattle.fe2o3_scram.specs.Escape.{escaped, NoEquals}
 use Rattle.fe2o3_scram.specs.Readings.{Reads}
-use Rattle.fe2o3_scram.specs.Texts.{joined, Part, Begins}
+use Rattle.fe2o3_scram.specs.Texts.{joined, Part, StartsWith}
 
 -- client-first-message-bare (RFC 5802, section 7): the user name and the client's nonce
 abbrev pub client_first_bare : List ℕ → List ℕ → List ℕ
@@ -64,7 +64,7 @@ pub record NamesClientFirst (unbound : Bool) (text : List ℕ) (first : ClientFi
 abbrev pub client_first_tests : Bool → List ℕ → List (ServerScramErrorKind × Type 0)
 client_first_tests unbound text =
     (Utf8Error, ¬ IsUtf8 text)
-    ∷ (CannotParseGs2Header, (header : Gs2Header) → TakesHeader unbound header → ¬ Begins text (header_text header))
+    ∷ (CannotParseGs2Header, (header : Gs2Header) → TakesHeader unbound header → ¬ StartsWith text (header_text header))
     ∷ (CannotParseUsername, (user : List ℕ) → ¬ BarePart unbound text 0 (codes "n=" ++ escaped user))
     ∷ (CannotParseClientNonce, (nonce : List ℕ) → ¬ BarePart unbound text 1 (codes "r=" ++ nonce))
     ∷ []

@@ -20,10 +20,10 @@ use Rattle.fe2o3_scram.specs.Texts.{NoComma, base64_text, joined}
 -- a client's secret opens the record of a password with this salt and this count (RFC 5802, section 3): it is that
 -- password, in normal form, or its keys with that salt and that count; where it is both, the password is what
 -- opens a record of another salt or another count than the keys are of
-abbrev pub Opens : ScramVersion → Secret → List ℕ → List ℕ → ℕ → Type 0
-Opens version (Password own) password salt count = (password_bytes own ≡ password) × IsNormal own
-Opens version (Keys keys) password salt count = keys ≡ keys_of version password salt count
-Opens version (Both own keys) password salt count =
+abbrev pub OpensRecord : ScramVersion → Secret → List ℕ → List ℕ → ℕ → Type 0
+OpensRecord version (Password own) password salt count = (password_bytes own ≡ password) × IsNormal own
+OpensRecord version (Keys keys) password salt count = keys ≡ keys_of version password salt count
+OpensRecord version (Both own keys) password salt count =
     (keys ≡ keys_of version password salt count)
     ⊎ (((salt ≢ keys.salt) ⊎ (count ≢ keys.count)) × (password_bytes own ≡ password) × IsNormal own)
 
@@ -46,7 +46,7 @@ pub record Exchange : Type 0 where
 -- are what the code holds
 pub record IsSound (x : Exchange) : Type 0 where
   pub header : TakesHeader x.unbound x.header
-  pub opens : Opens x.version x.secret x.password x.salt x.count
+  pub opens : OpensRecord x.version x.secret x.password x.salt x.count
   pub some : 1 ≤ x.count
   pub least : x.limits.least ≤ x.count
   pub within : x.count ≤ x.limits.most

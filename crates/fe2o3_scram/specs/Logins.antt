@@ -8,12 +8,12 @@ use Rattle.fe2o3_scram.specs.HidingServer.{HidingServer, NamedBy, hiding_name}
 use Rattle.fe2o3_scram.specs.ScramClient.{ClientSide, ClientState, ClientFinalSent, BelievesIn}
 use Rattle.fe2o3_scram.specs.ScramServer.{ServerState, ServerFirstSent, ServerFinalSent, ConcludesFrom, server_against}
 use Rattle.fe2o3_scram.specs.ServerFinal.{ReadsServerFinal}
-use Rattle.fe2o3_scram.specs.ServerFirst.{Challenge}
+use Rattle.fe2o3_scram.specs.ServerFirst.{ServerChallenge}
 
 -- the text logs this user in: a challenge to this user is open, whom the provider has, and the text is a client-final
 -- message to it that passes every test, the last being that its proof meets the stored key
 pub record TextLogsIn (provider : Provider) (state : ServerState) (text user : List ℕ) : Type 0 where
-  pub challenge : Challenge
+  pub challenge : ServerChallenge
   pub stored : Record
   pub final : ClientFinal
   pub opened : state ≡ ServerFirstSent challenge

@@ -10,7 +10,7 @@ use Rattle.fe2o3_scram.specs.RecordLines.{ReachesUser}
 use Rattle.fe2o3_scram.specs.RecordText.{ReachesValues}
 use Rattle.fe2o3_scram.specs.ScramClient.{ClientFinalSent, ReachesSaltIn, ReachesVerifierIn}
 use Rattle.fe2o3_scram.specs.ScramServer.{ServerFirstSent, ReachesBase64In}
-use Rattle.fe2o3_scram.specs.ServerFirst.{Challenge, ReachesChallenge}
+use Rattle.fe2o3_scram.specs.ServerFirst.{ServerChallenge, ReachesChallenge}
 
 -- a server-final message that is an error (RFC 5802, section 7), to a client that has answered
 abbrev pub ErrorsTakeNone : Type 0
@@ -28,7 +28,7 @@ UnknownUsersTakeNone = (version : ScramVersion) (unbound : Bool)
     → ¬ ReachesChallenge (record { version = version; records = []; unbound = unbound }) (codes "n,,n=user,r=abc")
 
 -- the challenge with the nonce abc, to whatever user
-abbrev pub challenge_abc : List ℕ → List ℕ → List ℕ → Challenge
+abbrev pub challenge_abc : List ℕ → List ℕ → List ℕ → ServerChallenge
 challenge_abc user bare first =
     record { user = user; header = Unsupported; bare = bare; first = first; nonce = codes "abc" }
 

@@ -49,8 +49,8 @@ fields_values fields = record {
 }
 
 -- the fields of a record
-abbrev pub fields_of : VersionedRecord → Fields
-fields_of kept = record {
+abbrev pub record_fields : VersionedRecord → Fields
+record_fields kept = record {
   mechanism = mechanism_name kept.version;
   count = decimal kept.stored.count;
   salt = base64_text kept.stored.salt;
@@ -60,7 +60,7 @@ fields_of kept = record {
 
 -- the one spelling of a record: the count in decimal without leading zeros, salt and keys in base64
 abbrev pub record_text : VersionedRecord → List ℕ
-record_text kept = laid_out (fields_of kept)
+record_text kept = laid_out (record_fields kept)
 
 -- the text spells this key of the version, which is as long as a digest
 abbrev pub IsKey : ScramVersion → List ℕ → List ℕ → Type 0

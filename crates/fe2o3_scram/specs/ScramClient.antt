@@ -18,7 +18,7 @@ use Rattle.fe2o3_scram.specs.ServerFinal.{ReachesVerifier, ReadsServerFinal}
 -- what a client has sent last, and what it waits for (RFC 5802, section 5); the keys are those of its answer, where it
 -- still has them
 pub data ClientState : Type 0 where
-  Initial : ClientState
+  ClientInitial : ClientState
   ClientFirstSent : (nonce : List ℕ) → (bare : List ℕ) → ClientState
   ClientFinalSent : (signature : List ℕ) → (keys : Option ClientKeys) → ClientState
   Complete : (keys : Option ClientKeys) → ClientState
@@ -103,11 +103,11 @@ ReachesVerifierIn (ClientFinalSent signature keys) text = ReachesVerifier text
 ReachesVerifierIn state text = ⊥
 
 -- the state that the code's state and keys are
-abbrev pub state_of : ScramClientState → Option ClientKeys → ClientState
-state_of CodeInitial keys = Initial
-state_of (CodeClientFirstSent nonce bare) keys = ClientFirstSent (base64_text nonce) bare.items
-state_of (CodeClientFinalSent signature) keys = ClientFinalSent signature.items keys
-state_of CodeComplete keys = Complete keys
+abbrev pub client_state_of : ScramClientState → Option ClientKeys → ClientState
+client_state_of CodeInitial keys = ClientInitial
+client_state_of (CodeClientFirstSent nonce bare) keys = ClientFirstSent (base64_text nonce) bare.items
+client_state_of (CodeClientFinalSent signature) keys = ClientFinalSent signature.items keys
+client_state_of CodeComplete keys = Complete keys
 
 -- whether the server was believed, which ends an exchange (RFC 5802, section 5)
 abbrev pub is_complete : ClientState → Bool

@@ -6,7 +6,7 @@ use Rattle.fe2o3_scram.specs.declared.scram_messages.error.ServerScramErrorKind.
 use Rattle.fe2o3_scram.specs.declared.scram_server.ScramAuthenticatorState.{ScramAuthenticatorState}
 use Rattle.fe2o3_scram.specs.declared.scram_server.ScramAuthenticatorState.TheVariants.{Initial as CodeInitial, ServerFirstSent as CodeServerFirstSent, ServerFinalSent as CodeServerFinalSent}
 use Rattle.fe2o3_scram.specs.Texts.{base64_text}
-use Rattle.fe2o3_scram.specs.ServerFirst.{Challenge, AnswersClientFirst}
+use Rattle.fe2o3_scram.specs.ServerFirst.{ServerChallenge, AnswersClientFirst}
 use Rattle.fe2o3_scram.specs.Credentials.{Record, Store, Provider, record_at, serving}
 use Rattle.fe2o3_scram.specs.ClientFinal.{ReachesBase64, Server, server_of}
 use Rattle.fe2o3_scram.specs.ServerFinal.{AnswersClientFinal, FinalCosts}
@@ -16,7 +16,7 @@ use Rattle.fe2o3_scram.specs.declared.scram_server.open_challenge.OpenChallenge.
 -- what a server has sent last (RFC 5802, section 5): an open challenge, or the end of the login of a user
 pub data ServerState : Type 0 where
   Initial : ServerState
-  ServerFirstSent : (challenge : Challenge) → ServerState
+  ServerFirstSent : (challenge : ServerChallenge) → ServerState
   ServerFinalSent : (user : List ℕ) → ServerState
 
 -- who has logged in, where no later challenge has opened the login anew
@@ -25,7 +25,7 @@ logged_in (ServerFinalSent user) = Some user
 logged_in state = None
 
 -- the challenge that is open
-abbrev pub open_challenge : ServerState → Option Challenge
+abbrev pub open_challenge : ServerState → Option ServerChallenge
 open_challenge (ServerFirstSent challenge) = Some challenge
 open_challenge state = None
 
@@ -34,7 +34,7 @@ open_challenge state = None
 abbrev pub ChallengesFrom : ServerState → Provider → List ℕ → List ℕ → Result (Option (List ℕ)) ServerScramErrorKind
     → ServerState → Type 0
 ChallengesFrom state provider nonce text (Ok (Some message)) next =
-    (challenge : Challenge) × AnswersClientFirst provider (base64_text nonce) text (Ok (Some challenge))
+    (challenge : ServerChallenge) × AnswersClientFirst provider (base64_text nonce) text (Ok (Some challenge))
     × (message ≡ challenge.first) × (next ≡ ServerFirstSent challenge)
 ChallengesFrom state provider nonce text (Ok None) next =
     AnswersClientFirst provider (base64_text nonce) text (Ok None) × (next ≡ state)
@@ -42,7 +42,7 @@ ChallengesFrom state provider nonce text (Err fault) next =
     AnswersClientFirst provider (base64_text nonce) text (Err fault) × (next ≡ state)
 
 -- what a server holds against a client-final message, of an open challenge and the record of its user
-abbrev pub server_against : Provider → Challenge → Record → Server
+abbrev pub server_against : Provider → ServerChallenge → Record → Server
 server_against provider challenge stored =
     server_of provider.version challenge.header challenge.bare challenge.first challenge.nonce stored
 
@@ -82,14 +82,14 @@ FinalCostsFrom (ServerFirstSent challenge) provider text result before after =
 FinalCostsFrom state provider text result before after = after ≡ before
 
 -- the state that the code's state is
-abbrev pub state_of : ScramAuthenticatorState → ServerState
-state_of CodeInitial = Initial
-state_of (CodeServerFirstSent user header bare nonce first) = ServerFirstSent
+abbrev pub server_state_of : ScramAuthenticatorState → ServerState
+server_state_of CodeInitial = Initial
+server_state_of (CodeServerFirstSent user header bare nonce first) = ServerFirstSent
     (record { user = string_bytes user; header = header; bare = bare; first = first; nonce = nonce })
-state_of (CodeServerFinalSent user) = ServerFinalSent (string_bytes user)
+server_state_of (CodeServerFinalSent user) = ServerFinalSent (string_bytes user)
 
 -- the challenge of plain texts
-abbrev pub challenge_kept : OpenChallenge → Challenge
+abbrev pub challenge_kept : OpenChallenge → ServerChallenge
 challenge_kept kept = record {
   user = kept.username.now;
   header = kept.header;
@@ -112,4 +112,4 @@ served_by meaning authenticator = serving (unbound_in authenticator) (meaning (p
 
 -- its state
 abbrev pub state_in : {C : Type 0} → ScramAuthenticator C → ServerState
-state_in authenticator = state_of authenticator.state
+state_in authenticator = server_state_of authenticator.state

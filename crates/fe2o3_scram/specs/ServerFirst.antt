@@ -111,7 +111,7 @@ server_first_of nonce stored =
 
 -- a challenge (RFC 5802, section 5): its user, the client's GS2 header and bare message, the server's message, and the
 -- nonce of both sides
-pub record Challenge : Type 0 where
+pub record ServerChallenge : Type 0 where
   pub user : List ℕ
   pub header : Gs2Header
   pub bare : List ℕ
@@ -119,7 +119,7 @@ pub record Challenge : Type 0 where
   pub nonce : List ℕ
 
 -- the challenge that the code's value holds
-abbrev pub challenge_values : ServerFirstMessage → Challenge
+abbrev pub challenge_values : ServerFirstMessage → ServerChallenge
 challenge_values message = record {
   user = cow_str_bytes message.username;
   header = message.header;
@@ -129,7 +129,7 @@ challenge_values message = record {
 }
 
 -- the challenge to a client-first message that was read, with the server's nonce and the user's record
-abbrev pub challenge_of : ClientFirst → List ℕ → Record → Challenge
+abbrev pub challenge_of : ClientFirst → List ℕ → Record → ServerChallenge
 challenge_of client server_nonce stored =
     let nonce = client.nonce ++ server_nonce in
     record {
@@ -149,7 +149,7 @@ ReachesChallenge provider text = HasEscapes provider.unbound text
 
 -- what the server answers to a client-first message (RFC 5802, section 5): the first refusal, nothing to a user whom
 -- it does not know, or the challenge
-abbrev pub AnswersClientFirst : Provider → List ℕ → List ℕ → Result (Option Challenge) ServerScramErrorKind → Type 0
+abbrev pub AnswersClientFirst : Provider → List ℕ → List ℕ → Result (Option ServerChallenge) ServerScramErrorKind → Type 0
 AnswersClientFirst provider server_nonce text (Ok None) = (client : ClientFirst)
     × ReadsClientFirst provider.unbound text (Ok client) × (record_at provider.records client.user ≡ None)
 AnswersClientFirst provider server_nonce text (Ok (Some challenge)) =

@@ -32,8 +32,8 @@ abbrev pub LastPart : List ℕ → List ℕ → List ℕ → Type 0
 LastPart text before part = NoComma part × (text ≡ joined (before ∷ part ∷ []))
 
 -- the text begins with the prefix
-abbrev pub Begins : List ℕ → List ℕ → Type 0
-Begins text prefix = (rest : List ℕ) × (text ≡ prefix ++ rest)
+abbrev pub StartsWith : List ℕ → List ℕ → Type 0
+StartsWith text prefix = (rest : List ℕ) × (text ≡ prefix ++ rest)
 
 -- the 64 symbols, in the order of their values (RFC 4648, table 1)
 abbrev pub alphabet : List ℕ

@@ -7,7 +7,7 @@ ghost use Rattle.fe2o3_scram.specs.ClientFirst.{client_first};
 ghost use Rattle.fe2o3_scram.specs.ClientKeys.{ClientKeys};
 ghost use Rattle.fe2o3_scram.specs.ClientSecret.{Password, Keys, Both, kept_password, kept_secret, no_limit, up_to};
 ghost use Rattle.fe2o3_scram.specs.Passwords.{Typed, Prepared};
-ghost use Rattle.fe2o3_scram.specs.ScramClient.{Initial, ClientFirstSent, ClientFinalSent, AnswersIn, AnswerCostsIn, BelievesIn, ReachesSaltIn, ReachesVerifierIn, started, state_of, answer_keys, is_complete, login_keys, with_state, with_limits};
+ghost use Rattle.fe2o3_scram.specs.ScramClient.{ClientInitial, ClientFirstSent, ClientFinalSent, AnswersIn, AnswerCostsIn, BelievesIn, ReachesSaltIn, ReachesVerifierIn, started, client_state_of, answer_keys, is_complete, login_keys, with_state, with_limits};
 ghost use Rattle.fe2o3_scram.specs.Readings.{Gives};
 
 use crate::OutOfMemory;
@@ -39,7 +39,7 @@ enum ScramClientState {
 impl ScramClientState {
     /// The same state.
     fn copy(&self) -> Result<ScramClientState, OutOfMemory>
-        ensures { IfOk result (λ copy. (keys : Option ClientKeys) → state_of copy keys ≡ state_of self.now keys) }
+        ensures { IfOk result (λ copy. (keys : Option ClientKeys) → client_state_of copy keys ≡ client_state_of self.now keys) }
     {
         Ok(match self {
             ScramClientState::Initial => ScramClientState::Initial,
@@ -78,7 +78,7 @@ pub struct ScramClient {
 impl Model for ScramClient {
     ghost use Rattle.std.specs.String.{string_bytes};
     ghost use Rattle.fe2o3_scram.specs.ClientSecret.{kept_secret};
-    ghost use Rattle.fe2o3_scram.specs.ScramClient.{ClientSide, state_of};
+    ghost use Rattle.fe2o3_scram.specs.ScramClient.{ClientSide, client_state_of};
 
     ghost Value = { ClientSide };
 
@@ -88,7 +88,7 @@ impl Model for ScramClient {
       version = client.scram;
       limits = client.limits;
       state =
-          state_of client.state client.keys;
+          client_state_of client.state client.keys;
     } };
 }
 
@@ -104,7 +104,7 @@ impl ScramClient {
           version =
               scram_version;
           limits = up_to no_limit;
-          state = Initial;
+          state = ClientInitial;
         } }
     {
         let password = KeptPassword::typed(password);
@@ -125,7 +125,7 @@ impl ScramClient {
           version =
               scram_version;
           limits = up_to no_limit;
-          state = Initial;
+          state = ClientInitial;
         } }
     {
         let password = KeptPassword::prepared(password);
@@ -141,7 +141,7 @@ impl ScramClient {
           secret = Keys keys;
           version = keys.version;
           limits = up_to no_limit;
-          state = Initial;
+          state = ClientInitial;
         } }
     {
         let scram_version = keys.scram_version();
@@ -157,7 +157,7 @@ impl ScramClient {
           version =
               keys.version;
           limits = up_to no_limit;
-          state = Initial;
+          state = ClientInitial;
         } }
     {
         ScramClient::by_both(username, KeptPassword::typed(password), keys)
@@ -175,7 +175,7 @@ impl ScramClient {
           version =
               keys.version;
           limits = up_to no_limit;
-          state = Initial;
+          state = ClientInitial;
         } }
     {
         ScramClient::by_both(username, KeptPassword::prepared(password), keys)
@@ -189,7 +189,7 @@ impl ScramClient {
           version =
               keys.version;
           limits = up_to no_limit;
-          state = Initial;
+          state = ClientInitial;
         } }
     {
         let scram_version = keys.scram_version();
@@ -203,7 +203,7 @@ impl ScramClient {
           secret = kept_secret secret;
           version = scram;
           limits = up_to no_limit;
-          state = Initial;
+          state = ClientInitial;
         } }
     {
         Self {

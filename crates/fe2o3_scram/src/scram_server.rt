@@ -1,8 +1,8 @@
 //! The SCRAM server as a machine: one message after the other (RFC 5802, section 5).
 
 ghost use Rattle.std.specs.Prelude.{◌≡◌, ◌≤◌, ◌^◌, IfOk, OnErr, false, true, option_map};
-ghost use Rattle.fe2o3_scram.specs.ScramServer.{provider_in, served_by, state_in, unbound_in, Initial, ServerFirstSent, ServerFinalSent, logged_in, ChallengesFrom, ConcludesFrom, FinalCostsFrom, ReachesBase64In, state_of};
-ghost use Rattle.fe2o3_scram.specs.ServerFirst.{Challenge, ReachesChallenge, challenge_values};
+ghost use Rattle.fe2o3_scram.specs.ScramServer.{provider_in, served_by, state_in, unbound_in, Initial, ServerFirstSent, ServerFinalSent, logged_in, ChallengesFrom, ConcludesFrom, FinalCostsFrom, ReachesBase64In, server_state_of};
+ghost use Rattle.fe2o3_scram.specs.ServerFirst.{ServerChallenge, ReachesChallenge, challenge_values};
 ghost use Rattle.fe2o3_scram.specs.Readings.{Gives};
 
 pub mod hiding;
@@ -38,7 +38,7 @@ enum ScramAuthenticatorState {
 impl ScramAuthenticatorState {
     /// Returns a copy of the state.
     fn copy(&self) -> Result<ScramAuthenticatorState, OutOfMemory>
-        ensures { IfOk result (λ copy. state_of copy ≡ state_of self.now) }
+        ensures { IfOk result (λ copy. server_state_of copy ≡ server_state_of self.now) }
     {
         Ok(match self {
             ScramAuthenticatorState::Initial => ScramAuthenticatorState::Initial,
@@ -65,8 +65,8 @@ impl ScramAuthenticatorState {
 
     /// The state once the open challenge is accepted: its user has logged in.
     fn accepted(self) -> ScramAuthenticatorState
-        ensures { (challenge : Challenge) → state_of self ≡ ServerFirstSent challenge
-            → state_of result ≡ ServerFinalSent challenge.user }
+        ensures { (challenge : ServerChallenge) → server_state_of self ≡ ServerFirstSent challenge
+            → server_state_of result ≡ ServerFinalSent challenge.user }
     {
         match self {
             ScramAuthenticatorState::ServerFirstSent { username, .. } => {
@@ -84,7 +84,7 @@ fn opened(
     server_first: ServerFirstMessage<'_>,
 ) -> Result<(Vec<u8>, ScramAuthenticatorState), OutOfMemory>
     ensures message { IfOk result (λ made. made.0.items ≡ (challenge_values server_first.entry).first) }
-    ensures state { IfOk result (λ made. state_of made.1 ≡ ServerFirstSent (challenge_values server_first.entry)) }
+    ensures state { IfOk result (λ made. server_state_of made.1 ≡ ServerFirstSent (challenge_values server_first.entry)) }
 {
     let ServerFirstMessage {
         username,

@@ -1,7 +1,7 @@
 //! The pieces of SCRAM messages: parts between commas, attributes, base64 and counts.
 
 ghost use Rattle.std.specs.Prelude.{◌≡◌, ◌<◌, ◌++◌, ℕ, List, IfOk, OnOk, MatchOption, string_bytes};
-ghost use Rattle.fe2o3_scram.specs.Texts.{Begins, Cut, Part, LastPart, IsBase64, base64_text, IsCount, IsPlainCount};
+ghost use Rattle.fe2o3_scram.specs.Texts.{StartsWith, Cut, Part, LastPart, IsBase64, base64_text, IsCount, IsPlainCount};
 
 use crate::OutOfMemory;
 use base64::DecodeAllocError;
@@ -33,7 +33,7 @@ pub(crate) fn last_part(text: &str) -> Option<(&str, &str)>
 
 /// What follows the prefix.
 pub(crate) fn after<'a>(text: &'a str, prefix: &str) -> Option<&'a str>
-    ensures { MatchOption result (¬ Begins text.now prefix.now) (λ rest. text.now ≡ prefix.now ++ rest.now) }
+    ensures { MatchOption result (¬ StartsWith text.now prefix.now) (λ rest. text.now ≡ prefix.now ++ rest.now) }
 {
     text.strip_prefix(prefix)
 }

@@ -12,7 +12,7 @@ use Rattle.fe2o3_scram.specs.ClientKeys.{ClientKeys}
 use Rattle.fe2o3_scram.specs.ClientSecret.{Secret}
 use Rattle.fe2o3_scram.specs.Hmac.{exclusive_or}
 use Rattle.fe2o3_scram.specs.Keys.{client_proof, client_signature, server_signature, stored_key, auth_message}
-use Rattle.fe2o3_scram.specs.ScramClient.{AnswersIn, BelievesIn, ClientSide, ClientState, Initial, ClientFirstSent, ClientFinalSent, Complete, with_state}
+use Rattle.fe2o3_scram.specs.ScramClient.{AnswersIn, BelievesIn, ClientSide, ClientState, ClientInitial, ClientFirstSent, ClientFinalSent, Complete, with_state}
 use Rattle.fe2o3_scram.specs.ServerFirst.{Client, NamesServerFirst, ReadsServerFirst, ServerFirst, client_of}
 use Rattle.fe2o3_scram.specs.ServerFirstAnswers.{AnswersServerFirst}
 use Rattle.fe2o3_scram.specs.declared.client_secret.IterationLimits.{IterationLimits}
@@ -24,7 +24,7 @@ use Rattle.sasl_c.specs.declared.status.Status.{Status}
 use Rattle.sasl_c.specs.declared.status.Status.TheVariants as statuses
 use Rattle.sasl_c.specs.declared.client.Login.{Login}
 use Rattle.sasl_c.specs.declared.client.ScramClient.{ScramClient as Struct}
-use Rattle.sasl_c.specs.Client.{Answered, Believes, Holds, IsAnswer, IsLogin, IsNoLogin, IsNoSecret, IsReached, IsSecret, IsSide, IsState, NotAnswered, Responds, WritesClient, complete_struct, name_tests}
+use Rattle.sasl_c.specs.Client.{AnswersByMessage, Believes, Holds, IsAnswer, IsClientOf, IsNoLogin, IsNoSecret, IsReached, IsSecretOf, IsSide, IsState, NotAnswered, Responds, WritesClient, complete_struct, name_tests}
 use Rattle.sasl_c.specs.Records.{IsVersion}
 use Rattle.sasl_c.proofs.LoginLemmas.{no_secrets}
 use Rattle.sasl_c.proofs.StatusLemmas.{carried, client_not_room}
@@ -106,13 +106,13 @@ answer_fits (ClientFirstSent nonce bare) side next text message held =
         short keys.version _ (length-hmac_of keys.version keys.server_key auth),
       ),
     )
-answer_fits Initial side next text message held = absurd held
+answer_fits ClientInitial side next text message held = absurd held
 answer_fits (ClientFinalSent signature keys) side next text message held = absurd held
 answer_fits (Complete keys) side next text message held = absurd held
 
 -- the client is of the same login in another state
-pub moved_login : (login : Login) (side : ClientSide) (state : ClientState) → IsLogin login side
-    → IsLogin login (with_state side state)
+pub moved_login : (login : Login) (side : ClientSide) (state : ClientState) → IsClientOf login side
+    → IsClientOf login (with_state side state)
 moved_login login side state is = record {
   version = is.version;
   user = is.user;
@@ -123,10 +123,10 @@ moved_login login side state is = record {
 
 -- and behind an answer
 pub answering_login : (login : Login) (state : ClientState) (side next : ClientSide) (text message : List ℕ)
-    → AnswersIn state side text (Ok message) next → IsLogin login side → IsLogin login next
+    → AnswersIn state side text (Ok message) next → IsClientOf login side → IsClientOf login next
 answering_login login (ClientFirstSent nonce bare) side next text message held is =
     rw held.3 (moved_login login side _ is)
-answering_login login Initial side next text message held is = absurd held
+answering_login login ClientInitial side next text message held is = absurd held
 answering_login login (ClientFinalSent signature keys) side next text message held is = absurd held
 answering_login login (Complete keys) side next text message held is = absurd held
 
@@ -145,7 +145,7 @@ first_side login before version secret = record {
 }
 
 is_first_side : (login : Login) (before : Struct) (version : ScramVersion) (secret : Secret)
-    → IsVersion login.version version → IsSecret login secret → before.sent ≡ 1
+    → IsVersion login.version version → IsSecretOf login secret → before.sent ≡ 1
     → IsSide login before (first_side login before version secret)
 is_first_side login before version secret known has sent = (
   record {
@@ -177,13 +177,13 @@ as_sent login before version secret nonce bare text answer spelled first held =
 -- what it answers by a secret, and what it refuses
 pub answered_by : (login : Login) (before : Struct) (version : ScramVersion) (secret : Secret)
     (nonce bare text : List ℕ)
-    (answer : Answer) → IsVersion login.version version → IsSecret login secret → before.sent ≡ 1
+    (answer : Answer) → IsVersion login.version version → IsSecretOf login secret → before.sent ≡ 1
     → nonce ≡ base64_text before.nonce → bare ≡ client_first_bare login.username.now nonce
     → AnswersServerFirst version
     (client_of nonce secret (record { least = login.least_iterations; most = login.most_iterations })) bare text
     (Ok answer)
     → IsAnswer login before text answer
-unfolding Answered
+unfolding AnswersByMessage
 answered_by login before version secret nonce bare text answer known has sent spelled first held =
     let side = first_side login before version secret in (
       with_state side (ClientFinalSent answer.signature (Some answer.keys)),
@@ -196,7 +196,7 @@ answered_by login before version secret nonce bare text answer known has sent sp
     )
 
 pub refused_by : (login : Login) (before : Struct) (version : ScramVersion) (secret : Secret) (nonce bare text : List ℕ)
-    (why : ScramErrorKind) (status : Status) → IsVersion login.version version → IsSecret login secret
+    (why : ScramErrorKind) (status : Status) → IsVersion login.version version → IsSecretOf login secret
     → before.sent ≡ 1 → nonce ≡ base64_text before.nonce → bare ≡ client_first_bare login.username.now nonce
     → (why ≢ NoMemory → AnswersServerFirst version
     (client_of nonce secret (record { least = login.least_iterations; most = login.most_iterations })) bare text
@@ -212,7 +212,7 @@ refused_by login before version secret nonce bare text why status known has sent
 -- a client that has sent another message last
 not_due_in : (user : List ℕ) (before : Struct) (state : ClientState) (side : ClientSide) (text : List ℕ)
     → IsState user before state → before.sent ≢ 1 → AnswersIn state side text (Err IllegalClientState) side
-not_due_in user before Initial side text is other = (refl, refl)
+not_due_in user before ClientInitial side text is other = (refl, refl)
 not_due_in user before (ClientFirstSent nonce bare) side text is other = absurd (other is.0)
 not_due_in user before (ClientFinalSent signature keys) side text is other = (refl, refl)
 not_due_in user before (Complete keys) side text is other = (refl, refl)
@@ -225,21 +225,21 @@ not_due login before side text is other =
 
 -- the message has room behind the bound
 pub answer_has_room : (login : Login) (before : Struct) (text message signature : List ℕ) (keys : ClientKeys)
-    → (next : ClientSide) × Answered login before text message next
+    → (next : ClientSide) × AnswersByMessage login before text message next
     × (next.state ≡ ClientFinalSent signature (Some keys))
     → length message ≤ length text + 128
-unfolding Answered
+unfolding AnswersByMessage
 answer_has_room login before text message signature keys held =
     let given = held.1.0 in
     omega (arith, (answer_fits given.state given held.0 text message held.1.2).0)
 
 -- the struct of a client that waits is that of the client behind the answer
 pub responds : (login : Login) (before after : Struct) (text message signature : List ℕ) (keys : ClientKeys)
-    → (next : ClientSide) × Answered login before text message next
+    → (next : ClientSide) × AnswersByMessage login before text message next
     × (next.state ≡ ClientFinalSent signature (Some keys))
     → ((user : List ℕ) → IsState user after (ClientFinalSent signature (Some keys)))
     → WritesClient after (ClientFinalSent signature (Some keys)) → Responds login text before after (Ok message)
-unfolding Responds Answered
+unfolding Responds AnswersByMessage
 responds login before after text message signature keys held waits written =
     let next = held.0 in
     let given = held.1.0 in
@@ -267,10 +267,10 @@ not_answered login before text status utf8 wrong = inr (utf8, wrong)
 
 -- a client that has answered always waits for a signature that has room
 pub always_waits : (login : Login) (before : Struct) (text message signature : List ℕ) (keys : ClientKeys)
-    → (next : ClientSide) × Answered login before text message next
+    → (next : ClientSide) × AnswersByMessage login before text message next
     × (next.state ≡ ClientFinalSent signature (Some keys))
     → 64 < length signature → Responds login text before before (Err statuses.TooLong)
-unfolding Answered
+unfolding AnswersByMessage
 always_waits login before text message signature keys held long =
     let given = held.1.0 in
     let fits = answer_fits given.state given held.0 text message held.1.2 in
@@ -282,10 +282,10 @@ always_waits login before text message signature keys held long =
 -- ---- whether the server is believed
 
 pub believing_login : (login : Login) (state : ClientState) (side next : ClientSide) (text : List ℕ)
-    → BelievesIn state side text (Ok tt) next → IsLogin login side → IsLogin login next
+    → BelievesIn state side text (Ok tt) next → IsClientOf login side → IsClientOf login next
 believing_login login (ClientFinalSent signature keys) side next text held is =
     rw held.1 (moved_login login side _ is)
-believing_login login Initial side next text held is = absurd held
+believing_login login ClientInitial side next text held is = absurd held
 believing_login login (ClientFirstSent nonce bare) side next text held is = absurd held
 believing_login login (Complete keys) side next text held is = absurd held
 
@@ -296,7 +296,7 @@ done_state user other before after (ClientFinalSent signature keys) side next te
     let moved : next.state ≡ Complete keys = ap (λ (last : ClientSide). last.state) held.1 in
     let kept : Holds after.keys keys = carried (λ given. Holds given keys) before.keys after.keys (sym same) is.3 in
     carried (IsState other after) (Complete keys) next.state (sym moved) (done, kept)
-done_state user other before after Initial side next text is held done same = absurd held
+done_state user other before after ClientInitial side next text is held done same = absurd held
 done_state user other before after (ClientFirstSent nonce bare) side next text is held done same = absurd held
 done_state user other before after (Complete keys) side next text is held done same = absurd held
 

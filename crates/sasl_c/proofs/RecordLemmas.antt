@@ -11,7 +11,7 @@ use Rattle.sasl_c.specs.declared.passwords.PasswordForm.TheVariants as forms
 use Rattle.sasl_c.specs.declared.records.ScramRecord.{ScramRecord as Struct}
 use Rattle.sasl_c.specs.declared.status.Status.TheVariants as statuses
 use Rattle.sasl_c.specs.Passwords.{in_form}
-use Rattle.sasl_c.specs.Records.{IsVersion, Shows, Verifies, making_tests}
+use Rattle.sasl_c.specs.Records.{IsVersion, ShowsRecord, Verifies, struct_making_tests}
 use Rattle.sasl_c.proofs.StatusLemmas.{carried}
 
 -- keys are made of the same bytes in either form
@@ -20,7 +20,7 @@ bytes_in_form forms.Typed text = refl
 bytes_in_form forms.Prepared text = refl
 
 pub verified : (kept : Struct) (form : PasswordForm) (given password : List ℕ) (version : ScramVersion)
-    (stored : Record) → Shows kept (versioned version stored) → password ≡ given
+    (stored : Record) → ShowsRecord kept (versioned version stored) → password ≡ given
     → MeetsRecord version (in_form form password) stored → Verifies kept (in_form form given) (Ok tt)
 verified kept form given password version stored is spelled meets = (
   versioned version stored,
@@ -29,7 +29,7 @@ verified kept form given password version stored is spelled meets = (
 )
 
 pub other_password : (kept : Struct) (form : PasswordForm) (given password : List ℕ) (shown : VersionedRecord)
-    (version : ScramVersion) (stored : Record) → Shows kept shown → version ≡ shown.version → stored ≡ shown.stored
+    (version : ScramVersion) (stored : Record) → ShowsRecord kept shown → version ≡ shown.version → stored ≡ shown.stored
     → password ≡ given → IsUtf8 given → ¬ MeetsRecord version (in_form form password) stored
     → Verifies kept (in_form form given) (Err statuses.OtherPassword)
 other_password kept form given password shown version stored is same alike spelled utf8 wrong =
@@ -40,13 +40,13 @@ other_password kept form given password shown version stored is same alike spell
     in
     inr (shown, is, inr (refl, rw (bytes_in_form form given) utf8, other))
 
-pub not_text : (kept : Struct) (form : PasswordForm) (given : List ℕ) (shown : VersionedRecord) → Shows kept shown
+pub not_text : (kept : Struct) (form : PasswordForm) (given : List ℕ) (shown : VersionedRecord) → ShowsRecord kept shown
     → ¬ IsUtf8 given → Verifies kept (in_form form given) (Err statuses.NotUtf8)
 not_text kept form given shown is wrong = inr (shown, is, inl (refl, rw (bytes_in_form form given) wrong))
 
 pub zero_iterations : (version : ℕ) (known : ScramVersion) (password : PasswordText) (salt : List ℕ) (count : ℕ)
     → IsVersion version known → IsUtf8 (password_bytes password) → length salt ≤ 128 → ¬ ¬ IsNormal password
-    → count ≡ 0 → IsFirst (making_tests version password salt count) statuses.ZeroIterations
+    → count ≡ 0 → IsFirst (struct_making_tests version password salt count) statuses.ZeroIterations
 zero_iterations version known password salt count is utf8 short normal zero = inr (
   (λ none. none known is),
   inr ((λ wrong. wrong utf8), inr ((λ long. absurd (omega (arith, long, short))), inr (normal, inl (zero, refl)))),

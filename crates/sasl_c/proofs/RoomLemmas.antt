@@ -11,11 +11,11 @@ use Rattle.fe2o3_scram.specs.Keys.{client_key}
 use Rattle.fe2o3_scram.specs.Pbkdf2Hi.{salted_of}
 use Rattle.fe2o3_scram.proofs.lemmas.hashes.DigestLemmas.{length-digest, length-hmac_of}
 use Rattle.fe2o3_scram.specs.ClientKeys.{keys_of}
-use Rattle.sasl_c.specs.Keys.{HasRoom as KeysHaveRoom}
-use Rattle.sasl_c.specs.Records.{HasRoom}
+use Rattle.sasl_c.specs.Keys.{KeysHaveRoom}
+use Rattle.sasl_c.specs.Records.{RecordHasRoom}
 
 pub record_has_room : (version : ScramVersion) (password salt : List ℕ) (count : ℕ) → length salt ≤ 128
-    → HasRoom (record { version = version; stored = record_of version password salt count })
+    → RecordHasRoom (record { version = version; stored = record_of version password salt count })
 record_has_room version password salt count fits =
     let salted = salted_of version password salt count in
     (fits, length-digest version (client_key version salted), length-hmac_of version salted _)
@@ -27,7 +27,7 @@ keys_have_room version password salt count fits =
     (fits, (length-hmac_of version salted _, length-hmac_of version salted _))
 
 pub nobody_has_room : (version : ScramVersion) (secret name : List ℕ) (salt_len count : ℕ) → salt_len ≤ 64
-    → HasRoom (versioned version (nobody_record
+    → RecordHasRoom (versioned version (nobody_record
     (record { version = version; secret = secret; salt_len = salt_len; count = count }) name))
 nobody_has_room version secret name salt_len count few =
     let salt = hmac_of Sha512 secret (codes "Salt:" ++ (mechanism_name version ++ (codes ":" ++ name))) in (

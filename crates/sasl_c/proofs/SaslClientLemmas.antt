@@ -21,10 +21,10 @@ use Rattle.fe2o3_sasl_negotiation.specs.declared.standing.Standing.{Standing}
 use Rattle.fe2o3_sasl_negotiation.specs.declared.standing.Standing.TheVariants.{Wanting}
 use Rattle.fe2o3_sasl_negotiation.specs.declared.standing.Turn.{Turn}
 use Rattle.fe2o3_sasl_negotiation.specs.declared.standing.Turn.TheVariants as turns
-use Rattle.fe2o3_sasl_negotiation.specs.ClientNegotiation.{ClientAnswers, ClientReceives, Says}
+use Rattle.fe2o3_sasl_negotiation.specs.ClientNegotiation.{ClientSideAnswers, ClientReceives, ClientOutputs}
 use Rattle.fe2o3_sasl_negotiation.specs.Framing.{IsPart}
-use Rattle.fe2o3_sasl_negotiation.specs.Negotiations.{Side, Answer, Sends, ReceivesAt}
-use Rattle.fe2o3_sasl_negotiation.specs.SetDown.{client_at, client_due, IsClientKept, side_of}
+use Rattle.fe2o3_sasl_negotiation.specs.Negotiations.{Side, SideOutput, Sends, ReceivesAt}
+use Rattle.fe2o3_sasl_negotiation.specs.SetDown.{client_fits, client_due, IsClientKept, side_of}
 use Rattle.fe2o3_sasl_negotiation.proofs.lemmas.UnitLemmas.{length-framed}
 use Rattle.sasl_c.specs.declared.client.Login.{Login as Words}
 use Rattle.sasl_c.specs.declared.client.ScramClient.{ScramClient as ScramStruct}
@@ -33,27 +33,27 @@ use Rattle.sasl_c.specs.declared.sasl_client.SaslClient.{SaslClient as Struct}
 use Rattle.sasl_c.specs.declared.sasl_client.SaslLogin.{SaslLogin as Login}
 use Rattle.sasl_c.specs.declared.status.Status.{Status}
 use Rattle.sasl_c.specs.declared.status.Status.TheVariants as statuses
-use Rattle.sasl_c.specs.Client.{IsNoLogin, IsReached, IsState, WritesClient, fresh_struct}
-use Rattle.sasl_c.specs.Connection.{Keeps, KeepsNoPartOf, due_number, side_tests, struct_of}
-use Rattle.sasl_c.specs.SaslClient.{Comes, HasNoHostname, HasNoWords, IsClient, IsHostname, IsNoClient, IsNoProfile, IsProfile, ReadsClient, Receives, Stands, WritesProfile, WritesSide}
+use Rattle.sasl_c.specs.Client.{IsNoLogin, IsReached, IsState, WritesClient, fresh_client_struct}
+use Rattle.sasl_c.specs.Connection.{Keeps, KeepsNoPartOf, due_number, side_tests, connection_struct}
+use Rattle.sasl_c.specs.SaslClient.{ProfileIsReached, HasNoHostname, HasNoClientWords, IsClient, IsHostname, IsNoClient, IsNoProfile, IsProfile, ReadsClient, ReceivesAsClient, ClientIsReached, WritesProfile, WritesSide}
 use Rattle.sasl_c.proofs.ClientLemmas.{answer_fits, answering_login, believing_login, moved_login}
 use Rattle.sasl_c.proofs.StateLemmas.{reached}
 use Rattle.sasl_c.proofs.StatusLemmas.{carried}
 
 -- ---- a profile that a login comes to stays one
 
-same_stands : (words : Words) (client after : ClientSide) → after ≡ client → Stands words client → Stands words after
-same_stands words client after same stands = carried (Stands words) client after (sym same) stands
+same_stands : (words : Words) (client after : ClientSide) → after ≡ client → ClientIsReached words client → ClientIsReached words after
+same_stands words client after same stands = carried (ClientIsReached words) client after (sym same) stands
 
 answered_stands : (words : Words) (state : ClientState) (client after : ClientSide) (text : List ℕ)
-    (answer : Result (List ℕ) ScramErrorKind) → AnswersIn state client text answer after → Stands words client
-    → Stands words after
+    (answer : Result (List ℕ) ScramErrorKind) → AnswersIn state client text answer after → ClientIsReached words client
+    → ClientIsReached words after
 answered_stands words state client after text (Ok message) is stands =
     let fits = answer_fits state client after text message is in (
       answering_login words state client after text message is stands.0,
       carried (IsReached after.user) (states.ClientFinalSent fits.1.0 fits.1.1) after.state (sym fits.1.2) fits.1.3,
     )
-answered_stands words states.Initial client after text (Err fault) is stands =
+answered_stands words states.ClientInitial client after text (Err fault) is stands =
     same_stands words client after is.1 stands
 answered_stands words (states.ClientFirstSent nonce bare) client after text (Err fault) is stands =
     same_stands words client after is.1 stands
@@ -63,17 +63,17 @@ answered_stands words (states.Complete keys) client after text (Err fault) is st
     same_stands words client after is.1 stands
 
 believed_stands : (words : Words) (state : ClientState) (client after : ClientSide) (text : List ℕ)
-    (answer : Result (Unit {0}) ScramErrorKind) → BelievesIn state client text answer after → Stands words client
-    → Stands words after
+    (answer : Result (Unit {0}) ScramErrorKind) → BelievesIn state client text answer after → ClientIsReached words client
+    → ClientIsReached words after
 believed_stands words (states.ClientFinalSent signature keys) client after text (Ok believed) is stands = (
   believing_login words (states.ClientFinalSent signature keys) client after text is stands.0,
   carried (IsReached after.user) (states.Complete keys) after.state
       (sym (ap (λ (side : ClientSide). side.state) is.1)) tt,
 )
-believed_stands words states.Initial client after text (Ok believed) is stands = absurd is
+believed_stands words states.ClientInitial client after text (Ok believed) is stands = absurd is
 believed_stands words (states.ClientFirstSent nonce bare) client after text (Ok believed) is stands = absurd is
 believed_stands words (states.Complete keys) client after text (Ok believed) is stands = absurd is
-believed_stands words states.Initial client after text (Err fault) is stands =
+believed_stands words states.ClientInitial client after text (Err fault) is stands =
     same_stands words client after is.1 stands
 believed_stands words (states.ClientFirstSent nonce bare) client after text (Err fault) is stands =
     same_stands words client after is.1 stands
@@ -84,11 +84,11 @@ believed_stands words (states.Complete keys) client after text (Err fault) is st
 
 -- a profile of SCRAM whose client is of these words
 abbrev Moves : Words → Profile → Type 0
-Moves words next = (side : ClientSide) × (next ≡ ScramProfile side) × Stands words side
+Moves words next = (side : ClientSide) × (next ≡ ScramProfile side) × ClientIsReached words side
 
 scram_moves : (words : Words) (client : ClientSide) (hostname : Option (List ℕ)) (nonce : List ℕ) (frame : SaslFrame)
     (reply : Result SaslFrame ClientFault) (moved : Profile)
-    → profile_machine (ScramProfile client) hostname nonce frame reply moved → Stands words client
+    → profile_machine (ScramProfile client) hostname nonce frame reply moved → ClientIsReached words client
     → Moves words moved
 scram_moves words client hostname nonce (frames.Mechanisms names) reply moved (inl is) stands =
     (started client nonce, is.2, (moved_login words client _ stands.0, refl))
@@ -137,12 +137,12 @@ external_stays hostname nonce (frames.Outcome code more) reply moved is = is.1
 external_stays hostname nonce (frames.Init mechanism response host) reply moved is = is.1
 external_stays hostname nonce (frames.Response text) reply moved is = is.1
 
-same_comes : (login : Login) (profile next : Profile) → next ≡ profile → Comes login profile → Comes login next
-same_comes login profile next same comes = carried (Comes login) profile next (sym same) comes
+same_comes : (login : Login) (profile next : Profile) → next ≡ profile → ProfileIsReached login profile → ProfileIsReached login next
+same_comes login profile next same comes = carried (ProfileIsReached login) profile next (sym same) comes
 
 machine_comes : (login : Login) (profile : Profile) (hostname : Option (List ℕ)) (nonce : List ℕ) (frame : SaslFrame)
     (reply : Result SaslFrame ClientFault) (moved : Profile)
-    → profile_machine profile hostname nonce frame reply moved → Comes login profile → Comes login moved
+    → profile_machine profile hostname nonce frame reply moved → ProfileIsReached login profile → ProfileIsReached login moved
 machine_comes login (ScramProfile client) hostname nonce frame reply moved is comes =
     let moves = scram_moves login.login client hostname nonce frame reply moved is comes.1 in
     same_comes login (ScramProfile moves.0) moved moves.1 (comes.0, moves.2)
@@ -155,13 +155,13 @@ machine_comes login ExternalProfile hostname nonce frame reply moved is comes =
 
 -- also where the reply is not sent
 sent_comes : (login : Login) (profile : Profile) (body : Option (List ℕ)) (moved next : Profile)
-    → Comes login profile → Comes login moved → next ≡ sent_or_not profile (λ _. moved) body → Comes login next
+    → ProfileIsReached login profile → ProfileIsReached login moved → next ≡ sent_or_not profile (λ _. moved) body → ProfileIsReached login next
 sent_comes login profile None moved next comes moves is = same_comes login profile next is comes
 sent_comes login profile (Some body) moved next comes moves is = same_comes login moved next is moves
 
 replied_comes : (login : Login) (profile moved next : Profile) (reply : Result SaslFrame ClientFault)
-    (says : ClientSays) → Comes login profile → Comes login moved → Replies profile moved reply says next
-    → Comes login next
+    (says : ClientSays) → ProfileIsReached login profile → ProfileIsReached login moved → Replies profile moved reply says next
+    → ProfileIsReached login next
 replied_comes login profile moved next (Err fault) says comes moves is = same_comes login moved next is.1 moves
 replied_comes login profile moved next (Ok (frames.Outcome code more)) says comes moves is =
     same_comes login moved next is.1 moves
@@ -176,7 +176,7 @@ replied_comes login profile moved next (Ok (frames.Challenge text)) says comes m
 
 pub gives_comes : (login : Login) (hostname : Option (List ℕ)) (profile : Profile) (event : Given)
     (spelled : Result SaslFrame Error) (says : ClientSays) (next : Profile)
-    → ProfileGives hostname profile event spelled says next → Comes login profile → Comes login next
+    → ProfileGives hostname profile event spelled says next → ProfileIsReached login profile → ProfileIsReached login next
 gives_comes login hostname profile event (Err fault) says next is comes = same_comes login profile next is.1 comes
 gives_comes login hostname profile event (Ok frame) says next (inl is) comes =
     same_comes login profile next is.2 comes
@@ -185,8 +185,8 @@ gives_comes login hostname profile event (Ok frame) says next (inr is) comes =
     (machine_comes login profile hostname event.nonce frame is.0 is.1 is.2 comes) is.3
 
 answers_comes : (login : Login) (hostname : Option (List ℕ)) (due : Due) (profile next : Profile)
-    (nonce unit : List ℕ) (answer : Answer) → ClientAnswers hostname due profile nonce unit answer next
-    → Comes login profile → Comes login next
+    (nonce unit : List ℕ) (answer : SideOutput) → ClientSideAnswers hostname due profile nonce unit answer next
+    → ProfileIsReached login profile → ProfileIsReached login next
 answers_comes login hostname Header profile next nonce unit answer is comes =
     same_comes login profile next is.1 comes
 answers_comes login hostname (Frame turn) profile next nonce unit answer (Err fault, spells, unread) comes =
@@ -199,22 +199,22 @@ answers_comes login hostname (Frame turn) profile next nonce unit answer
 
 -- ---- an answer has 512 bytes at most (part 5, section 5.3.1)
 
-abbrev Short : Answer → Type 0
+abbrev Short : SideOutput → Type 0
 Short answer = length answer.sent ≤ 512
 
-silent_short : (answer other : Answer) → answer ≡ other → other.sent ≡ [] → Short answer
+silent_short : (answer other : SideOutput) → answer ≡ other → other.sent ≡ [] → Short answer
 silent_short answer other same nothing =
-    let sent : length answer.sent ≡ 0 = ap (λ (a : Answer). length a.sent) same ∙ ap length nothing in
+    let sent : length answer.sent ≡ 0 = ap (λ (a : SideOutput). length a.sent) same ∙ ap length nothing in
     omega (arith, sent)
 
-sends_short : (body : List ℕ) (standing : Standing) (due : Due) (answer : Answer) → Sends body standing due answer
+sends_short : (body : List ℕ) (standing : Standing) (due : Due) (answer : SideOutput) → Sends body standing due answer
     → Short answer
 sends_short body standing due answer (inr (long, same)) = silent_short answer _ same refl
 sends_short body standing due answer (inl (fits, same)) =
-    let sent : length answer.sent ≡ length body + 4 = ap (λ (a : Answer). length a.sent) same ∙ length-framed body in
+    let sent : length answer.sent ≡ length body + 4 = ap (λ (a : SideOutput). length a.sent) same ∙ length-framed body in
     omega (arith, sent, fits)
 
-says_short : (says : ClientSays) (turn : Turn) (answer : Answer) → Says says turn answer → Short answer
+says_short : (says : ClientSays) (turn : Turn) (answer : SideOutput) → ClientOutputs says turn answer → Short answer
 says_short (Started body) turns.Mechanisms answer sends = sends_short body _ _ answer sends
 says_short (Started body) turns.Init answer same = silent_short answer _ same refl
 says_short (Started body) turns.Challenge answer same = silent_short answer _ same refl
@@ -237,7 +237,7 @@ says_short (Refused OtherKeys) turn answer refused = silent_short answer _ refus
 says_short (Refused (FrameFault fault)) turn answer refused = silent_short answer _ refused.2 refl
 
 answers_short : (hostname : Option (List ℕ)) (due : Due) (profile next : Profile) (nonce unit : List ℕ)
-    (answer : Answer) → ClientAnswers hostname due profile nonce unit answer next → Short answer
+    (answer : SideOutput) → ClientSideAnswers hostname due profile nonce unit answer next → Short answer
 answers_short hostname Header profile next nonce unit answer (inl other, kept) = silent_short answer _ other.1 refl
 answers_short hostname Header profile next nonce unit answer (inr is, kept) = silent_short answer _ is.1 refl
 answers_short hostname (Frame turn) profile next nonce unit answer (Err fault, spells, unread) =
@@ -260,13 +260,13 @@ part_short (Frame turn) come part = go (cases_lt (length come) 4)
 
 -- what is behind a call of this login
 record Behind (login : Login) (next : Side Profile) (sent : List ℕ) : Type 0 where
-  comes : Comes login next.state
+  comes : ProfileIsReached login next.state
   limit : next.limit ≡ 512
   held : length next.held ≤ 512
   short : length sent ≤ 512
 
 behind : (login : Login) (next other : Side Profile) (sent more : List ℕ) → next ≡ other → sent ≡ more
-    → Comes login other.state → other.limit ≡ 512 → length other.held ≤ 512 → length more ≤ 512
+    → ProfileIsReached login other.state → other.limit ≡ 512 → length other.held ≤ 512 → length more ≤ 512
     → Behind login next sent
 behind login next other sent more same is comes limit held short =
     carried (λ given. Behind login given sent) other next (sym same) (record {
@@ -277,8 +277,8 @@ behind login next other sent more same is comes limit held short =
     })
 
 wanting_behind : (login : Login) (hostname : Option (List ℕ)) (side next : Side Profile) (bytes nonce : List ℕ)
-    (taken : ℕ) (sent : List ℕ) → ReceivesAt Wanting (ClientAnswers hostname) side bytes nonce taken sent next
-    → side.limit ≡ 512 → Comes login side.state → Behind login next sent
+    (taken : ℕ) (sent : List ℕ) → ReceivesAt Wanting (ClientSideAnswers hostname) side bytes nonce taken sent next
+    → side.limit ≡ 512 → ProfileIsReached login side.state → Behind login next sent
 wanting_behind login hostname side next bytes nonce taken sent (inl (part, waits)) limit comes =
     behind login next _ sent [] waits.2 waits.1 comes limit
     (part_short side.due (side.held ++ bytes)
@@ -293,18 +293,18 @@ wanting_behind login hostname side next bytes nonce taken sent (inr (inr (answer
 
 receives_behind : (login : Login) (hostname : Option (List ℕ)) (side next : Side Profile) (bytes nonce : List ℕ)
     (taken : ℕ) (sent : List ℕ) → side.standing ≡ Wanting
-    → ClientReceives hostname side bytes nonce taken sent next → side.limit ≡ 512 → Comes login side.state
+    → ClientReceives hostname side bytes nonce taken sent next → side.limit ≡ 512 → ProfileIsReached login side.state
     → Behind login next sent
 receives_behind login hostname side next bytes nonce taken sent wanting is limit comes =
     wanting_behind login hostname side next bytes nonce taken sent
-    (carried (λ s. ReceivesAt s (ClientAnswers hostname) side bytes nonce taken sent next) side.standing Wanting
+    (carried (λ s. ReceivesAt s (ClientSideAnswers hostname) side bytes nonce taken sent next) side.standing Wanting
     wanting is) limit comes
 
 -- ---- structs
 
 -- the profile of a struct is one that the login comes to
 pub profile_comes : (login : Login) (scram : ScramStruct) (profile : Profile) → IsProfile login scram profile
-    → Comes login profile
+    → ProfileIsReached login profile
 profile_comes login scram (ScramProfile side) is = (is.0, (is.1.0, reached side.user scram side.state is.1.1))
 profile_comes login scram (PlainProfile user password) is = is
 profile_comes login scram AnonymousProfile is = is
@@ -312,19 +312,19 @@ profile_comes login scram ExternalProfile is = is
 
 -- the struct that a profile was set down as
 pub shows_scram : (login : Login) (profile : Profile) (machine : ClientSide) (answer : Option ScramStruct)
-    → profile ≡ ScramProfile machine → Comes login profile
+    → profile ≡ ScramProfile machine → ProfileIsReached login profile
     → ((user : List ℕ) → IsReached user machine.state
     → MatchOption answer ⊥ (λ client. IsState user client machine.state))
     → MatchOption answer ⊥ (λ scram. IsProfile login scram profile)
 shows_scram login profile machine None is comes held =
-    let stands = carried (Comes login) profile (ScramProfile machine) is comes in held machine.user stands.1.1
+    let stands = carried (ProfileIsReached login) profile (ScramProfile machine) is comes in held machine.user stands.1.1
 shows_scram login profile machine (Some scram) is comes held =
-    let stands = carried (Comes login) profile (ScramProfile machine) is comes in
+    let stands = carried (ProfileIsReached login) profile (ScramProfile machine) is comes in
     carried (IsProfile login scram) (ScramProfile machine) profile (sym is)
     (stands.0, (stands.1.0, held machine.user stands.1.1))
 
 pub shows_other : (login : Login) (profile : Profile) (scram : ScramStruct) → is_scram profile ≡ false
-    → Comes login profile → IsProfile login scram profile
+    → ProfileIsReached login profile → IsProfile login scram profile
 shows_other login (ScramProfile side) scram other comes = absurd (cc)
 shows_other login (PlainProfile user password) scram other comes = comes
 shows_other login AnonymousProfile scram other comes = comes
@@ -338,7 +338,7 @@ writes_scram profile machine None is held = held
 writes_scram profile machine (Some scram) is held =
     carried (WritesProfile scram) (ScramProfile machine) profile (sym is) held
 
-pub writes_other : (profile : Profile) (scram : ScramStruct) → is_scram profile ≡ false → scram ≡ fresh_struct
+pub writes_other : (profile : Profile) (scram : ScramStruct) → is_scram profile ≡ false → scram ≡ fresh_client_struct
     → WritesProfile scram profile
 writes_other (ScramProfile side) scram other same = absurd (cc)
 writes_other (PlainProfile user password) scram other same = same
@@ -347,10 +347,10 @@ writes_other ExternalProfile scram other same = same
 
 -- and those that are written for a side
 pub writes_side : (connection : Kept) (scram : ScramStruct) (side : Side Profile) (kept : SetDown)
-    → side_of kept side.state ≡ side → connection ≡ struct_of kept.standing kept.due kept.held.now
+    → side_of kept side.state ≡ side → connection ≡ connection_struct kept.standing kept.due kept.held.now
     → WritesProfile scram side.state → WritesSide (record { connection = connection; scram = scram }) side
 writes_side connection scram side kept same is written = (
-  carried (λ (s : Side Profile). connection ≡ struct_of s.standing s.due s.held) (side_of kept side.state) side same is,
+  carried (λ (s : Side Profile). connection ≡ connection_struct s.standing s.due s.held) (side_of kept side.state) side same is,
   written,
 )
 
@@ -408,7 +408,7 @@ keeps_no_part client kept keeps wanting limit wrong = λ due held other unit par
     in
     wrong (
       (omega (arith, limit), carried (λ n. IsPart kept.due n kept.held.now) 512 kept.limit (sym limit) come),
-      carried (λ (s : Standing). IsTrue (client_at s kept.due)) Wanting kept.standing (sym wanting)
+      carried (λ (s : Standing). IsTrue (client_fits s kept.due)) Wanting kept.standing (sym wanting)
           (carried (λ (d : Due). IsTrue (client_due d)) due kept.due one unit),
       λ ended. absurd (ended wanting),
     )
@@ -465,7 +465,7 @@ pub no_scram : (login : Login) (status : Status) → login.mechanism ≡ 0 → I
 unfolding IsNoProfile
 no_scram login status is wrong = inl (is, wrong)
 
-pub no_plain : (login : Login) (status : Status) → login.mechanism ≡ 1 → HasNoWords login.login status
+pub no_plain : (login : Login) (status : Status) → login.mechanism ≡ 1 → HasNoClientWords login.login status
     → IsNoProfile login status
 unfolding IsNoProfile
 no_plain login status is wrong = inr (inl (is, wrong))
@@ -480,21 +480,21 @@ pub ruleset no_profiles = (no_scram, no_plain, no_mechanism)
 pub received : (login : Login) (bytes nonce : List ℕ) (before after : Struct) (hostname : Option (List ℕ))
     (side next : Side Profile) (taken : ℕ) (sent : List ℕ) → IsHostname login hostname → IsClient login before side
     → side.standing ≡ Wanting → ClientReceives hostname side bytes nonce taken sent next
-    → IsClient login after next → WritesSide after next → Receives login bytes nonce before after taken (Ok sent)
-unfolding Receives
+    → IsClient login after next → WritesSide after next → ReceivesAsClient login bytes nonce before after taken (Ok sent)
+unfolding ReceivesAsClient
 received login bytes nonce before after hostname side next taken sent named is wanting held last written =
     (hostname, side, next, named, is, wanting, held, last, written)
 
 pub not_received : (login : Login) (bytes nonce : List ℕ) (before after : Struct) (taken : ℕ) (status : Status)
-    → IsNoClient login before status → Receives login bytes nonce before after taken (Err status)
-unfolding Receives
+    → IsNoClient login before status → ReceivesAsClient login bytes nonce before after taken (Err status)
+unfolding ReceivesAsClient
 not_received login bytes nonce before after taken status wrong = wrong
 
 -- what the side behind a call is, and what is sent
 pub behind_all : (login : Login) (before : Struct) (hostname : Option (List ℕ)) (side next : Side Profile)
     (bytes nonce old items : List ℕ) (taken : ℕ) → IsClient login before side → side.standing ≡ Wanting → old ≡ []
     → (sent : List ℕ) × (items ≡ old ++ sent) × ClientReceives hostname side bytes nonce taken sent next
-    → ClientReceives hostname side bytes nonce taken items next × Comes login next.state × (next.limit ≡ 512)
+    → ClientReceives hostname side bytes nonce taken items next × ProfileIsReached login next.state × (next.limit ≡ 512)
     × (length next.held ≤ 512) × (length items ≤ 512)
 behind_all login before hostname side next bytes nonce old items taken is wanting empty (sent, all, held) =
     let same : items ≡ sent = all ∙ ap (λ (o : List ℕ). o ++ sent) empty in

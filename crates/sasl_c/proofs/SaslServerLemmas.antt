@@ -10,7 +10,7 @@ use Rattle.fe2o3_scram.specs.declared.scram_messages.gs2_header.Gs2Header.TheVar
 use Rattle.fe2o3_scram.specs.Credentials.{Records, VersionedRecord, versioned}
 use Rattle.fe2o3_scram.specs.Readings.{NoneHolds}
 use Rattle.fe2o3_scram.specs.ScramServer.{ServerState, open_challenge}
-use Rattle.fe2o3_scram.specs.ServerFirst.{Challenge}
+use Rattle.fe2o3_scram.specs.ServerFirst.{ServerChallenge}
 use Rattle.fe2o3_sasl_runs.specs.declared.one_of.Part.{Part}
 use Rattle.fe2o3_sasl_negotiation.specs.declared.server.ServerNegotiation.{ServerNegotiation}
 use Rattle.fe2o3_sasl_negotiation.specs.declared.standing.ClosedBecause.{ClosedBecause}
@@ -24,9 +24,9 @@ use Rattle.sasl_c.specs.declared.sasl_server.SaslServer.{SaslServer as Struct}
 use Rattle.sasl_c.specs.declared.server.ScramServer.{ScramServer as ScramStruct}
 use Rattle.sasl_c.specs.declared.status.Status.{Status}
 use Rattle.sasl_c.specs.declared.status.Status.TheVariants as statuses
-use Rattle.sasl_c.specs.Records.{IsVersion, Shows, SpellsStruct}
-use Rattle.sasl_c.specs.SaslServer.{All, Code, Comes, HasNoWords, HasNoStruct, HasRecords, IsAll, IsNoHost, IsOf, IsServer, HasNone, host_tests, ShowsBy, ShowsOpen, ShowsSide, ShowsStanding, ShowsState, Stands, State, allowed_of, one_where, open_in, server_of, side_in, side_struct, state_names, state_of, state_struct, struct_by, sum_of, user_in}
-use Rattle.sasl_c.specs.Server.{HasLoggedIn, HasRoom, IsOpen, open_number}
+use Rattle.sasl_c.specs.Records.{IsVersion, ShowsRecord, SpellsStruct}
+use Rattle.sasl_c.specs.SaslServer.{All, Code, ServerIsReached, HasNoServerWords, HasNoStruct, HasRecords, IsAll, IsNoHost, IsOf, IsServer, HasNone, host_tests, ShowsBy, ShowsOpen, ShowsSide, ShowsStanding, ShowsState, ShowsExchange, State, allowed_of, one_where, open_in, struct_server, side_in, side_struct, state_names, value_state, state_struct, struct_by, sum_of, user_in}
+use Rattle.sasl_c.specs.Server.{HasLoggedIn, ChallengeHasRoom, IsOpen, open_number}
 use Rattle.sasl_c.specs.Status.{version_number}
 use Rattle.sasl_c.proofs.StatusLemmas.{carried}
 
@@ -51,7 +51,7 @@ sum_small choice = omega (
 
 -- a struct that shows no record for this reason shows none
 shows_none : (kept : Kept) (status : Status) (shown : VersionedRecord) → SpellsStruct kept (Err status)
-    → Shows kept shown → ⊥
+    → ShowsRecord kept shown → ⊥
 shows_none kept statuses.OutOfMemory shown wrong is = absurd wrong
 shows_none kept statuses.RoomTooSmall shown wrong is = absurd wrong
 shows_none kept statuses.NotUtf8 shown wrong is = absurd wrong
@@ -109,17 +109,17 @@ pub no_record : (host : Host) (version : ScramVersion) (status : Status) → Spe
 no_record host version status wrong =
     inr (λ stored is. shows_none host.record.now status (versioned version stored) wrong is, refl)
 
-pub other_version : (host : Host) (version : ScramVersion) (shown : VersionedRecord) → Shows host.record.now shown
+pub other_version : (host : Host) (version : ScramVersion) (shown : VersionedRecord) → ShowsRecord host.record.now shown
     → shown.version ≢ version → HasRecords host version []
 other_version host version shown is other =
     inr (λ stored held. other (one_number shown.version version (is.0 ∙ sym held.0)), refl)
 
 pub one_record : (host : Host) (version : ScramVersion) (shown : VersionedRecord) (name : List ℕ)
-    → Shows host.record.now shown → shown.version ≡ version → name ≡ host.username.now
+    → ShowsRecord host.record.now shown → shown.version ≡ version → name ≡ host.username.now
     → HasRecords host version ((name, shown.stored) ∷ [])
 one_record host version shown name is same named = inl (
   shown.stored,
-  carried (λ (v : ScramVersion). Shows host.record.now (versioned v shown.stored)) shown.version version same is,
+  carried (λ (v : ScramVersion). ShowsRecord host.record.now (versioned v shown.stored)) shown.version version same is,
   ap (λ (n : List ℕ). (n, shown.stored) ∷ []) named,
 )
 
@@ -139,7 +139,7 @@ whole host version choice all other names server named is same = is
 
 is_of : (host : Host) (version : ScramVersion) (choice : Choice) (records : Records) (state other : ServerState)
     (asked last : Option Part) (server : State) → IsVersion host.version version → sum_of choice ≡ host.mechanisms
-    → HasRecords host version records → server ≡ server_of host version choice records state asked → state ≡ other
+    → HasRecords host version records → server ≡ struct_server host version choice records state asked → state ≡ other
     → asked ≡ last → IsOf host other last server
 unfolding IsOf
 is_of host version choice records state other asked last server known sum has is same too = (
@@ -150,11 +150,11 @@ is_of host version choice records state other asked last server known sum has is
   sum,
   has,
   is
-      ∙ (ap (λ (s : ServerState). server_of host version choice records s asked) same
-      ∙ ap (λ (a : Option Part). server_of host version choice records other a) too),
+      ∙ (ap (λ (s : ServerState). struct_server host version choice records s asked) same
+      ∙ ap (λ (a : Option Part). struct_server host version choice records other a) too),
 )
 
-shows_it : (scram : ScramStruct) (server : State) (challenge : Option Challenge) → open_in server ≡ challenge
+shows_it : (scram : ScramStruct) (server : State) (challenge : Option ServerChallenge) → open_in server ≡ challenge
     → ShowsOpen scram challenge → ShowsOpen scram (open_in server)
 shows_it scram server challenge same shows =
     carried (ShowsOpen scram) challenge (open_in server) (sym same) shows
@@ -163,14 +163,14 @@ shows_it scram server challenge same shows =
 pub made : (host : Host) (version : ScramVersion) (choice : Choice) (scram : ScramStruct) (all : All)
     (names : List (List ℕ)) (server : State) → IsVersion host.version version → sum_of choice ≡ host.mechanisms
     → names ≡ allowed_of version choice host.peer.now → server ≡ record { inner = all; allowed = names }
-    → IsAll host version choice.unbound scram all → Comes host Wanting server × ShowsState scram Wanting server
+    → IsAll host version choice.unbound scram all → ServerIsReached host Wanting server × ShowsState scram Wanting server
 made host version choice scram all names server known sum named is (records, state, asked, has, stands, same) =
     go stands
   where
-    all_is : server ≡ server_of host version choice records state asked
+    all_is : server ≡ struct_server host version choice records state asked
     all_is = whole host version choice all _ names server named is same
 
-    go : Stands scram state asked → Comes host Wanting server × ShowsState scram Wanting server
+    go : ShowsExchange scram state asked → ServerIsReached host Wanting server × ShowsState scram Wanting server
     go (inl (challenge, opened, stood, last)) = (
       inr (challenge, is_of host version choice records state _ asked _ server known sum has all_is stood last),
       shows_it scram server (Some challenge) (ap open_in all_is ∙ ap open_challenge stood) opened,
@@ -192,7 +192,7 @@ unfolding IsNoHost
 no_choice host version known none = inl (inr ((λ wrong. wrong version known), inl (none, refl)))
 
 pub no_words : (host : Host) (version : ScramVersion) (choice : Choice) (status : Status)
-    → IsVersion host.version version → sum_of choice ≡ host.mechanisms → HasNoWords host status
+    → IsVersion host.version version → sum_of choice ≡ host.mechanisms → HasNoServerWords host status
     → IsNoHost host status
 unfolding IsNoHost
 no_words host version choice status known sum (is, inl wrong) =
@@ -238,12 +238,12 @@ pub ruleset acceptor = (no_version, no_choice, no_words, no_test)
 -- ---- what the struct of SCRAM shows
 
 -- a challenge that a struct shows has room in it
-open_room : (scram : ScramStruct) (challenge : Challenge) → IsOpen scram challenge → HasRoom challenge
+open_room : (scram : ScramStruct) (challenge : ServerChallenge) → IsOpen scram challenge → ChallengeHasRoom challenge
 open_room scram challenge is = let lengths = is.1 in (
-  short scram.user_len 256 scram.user challenge.user (ap (λ (c : Challenge). c.user) is.2) lengths.0,
-  short scram.bare_len 1024 scram.bare challenge.bare (ap (λ (c : Challenge). c.bare) is.2) lengths.1,
-  short scram.nonce_len 512 scram.nonce challenge.nonce (ap (λ (c : Challenge). c.nonce) is.2) lengths.2,
-  short scram.first_len 1024 scram.first challenge.first (ap (λ (c : Challenge). c.first) is.2) lengths.3,
+  short scram.user_len 256 scram.user challenge.user (ap (λ (c : ServerChallenge). c.user) is.2) lengths.0,
+  short scram.bare_len 1024 scram.bare challenge.bare (ap (λ (c : ServerChallenge). c.bare) is.2) lengths.1,
+  short scram.nonce_len 512 scram.nonce challenge.nonce (ap (λ (c : ServerChallenge). c.nonce) is.2) lengths.2,
+  short scram.first_len 1024 scram.first challenge.first (ap (λ (c : ServerChallenge). c.first) is.2) lengths.3,
 )
   where
     short : (n most : ℕ) (array text : List ℕ) → text ≡ take n array → n ≤ most → length text ≤ most
@@ -259,7 +259,7 @@ user_room scram user is =
     omega (arith, ap length is.2, long, is.1)
 
 -- what is shown of a login that stands so
-stands_so : (scram : ScramStruct) (standing other : Standing) (opened last : Option Challenge)
+stands_so : (scram : ScramStruct) (standing other : Standing) (opened last : Option ServerChallenge)
     (user name : Option (List ℕ)) → standing ≡ other → opened ≡ last → user ≡ name
     → ShowsStanding scram other last name → ShowsStanding scram standing opened user
 stands_so scram standing other opened last user name same is named shows =
@@ -267,8 +267,8 @@ stands_so scram standing other opened last user name same is named shows =
     (carried (λ o. ShowsStanding scram other o user) last opened (sym is)
     (carried (λ (u : Option (List ℕ)). ShowsStanding scram other last u) name user (sym named) shows))
 
-pub shows_challenge : (scram : ScramStruct) (standing : Standing) (opened : Option Challenge)
-    (user : Option (List ℕ)) (challenge : Challenge) → standing ≡ Wanting → opened ≡ Some challenge
+pub shows_challenge : (scram : ScramStruct) (standing : Standing) (opened : Option ServerChallenge)
+    (user : Option (List ℕ)) (challenge : ServerChallenge) → standing ≡ Wanting → opened ≡ Some challenge
     → IsOpen scram challenge → ShowsStanding scram standing opened user
 shows_challenge scram standing opened user challenge wants some is =
     stands_so scram standing Wanting opened (Some challenge) user user wants some refl is
@@ -278,40 +278,40 @@ never_zero : (header : Gs2Header) → 0 ≡ open_number header → ⊥
 never_zero Unsupported same = omega (arith, same)
 never_zero Unoffered same = omega (arith, same)
 
-pub shows_no_challenge : (scram : ScramStruct) (standing : Standing) (opened : Option Challenge)
+pub shows_no_challenge : (scram : ScramStruct) (standing : Standing) (opened : Option ServerChallenge)
     (user : Option (List ℕ)) → standing ≡ Wanting → opened ≡ None → scram.stands ≡ 0
     → ShowsStanding scram standing opened user
 shows_no_challenge scram standing opened user wants none fresh =
     stands_so scram standing Wanting opened None user user wants none refl
     (λ challenge is. never_zero challenge.header (sym fresh ∙ is.0))
 
-pub no_challenge_room : (standing : Standing) (opened : Option Challenge) (user : Option (List ℕ))
-    (challenge : Challenge) → standing ≡ Wanting → opened ≡ Some challenge → ¬ HasRoom challenge
+pub no_challenge_room : (standing : Standing) (opened : Option ServerChallenge) (user : Option (List ℕ))
+    (challenge : ServerChallenge) → standing ≡ Wanting → opened ≡ Some challenge → ¬ ChallengeHasRoom challenge
     → (scram : ScramStruct) → ¬ ShowsStanding scram standing opened user
 no_challenge_room standing opened user challenge wants some wide scram shows =
     let is = stands_so scram Wanting standing (Some challenge) opened user user (sym wants) (sym some) refl shows in
     wide (open_room scram challenge is)
 
-pub shows_user : (scram : ScramStruct) (standing : Standing) (opened : Option Challenge) (user : Option (List ℕ))
+pub shows_user : (scram : ScramStruct) (standing : Standing) (opened : Option ServerChallenge) (user : Option (List ℕ))
     (name : List ℕ) → standing ≡ LoggedIn → user ≡ Some name → HasLoggedIn scram name
     → ShowsStanding scram standing opened user
 shows_user scram standing opened user name in_is some is =
     stands_so scram standing LoggedIn opened opened user (Some name) in_is refl some is
 
-pub shows_nobody : (scram : ScramStruct) (standing : Standing) (opened : Option Challenge)
+pub shows_nobody : (scram : ScramStruct) (standing : Standing) (opened : Option ServerChallenge)
     (user : Option (List ℕ)) → standing ≡ LoggedIn → user ≡ None → scram.stands ≡ 0
     → ShowsStanding scram standing opened user
 shows_nobody scram standing opened user in_is none fresh =
     stands_so scram standing LoggedIn opened opened user None in_is refl none fresh
 
-pub no_user_room : (standing : Standing) (opened : Option Challenge) (user : Option (List ℕ)) (name : List ℕ)
+pub no_user_room : (standing : Standing) (opened : Option ServerChallenge) (user : Option (List ℕ)) (name : List ℕ)
     → standing ≡ LoggedIn → user ≡ Some name → 256 < length name
     → (scram : ScramStruct) → ¬ ShowsStanding scram standing opened user
 no_user_room standing opened user name in_is some long scram shows =
     let is = stands_so scram LoggedIn standing opened opened (Some name) user (sym in_is) refl (sym some) shows in
     absurd (omega (arith, user_room scram name is, long))
 
-pub shows_closed : (scram : ScramStruct) (standing : Standing) (opened : Option Challenge)
+pub shows_closed : (scram : ScramStruct) (standing : Standing) (opened : Option ServerChallenge)
     (user : Option (List ℕ)) (why : ClosedBecause) → standing ≡ Closed why → scram.stands ≡ 0
     → ShowsStanding scram standing opened user
 shows_closed scram standing opened user why closed fresh =
@@ -328,7 +328,7 @@ pub ruleset shown = (
 )
 
 -- so it is of a server whose challenge and user these are
-pub shows_as : (standing : Standing) (server : State) (opened : Option Challenge) (user : Option (List ℕ))
+pub shows_as : (standing : Standing) (server : State) (opened : Option ServerChallenge) (user : Option (List ℕ))
     (answer : Option ScramStruct) → opened ≡ open_in server → user ≡ user_in server
     → MatchOption answer ((scram : ScramStruct) → ¬ ShowsStanding scram standing opened user)
     (λ scram. ShowsStanding scram standing opened user)
@@ -338,7 +338,7 @@ shows_as standing server opened user answer is named held =
     carried (λ (u : Option (List ℕ)).
     MatchOption answer ((scram : ScramStruct) → ¬ ShowsStanding scram standing (open_in server) u)
     (λ scram. ShowsStanding scram standing (open_in server) u)) user (user_in server) named
-    (carried (λ (o : Option Challenge).
+    (carried (λ (o : Option ServerChallenge).
     MatchOption answer ((scram : ScramStruct) → ¬ ShowsStanding scram standing o user)
     (λ scram. ShowsStanding scram standing o user)) opened (open_in server) is held)
 
@@ -346,27 +346,27 @@ shows_as standing server opened user answer is named held =
 
 -- what a struct of SCRAM shows of an acceptor
 abbrev pub Shown : ScramStruct → Standing → Code → Type 0
-Shown scram standing acceptor = ShowsState scram standing (state_of acceptor)
+Shown scram standing acceptor = ShowsState scram standing (value_state acceptor)
 
 -- and the one that is written for it
 abbrev pub written_for : Standing → Code → ScramStruct
-written_for standing acceptor = state_struct standing (state_of acceptor)
+written_for standing acceptor = state_struct standing (value_state acceptor)
 
-pub writes_side : (server : Struct) (next : ServerNegotiation Code) → server ≡ struct_by state_of written_for next
+pub writes_side : (server : Struct) (next : ServerNegotiation Code) → server ≡ struct_by value_state written_for next
     → server ≡ side_struct (side_in next)
 writes_side server next written = written
 
-pub shows_side : (server : Struct) (next : ServerNegotiation Code) → ShowsBy state_of Shown server next
+pub shows_side : (server : Struct) (next : ServerNegotiation Code) → ShowsBy value_state Shown server next
     → ShowsSide server (side_in next)
 unfolding ShowsSide
 shows_side server next shows = shows
 
-pub shows_nothing : (next : ServerNegotiation Code) → HasNone state_of Shown next → HasNoStruct (side_in next)
+pub shows_nothing : (next : ServerNegotiation Code) → HasNone value_state Shown next → HasNoStruct (side_in next)
 unfolding HasNoStruct
 shows_nothing next none = none
 
 pub is_server : (host : Host) (server : Struct) (side : Side State) → ShowsSide server side
-    → Comes host side.standing side.state → side.limit ≡ 512 → IsServer host server side
+    → ServerIsReached host side.standing side.state → side.limit ≡ 512 → IsServer host server side
 unfolding IsServer
 is_server host server side shows comes limit = (shows, limit, comes)
 

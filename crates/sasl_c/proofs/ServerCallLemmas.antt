@@ -13,7 +13,7 @@ use Rattle.fe2o3_scram.specs.declared.scram_messages.error.ServerScramErrorKind.
 use Rattle.fe2o3_scram.specs.Credentials.{Provider, Records}
 use Rattle.fe2o3_scram.specs.Readings.{IsFirst, NoneHolds}
 use Rattle.fe2o3_scram.specs.ScramServer.{ChallengesFrom, ServerState, Initial, ServerFirstSent}
-use Rattle.fe2o3_scram.specs.ServerFirst.{Challenge}
+use Rattle.fe2o3_scram.specs.ServerFirst.{ServerChallenge}
 use Rattle.fe2o3_sasl_runs.specs.declared.one_of.Part.{Part}
 use Rattle.fe2o3_sasl_runs.specs.declared.one_of.Part.TheVariants.{First, Second}
 use Rattle.fe2o3_sasl_runs.specs.Bodies.{carried as sent_or_not}
@@ -35,9 +35,9 @@ use Rattle.fe2o3_sasl_negotiation.specs.declared.standing.Standing.TheVariants.{
 use Rattle.fe2o3_sasl_negotiation.specs.declared.standing.Turn.{Turn}
 use Rattle.fe2o3_sasl_negotiation.specs.declared.standing.Turn.TheVariants as turns
 use Rattle.fe2o3_sasl_negotiation.specs.Framing.{IsPart, framed, sasl_header}
-use Rattle.fe2o3_sasl_negotiation.specs.Negotiations.{Side, Answer, Sends, ReceivesAt, closes}
-use Rattle.fe2o3_sasl_negotiation.specs.ServerNegotiation.{Offers, Says, ServerAnswers, ServerReceives, behind_header, offer_body}
-use Rattle.fe2o3_sasl_negotiation.specs.SetDown.{server_at, server_due, IsKept, IsServerKept, side_of}
+use Rattle.fe2o3_sasl_negotiation.specs.Negotiations.{Side, SideOutput, Sends, ReceivesAt, closes}
+use Rattle.fe2o3_sasl_negotiation.specs.ServerNegotiation.{Offers, ServerOutputs, ServerSideAnswers, ServerReceives, behind_header, offer_body}
+use Rattle.fe2o3_sasl_negotiation.specs.SetDown.{server_fits, server_due, IsKept, IsServerKept, side_of}
 use Rattle.fe2o3_sasl_negotiation.proofs.lemmas.UnitLemmas.{length-framed}
 use Rattle.sasl_c.specs.declared.connection.Connection.{Connection}
 use Rattle.sasl_c.specs.declared.sasl_server.Choice.{Choice}
@@ -46,7 +46,7 @@ use Rattle.sasl_c.specs.declared.sasl_server.SaslServer.{SaslServer as Struct}
 use Rattle.sasl_c.specs.declared.status.Status.{Status}
 use Rattle.sasl_c.specs.declared.status.Status.TheVariants as statuses
 use Rattle.sasl_c.specs.Connection.{Keeps, KeepsNoPart, side_tests, KeepsNoPartOf}
-use Rattle.sasl_c.specs.SaslServer.{All, Code, Comes, HasNone, IsNoHost, IsNoServer, IsOf, IsServer, Last, NotReceived, Others, Received, ShowsBy, ShowsSide, ShowsState, State, all_machine, all_names, external_names, last_machine, last_names, other_machine, other_names, plain_names, server_of, side_in, side_struct, state_machine, state_names, state_of, struct_by}
+use Rattle.sasl_c.specs.SaslServer.{All, Code, ServerIsReached, HasNone, IsNoHost, IsNoServer, IsOf, IsServer, Last, NotReceived, Others, Received, ShowsBy, ShowsSide, ShowsState, State, all_machine, all_names, external_names, last_machine, last_names, other_machine, other_names, plain_names, struct_server, side_in, side_struct, state_machine, state_names, value_state, struct_by}
 use Rattle.sasl_c.proofs.SaslClientLemmas.{one_due, part_short, tests_without_memory}
 use Rattle.sasl_c.proofs.SaslServerLemmas.{Shown, is_server, no_server, shows_nothing, shows_side, writes_side, written_for}
 use Rattle.sasl_c.proofs.StatusLemmas.{carried}
@@ -106,7 +106,7 @@ others_end others next (Some Second) nonce frame reply is (moved, held, then) = 
 
 -- SCRAM opens a challenge, or ends it
 abbrev Opens : Provider → Acceptor → Type 0
-Opens provider next = (challenge : Challenge) × (next ≡ ScramAcceptor provider (ServerFirstSent challenge))
+Opens provider next = (challenge : ServerChallenge) × (next ≡ ScramAcceptor provider (ServerFirstSent challenge))
 
 opens_or_ends : (provider : Provider) (state after : ServerState) (nonce text : List ℕ)
     (answer : Result (Option (List ℕ)) ServerScramErrorKind) (reply : SaslFrame) (next : Acceptor)
@@ -144,14 +144,14 @@ scram_opens provider state nonce (frames.Outcome code more) reply next is = absu
 
 -- what the machine makes of the server of a host
 abbrev Goes : Host → SaslFrame → State → Type 0
-Goes host reply next = Ends reply ⊎ Comes host Wanting next
+Goes host reply next = Ends reply ⊎ ServerIsReached host Wanting next
 
 module _ (host : Host) (version : ScramVersion) (choice : Choice) (records : Records) where
   abbrev one : ServerState → Option Part → State
-  one state asked = server_of host version choice records state asked
+  one state asked = struct_server host version choice records state asked
 
   abbrev Then : SaslFrame → State → Type 0
-  Then reply next = Ends reply ⊎ ((challenge : Challenge) × (next ≡ one (ServerFirstSent challenge) (Some First)))
+  Then reply next = Ends reply ⊎ ((challenge : ServerChallenge) × (next ≡ one (ServerFirstSent challenge) (Some First)))
 
   opened : (state : ServerState) (asked : Option Part) (all : All) (acceptor : Acceptor) (next : State)
       (reply : SaslFrame) → Ends reply ⊎ Opens (record {
@@ -198,7 +198,7 @@ of_goes : (host : Host) (state : ServerState) (asked : Option Part) (server next
 unfolding IsOf
 of_goes host state asked server next nonce frame reply (version, choice, records, known, sum, has, is) held =
     go (offered_goes host version choice records state asked
-    (is_passed_on all_names (server_of host version choice records state asked) frame) nonce frame reply next
+    (is_passed_on all_names (struct_server host version choice records state asked) frame) nonce frame reply next
     (carried (λ (s : State). state_machine s nonce frame reply next) server _ is held))
   where
     go : Then host version choice records reply next → Goes host reply next
@@ -206,7 +206,7 @@ of_goes host state asked server next nonce frame reply (version, choice, records
     go (inr (challenge, same)) = inr (inr (challenge, (version, choice, records, known, sum, has, same)))
 
 comes_goes : (host : Host) (server next : State) (nonce : List ℕ) (frame reply : SaslFrame)
-    → Comes host Wanting server → state_machine server nonce frame reply next → Goes host reply next
+    → ServerIsReached host Wanting server → state_machine server nonce frame reply next → Goes host reply next
 comes_goes host server next nonce frame reply (inl fresh) held =
     of_goes host Initial None server next nonce frame reply fresh held
 comes_goes host server next nonce frame reply (inr (challenge, waits)) held =
@@ -226,16 +226,16 @@ ends_concluded body reply sent (code, more, is) same =
 carried_comes : (host : Host) (server moved next : State) (body : List ℕ) (reply : SaslFrame)
     (sent : Option (List ℕ)) → Goes host reply moved
     → Challenged body ≡ sent_or_not (Failed faults.TooLarge) (server_says reply) sent
-    → next ≡ sent_or_not server (λ _. moved) sent → Comes host Wanting next
+    → next ≡ sent_or_not server (λ _. moved) sent → ServerIsReached host Wanting next
 carried_comes host server moved next body reply None goes says is = absurd (not_failed body faults.TooLarge says)
 carried_comes host server moved next body reply (Some sent) (inl ends) says is =
     absurd (ends_concluded body reply sent ends says)
 carried_comes host server moved next body reply (Some sent) (inr comes) says is =
-    carried (Comes host Wanting) moved next (sym is) comes
+    carried (ServerIsReached host Wanting) moved next (sym is) comes
 
 pub gives_comes : (host : Host) (server next : State) (event : Given) (spelled : Result SaslFrame Error)
-    (body : List ℕ) → Comes host Wanting server
-    → AcceptorGives state_machine server event spelled (Challenged body) next → Comes host Wanting next
+    (body : List ℕ) → ServerIsReached host Wanting server
+    → AcceptorGives state_machine server event spelled (Challenged body) next → ServerIsReached host Wanting next
 gives_comes host server next event (Err fault) body comes is = absurd (not_failed body fault is.0)
 gives_comes host server next event (Ok (frames.Mechanisms names)) body comes is =
     absurd (not_failed body faults.NotImplemented is.0)
@@ -258,21 +258,21 @@ gives_comes host server next event (Ok (frames.Response text)) body comes (inr (
 
 -- ---- what is behind an answer: a server that the host comes to, and at most 520 bytes sent (part 5, section 5.3.1)
 
-record Fine (host : Host) (answer : Answer) (next : State) : Type 0 where
-  comes : Comes host answer.standing next
+record Fine (host : Host) (answer : SideOutput) (next : State) : Type 0 where
+  comes : ServerIsReached host answer.standing next
   short : length answer.sent ≤ 520
 
-fine_so : (host : Host) (answer other : Answer) (next : State) → answer ≡ other → Comes host other.standing next
+fine_so : (host : Host) (answer other : SideOutput) (next : State) → answer ≡ other → ServerIsReached host other.standing next
     → length other.sent ≤ 520 → Fine host answer next
 fine_so host answer other next same comes short =
-    carried (λ (a : Answer). Fine host a next) other answer (sym same) (record { comes = comes; short = short })
+    carried (λ (a : SideOutput). Fine host a next) other answer (sym same) (record { comes = comes; short = short })
 
-closes_fine : (host : Host) (answer : Answer) (next : State) (why : ClosedBecause) (due : Due)
+closes_fine : (host : Host) (answer : SideOutput) (next : State) (why : ClosedBecause) (due : Due)
     → answer ≡ closes why due → Fine host answer next
 closes_fine host answer next why due same = fine_so host answer (closes why due) next same tt (omega arith)
 
-sends_fine : (host : Host) (answer : Answer) (next : State) (body : List ℕ) (standing : Standing) (due : Due)
-    → Comes host standing next → Sends body standing due answer → Fine host answer next
+sends_fine : (host : Host) (answer : SideOutput) (next : State) (body : List ℕ) (standing : Standing) (due : Due)
+    → ServerIsReached host standing next → Sends body standing due answer → Fine host answer next
 sends_fine host answer next body standing due comes (inl (fits, same)) =
     fine_so host answer (record { sent = framed body; standing = standing; due = due }) next same comes
     (omega (arith, fits, length-framed body))
@@ -280,34 +280,34 @@ sends_fine host answer next body standing due comes (inr (long, same)) =
     closes_fine host answer next ReplyTooLarge due same
 
 -- behind a header
-first_fine : (host : Host) (first : Answer) (server : State) (offer : Option (List ℕ)) → Comes host Wanting server
-    → Offers offer first → Comes host first.standing server × (length first.sent ≤ 512)
+first_fine : (host : Host) (first : SideOutput) (server : State) (offer : Option (List ℕ)) → ServerIsReached host Wanting server
+    → Offers offer first → ServerIsReached host first.standing server × (length first.sent ≤ 512)
 first_fine host first server None comes same = (
-  carried (λ (a : Answer). Comes host a.standing server) (closes ReplyTooLarge Header) first (sym same) tt,
-  carried (λ (a : Answer). length a.sent ≤ 512) (closes ReplyTooLarge Header) first (sym same) (omega arith),
+  carried (λ (a : SideOutput). ServerIsReached host a.standing server) (closes ReplyTooLarge Header) first (sym same) tt,
+  carried (λ (a : SideOutput). length a.sent ≤ 512) (closes ReplyTooLarge Header) first (sym same) (omega arith),
 )
 first_fine host first server (Some body) comes (inl (fits, same)) = (
-  carried (λ (a : Answer). Comes host a.standing server)
+  carried (λ (a : SideOutput). ServerIsReached host a.standing server)
       (record { sent = framed body; standing = Wanting; due = Frame turns.Init }) first (sym same) comes,
-  carried (λ (a : Answer). length a.sent ≤ 512)
+  carried (λ (a : SideOutput). length a.sent ≤ 512)
       (record { sent = framed body; standing = Wanting; due = Frame turns.Init }) first (sym same)
       (omega (arith, fits, length-framed body)),
 )
 first_fine host first server (Some body) comes (inr (long, same)) = (
-  carried (λ (a : Answer). Comes host a.standing server) (closes ReplyTooLarge (Frame turns.Init)) first (sym same) tt,
-  carried (λ (a : Answer). length a.sent ≤ 512) (closes ReplyTooLarge (Frame turns.Init)) first (sym same)
+  carried (λ (a : SideOutput). ServerIsReached host a.standing server) (closes ReplyTooLarge (Frame turns.Init)) first (sym same) tt,
+  carried (λ (a : SideOutput). length a.sent ≤ 512) (closes ReplyTooLarge (Frame turns.Init)) first (sym same)
       (omega arith),
 )
 
-header_fine : (host : Host) (answer first : Answer) (next : State) → answer ≡ behind_header first
-    → Comes host first.standing next → length first.sent ≤ 512 → Fine host answer next
+header_fine : (host : Host) (answer first : SideOutput) (next : State) → answer ≡ behind_header first
+    → ServerIsReached host first.standing next → length first.sent ≤ 512 → Fine host answer next
 header_fine host answer first next same comes short =
     let eight : length sasl_header ≡ 8 = refl in
     fine_so host answer (behind_header first) next same comes
     (omega (arith, short, eight, length-append sasl_header first.sent))
 
-says_fine : (host : Host) (says : ServerSays) (turn : Turn) (answer : Answer) (next : State)
-    → ((body : List ℕ) → says ≡ Challenged body → Comes host Wanting next) → Says says turn answer
+says_fine : (host : Host) (says : ServerSays) (turn : Turn) (answer : SideOutput) (next : State)
+    → ((body : List ℕ) → says ≡ Challenged body → ServerIsReached host Wanting next) → ServerOutputs says turn answer
     → Fine host answer next
 says_fine host (Challenged body) turns.Init answer next comes sends =
     sends_fine host answer next body Wanting (Frame turns.Response) (comes body refl) sends
@@ -330,15 +330,15 @@ says_fine host (Failed faults.DecodeError) turn answer next comes same = closes_
 says_fine host (Failed faults.NotImplemented) turn answer next comes same = closes_fine host answer next _ _ same
 says_fine host (Failed faults.TooLarge) turn answer next comes same = closes_fine host answer next _ _ same
 
-answers_fine : (host : Host) (due : Due) (server next : State) (nonce unit : List ℕ) (answer : Answer)
-    → Comes host Wanting server → ServerAnswers state_names state_machine due server nonce unit answer next
+answers_fine : (host : Host) (due : Due) (server next : State) (nonce unit : List ℕ) (answer : SideOutput)
+    → ServerIsReached host Wanting server → ServerSideAnswers state_names state_machine due server nonce unit answer next
     → Fine host answer next
 answers_fine host Header server next nonce unit answer comes (inl (other, same), kept) =
     header_fine host answer (closes OtherHeader Header) next same tt (omega arith)
 answers_fine host Header server next nonce unit answer comes (inr (is, (first, offers, same)), kept) =
     let both = first_fine host first server (offer_body (state_names server)) comes offers in
     header_fine host answer first next same
-    (carried (λ (s : State). Comes host first.standing s) server next (sym kept) both.0) both.1
+    (carried (λ (s : State). ServerIsReached host first.standing s) server next (sym kept) both.0) both.1
 answers_fine host (Frame turn) server next nonce unit answer comes (Err fault, spells, unread) =
     closes_fine host answer next _ _ unread.0
 answers_fine host (Frame turn) server next nonce unit answer comes (Ok frame, spells, inl out) =
@@ -355,13 +355,13 @@ answers_fine host (Frame turn) server next nonce unit answer comes
 
 -- what is behind it
 record Behind (host : Host) (next : Side State) (sent : List ℕ) : Type 0 where
-  comes : Comes host next.standing next.state
+  comes : ServerIsReached host next.standing next.state
   limit : next.limit ≡ 512
   held : length next.held ≤ 512
   short : length sent ≤ 520
 
 behind : (host : Host) (next other : Side State) (sent more : List ℕ) → next ≡ other → sent ≡ more
-    → Comes host other.standing other.state → other.limit ≡ 512 → length other.held ≤ 512 → length more ≤ 520
+    → ServerIsReached host other.standing other.state → other.limit ≡ 512 → length other.held ≤ 512 → length more ≤ 520
     → Behind host next sent
 behind host next other sent more same is comes limit held short =
     carried (λ given. Behind host given sent) other next (sym same) (record {
@@ -372,11 +372,11 @@ behind host next other sent more same is comes limit held short =
     })
 
 wanting_behind : (host : Host) (side next : Side State) (bytes nonce : List ℕ) (taken : ℕ) (sent : List ℕ)
-    → ReceivesAt Wanting (ServerAnswers state_names state_machine) side bytes nonce taken sent next
-    → side.standing ≡ Wanting → side.limit ≡ 512 → Comes host Wanting side.state → Behind host next sent
+    → ReceivesAt Wanting (ServerSideAnswers state_names state_machine) side bytes nonce taken sent next
+    → side.standing ≡ Wanting → side.limit ≡ 512 → ServerIsReached host Wanting side.state → Behind host next sent
 wanting_behind host side next bytes nonce taken sent (inl (part, waits)) wants limit comes =
     behind host next _ sent [] waits.2 waits.1
-    (carried (λ (s : Standing). Comes host s side.state) Wanting side.standing (sym wants) comes) limit
+    (carried (λ (s : Standing). ServerIsReached host s side.state) Wanting side.standing (sym wants) comes) limit
     (part_short side.due (side.held ++ bytes)
     (carried (λ n. IsPart side.due n (side.held ++ bytes)) side.limit 512 limit part)) (omega arith)
 wanting_behind host side next bytes nonce taken sent (inr (inl (refused, ends))) wants limit comes =
@@ -392,14 +392,14 @@ receives_behind : (host : Host) (before : Struct) (side next : Side State) (byte
 unfolding IsServer
 receives_behind host before side next bytes nonce taken sent is wants held =
     wanting_behind host side next bytes nonce taken sent
-    (carried (λ s. ReceivesAt s (ServerAnswers state_names state_machine) side bytes nonce taken sent next)
+    (carried (λ s. ReceivesAt s (ServerSideAnswers state_names state_machine) side bytes nonce taken sent next)
     side.standing Wanting wants held) wants is.1
-    (carried (λ (s : Standing). Comes host s side.state) side.standing Wanting wants is.2)
+    (carried (λ (s : Standing). ServerIsReached host s side.state) side.standing Wanting wants is.2)
 
 pub behind_comes : (host : Host) (before : Struct) (side next : Side State) (bytes nonce : List ℕ) (taken : ℕ)
     (sent : List ℕ) → IsServer host before side → side.standing ≡ Wanting
     → ServerReceives state_names state_machine side bytes nonce taken sent next
-    → Comes host next.standing next.state
+    → ServerIsReached host next.standing next.state
 behind_comes host before side next bytes nonce taken sent is wants held =
     (receives_behind host before side next bytes nonce taken sent is wants held).comes
 
@@ -426,13 +426,13 @@ behind_short host before side next bytes nonce taken sent is wants held =
 -- the side that was taken up
 pub taken_up : (host : Host) (before : Struct) (kept : SetDown) (state : State)
     → Keeps before.connection kept.standing kept.due kept.held.now → kept.standing ≡ Wanting → kept.limit ≡ 512
-    → Comes host Wanting state → ShowsState before.scram Wanting state
+    → ServerIsReached host Wanting state → ShowsState before.scram Wanting state
     → IsServer host before (side_of kept state)
 unfolding IsServer ShowsSide
 taken_up host before kept state keeps wants limit comes shows = (
   (keeps, carried (λ (s : Standing). ShowsState before.scram s state) Wanting kept.standing (sym wants) shows),
   limit,
-  carried (λ (s : Standing). Comes host s state) Wanting kept.standing (sym wants) comes,
+  carried (λ (s : Standing). ServerIsReached host s state) Wanting kept.standing (sym wants) comes,
 )
 
 pub received : (host : Host) (bytes nonce : List ℕ) (before after : Struct) (side next : Side State) (taken : ℕ)
@@ -483,7 +483,7 @@ keeps_no_server connection kept keeps wants limit wrong = λ due held other unit
     keeps_no_part connection kept keeps limit
     (λ holds. wrong (
       holds,
-      carried (λ (s : Standing). IsTrue (server_at s kept.due)) Wanting kept.standing (sym wants)
+      carried (λ (s : Standing). IsTrue (server_fits s kept.due)) Wanting kept.standing (sym wants)
           (carried (λ (d : Due). IsTrue (server_due d)) due kept.due one unit),
       λ ended. absurd (ended wants),
     )) due held other part
@@ -502,7 +502,7 @@ no_host host bytes nonce before kept status keeps wants wrong =
 
 pub not_kept : (host : Host) (bytes nonce : List ℕ) (before : Struct) (kept : SetDown) (state : State)
     (status : Status) → Keeps before.connection kept.standing kept.due kept.held.now → kept.standing ≡ Wanting
-    → kept.limit ≡ 512 → Comes host Wanting state → (status ≡ statuses.NotKept) × ¬ IsServerKept kept
+    → kept.limit ≡ 512 → ServerIsReached host Wanting state → (status ≡ statuses.NotKept) × ¬ IsServerKept kept
     → NotReceived host bytes nonce before status
 unfolding NotReceived IsNoServer
 not_kept host bytes nonce before kept state status keeps wants limit comes (is, wrong) = inl (inr (
@@ -510,7 +510,7 @@ not_kept host bytes nonce before kept state status keeps wants limit comes (is, 
   inr (is, keeps_no_server before.connection kept keeps wants limit wrong, host_has comes),
 ))
   where
-    host_has : Comes host Wanting state → (at : ServerState) × (asked : Option Part) × (server : State)
+    host_has : ServerIsReached host Wanting state → (at : ServerState) × (asked : Option Part) × (server : State)
         × IsOf host at asked server
     host_has (inl fresh) = (Initial, None, state, fresh)
     host_has (inr (challenge, waits)) = (ServerFirstSent challenge, Some First, state, waits)
@@ -518,7 +518,7 @@ not_kept host bytes nonce before kept state status keeps wants limit comes (is, 
 -- what comes of a side that was taken up
 module _ (host : Host) (bytes nonce : List ℕ) (before : Struct) (kept : SetDown) (state : State)
     (keeps : Keeps before.connection kept.standing kept.due kept.held.now) (wants : kept.standing ≡ Wanting)
-    (limit : kept.limit ≡ 512) (known : Comes host Wanting state × ShowsState before.scram Wanting state) where
+    (limit : kept.limit ≡ 512) (known : ServerIsReached host Wanting state × ShowsState before.scram Wanting state) where
   abbrev taken_side : Side State
   taken_side = side_of kept state
 
@@ -531,8 +531,8 @@ module _ (host : Host) (bytes nonce : List ℕ) (before : Struct) (kept : SetDow
       ServerReceives state_names state_machine taken_side bytes nonce taken sent (side_in next)
 
   pub answered : (after : Struct) (taken : ℕ) (sent : List ℕ)
-      → (next : ServerNegotiation Code) × Follows taken sent next × ShowsBy state_of Shown after next
-      × (after ≡ struct_by state_of written_for next) → Received host bytes nonce before after taken sent
+      → (next : ServerNegotiation Code) × Follows taken sent next × ShowsBy value_state Shown after next
+      × (after ≡ struct_by value_state written_for next) → Received host bytes nonce before after taken sent
   answered after taken sent (next, held, shows, written) =
       received host bytes nonce before after taken_side (side_in next) taken sent is wants held
       (is_server host after (side_in next) (shows_side after next shows)
@@ -541,14 +541,14 @@ module _ (host : Host) (bytes nonce : List ℕ) (before : Struct) (kept : SetDow
       (writes_side after next written)
 
   pub short_answer : (after : Struct) (taken : ℕ) (sent : List ℕ)
-      → (next : ServerNegotiation Code) × Follows taken sent next × ShowsBy state_of Shown after next
-      × (after ≡ struct_by state_of written_for next) → length sent ≤ 520
+      → (next : ServerNegotiation Code) × Follows taken sent next × ShowsBy value_state Shown after next
+      × (after ≡ struct_by value_state written_for next) → length sent ≤ 520
   short_answer after taken sent (next, held, shows, written) =
       behind_short host before taken_side (side_in next) bytes nonce taken sent is wants held
 
   pub unanswered : (status : Status) → ((status ≡ statuses.NotKept) × ¬ IsServerKept kept)
       ⊎ ((status ≡ statuses.TooLong) × ((next : ServerNegotiation Code) × (taken : ℕ) × (sent : List ℕ)
-      × Follows taken sent next × HasNone state_of Shown next)) → NotReceived host bytes nonce before status
+      × Follows taken sent next × HasNone value_state Shown next)) → NotReceived host bytes nonce before status
   unanswered status (inl wrong) = not_kept host bytes nonce before kept state status keeps wants limit known.0 wrong
   unanswered status (inr (same, (next, taken, sent, held, none))) =
       carried (NotReceived host bytes nonce before) statuses.TooLong status (sym same)

@@ -17,14 +17,14 @@ use Rattle.fe2o3_scram.proofs.lemmas.hashes.DigestLemmas.{length-hmac_of}
 use Rattle.sasl_c.proofs.TextLemmas.{short, short_text}
 use Rattle.fe2o3_scram.specs.Credentials.{Store, VersionedRecord, record_at, serving}
 use Rattle.fe2o3_scram.specs.ScramServer.{ChallengesFrom, ServerState, ServerFirstSent, open_challenge}
-use Rattle.fe2o3_scram.specs.ServerFirst.{AnswersClientFirst, Challenge}
+use Rattle.fe2o3_scram.specs.ServerFirst.{AnswersClientFirst, ServerChallenge}
 use Rattle.fe2o3_scram.specs.Texts.{base64_text}
 use Rattle.sasl_c.specs.declared.records.ScramRecord.{ScramRecord as Kept}
 use Rattle.sasl_c.specs.declared.status.Status.{Status}
 use Rattle.sasl_c.specs.declared.status.Status.TheVariants as statuses
-use Rattle.sasl_c.specs.Records.{Shows, SpellsStruct}
+use Rattle.sasl_c.specs.Records.{ShowsRecord, SpellsStruct}
 use Rattle.sasl_c.specs.declared.server.ScramServer.{ScramServer as Struct}
-use Rattle.sasl_c.specs.Server.{Challenged, Challenges, Concluded, Concludes, HasLoggedIn, HasRoom, IsOpen, NotChallenged, logged_in_struct, one_user}
+use Rattle.sasl_c.specs.Server.{MakesChallenge, Challenges, ConcludesLogin, Concludes, HasLoggedIn, ChallengeHasRoom, IsOpen, NotChallenged, logged_in_struct, one_user}
 use Rattle.sasl_c.proofs.StatusLemmas.{carried}
 use Rattle.sasl_c.specs.Status.{server_status}
 
@@ -42,21 +42,21 @@ pub not_shown : (unbound : Bool) (kept : Kept) (nonce text : List ℕ) (first : 
 unfolding NotChallenged
 not_shown unbound kept nonce text first status reads wrong = inr (inl (first, reads, wrong))
 
-pub no_room : (unbound : Bool) (kept : Kept) (nonce text : List ℕ) (challenge : Challenge)
-    → Challenged unbound kept nonce text challenge
-    → ¬ HasRoom challenge → NotChallenged unbound kept nonce text statuses.TooLong
+pub no_room : (unbound : Bool) (kept : Kept) (nonce text : List ℕ) (challenge : ServerChallenge)
+    → MakesChallenge unbound kept nonce text challenge
+    → ¬ ChallengeHasRoom challenge → NotChallenged unbound kept nonce text statuses.TooLong
 unfolding NotChallenged
 no_room unbound kept nonce text challenge held wide = inr (inr (refl, (challenge, held, wide)))
 
 -- the struct of the open challenge holds its message
 pub says_first : (unbound : Bool) (kept : Kept) (nonce text : List ℕ) (state : ServerState)
-    (challenge shown : Challenge) (server : Struct) → state ≡ ServerFirstSent challenge
-    → Challenged unbound kept nonce text challenge → Some shown ≡ open_challenge state → IsOpen server shown
+    (challenge shown : ServerChallenge) (server : Struct) → state ≡ ServerFirstSent challenge
+    → MakesChallenge unbound kept nonce text challenge → Some shown ≡ open_challenge state → IsOpen server shown
     → Challenges unbound kept nonce text (Ok (take server.first_len server.first)) × (server.first_len ≤ 1024)
 says_first unbound kept nonce text state challenge shown server stands held opened is =
     let same : Some shown ≡ Some challenge = opened ∙ ap open_challenge stands in
     let one : shown ≡ challenge = cc in
-    ((challenge, held, sym (ap (λ (c : Challenge). c.first) (sym one ∙ is.2))), is.1.3)
+    ((challenge, held, sym (ap (λ (c : ServerChallenge). c.first) (sym one ∙ is.2))), is.1.3)
 
 -- a server that takes whom another takes answers what that one answers
 pub challenges_so : (state next : ServerState) (store : Store) (own unbound : Bool) (nonce text : List ℕ)
@@ -69,10 +69,10 @@ challenges_so state next store own unbound nonce text answer same held =
 
 -- the machine's answers
 pub challenged : (unbound : Bool) (kept : Kept) (nonce text user message : List ℕ) (shown : VersionedRecord)
-    (store : Store) (state next : ServerState) → Shows kept shown → store ≡ one_user user shown
+    (store : Store) (state next : ServerState) → ShowsRecord kept shown → store ≡ one_user user shown
     → ChallengesFrom state (serving unbound store) nonce text (Ok (Some message)) next
-    → (challenge : Challenge) × (next ≡ ServerFirstSent challenge) × Challenged unbound kept nonce text challenge
-unfolding Challenged
+    → (challenge : ServerChallenge) × (next ≡ ServerFirstSent challenge) × MakesChallenge unbound kept nonce text challenge
+unfolding MakesChallenge
 challenged unbound kept nonce text user message shown store state next is same held =
     let given = carried (λ s. AnswersClientFirst (serving unbound s) (base64_text nonce) text (Ok (Some held.0))) store
     (one_user user shown) same held.1 in
@@ -122,20 +122,20 @@ short_final server text message held =
 found : (user : List ℕ) (shown : VersionedRecord) → record_at (one_user user shown).records user ≡ Some shown.stored
 found user shown = ap (λ test. cond test (Some shown.stored) None) ((bytes_eq-Decides user user).1 refl)
 
-pub concluded : (kept : Kept) (before : Struct) (text message : List ℕ) (challenge : Challenge)
-    (shown : VersionedRecord) → IsOpen before challenge → Shows kept shown
+pub concluded : (kept : Kept) (before : Struct) (text message : List ℕ) (challenge : ServerChallenge)
+    (shown : VersionedRecord) → IsOpen before challenge → ShowsRecord kept shown
     → AnswersClientFinal (server_of shown.version challenge.header challenge.bare challenge.first challenge.nonce
     shown.stored) text
     (Ok message)
-    → Concluded kept before text message challenge.user × (length message ≤ 90)
-unfolding Concluded
+    → ConcludesLogin kept before text message challenge.user × (length message ≤ 90)
+unfolding ConcludesLogin
 concluded kept before text message challenge shown is shows held = (
   (challenge, shown, is, shows, refl, (shown.stored, found challenge.user shown, held, refl)),
   short_final _ text message held,
 )
 
-pub refuses : (kept : Kept) (before : Struct) (text : List ℕ) (challenge : Challenge) (shown : VersionedRecord)
-    (why : ServerScramErrorKind) (status : Status) → IsOpen before challenge → Shows kept shown
+pub refuses : (kept : Kept) (before : Struct) (text : List ℕ) (challenge : ServerChallenge) (shown : VersionedRecord)
+    (why : ServerScramErrorKind) (status : Status) → IsOpen before challenge → ShowsRecord kept shown
     → (why ≢ NoMemory → AnswersClientFinal
     (server_of shown.version challenge.header challenge.bare challenge.first challenge.nonce shown.stored) text
     (Err why))
@@ -146,12 +146,12 @@ refuses kept before text challenge shown why status is shows held gives other =
     inr (inr (why, gives, (challenge, shown, is, shows, (inl (shown.stored, found challenge.user shown, told), refl))))
 
 pub not_open : (kept : Kept) (before : Struct) (text : List ℕ)
-    → ((challenge : Challenge) → ¬ IsOpen before challenge)
+    → ((challenge : ServerChallenge) → ¬ IsOpen before challenge)
     → Concludes kept text before before (Err (statuses.Server IllegalAuthenticatorState))
 unfolding Concludes
 not_open kept before text none = inl (refl, none)
 
-pub keeps_none : (kept : Kept) (before : Struct) (text : List ℕ) (challenge : Challenge) (status : Status)
+pub keeps_none : (kept : Kept) (before : Struct) (text : List ℕ) (challenge : ServerChallenge) (status : Status)
     → IsOpen before challenge → SpellsStruct kept (Err status) → Concludes kept text before before (Err status)
 unfolding Concludes
 keeps_none kept before text challenge status is wrong = inr (inl (challenge, is, wrong))
@@ -161,12 +161,12 @@ logged_in : (user : List ℕ) → length user ≤ 256 → HasLoggedIn (logged_in
 logged_in user few = (refl, few, sym (take-append_seam user (replicate (256 - length user) 0)))
 
 pub concludes : (kept : Kept) (before after : Struct) (text message user : List ℕ)
-    → Concluded kept before text message user → after ≡ logged_in_struct (take before.user_len before.user)
+    → ConcludesLogin kept before text message user → after ≡ logged_in_struct (take before.user_len before.user)
     → Concludes kept text before after (Ok message)
-unfolding Concludes Concluded
+unfolding Concludes ConcludesLogin
 concludes kept before after text message user held written =
     let named : user ≡ take before.user_len before.user =
-    held.4 ∙ ap (λ (challenge : Challenge). challenge.user) held.2.2 in
+    held.4 ∙ ap (λ (challenge : ServerChallenge). challenge.user) held.2.2 in
     let few : length user ≤ 256 =
     omega (arith, ap length named, length-take before.user_len before.user, held.2.1.0) in
     let same : after ≡ logged_in_struct user = written ∙ ap logged_in_struct (sym named) in

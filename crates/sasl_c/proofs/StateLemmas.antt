@@ -3,10 +3,10 @@ use Rattle.std.proofs.Common.{arith, refl, sym, ap, ◌∙◌, ◌≡◌, ◌≢
 use Rattle.std.specs.Prelude.{Option, Some, None, IfSome, MatchOption, option_map, true, false}
 use Rattle.std.proofs.lemmas.List.{length-take}
 use Rattle.fe2o3_scram.specs.ClientKeys.{ClientKeys}
-use Rattle.fe2o3_scram.specs.ScramClient.{ClientState, Initial, ClientFirstSent, ClientFinalSent, Complete, answer_keys, is_complete, login_keys}
+use Rattle.fe2o3_scram.specs.ScramClient.{ClientState, ClientInitial, ClientFirstSent, ClientFinalSent, Complete, answer_keys, is_complete, login_keys}
 use Rattle.fe2o3_scram.specs.Texts.{base64_text}
 use Rattle.sasl_c.specs.declared.client.ScramClient.{ScramClient as Struct}
-use Rattle.sasl_c.specs.Client.{Holds, IsReached, IsState, WritesClient, complete_struct, fresh_struct, started_struct}
+use Rattle.sasl_c.specs.Client.{Holds, IsReached, IsState, WritesClient, complete_struct, fresh_client_struct, started_struct}
 use Rattle.sasl_c.specs.Keys.{WritesKeys}
 use Rattle.sasl_c.proofs.StatusLemmas.{carried}
 
@@ -21,15 +21,15 @@ first_sent user client state nonce bare is reached sent same =
 pub completed : (user : List ℕ) (client : Struct) (state : ClientState) → is_complete state ≡ true → client.sent ≡ 3
     → Holds client.keys (login_keys state) → IsState user client state
 completed user client (Complete keys) is sent holds = (sent, holds)
-completed user client Initial is sent holds = absurd (cc)
+completed user client ClientInitial is sent holds = absurd (cc)
 completed user client (ClientFirstSent nonce bare) is sent holds = absurd (cc)
 completed user client (ClientFinalSent signature keys) is sent holds = absurd (cc)
 
 pub nothing_sent : (user : List ℕ) (client : Struct) (state : ClientState)
     → ((nonce bare : List ℕ) → state ≢ ClientFirstSent nonce bare)
     → ((signature : List ℕ) (keys : Option ClientKeys) → state ≢ ClientFinalSent signature keys)
-    → is_complete state ≡ false → IsState user client Initial → IsState user client state
-nothing_sent user client Initial first final done is = is
+    → is_complete state ≡ false → IsState user client ClientInitial → IsState user client state
+nothing_sent user client ClientInitial first final done is = is
 nothing_sent user client (ClientFirstSent nonce bare) first final done is = absurd (first nonce bare refl)
 nothing_sent user client (ClientFinalSent signature keys) first final done is = absurd (final signature keys refl)
 nothing_sent user client (Complete keys) first final done is = absurd (cc)
@@ -83,7 +83,7 @@ waiting user state (Some client) signature keys is reached held = held user
 -- the client that a struct shows has such a state
 pub reached : (user : List ℕ) (client : Struct) (state : ClientState) → IsState user client state
     → IsReached user state
-reached user client Initial is = tt
+reached user client ClientInitial is = tt
 reached user client (ClientFirstSent nonce bare) is = is.2
 reached user client (ClientFinalSent signature keys) is =
     omega (arith, is.1, ap length is.2, length-take client.signature_len client.signature)
@@ -99,15 +99,15 @@ first_written client state nonce bare is same =
 pub completed_written : (client : Struct) (state : ClientState) → is_complete state ≡ true
     → WritesKeys client.keys (login_keys state) → client ≡ complete_struct client.keys → WritesClient client state
 completed_written client (Complete keys) is written same = (client.keys, written, same)
-completed_written client Initial is written same = absurd (cc)
+completed_written client ClientInitial is written same = absurd (cc)
 completed_written client (ClientFirstSent nonce bare) is written same = absurd (cc)
 completed_written client (ClientFinalSent signature keys) is written same = absurd (cc)
 
 pub nothing_written : (client : Struct) (state : ClientState)
     → ((nonce bare : List ℕ) → state ≢ ClientFirstSent nonce bare)
     → ((signature : List ℕ) (keys : Option ClientKeys) → state ≢ ClientFinalSent signature keys)
-    → is_complete state ≡ false → client ≡ fresh_struct → WritesClient client state
-nothing_written client Initial first final done same = same
+    → is_complete state ≡ false → client ≡ fresh_client_struct → WritesClient client state
+nothing_written client ClientInitial first final done same = same
 nothing_written client (ClientFirstSent nonce bare) first final done same = absurd (first nonce bare refl)
 nothing_written client (ClientFinalSent signature keys) first final done same = absurd (final signature keys refl)
 nothing_written client (Complete keys) first final done same = absurd (cc)

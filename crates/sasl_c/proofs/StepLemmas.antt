@@ -18,9 +18,9 @@ use Rattle.sasl_c.specs.declared.server.ScramServer.{ScramServer as ServerStruct
 use Rattle.sasl_c.specs.declared.status.Status.{Status}
 use Rattle.sasl_c.specs.declared.status.Status.TheVariants as statuses
 use Rattle.sasl_c.specs.Connection.{profile_status}
-use Rattle.sasl_c.specs.SaslClient.{Comes as LoginComes, HasNoHostname, IsHostname, IsNoProfile, IsProfile}
-use Rattle.sasl_c.specs.SaslServer.{Comes, IsNoHost, State, state_machine, state_of}
-use Rattle.sasl_c.specs.Steps.{ClientHides, ClientNotStepped, ClientStepped, ClientTells, IsStepped, NotStepped, ProfileNotStepped, ProfileStepped, ServerNotStepped, ServerStepped, ServerTells, Serves, behind_code, standing_number}
+use Rattle.sasl_c.specs.SaslClient.{ProfileIsReached as LoginComes, HasNoHostname, IsHostname, IsNoProfile, IsProfile}
+use Rattle.sasl_c.specs.SaslServer.{ServerIsReached, IsNoHost, State, state_machine, value_state}
+use Rattle.sasl_c.specs.Steps.{ClientHides, ClientNotStepped, ClientStepped, ClientTells, IsStepped, NotStepped, ProfileNotStepped, ProfileStepped, ServerNotStepped, ServerStepped, ServerTells, HostServes, behind_code, standing_number}
 use Rattle.sasl_c.proofs.SaslClientLemmas.{gives_comes as profile_gives, profile_comes}
 use Rattle.sasl_c.proofs.SaslServerLemmas.{Shown, written_for}
 use Rattle.sasl_c.proofs.ServerCallLemmas.{gives_comes as acceptor_gives}
@@ -113,7 +113,7 @@ server_short (Concluded code body) sent stands is = no_longer body sent is.0.0 i
 server_short (Failed fault) sent stands is = absurd is
 
 -- the acceptor behind a step is one that the host comes to
-code_comes : (host : Host) (code : SaslCode) (next : State) → Comes host (behind_code code) next
+code_comes : (host : Host) (code : SaslCode) (next : State) → ServerIsReached host (behind_code code) next
 code_comes host outcomes.Ok next = tt
 code_comes host outcomes.Auth next = tt
 code_comes host outcomes.Sys next = tt
@@ -121,18 +121,18 @@ code_comes host outcomes.SysPerm next = tt
 code_comes host outcomes.SysTemp next = tt
 
 server_comes : (host : Host) (event : Given) (server next : State) (says : ServerSays) (sent : List ℕ)
-    (stands : Standing) → Comes host Wanting server → AcceptorSteps state_machine server event says next
-    → ServerTells says sent stands → Comes host stands next
+    (stands : Standing) → ServerIsReached host Wanting server → AcceptorSteps state_machine server event says next
+    → ServerTells says sent stands → ServerIsReached host stands next
 server_comes host event server next (Challenged body) sent stands comes steps tells =
-    carried (λ (s : Standing). Comes host s next) Wanting stands (sym tells.1)
+    carried (λ (s : Standing). ServerIsReached host s next) Wanting stands (sym tells.1)
     (acceptor_gives host server next event steps.0 body comes steps.2)
 server_comes host event server next (Concluded code body) sent stands comes steps tells =
-    carried (λ (s : Standing). Comes host s next) (behind_code code) stands (sym tells.1) (code_comes host code next)
+    carried (λ (s : Standing). ServerIsReached host s next) (behind_code code) stands (sym tells.1) (code_comes host code next)
 server_comes host event server next (Failed fault) sent stands comes steps tells = absurd tells
 
 pub server_stepped : (host : Host) (event : Given) (before after : ServerStruct) (server : State)
-    (stands : Standing) (sent : List ℕ) → Serves host before Wanting server
-    → IsStepped state_of state_machine Shown written_for server event after stands sent
+    (stands : Standing) (sent : List ℕ) → HostServes host before Wanting server
+    → IsStepped value_state state_machine Shown written_for server event after stands sent
     → ServerStepped host event before after (standing_number stands) sent
 unfolding ServerStepped
 server_stepped host event before after server stands sent serves (next, says, steps, tells, shows, written) = (
@@ -140,18 +140,18 @@ server_stepped host event before after server stands sent serves (next, says, st
   stands,
   serves,
   (
-    state_of next,
+    value_state next,
     says,
     steps,
     tells,
-    (server_comes host event server (state_of next) says sent stands serves.0 steps tells, shows),
+    (server_comes host event server (value_state next) says sent stands serves.0 steps tells, shows),
     written,
   ),
   refl,
 )
 
 pub server_steps_short : (server : State) (event : Given) (after : ServerStruct) (stands : Standing) (sent : List ℕ)
-    → IsStepped state_of state_machine Shown written_for server event after stands sent → length sent ≤ 508
+    → IsStepped value_state state_machine Shown written_for server event after stands sent → length sent ≤ 508
 server_steps_short server event after stands sent (next, says, steps, tells, shows, written) =
     server_short says sent stands tells
 
@@ -161,14 +161,14 @@ unfolding ServerNotStepped
 server_no_host host event before status wrong = inl wrong
 
 pub server_not_stepped : (host : Host) (event : Given) (before : ServerStruct) (server : State) (status : Status)
-    → Serves host before Wanting server → NotStepped state_of state_machine Shown server event status
+    → HostServes host before Wanting server → NotStepped value_state state_machine Shown server event status
     → ServerNotStepped host event before status
 unfolding ServerNotStepped
 server_not_stepped host event before server status serves (next, says, steps, inl hides) =
-    inr (server, serves, (state_of next, says, steps, inl hides))
+    inr (server, serves, (value_state next, says, steps, inl hides))
 server_not_stepped host event before server status serves
     (next, says, steps, inr (is, (stands, sent, tells, none))) = inr (
       server,
       serves,
-      (state_of next, says, steps, inr (is, (stands, sent, tells, λ after shows. none after shows.1))),
+      (value_state next, says, steps, inr (is, (stands, sent, tells, λ after shows. none after shows.1))),
     )

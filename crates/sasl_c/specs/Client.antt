@@ -9,7 +9,7 @@ use Rattle.fe2o3_scram.specs.ClientFirst.{client_first, client_first_bare}
 use Rattle.fe2o3_scram.specs.ClientKeys.{ClientKeys}
 use Rattle.fe2o3_scram.specs.ClientSecret.{Secret, Password, Keys, Both}
 use Rattle.fe2o3_scram.specs.Passwords.{Prepared, Typed}
-use Rattle.fe2o3_scram.specs.ScramClient.{AnswersIn, BelievesIn, ClientSide, ClientState, Initial, ClientFirstSent, ClientFinalSent, Complete, started}
+use Rattle.fe2o3_scram.specs.ScramClient.{AnswersIn, BelievesIn, ClientSide, ClientState, ClientInitial, ClientFirstSent, ClientFinalSent, Complete, started}
 use Rattle.fe2o3_scram.specs.Hmac.{zero_filled}
 use Rattle.fe2o3_scram.specs.Readings.{IsFirst, NoneHolds}
 use Rattle.fe2o3_scram.specs.Texts.{base64_text}
@@ -18,26 +18,26 @@ use Rattle.sasl_c.specs.declared.client.Login.{Login}
 use Rattle.sasl_c.specs.declared.keys.ClientKeys.{ClientKeys as KeysStruct}
 use Rattle.sasl_c.specs.declared.status.Status.{Status}
 use Rattle.sasl_c.specs.declared.status.Status.TheVariants as statuses
-use Rattle.sasl_c.specs.Keys.{HasRoom, ShowsKeys, WritesKeys, no_keys_struct}
+use Rattle.sasl_c.specs.Keys.{KeysHaveRoom, ShowsKeys, WritesKeys, no_keys_struct}
 use Rattle.sasl_c.specs.Records.{IsVersion}
 use Rattle.sasl_c.specs.Status.{client_status}
 
 -- the secret of a login: its password as it is typed, its keys, or both; or its password as it was prepared, or both
 -- with that
-abbrev pub IsSecret : Login → Secret → Type 0
-IsSecret login (Password (Typed text)) = (login.secret ≡ 0) × (text ≡ login.password.now)
-IsSecret login (Keys keys) = (login.secret ≡ 1) × ShowsKeys login.keys.now keys
-IsSecret login (Both (Typed text) keys) = (login.secret ≡ 2) × (text ≡ login.password.now)
+abbrev pub IsSecretOf : Login → Secret → Type 0
+IsSecretOf login (Password (Typed text)) = (login.secret ≡ 0) × (text ≡ login.password.now)
+IsSecretOf login (Keys keys) = (login.secret ≡ 1) × ShowsKeys login.keys.now keys
+IsSecretOf login (Both (Typed text) keys) = (login.secret ≡ 2) × (text ≡ login.password.now)
     × ShowsKeys login.keys.now keys
-IsSecret login (Password (Prepared text)) = (login.secret ≡ 3) × (text ≡ login.password.now)
-IsSecret login (Both (Prepared text) keys) = (login.secret ≡ 4) × (text ≡ login.password.now)
+IsSecretOf login (Password (Prepared text)) = (login.secret ≡ 3) × (text ≡ login.password.now)
+IsSecretOf login (Both (Prepared text) keys) = (login.secret ≡ 4) × (text ≡ login.password.now)
     × ShowsKeys login.keys.now keys
 
 -- a client of this login
-pub record IsLogin (login : Login) (side : ClientSide) : Type 0 where
+pub record IsClientOf (login : Login) (side : ClientSide) : Type 0 where
   pub version : IsVersion login.version side.version
   pub user : side.user ≡ login.username.now
-  pub secret : IsSecret login side.secret
+  pub secret : IsSecretOf login side.secret
   pub least : side.limits.least ≡ login.least_iterations
   pub most : side.limits.most ≡ login.most_iterations
 
@@ -71,12 +71,12 @@ HoldsNone kept = (keys : ClientKeys) → ¬ ShowsKeys kept keys
 -- the struct holds the keys of a client, where it has some that have room
 abbrev pub Holds : KeysStruct → Option ClientKeys → Type 0
 Holds kept None = HoldsNone kept
-Holds kept (Some keys) = ShowsKeys kept keys ⊎ (¬ HasRoom keys × HoldsNone kept)
+Holds kept (Some keys) = ShowsKeys kept keys ⊎ (¬ KeysHaveRoom keys × HoldsNone kept)
 
 -- the struct of a client of this user in this state: what was sent last, 1 for the client-first message and 2 for the
 -- client-final message; 3 is a login whose server was believed, and all else a client that has sent nothing
 abbrev pub IsState : List ℕ → Struct → ClientState → Type 0
-IsState user client Initial = (client.sent ≢ 1) × (client.sent ≡ 2 → 64 < client.signature_len)
+IsState user client ClientInitial = (client.sent ≢ 1) × (client.sent ≡ 2 → 64 < client.signature_len)
 IsState user client (ClientFirstSent nonce bare) = (client.sent ≡ 1) × (nonce ≡ base64_text client.nonce)
     × (bare ≡ client_first_bare user nonce)
 IsState user client (ClientFinalSent signature keys) = (client.sent ≡ 2) × (client.signature_len ≤ 64)
@@ -92,13 +92,13 @@ IsReached user state = Unit {0}
 
 -- the structs are those of this client
 abbrev pub IsSide : Login → Struct → ClientSide → Type 0
-IsSide login client side = IsLogin login side × IsState side.user client side.state
+IsSide login client side = IsClientOf login side × IsState side.user client side.state
 
 -- ---- the structs that calls write: every field that a state does not name is zero, and so is each byte after a length
 
 -- of a client that has sent nothing
-abbrev pub fresh_struct : Struct
-fresh_struct = record {
+abbrev pub fresh_client_struct : Struct
+fresh_client_struct = record {
   sent = 0;
   signature_len = 0;
   nonce = replicate 32 0;
@@ -138,7 +138,7 @@ complete_struct keys = record {
 
 -- the struct that a call writes for a client in this state
 abbrev pub WritesClient : Struct → ClientState → Type 0
-WritesClient written Initial = written ≡ fresh_struct
+WritesClient written ClientInitial = written ≡ fresh_client_struct
 WritesClient written (ClientFirstSent nonce bare) = (bytes : List ℕ) × (nonce ≡ base64_text bytes)
     × (written ≡ started_struct bytes)
 WritesClient written (ClientFinalSent signature keys) = (kept : KeysStruct) × WritesKeys kept keys
@@ -149,15 +149,15 @@ WritesClient written (Complete keys) = (kept : KeysStruct) × WritesKeys kept ke
 
 -- the client-first message
 abbrev pub Starts : Login → List ℕ → Result (List ℕ) Status → Type 0
-Starts login nonce (Ok message) = (side : ClientSide) × IsLogin login side
+Starts login nonce (Ok message) = (side : ClientSide) × IsClientOf login side
     × (message ≡ client_first side.user (base64_text nonce))
 Starts login nonce (Err status) = IsNoLogin login status
 
 -- the struct after it
-abbrev pub Started : Login → List ℕ → Struct → Struct → Result (Unit {0}) Status → Type 0
-Started login nonce before after (Ok done) = ((side : ClientSide) × IsLogin login side
+abbrev pub StartsClient : Login → List ℕ → Struct → Struct → Result (Unit {0}) Status → Type 0
+StartsClient login nonce before after (Ok done) = ((side : ClientSide) × IsClientOf login side
     × IsSide login after (started side nonce)) × (after ≡ started_struct nonce)
-Started login nonce before after (Err status) = after ≡ before
+StartsClient login nonce before after (Err status) = after ≡ before
 
 -- a refusal of a client by the library
 abbrev pub Refuses : Login → Struct → (ClientSide → ScramErrorKind → Type 0) → Status → Type 0
@@ -165,14 +165,14 @@ Refuses login before Because status = (why : ScramErrorKind) × (status ≡ clie
     × ((side : ClientSide) × IsSide login before side × Because side why)
 
 -- the struct's client answers a server-first message by this one, and is this client then
-unfoldable pub Answered : Login → Struct → List ℕ → List ℕ → ClientSide → Type 0
-Answered login before text message next = (side : ClientSide) × IsSide login before side
+unfoldable pub AnswersByMessage : Login → Struct → List ℕ → List ℕ → ClientSide → Type 0
+AnswersByMessage login before text message next = (side : ClientSide) × IsSide login before side
     × AnswersIn side.state side text (Ok message) next
 
 -- an answer to a text: its message is the one by which the struct's client answers, and its signature and its keys are
 -- those of the client behind it
 abbrev pub IsAnswer : Login → Struct → List ℕ → Answer → Type 0
-IsAnswer login before text answer = (next : ClientSide) × Answered login before text answer.message next
+IsAnswer login before text answer = (next : ClientSide) × AnswersByMessage login before text answer.message next
     × (next.state ≡ ClientFinalSent answer.signature (Some answer.keys))
 
 -- why a text is not answered: there is no such login, or its client refuses the text
@@ -182,7 +182,7 @@ NotAnswered login before text status = IsNoLogin login status
 
 -- the client-final message; bytes that are not UTF-8 are refused before all else
 unfoldable pub Responds : Login → List ℕ → Struct → Struct → Result (List ℕ) Status → Type 0
-Responds login text before after (Ok message) = (next : ClientSide) × Answered login before text message next
+Responds login text before after (Ok message) = (next : ClientSide) × AnswersByMessage login before text message next
     × IsSide login after next × WritesClient after next.state
 Responds login text before after (Err status) = ((status ≡ client_status Utf8Error) × ¬ IsUtf8 text)
     ⊎ (IsUtf8 text × NotAnswered login before text status)

@@ -76,8 +76,8 @@ why_code LoggedIn = 0
 why_code (Closed why) = status_number (closed_status why)
 
 -- the struct that a call writes for a side: zeros after the bytes that are held
-abbrev pub struct_of : Standing → Due → List ℕ → Struct
-struct_of standing due held = record {
+abbrev pub connection_struct : Standing → Due → List ℕ → Struct
+connection_struct standing due held = record {
   standing = standing_code standing;
   why = why_code standing;
   due = due_number due;

@@ -21,23 +21,23 @@ code_number outcomes.SysPerm = 3
 code_number outcomes.SysTemp = 4
 
 -- bytes that are given, or that are not
-abbrev pub Given : ℕ → List ℕ → Option (List ℕ) → Type 0
-Given has bytes None = (has ≡ 0) × (bytes ≡ [])
-Given has bytes (Some given) = (has ≡ 1) × (bytes ≡ given)
+abbrev pub GivenBytes : ℕ → List ℕ → Option (List ℕ) → Type 0
+GivenBytes has bytes None = (has ≡ 0) × (bytes ≡ [])
+GivenBytes has bytes (Some given) = (has ≡ 1) × (bytes ≡ given)
 
 -- the fields of a struct
-abbrev pub Shows : Struct → ℕ → ℕ → ℕ → List ℕ → Option (List ℕ) → Option (List ℕ) → Type 0
-Shows view kind code count mechanism message hostname = (view.kind ≡ kind) × (view.code ≡ code)
-    × (view.count ≡ count) × (view.mechanism.now ≡ mechanism) × Given view.has_message view.message.now message
-    × Given view.has_hostname view.hostname.now hostname
+abbrev pub ShowsFields : Struct → ℕ → ℕ → ℕ → List ℕ → Option (List ℕ) → Option (List ℕ) → Type 0
+ShowsFields view kind code count mechanism message hostname = (view.kind ≡ kind) × (view.code ≡ code)
+    × (view.count ≡ count) × (view.mechanism.now ≡ mechanism) × GivenBytes view.has_message view.message.now message
+    × GivenBytes view.has_hostname view.hostname.now hostname
 
 -- the struct shows this frame, its kind by the code of its descriptor
 abbrev pub ShowsFrame : Struct → SaslFrame → Type 0
-ShowsFrame view (frames.Mechanisms names) = Shows view 64 0 (length names) [] None None
-ShowsFrame view (frames.Init mechanism response hostname) = Shows view 65 0 0 mechanism response hostname
-ShowsFrame view (frames.Challenge text) = Shows view 66 0 0 [] (Some text) None
-ShowsFrame view (frames.Response text) = Shows view 67 0 0 [] (Some text) None
-ShowsFrame view (frames.Outcome code more) = Shows view 68 (code_number code) 0 [] more None
+ShowsFrame view (frames.Mechanisms names) = ShowsFields view 64 0 (length names) [] None None
+ShowsFrame view (frames.Init mechanism response hostname) = ShowsFields view 65 0 0 mechanism response hostname
+ShowsFrame view (frames.Challenge text) = ShowsFields view 66 0 0 [] (Some text) None
+ShowsFrame view (frames.Response text) = ShowsFields view 67 0 0 [] (Some text) None
+ShowsFrame view (frames.Outcome code more) = ShowsFields view 68 (code_number code) 0 [] more None
 
 -- the struct behind a call: that of the frame that the body has, or the one before it
 abbrev pub Views : List ℕ → Struct → Struct → Result (Unit {0}) Status → Type 0
@@ -47,12 +47,12 @@ Views body before after (Err status) = (fault : Error) × ReadsBody body (Err fa
     × (status ≡ frame_status fault) × (after ≡ before)
 
 -- whether the body is a list of mechanisms with this name (part 5, section 5.3.3.1)
-abbrev pub Offers : List ℕ → List ℕ → Result (Unit {0}) Status → Type 0
-Offers body name (Ok done) = (names : List (List ℕ)) × (taken : ℕ)
+abbrev pub OffersName : List ℕ → List ℕ → Result (Unit {0}) Status → Type 0
+OffersName body name (Ok done) = (names : List (List ℕ)) × (taken : ℕ)
     × ReadsBody body (Ok (frames.Mechanisms names, taken)) × Contains names name
-Offers body name (Err statuses.NotUtf8) = ¬ IsUtf8 name
-Offers body name (Err statuses.NotImplemented) = (names : List (List ℕ)) × (taken : ℕ)
+OffersName body name (Err statuses.NotUtf8) = ¬ IsUtf8 name
+OffersName body name (Err statuses.NotImplemented) = (names : List (List ℕ)) × (taken : ℕ)
     × ReadsBody body (Ok (frames.Mechanisms names, taken)) × ¬ Contains names name
-Offers body name (Err statuses.OutOfTurn) = (frame : SaslFrame) × (taken : ℕ) × ReadsBody body (Ok (frame, taken))
+OffersName body name (Err statuses.OutOfTurn) = (frame : SaslFrame) × (taken : ℕ) × ReadsBody body (Ok (frame, taken))
     × ((names : List (List ℕ)) → ◌≡◌ {A = SaslFrame} frame (frames.Mechanisms names) → ⊥)
-Offers body name (Err status) = (fault : Error) × ReadsBody body (Err fault) × (status ≡ frame_status fault)
+OffersName body name (Err status) = (fault : Error) × ReadsBody body (Err fault) × (status ≡ frame_status fault)

@@ -8,12 +8,12 @@ use Rattle.fe2o3_scram.specs.Readings.{Reads}
 use Rattle.sasl_c.specs.declared.keys.ClientKeys.{ClientKeys as Struct}
 use Rattle.sasl_c.specs.declared.status.Status.{Status}
 use Rattle.sasl_c.specs.declared.status.Status.TheVariants as statuses
-use Rattle.sasl_c.specs.Records.{IsVersion, making_tests}
+use Rattle.sasl_c.specs.Records.{IsVersion, struct_making_tests}
 use Rattle.sasl_c.specs.Status.{version_number}
 
 -- the struct of keys
-abbrev pub struct_of : ClientKeys → Struct
-struct_of keys = record {
+abbrev pub keys_struct : ClientKeys → Struct
+keys_struct keys = record {
   version = version_number keys.version;
   iterations = keys.count;
   salt_len = length keys.salt;
@@ -23,8 +23,8 @@ struct_of keys = record {
 }
 
 -- keys that a struct can hold: their salt has room, and they are as long as a digest
-abbrev pub HasRoom : ClientKeys → Type 0
-HasRoom keys = (length keys.salt ≤ 128) × AreSized keys
+abbrev pub KeysHaveRoom : ClientKeys → Type 0
+KeysHaveRoom keys = (length keys.salt ≤ 128) × AreSized keys
 
 -- the struct of no keys: all zeros
 abbrev pub no_keys_struct : Struct
@@ -40,8 +40,8 @@ no_keys_struct = record {
 -- a call writes these keys into the struct where they have room, and otherwise zeros
 abbrev pub WritesKeys : Struct → Option ClientKeys → Type 0
 WritesKeys written None = written ≡ no_keys_struct
-WritesKeys written (Some keys) = (HasRoom keys × (written ≡ struct_of keys))
-    ⊎ (¬ HasRoom keys × (written ≡ no_keys_struct))
+WritesKeys written (Some keys) = (KeysHaveRoom keys × (written ≡ keys_struct keys))
+    ⊎ (¬ KeysHaveRoom keys × (written ≡ no_keys_struct))
 
 -- what a struct of this version shows, of whatever bits it is
 abbrev pub shown_keys : ScramVersion → Struct → ClientKeys
@@ -60,7 +60,7 @@ ShowsNoKeys kept statuses.TooLong = 128 < kept.salt_len
 ShowsNoKeys kept status = ⊥
 
 -- what comes of making the keys of a password (RFC 5802, section 3): the first refusal that holds, or their struct
-abbrev pub MakesStruct : ℕ → PasswordText → List ℕ → ℕ → Result Struct Status → Type 0
-MakesStruct version password salt count answer = Reads (making_tests version password salt count)
+abbrev pub MakesKeysStruct : ℕ → PasswordText → List ℕ → ℕ → Result Struct Status → Type 0
+MakesKeysStruct version password salt count answer = Reads (struct_making_tests version password salt count)
     (λ made. (known : ScramVersion) × IsVersion version known
-    × (made ≡ struct_of (keys_of known (password_bytes password) salt count))) answer
+    × (made ≡ keys_struct (keys_of known (password_bytes password) salt count))) answer

@@ -14,7 +14,7 @@ use Rattle.fe2o3_scram.specs.MixedLines.{IsMixedWritable, ReadsMixed, SpellsMixe
 use Rattle.sasl_c.specs.declared.records.ScramRecord.{ScramRecord as Struct}
 use Rattle.sasl_c.specs.declared.status.Status.{Status}
 use Rattle.sasl_c.specs.declared.status.Status.TheVariants as statuses
-use Rattle.sasl_c.specs.Records.{HasRoom, IsVersion, Shows, SpellsStruct, struct_of}
+use Rattle.sasl_c.specs.Records.{RecordHasRoom, IsVersion, ShowsRecord, SpellsStruct, record_struct}
 
 -- why a line is not read; lines of any version are, so that is never why
 abbrev pub line_status : ReadLinesErrorKind → Status
@@ -33,21 +33,21 @@ HasUsers lines version known users = IsVersion version known × SpellsMixed line
 -- the struct of the first record that a user has of this version
 abbrev pub Chosen : MixedRecords → List ℕ → ScramVersion → Struct → Type 0
 Chosen users name known made = (stored : Record) × (record_at (provider_for known users).records name ≡ Some stored)
-    × HasRoom (versioned known stored) × (made ≡ struct_of (versioned known stored))
+    × RecordHasRoom (versioned known stored) × (made ≡ record_struct (versioned known stored))
 
 -- or why there is none: the user has no such record, or a struct has no room for it
 abbrev pub NotChosen : MixedRecords → List ℕ → ScramVersion → Status → Type 0
 NotChosen users name known status =
     ((status ≡ statuses.NoSuchUser) × (record_at (provider_for known users).records name ≡ None))
     ⊎ ((status ≡ statuses.TooLong) × ((stored : Record)
-    × (record_at (provider_for known users).records name ≡ Some stored) × ¬ HasRoom (versioned known stored)))
+    × (record_at (provider_for known users).records name ≡ Some stored) × ¬ RecordHasRoom (versioned known stored)))
 
 -- what is found of a user in a text: the first record of the version, as a struct, or why there is none; a line that
 -- is not read is told by its number from 1, and no line by 0
-unfoldable pub Finds : List ℕ → List ℕ → ℕ → ℕ → Result Struct Status → Type 0
-Finds lines name version line (Ok made) = (known : ScramVersion) × (users : MixedRecords)
+unfoldable pub FindsRecord : List ℕ → List ℕ → ℕ → ℕ → Result Struct Status → Type 0
+FindsRecord lines name version line (Ok made) = (known : ScramVersion) × (users : MixedRecords)
     × HasUsers lines version known users × Chosen users name known made
-Finds lines name version line (Err status) =
+FindsRecord lines name version line (Err status) =
     ((error : ReadLinesError) × ReadsMixed lines (Err error) × (line ≡ error.line) × (status ≡ line_status error.kind))
     ⊎ ((line ≡ 0) × (((status ≡ statuses.NoSuchVersion) × ((known : ScramVersion) → ¬ IsVersion version known))
     ⊎ ((status ≡ statuses.NotUtf8) × (¬ IsUtf8 name ⊎ ¬ IsUtf8 lines))
@@ -56,15 +56,15 @@ Finds lines name version line (Err status) =
 
 -- and the struct behind a call, and the number
 abbrev pub FindsInto : List ℕ → List ℕ → ℕ → ℕ → ℕ → Struct → Struct → Result (Unit {0}) Status → Type 0
-FindsInto lines name version line told before after (Ok done) = Finds lines name version 0 (Ok after) × (told ≡ line)
+FindsInto lines name version line told before after (Ok done) = FindsRecord lines name version 0 (Ok after) × (told ≡ line)
 FindsInto lines name version line told before after (Err status) = (after ≡ before)
     × (status ≡ statuses.OutOfMemory → told ≡ line)
-    × (status ≢ statuses.OutOfMemory → Finds lines name version told (Err status))
+    × (status ≢ statuses.OutOfMemory → FindsRecord lines name version told (Err status))
 
 -- the line of a user and of the record that a struct shows, or why there is none
 abbrev pub SpellsLine : List ℕ → Struct → Result (List ℕ) Status → Type 0
-SpellsLine name kept (Ok text) = (shown : VersionedRecord) × Shows kept shown × (text ≡ mixed_text ((name, shown) ∷ []))
+SpellsLine name kept (Ok text) = (shown : VersionedRecord) × ShowsRecord kept shown × (text ≡ mixed_text ((name, shown) ∷ []))
 SpellsLine name kept (Err statuses.NotUtf8) = ¬ IsUtf8 name
-SpellsLine name kept (Err statuses.NotWritable) = (shown : VersionedRecord) × Shows kept shown
+SpellsLine name kept (Err statuses.NotWritable) = (shown : VersionedRecord) × ShowsRecord kept shown
     × ¬ AllByRecursion IsMixedWritable ((name, shown) ∷ [])
 SpellsLine name kept (Err status) = SpellsStruct kept (Err status)

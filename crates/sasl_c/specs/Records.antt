@@ -18,8 +18,8 @@ abbrev pub IsVersion : ℕ → ScramVersion → Type 0
 IsVersion number version = version_number version ≡ number
 
 -- the struct of a record
-abbrev pub struct_of : VersionedRecord → Struct
-struct_of kept = record {
+abbrev pub record_struct : VersionedRecord → Struct
+record_struct kept = record {
   version = version_number kept.version;
   iterations = kept.stored.count;
   salt_len = length kept.stored.salt;
@@ -29,8 +29,8 @@ struct_of kept = record {
 }
 
 -- a record that a struct can hold: its salt has room, and its keys are as long as a digest
-abbrev pub HasRoom : VersionedRecord → Type 0
-HasRoom kept = (length kept.stored.salt ≤ 128) × (length kept.stored.stored_key ≡ digest_len kept.version)
+abbrev pub RecordHasRoom : VersionedRecord → Type 0
+RecordHasRoom kept = (length kept.stored.salt ≤ 128) × (length kept.stored.stored_key ≡ digest_len kept.version)
     × (length kept.stored.server_key ≡ digest_len kept.version)
 
 -- what a struct of this version shows, of whatever bits it is
@@ -43,35 +43,35 @@ stored_of version kept = record {
 }
 
 -- the struct shows this record: its version is known, and its salt is in it
-abbrev pub Shows : Struct → VersionedRecord → Type 0
-Shows kept shown = IsVersion kept.version shown.version × (kept.salt_len ≤ 128)
+abbrev pub ShowsRecord : Struct → VersionedRecord → Type 0
+ShowsRecord kept shown = IsVersion kept.version shown.version × (kept.salt_len ≤ 128)
     × (shown.stored ≡ stored_of shown.version kept)
 
 -- the tests before a record is made of a password (RFC 4013, section 2; RFC 5802, section 5.1), in their order
-abbrev pub making_tests : ℕ → PasswordText → List ℕ → ℕ → List (Status × Type 0)
-making_tests version password salt count =
+abbrev pub struct_making_tests : ℕ → PasswordText → List ℕ → ℕ → List (Status × Type 0)
+struct_making_tests version password salt count =
     (statuses.NoSuchVersion, (known : ScramVersion) → ¬ IsVersion version known)
     ∷ (statuses.NotUtf8, ¬ IsUtf8 (password_bytes password)) ∷ (statuses.TooLong, 128 < length salt)
     ∷ (statuses.NotPrintable, ¬ IsNormal password) ∷ (statuses.ZeroIterations, count ≡ 0) ∷ []
 
 -- what comes of making a record of a password (RFC 5802, section 3): the first refusal that holds, or its struct
-abbrev pub MakesStruct : ℕ → PasswordText → List ℕ → ℕ → Result Struct Status → Type 0
-MakesStruct version password salt count answer = Reads (making_tests version password salt count)
-    (λ made. (known : ScramVersion) × IsVersion version known × (made ≡ struct_of
+abbrev pub MakesRecordStruct : ℕ → PasswordText → List ℕ → ℕ → Result Struct Status → Type 0
+MakesRecordStruct version password salt count answer = Reads (struct_making_tests version password salt count)
+    (λ made. (known : ScramVersion) × IsVersion version known × (made ≡ record_struct
     (record { version = known; stored = record_of known (password_bytes password) salt count }))) answer
 
 -- what comes of reading a record's text (RFC 5803, section 2): its struct, or why it is none
 abbrev pub ParsesStruct : List ℕ → Result Struct Status → Type 0
-ParsesStruct text (Ok made) = (kept : VersionedRecord) × ReadsRecord text (Ok kept) × HasRoom kept
-    × (made ≡ struct_of kept)
+ParsesStruct text (Ok made) = (kept : VersionedRecord) × ReadsRecord text (Ok kept) × RecordHasRoom kept
+    × (made ≡ record_struct kept)
 ParsesStruct text (Err statuses.NotUtf8) = ¬ IsUtf8 text
-ParsesStruct text (Err statuses.TooLong) = (kept : VersionedRecord) × ReadsRecord text (Ok kept) × ¬ HasRoom kept
+ParsesStruct text (Err statuses.TooLong) = (kept : VersionedRecord) × ReadsRecord text (Ok kept) × ¬ RecordHasRoom kept
 ParsesStruct text (Err (statuses.NoRecord why)) = IsUtf8 text × ReadsRecord text (Err why)
 ParsesStruct text (Err status) = ⊥
 
 -- the text of the record that a struct shows (RFC 5803, section 2), or why there is none
 abbrev pub SpellsStruct : Struct → Result (List ℕ) Status → Type 0
-SpellsStruct kept (Ok text) = (shown : VersionedRecord) × Shows kept shown × (text ≡ record_text shown)
+SpellsStruct kept (Ok text) = (shown : VersionedRecord) × ShowsRecord kept shown × (text ≡ record_text shown)
 SpellsStruct kept (Err statuses.NoSuchVersion) = (known : ScramVersion) → ¬ IsVersion kept.version known
 SpellsStruct kept (Err statuses.TooLong) = 128 < kept.salt_len
 SpellsStruct kept (Err status) = ⊥
@@ -85,16 +85,16 @@ nobody_tests version name salt_len =
 -- what comes of making up a record for a name: the first refusal that holds, or its struct
 abbrev pub MakesUp : ℕ → List ℕ → List ℕ → ℕ → ℕ → Result Struct Status → Type 0
 MakesUp version secret name salt_len count answer = Reads (nobody_tests version name salt_len)
-    (λ made. (known : ScramVersion) × IsVersion version known × (made ≡ struct_of (versioned known
+    (λ made. (known : ScramVersion) × IsVersion version known × (made ≡ record_struct (versioned known
     (nobody_record (record { version = known; secret = secret; salt_len = salt_len; count = count }) name)))) answer
 
 -- whether a password that was told is that of the record (RFC 5802, section 3); or that the struct shows none, or it
 -- shows one and the password is not UTF-8, or it is and is another one
 abbrev pub Verifies : Struct → PasswordText → Result (Unit {0}) Status → Type 0
-Verifies kept password (Ok done) = (shown : VersionedRecord) × Shows kept shown
+Verifies kept password (Ok done) = (shown : VersionedRecord) × ShowsRecord kept shown
     × MeetsRecord shown.version password shown.stored
 Verifies kept password (Err status) = SpellsStruct kept (Err status)
-    ⊎ ((shown : VersionedRecord) × Shows kept shown
+    ⊎ ((shown : VersionedRecord) × ShowsRecord kept shown
     × (((status ≡ statuses.NotUtf8) × ¬ IsUtf8 (password_bytes password))
     ⊎ ((status ≡ statuses.OtherPassword) × IsUtf8 (password_bytes password)
     × ¬ MeetsRecord shown.version password shown.stored)))

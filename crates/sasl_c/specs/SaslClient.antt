@@ -15,8 +15,8 @@ use Rattle.sasl_c.specs.declared.sasl_client.SaslClient.{SaslClient as Struct}
 use Rattle.sasl_c.specs.declared.sasl_client.SaslLogin.{SaslLogin as Login}
 use Rattle.sasl_c.specs.declared.status.Status.{Status}
 use Rattle.sasl_c.specs.declared.status.Status.TheVariants as statuses
-use Rattle.sasl_c.specs.Client.{IsLogin, IsNoLogin, IsReached, IsSide, WritesClient, fresh_struct}
-use Rattle.sasl_c.specs.Connection.{IsSideOf, KeepsNoPartOf, side_tests, struct_of}
+use Rattle.sasl_c.specs.Client.{IsClientOf, IsNoLogin, IsReached, IsSide, WritesClient, fresh_client_struct}
+use Rattle.sasl_c.specs.Connection.{IsSideOf, KeepsNoPartOf, side_tests, connection_struct}
 
 -- the hostname of a login: none where it is empty
 abbrev pub IsHostname : Login → Option (List ℕ) → Type 0
@@ -36,13 +36,13 @@ IsProfile login scram AnonymousProfile = login.mechanism ≡ 2
 IsProfile login scram ExternalProfile = login.mechanism ≡ 3
 
 -- why the words of a login give no PLAIN: they are not UTF-8
-abbrev pub HasNoWords : Words → Status → Type 0
-HasNoWords words status = (status ≡ statuses.NotUtf8) × (¬ IsUtf8 words.username.now ⊎ ¬ IsUtf8 words.password.now)
+abbrev pub HasNoClientWords : Words → Status → Type 0
+HasNoClientWords words status = (status ≡ statuses.NotUtf8) × (¬ IsUtf8 words.username.now ⊎ ¬ IsUtf8 words.password.now)
 
 -- why a login has no profile
 unfoldable pub IsNoProfile : Login → Status → Type 0
 IsNoProfile login status = ((login.mechanism ≡ 0) × IsNoLogin login.login status)
-    ⊎ ((login.mechanism ≡ 1) × HasNoWords login.login status)
+    ⊎ ((login.mechanism ≡ 1) × HasNoClientWords login.login status)
     ⊎ ((3 < login.mechanism) × (status ≡ statuses.NoSuchMechanism))
 
 -- the structs are those of this side
@@ -52,13 +52,13 @@ IsClient login client side = IsSideOf client.connection side × IsProfile login 
 -- the struct of SCRAM that a call writes for a profile: all zeros where it is not SCRAM's
 abbrev pub WritesProfile : ScramStruct → Profile → Type 0
 WritesProfile written (ScramProfile side) = WritesClient written side.state
-WritesProfile written (PlainProfile user password) = written ≡ fresh_struct
-WritesProfile written AnonymousProfile = written ≡ fresh_struct
-WritesProfile written ExternalProfile = written ≡ fresh_struct
+WritesProfile written (PlainProfile user password) = written ≡ fresh_client_struct
+WritesProfile written AnonymousProfile = written ≡ fresh_client_struct
+WritesProfile written ExternalProfile = written ≡ fresh_client_struct
 
 -- the structs that a call writes for a side
 abbrev pub WritesSide : Struct → Side Profile → Type 0
-WritesSide written side = (written.connection ≡ struct_of side.standing side.due side.held)
+WritesSide written side = (written.connection ≡ connection_struct side.standing side.due side.held)
     × WritesProfile written.scram side.state
 
 -- why the structs are those of no side that wants more bytes: the tests of the connection, those of the hostname and of
@@ -74,26 +74,26 @@ abbrev pub ReadsClient : Login → Struct → Type 0
 ReadsClient login client = NoneHolds (side_tests client.connection) × ¬ HasNoHostname login
 
 -- a client of SCRAM that a login comes to
-abbrev pub Stands : Words → ClientSide → Type 0
-Stands words side = IsLogin words side × IsReached side.user side.state
+abbrev pub ClientIsReached : Words → ClientSide → Type 0
+ClientIsReached words side = IsClientOf words side × IsReached side.user side.state
 
 -- and the profile that a login comes to
-abbrev pub Comes : Login → Profile → Type 0
-Comes login (ScramProfile side) = (login.mechanism ≡ 0) × Stands login.login side
-Comes login (PlainProfile user password) = (login.mechanism ≡ 1) × (user ≡ login.login.username.now)
+abbrev pub ProfileIsReached : Login → Profile → Type 0
+ProfileIsReached login (ScramProfile side) = (login.mechanism ≡ 0) × ClientIsReached login.login side
+ProfileIsReached login (PlainProfile user password) = (login.mechanism ≡ 1) × (user ≡ login.login.username.now)
     × (password ≡ login.login.password.now)
-Comes login AnonymousProfile = login.mechanism ≡ 2
-Comes login ExternalProfile = login.mechanism ≡ 3
+ProfileIsReached login AnonymousProfile = login.mechanism ≡ 2
+ProfileIsReached login ExternalProfile = login.mechanism ≡ 3
 
 -- the header with which a client begins
-abbrev pub Opens : Result (List ℕ) Status → Type 0
-Opens (Ok header) = header ≡ sasl_header
-Opens (Err status) = ⊥
+abbrev pub OpensConnection : Result (List ℕ) Status → Type 0
+OpensConnection (Ok header) = header ≡ sasl_header
+OpensConnection (Err status) = ⊥
 
 -- what a call makes of bytes: between two structs, what the library's side of the connection makes of them
-unfoldable pub Receives : Login → List ℕ → List ℕ → Struct → Struct → ℕ → Result (List ℕ) Status → Type 0
-Receives login bytes nonce before after taken (Ok sent) =
+unfoldable pub ReceivesAsClient : Login → List ℕ → List ℕ → Struct → Struct → ℕ → Result (List ℕ) Status → Type 0
+ReceivesAsClient login bytes nonce before after taken (Ok sent) =
     (hostname : Option (List ℕ)) × (side next : Side Profile) × IsHostname login hostname
     × IsClient login before side × (side.standing ≡ Wanting)
     × ClientReceives hostname side bytes nonce taken sent next × IsClient login after next × WritesSide after next
-Receives login bytes nonce before after taken (Err status) = IsNoClient login before status
+ReceivesAsClient login bytes nonce before after taken (Err status) = IsNoClient login before status

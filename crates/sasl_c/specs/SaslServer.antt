@@ -11,7 +11,7 @@ use Rattle.fe2o3_scram.specs.Credentials.{Record, Records, Store, serving, versi
 use Rattle.fe2o3_scram.specs.Hmac.{mechanism_name}
 use Rattle.fe2o3_scram.specs.Readings.{IsFirst, NoneHolds}
 use Rattle.fe2o3_scram.specs.ScramServer.{ServerState, Initial, ServerFirstSent, open_challenge, served_by, state_in}
-use Rattle.fe2o3_scram.specs.ServerFirst.{Challenge}
+use Rattle.fe2o3_scram.specs.ServerFirst.{ServerChallenge}
 use Rattle.fe2o3_sasl_runs.specs.declared.offers_only.OffersOnly.{OffersOnly}
 use Rattle.fe2o3_sasl_runs.specs.declared.one_of.OneOf.{OneOf}
 use Rattle.fe2o3_sasl_runs.specs.declared.one_of.Part.{Part}
@@ -19,8 +19,8 @@ use Rattle.fe2o3_sasl_runs.specs.declared.one_of.Part.TheVariants.{First}
 use Rattle.fe2o3_sasl_runs.specs.Bodies.{SpellsBody}
 use Rattle.fe2o3_sasl_runs.specs.ExternalAcceptor.{External, external_machine, external_of, external_user}
 use Rattle.fe2o3_sasl_runs.specs.OffersOnly.{Offering, offering_machine, offering_names, offering_of}
-use Rattle.fe2o3_sasl_runs.specs.OneOf.{Parts, both_names, one_of_machine, part_names}
-use Rattle.fe2o3_sasl_runs.specs.OneOfSides.{parts_of}
+use Rattle.fe2o3_sasl_runs.specs.OneOf.{BothStates, both_names, one_of_machine, part_names}
+use Rattle.fe2o3_sasl_runs.specs.OneOfSides.{both_states}
 use Rattle.fe2o3_sasl_runs.specs.PlainAuthenticator.{IsTaken, PlainParts, PlainServer, SpellsPlain, plain_machine, plain_server}
 use Rattle.fe2o3_sasl_runs.specs.SaslAcceptor.{Acceptor, ScramAcceptor, AnonymousAcceptor, acceptor_machine, acceptor_names, acceptor_user}
 use Rattle.fe2o3_sasl_negotiation.specs.declared.server.ServerNegotiation.{ServerNegotiation}
@@ -39,21 +39,21 @@ use Rattle.sasl_c.specs.declared.sasl_server.SaslServer.{SaslServer as Struct}
 use Rattle.sasl_c.specs.declared.server.ScramServer.{ScramServer as ScramStruct}
 use Rattle.sasl_c.specs.declared.status.Status.{Status}
 use Rattle.sasl_c.specs.declared.status.Status.TheVariants as statuses
-use Rattle.sasl_c.specs.Connection.{IsSideOf, Keeps, KeepsNoPart, side_tests, struct_of, KeepsNoPartOf}
-use Rattle.sasl_c.specs.Records.{IsVersion, Shows}
-use Rattle.sasl_c.specs.Server.{HasLoggedIn, IsOpen, fresh_struct, logged_in_struct, open_struct}
+use Rattle.sasl_c.specs.Connection.{IsSideOf, Keeps, KeepsNoPart, side_tests, connection_struct, KeepsNoPartOf}
+use Rattle.sasl_c.specs.Records.{IsVersion, ShowsRecord}
+use Rattle.sasl_c.specs.Server.{HasLoggedIn, IsOpen, fresh_server_struct, logged_in_struct, open_struct}
 
 -- ---- the library's acceptor: one server of SCRAM, PLAIN, ANONYMOUS and EXTERNAL, of which some are offered
 
 -- ANONYMOUS and EXTERNAL; with PLAIN; and with SCRAM
 abbrev pub Last : Type 0
-Last = Parts Acceptor External
+Last = BothStates Acceptor External
 
 abbrev pub Others : Type 0
-Others = Parts PlainServer Last
+Others = BothStates PlainServer Last
 
 abbrev pub All : Type 0
-All = Parts Acceptor Others
+All = BothStates Acceptor Others
 
 -- its state
 abbrev pub State : Type 0
@@ -104,11 +104,11 @@ abbrev pub user_in : State → Option (List ℕ)
 user_in state = let all = state.inner in part_names all.asked (acceptor_user all.first) (other_user all.second)
 
 -- the challenge of SCRAM that is open
-abbrev pub open_of : Acceptor → Option Challenge
+abbrev pub open_of : Acceptor → Option ServerChallenge
 open_of (ScramAcceptor provider state) = open_challenge state
 open_of acceptor = None
 
-abbrev pub open_in : State → Option Challenge
+abbrev pub open_in : State → Option ServerChallenge
 open_in state = open_of state.inner.first
 
 -- ---- the server of a host
@@ -153,9 +153,9 @@ allowed_of version choice peer = name_where choice.scram (mechanism_name version
 -- else none, so that nobody is known
 abbrev pub HasRecords : Host → ScramVersion → Records → Type 0
 HasRecords host version records =
-    ((stored : Record) × Shows host.record.now (versioned version stored)
+    ((stored : Record) × ShowsRecord host.record.now (versioned version stored)
     × (records ≡ (host.username.now, stored) ∷ []))
-    ⊎ (((stored : Record) → ¬ Shows host.record.now (versioned version stored)) × (records ≡ []))
+    ⊎ (((stored : Record) → ¬ ShowsRecord host.record.now (versioned version stored)) × (records ≡ []))
 
 -- PLAIN over a store, ANONYMOUS and EXTERNAL, which lets in this name, before any init
 abbrev pub others_of : Store → ℕ → List ℕ → Others
@@ -179,8 +179,8 @@ all_of unbound store count peer state asked = record {
 }
 
 -- the server of these
-abbrev pub server_of : Host → ScramVersion → Choice → Records → ServerState → Option Part → State
-server_of host version choice records state asked = record {
+abbrev pub struct_server : Host → ScramVersion → Choice → Records → ServerState → Option Part → State
+struct_server host version choice records state asked = record {
   inner = all_of choice.unbound (record { version = version; records = records }) host.iterations host.peer.now state
       asked;
   allowed = allowed_of version choice host.peer.now;
@@ -190,30 +190,30 @@ server_of host version choice records state asked = record {
 unfoldable pub IsOf : Host → ServerState → Option Part → State → Type 0
 IsOf host state asked server = (version : ScramVersion) × (choice : Choice) × (records : Records)
     × IsVersion host.version version × (sum_of choice ≡ host.mechanisms) × HasRecords host version records
-    × (server ≡ server_of host version choice records state asked)
+    × (server ≡ struct_server host version choice records state asked)
 
 -- the servers that a host comes to while more bytes are wanted: before the init, and with a challenge of SCRAM open
-abbrev pub Comes : Host → Standing → State → Type 0
-Comes host Wanting server = IsOf host Initial None server
-    ⊎ ((challenge : Challenge) × IsOf host (ServerFirstSent challenge) (Some First) server)
-Comes host LoggedIn server = Unit {0}
-Comes host (Closed why) server = Unit {0}
+abbrev pub ServerIsReached : Host → Standing → State → Type 0
+ServerIsReached host Wanting server = IsOf host Initial None server
+    ⊎ ((challenge : ServerChallenge) × IsOf host (ServerFirstSent challenge) (Some First) server)
+ServerIsReached host LoggedIn server = Unit {0}
+ServerIsReached host (Closed why) server = Unit {0}
 
 -- the struct shows this challenge as open, or that none is
-abbrev pub ShowsOpen : ScramStruct → Option Challenge → Type 0
-ShowsOpen scram None = (challenge : Challenge) → ¬ IsOpen scram challenge
+abbrev pub ShowsOpen : ScramStruct → Option ServerChallenge → Type 0
+ShowsOpen scram None = (challenge : ServerChallenge) → ¬ IsOpen scram challenge
 ShowsOpen scram (Some challenge) = IsOpen scram challenge
 
 -- so is the server of SCRAM of a struct, and what was asked last
-abbrev pub Stands : ScramStruct → ServerState → Option Part → Type 0
-Stands scram state asked = ((challenge : Challenge) × IsOpen scram challenge × (state ≡ ServerFirstSent challenge)
+abbrev pub ShowsExchange : ScramStruct → ServerState → Option Part → Type 0
+ShowsExchange scram state asked = ((challenge : ServerChallenge) × IsOpen scram challenge × (state ≡ ServerFirstSent challenge)
     × (asked ≡ Some First))
-    ⊎ (((challenge : Challenge) → ¬ IsOpen scram challenge) × (state ≡ Initial) × (asked ≡ None))
+    ⊎ (((challenge : ServerChallenge) → ¬ IsOpen scram challenge) × (state ≡ Initial) × (asked ≡ None))
 
 -- and so all four mechanisms of a host in the exchange that a struct shows
 abbrev pub IsAll : Host → ScramVersion → Bool → ScramStruct → All → Type 0
 IsAll host version unbound scram all = (records : Records) × (state : ServerState) × (asked : Option Part)
-    × HasRecords host version records × Stands scram state asked
+    × HasRecords host version records × ShowsExchange scram state asked
     × (all ≡ all_of unbound (record { version = version; records = records }) host.iterations host.peer.now state asked)
 
 -- the struct shows that this user has logged in, or nothing of whom no name is known
@@ -224,18 +224,18 @@ ShowsUser scram (Some user) = HasLoggedIn scram user
 -- the struct of SCRAM shows how far a login is that stands so: the challenge that is open, who has logged in, or
 -- nothing
 -- once it is closed
-abbrev pub ShowsStanding : ScramStruct → Standing → Option Challenge → Option (List ℕ) → Type 0
+abbrev pub ShowsStanding : ScramStruct → Standing → Option ServerChallenge → Option (List ℕ) → Type 0
 ShowsStanding scram Wanting opened user = ShowsOpen scram opened
 ShowsStanding scram LoggedIn opened user = ShowsUser scram user
 ShowsStanding scram (Closed why) opened user = scram.stands ≡ 0
 
 -- the struct of SCRAM that a call writes for such a login
-abbrev pub standing_struct : Standing → Option Challenge → Option (List ℕ) → ScramStruct
-standing_struct Wanting None user = fresh_struct
+abbrev pub standing_struct : Standing → Option ServerChallenge → Option (List ℕ) → ScramStruct
+standing_struct Wanting None user = fresh_server_struct
 standing_struct Wanting (Some challenge) user = open_struct challenge
-standing_struct LoggedIn opened None = fresh_struct
+standing_struct LoggedIn opened None = fresh_server_struct
 standing_struct LoggedIn opened (Some user) = logged_in_struct user
-standing_struct (Closed why) opened user = fresh_struct
+standing_struct (Closed why) opened user = fresh_server_struct
 
 -- so it shows a server
 abbrev pub ShowsState : ScramStruct → Standing → State → Type 0
@@ -254,7 +254,7 @@ ShowsBy state shows server next = let side = server_side state next in
 -- the structs that a call writes for a side
 abbrev pub struct_by : {A S : Type 0} → (A → S) → (Standing → A → ScramStruct) → ServerNegotiation A → Struct
 struct_by state written next = let side = server_side state next in record {
-  connection = struct_of side.standing side.due side.held;
+  connection = connection_struct side.standing side.due side.held;
   scram = written side.standing (acceptor_in next);
 }
 
@@ -271,7 +271,7 @@ ShowsSide server side = Keeps server.connection side.standing side.due side.held
 -- the structs that a call writes for a side of the library's acceptor
 abbrev pub side_struct : Side State → Struct
 side_struct side = record {
-  connection = struct_of side.standing side.due side.held;
+  connection = connection_struct side.standing side.due side.held;
   scram = state_struct side.standing side.state;
 }
 
@@ -281,11 +281,11 @@ HasNoStruct side = (512 < length side.held) ⊎ ((scram : ScramStruct) → ¬ Sh
 
 -- the structs are those of this side, whose frames have 512 bytes at most (part 5, section 5.3.1)
 unfoldable pub IsServer : Host → Struct → Side State → Type 0
-IsServer host server side = ShowsSide server side × (side.limit ≡ 512) × Comes host side.standing side.state
+IsServer host server side = ShowsSide server side × (side.limit ≡ 512) × ServerIsReached host side.standing side.state
 
 -- the words of a host are not UTF-8: the user's name, or else the peer's
-abbrev pub HasNoWords : Host → Status → Type 0
-HasNoWords host status = (status ≡ statuses.NotUtf8)
+abbrev pub HasNoServerWords : Host → Status → Type 0
+HasNoServerWords host status = (status ≡ statuses.NotUtf8)
     × (¬ IsUtf8 host.username.now ⊎ (IsUtf8 host.username.now × ¬ IsUtf8 host.peer.now))
 
 -- the tests of a host, in their order
@@ -325,9 +325,9 @@ NotReceived host bytes nonce before status = IsNoServer host before status
     × ((other : Struct) → ¬ IsServer host other next)))
 
 -- what a call makes of bytes
-abbrev pub Receives : Host → List ℕ → List ℕ → Struct → Struct → ℕ → Result (List ℕ) Status → Type 0
-Receives host bytes nonce before after taken (Ok sent) = Received host bytes nonce before after taken sent
-Receives host bytes nonce before after taken (Err status) = NotReceived host bytes nonce before status
+abbrev pub ReceivesAsServer : Host → List ℕ → List ℕ → Struct → Struct → ℕ → Result (List ℕ) Status → Type 0
+ReceivesAsServer host bytes nonce before after taken (Ok sent) = Received host bytes nonce before after taken sent
+ReceivesAsServer host bytes nonce before after taken (Err status) = NotReceived host bytes nonce before status
 
 -- ---- whom a frame names
 
@@ -349,7 +349,7 @@ ResponseNames mechanism None name = ⊥
 -- a frame in turn names this user: an init, and a response the user of the challenge that is open
 abbrev pub FrameNames : ScramStruct → Turn → SaslFrame → List ℕ → Type 0
 FrameNames scram turns.Init (frames.Init mechanism response hostname) name = ResponseNames mechanism response name
-FrameNames scram turns.Response (frames.Response text) name = (challenge : Challenge) × IsOpen scram challenge
+FrameNames scram turns.Response (frames.Response text) name = (challenge : ServerChallenge) × IsOpen scram challenge
     × (name ≡ challenge.user)
 FrameNames scram turn frame name = ⊥
 
@@ -398,17 +398,17 @@ scram_state machine = ScramAcceptor (served_by (λ (store : Store). store) machi
 
 -- those beside it
 abbrev pub other_state : OthersCode → Others
-other_state others = parts_of (plain_server (λ store. store)) (parts_of (λ _. AnonymousAcceptor) external_of)
+other_state others = both_states (plain_server (λ store. store)) (both_states (λ _. AnonymousAcceptor) external_of)
     others.joined
 
 -- the four that a value is
 abbrev pub all_in : OneOf (ScramAuthenticator Store) OthersCode → All
-all_in all = parts_of scram_state other_state all
+all_in all = both_states scram_state other_state all
 
 -- its state
-abbrev pub state_of : Code → State
-state_of acceptor = offering_of all_in acceptor
+abbrev pub value_state : Code → State
+value_state acceptor = offering_of all_in acceptor
 
 -- the side that a value is
 abbrev pub side_in : ServerNegotiation Code → Side State
-side_in server = server_side state_of server
+side_in server = server_side value_state server

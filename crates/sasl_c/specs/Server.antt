@@ -9,13 +9,13 @@ use Rattle.fe2o3_scram.specs.declared.scram_messages.gs2_header.Gs2Header.TheVar
 use Rattle.fe2o3_scram.specs.Credentials.{Store, VersionedRecord, serving}
 use Rattle.fe2o3_scram.specs.Hmac.{zero_filled}
 use Rattle.fe2o3_scram.specs.ScramServer.{ConcludesFrom, ServerFirstSent, ServerFinalSent}
-use Rattle.fe2o3_scram.specs.ServerFirst.{AnswersClientFirst, Challenge}
+use Rattle.fe2o3_scram.specs.ServerFirst.{AnswersClientFirst, ServerChallenge}
 use Rattle.fe2o3_scram.specs.Texts.{base64_text}
 use Rattle.sasl_c.specs.declared.records.ScramRecord.{ScramRecord as Kept}
 use Rattle.sasl_c.specs.declared.server.ScramServer.{ScramServer as Struct}
 use Rattle.sasl_c.specs.declared.status.Status.{Status}
 use Rattle.sasl_c.specs.declared.status.Status.TheVariants as statuses
-use Rattle.sasl_c.specs.Records.{Shows, SpellsStruct}
+use Rattle.sasl_c.specs.Records.{ShowsRecord, SpellsStruct}
 use Rattle.sasl_c.specs.Status.{server_status}
 
 -- the store of one user
@@ -23,8 +23,8 @@ abbrev pub one_user : List ℕ → VersionedRecord → Store
 one_user user shown = record { version = shown.version; records = (user, shown.stored) ∷ [] }
 
 -- a challenge whose texts have room in a struct
-abbrev pub HasRoom : Challenge → Type 0
-HasRoom challenge = (length challenge.user ≤ 256) × (length challenge.bare ≤ 1024) × (length challenge.nonce ≤ 512)
+abbrev pub ChallengeHasRoom : ServerChallenge → Type 0
+ChallengeHasRoom challenge = (length challenge.user ≤ 256) × (length challenge.bare ≤ 1024) × (length challenge.nonce ≤ 512)
     × (length challenge.first ≤ 1024)
 
 -- no length above that of its array
@@ -38,8 +38,8 @@ open_number Unsupported = 1
 open_number Unoffered = 3
 
 -- the challenge that a struct shows, to a client with this header
-abbrev pub challenge_of : Gs2Header → Struct → Challenge
-challenge_of header server = record {
+abbrev pub struct_challenge : Gs2Header → Struct → ServerChallenge
+struct_challenge header server = record {
   user = take server.user_len server.user;
   header = header;
   bare = take server.bare_len server.bare;
@@ -48,9 +48,9 @@ challenge_of header server = record {
 }
 
 -- the struct is that of a server whose challenge is open
-abbrev pub IsOpen : Struct → Challenge → Type 0
+abbrev pub IsOpen : Struct → ServerChallenge → Type 0
 IsOpen server challenge = (server.stands ≡ open_number challenge.header) × AreLengths server
-    × (challenge ≡ challenge_of challenge.header server) × IsUtf8 challenge.user
+    × (challenge ≡ struct_challenge challenge.header server) × IsUtf8 challenge.user
 
 -- the struct is that of a server that has logged this user in
 abbrev pub HasLoggedIn : Struct → List ℕ → Type 0
@@ -59,8 +59,8 @@ HasLoggedIn server user = (server.stands ≡ 2) × (server.user_len ≤ 256) × 
 -- ---- the structs that calls write: every field that a state does not name is zero, and so is each byte after a length
 
 -- of a server with no open challenge, which has logged nobody in
-abbrev pub fresh_struct : Struct
-fresh_struct = record {
+abbrev pub fresh_server_struct : Struct
+fresh_server_struct = record {
   stands = 0;
   user_len = 0;
   bare_len = 0;
@@ -73,7 +73,7 @@ fresh_struct = record {
 }
 
 -- of one whose challenge is open
-abbrev pub open_struct : Challenge → Struct
+abbrev pub open_struct : ServerChallenge → Struct
 open_struct challenge = record {
   stands = open_number challenge.header;
   user_len = length challenge.user;
@@ -108,8 +108,8 @@ logged_in_struct user = user_struct (length user) (zero_filled 256 user)
 
 -- a client-first message is answered by this challenge, where the record is that of the user whom it names; a client
 -- that could bind a channel is taken on wish
-unfoldable pub Challenged : Bool → Kept → List ℕ → List ℕ → Challenge → Type 0
-Challenged unbound kept nonce text challenge = (shown : VersionedRecord) × (user : List ℕ) × Shows kept shown
+unfoldable pub MakesChallenge : Bool → Kept → List ℕ → List ℕ → ServerChallenge → Type 0
+MakesChallenge unbound kept nonce text challenge = (shown : VersionedRecord) × (user : List ℕ) × ShowsRecord kept shown
     × AnswersClientFirst (serving unbound (one_user user shown)) (base64_text nonce) text (Ok (Some challenge))
 
 -- why a client-first message is not answered: it is refused; or it is read, and the struct of the record shows none; or
@@ -118,8 +118,8 @@ unfoldable pub NotChallenged : Bool → Kept → List ℕ → List ℕ → Statu
 NotChallenged unbound kept nonce text status =
     ((why : ServerScramErrorKind) × (status ≡ server_status why) × ReadsClientFirst unbound text (Err why))
     ⊎ ((first : ClientFirst) × ReadsClientFirst unbound text (Ok first) × SpellsStruct kept (Err status))
-    ⊎ ((status ≡ statuses.TooLong) × ((challenge : Challenge) × Challenged unbound kept nonce text challenge
-    × ¬ HasRoom challenge))
+    ⊎ ((status ≡ statuses.TooLong) × ((challenge : ServerChallenge) × MakesChallenge unbound kept nonce text challenge
+    × ¬ ChallengeHasRoom challenge))
 
 -- a client-first message comes to ask for memory: its user name has escapes, or it is read
 abbrev pub ReadsFirst : Bool → List ℕ → Type 0
@@ -127,15 +127,15 @@ ReadsFirst unbound text = HasEscapes unbound text ⊎ ((first : ClientFirst) × 
 
 -- the server-first message
 abbrev pub Challenges : Bool → Kept → List ℕ → List ℕ → Result (List ℕ) Status → Type 0
-Challenges unbound kept nonce text (Ok message) = (challenge : Challenge)
-    × Challenged unbound kept nonce text challenge × (message ≡ challenge.first)
+Challenges unbound kept nonce text (Ok message) = (challenge : ServerChallenge)
+    × MakesChallenge unbound kept nonce text challenge × (message ≡ challenge.first)
 Challenges unbound kept nonce text (Err status) = NotChallenged unbound kept nonce text status
 
 -- the struct after it
-abbrev pub Opens : Bool → Kept → List ℕ → List ℕ → Struct → Struct → Result (Unit {0}) Status → Type 0
-Opens unbound kept nonce text before after (Ok done) = (challenge : Challenge)
-    × Challenged unbound kept nonce text challenge × IsOpen after challenge × (after ≡ open_struct challenge)
-Opens unbound kept nonce text before after (Err status) = after ≡ before
+abbrev pub OpensExchange : Bool → Kept → List ℕ → List ℕ → Struct → Struct → Result (Unit {0}) Status → Type 0
+OpensExchange unbound kept nonce text before after (Ok done) = (challenge : ServerChallenge)
+    × MakesChallenge unbound kept nonce text challenge × IsOpen after challenge × (after ≡ open_struct challenge)
+OpensExchange unbound kept nonce text before after (Err status) = after ≡ before
 
 -- the user whom the message of an init names, behind either GS2 header
 abbrev pub NamesUser : List ℕ → Result (List ℕ) Status → Type 0
@@ -145,27 +145,27 @@ NamesUser text (Err status) = (why : ServerScramErrorKind) × (status ≡ server
 
 -- the struct's open challenge is answered by this message, where the record is that of its user; whom a server takes
 -- plays no part once the challenge is open
-unfoldable pub Concluded : Kept → Struct → List ℕ → List ℕ → List ℕ → Type 0
-Concluded kept before text message user = (challenge : Challenge) × (shown : VersionedRecord) × IsOpen before challenge
-    × Shows kept shown × (user ≡ challenge.user)
+unfoldable pub ConcludesLogin : Kept → Struct → List ℕ → List ℕ → List ℕ → Type 0
+ConcludesLogin kept before text message user = (challenge : ServerChallenge) × (shown : VersionedRecord) × IsOpen before challenge
+    × ShowsRecord kept shown × (user ≡ challenge.user)
     × ConcludesFrom (ServerFirstSent challenge) (serving false (one_user user shown)) text (Ok (Some message))
     (ServerFinalSent user)
 
 -- a client-final message comes to be read: a challenge is open, and the struct of the record shows one
 abbrev pub ReadsFinal : Kept → Struct → Type 0
-ReadsFinal kept before = ((challenge : Challenge) × IsOpen before challenge)
-    × ((shown : VersionedRecord) × Shows kept shown)
+ReadsFinal kept before = ((challenge : ServerChallenge) × IsOpen before challenge)
+    × ((shown : VersionedRecord) × ShowsRecord kept shown)
 
 -- the server-final message, and the struct after it; or that no challenge is open, or one is and the struct of the
 -- record shows none, or it shows one and the message is refused
 unfoldable pub Concludes : Kept → List ℕ → Struct → Struct → Result (List ℕ) Status → Type 0
-Concludes kept text before after (Ok message) = (user : List ℕ) × Concluded kept before text message user
+Concludes kept text before after (Ok message) = (user : List ℕ) × ConcludesLogin kept before text message user
     × HasLoggedIn after user × (after ≡ logged_in_struct user)
 Concludes kept text before after (Err status) =
-    ((status ≡ server_status IllegalAuthenticatorState) × ((challenge : Challenge) → ¬ IsOpen before challenge))
-    ⊎ ((challenge : Challenge) × IsOpen before challenge × SpellsStruct kept (Err status))
+    ((status ≡ server_status IllegalAuthenticatorState) × ((challenge : ServerChallenge) → ¬ IsOpen before challenge))
+    ⊎ ((challenge : ServerChallenge) × IsOpen before challenge × SpellsStruct kept (Err status))
     ⊎ ((why : ServerScramErrorKind) × (status ≡ server_status why)
-    × ((challenge : Challenge) × (shown : VersionedRecord) × IsOpen before challenge × Shows kept shown
+    × ((challenge : ServerChallenge) × (shown : VersionedRecord) × IsOpen before challenge × ShowsRecord kept shown
     × ConcludesFrom (ServerFirstSent challenge) (serving false (one_user challenge.user shown)) text (Err why)
     (ServerFirstSent challenge)))
 

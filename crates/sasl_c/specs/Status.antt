@@ -141,8 +141,8 @@ Makes Allocates Due before after (Err status) = (status ≡ OutOfMemory → Allo
     × (status ≢ OutOfMemory → Due (Err status)) × (after ≡ before)
 
 -- the bytes at the head of the room, which is as it was behind them
-abbrev pub written : List ℕ → List ℕ → List ℕ
-written bytes room = bytes ++ drop (length bytes) room
+abbrev pub with_written : List ℕ → List ℕ → List ℕ
+with_written bytes room = bytes ++ drop (length bytes) room
 
 -- a room of a caller's, and the length that stands beside it
 pub record Room : Type 0 where
@@ -158,7 +158,7 @@ Lacks before after text = (length before.bytes < length text) × (after.len ≡ 
 -- may say, and that has no room
 abbrev pub Fills : (Result (List ℕ) Status → Type 0) → Room → Room → Result (Unit {0}) Status → Type 0
 Fills Due before after (Ok done) = (text : List ℕ) × Due (Ok text) × (length text ≤ length before.bytes)
-    × (after.bytes ≡ written text before.bytes) × (after.len ≡ length text)
+    × (after.bytes ≡ with_written text before.bytes) × (after.len ≡ length text)
 Fills Due before after (Err status) = (after.bytes ≡ before.bytes)
     × (status ≡ RoomTooSmall → (text : List ℕ) × Due (Ok text) × Lacks before after text)
     × (status ≢ RoomTooSmall → (after.len ≡ before.len) × (status ≢ OutOfMemory → Due (Err status)))
@@ -167,7 +167,7 @@ Fills Due before after (Err status) = (after.bytes ≡ before.bytes)
 -- number before anything else, and the room stays
 abbrev pub FillsWithin : ℕ → (Result (List ℕ) Status → Type 0) → Room → Room → Result (Unit {0}) Status → Type 0
 FillsWithin suffices Due before after (Ok done) = (text : List ℕ) × Due (Ok text) × (suffices ≤ length before.bytes)
-    × (after.bytes ≡ written text before.bytes) × (after.len ≡ length text)
+    × (after.bytes ≡ with_written text before.bytes) × (after.len ≡ length text)
 FillsWithin suffices Due before after (Err status) = (after.bytes ≡ before.bytes)
     × (status ≡ RoomTooSmall → (length before.bytes < suffices) × (after.len ≡ suffices))
     × (status ≢ RoomTooSmall → (suffices ≤ length before.bytes) × (after.len ≡ before.len)

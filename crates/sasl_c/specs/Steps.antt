@@ -21,8 +21,8 @@ use Rattle.sasl_c.specs.declared.server.ScramServer.{ScramServer as ServerStruct
 use Rattle.sasl_c.specs.declared.status.Status.{Status}
 use Rattle.sasl_c.specs.declared.status.Status.TheVariants as statuses
 use Rattle.sasl_c.specs.Connection.{closed_status, frame_status, profile_status}
-use Rattle.sasl_c.specs.SaslClient.{Comes, HasNoHostname, IsHostname, IsNoProfile, IsProfile, WritesProfile}
-use Rattle.sasl_c.specs.SaslServer.{BodyNames, BodyNamesNobody, Comes as HostComes, IsNoHost, ShowsState, State, state_machine, state_names, state_struct}
+use Rattle.sasl_c.specs.SaslClient.{ProfileIsReached, HasNoHostname, IsHostname, IsNoProfile, IsProfile, WritesProfile}
+use Rattle.sasl_c.specs.SaslServer.{BodyNames, BodyNamesNobody, ServerIsReached as HostComes, IsNoHost, ShowsState, State, state_machine, state_names, state_struct}
 use Rattle.sasl_c.specs.Status.{status_number}
 
 -- how a login stands behind an outcome of this code (part 5, section 5.3.3.6)
@@ -65,13 +65,13 @@ ClientHides (Refused fault) status = (why : ProfileError) × (fault ≡ client_f
 abbrev pub ProfileStepped : Option (List ℕ) → Profile → Given → ClientStruct → Standing → List ℕ → Type 0
 ProfileStepped hostname profile event after stands sent = (next : Profile) × (says : ClientSays)
     × ProfileSteps hostname profile event says next × ClientTells says sent stands
-    × ((login : Login) → Comes login next → IsProfile login after next) × WritesProfile after next
+    × ((login : Login) → ProfileIsReached login next → IsProfile login after next) × WritesProfile after next
 
 -- or none: it refuses the body, or no login comes to the one behind it
 abbrev pub ProfileNotStepped : Option (List ℕ) → Profile → Given → Status → Type 0
 ProfileNotStepped hostname profile event status = (next : Profile) × (says : ClientSays)
     × ProfileSteps hostname profile event says next
-    × (ClientHides says status ⊎ ((login : Login) → ¬ Comes login next))
+    × (ClientHides says status ⊎ ((login : Login) → ¬ ProfileIsReached login next))
 
 -- a step between two structs: the one that the library's profile makes over the body
 unfoldable pub ClientStepped : Login → Given → ClientStruct → ClientStruct → ℕ → List ℕ → Type 0
@@ -95,13 +95,13 @@ ClientSteps login event before after standing (Err status) = ClientNotStepped lo
 -- ---- a server
 
 -- the struct is that of this server of a host, whose login stands so
-abbrev pub Serves : Host → ServerStruct → Standing → State → Type 0
-Serves host scram stands server = HostComes host stands server × ShowsState scram stands server
+abbrev pub HostServes : Host → ServerStruct → Standing → State → Type 0
+HostServes host scram stands server = HostComes host stands server × ShowsState scram stands server
 
 -- the body with which a server offers its mechanisms (part 5, section 5.3.3.1), or why there is none
-abbrev pub Offers : Host → Result (List ℕ) Status → Type 0
-Offers host (Ok body) = (server : State) × HostComes host Wanting server × (offer_body (state_names server) ≡ Some body)
-Offers host (Err status) = IsNoHost host status ⊎ ((status ≡ statuses.FrameTooLarge)
+abbrev pub HostOffers : Host → Result (List ℕ) Status → Type 0
+HostOffers host (Ok body) = (server : State) × HostComes host Wanting server × (offer_body (state_names server) ≡ Some body)
+HostOffers host (Err status) = IsNoHost host status ⊎ ((status ≡ statuses.FrameTooLarge)
     × ((server : State) × HostComes host Wanting server × (offer_body (state_names server) ≡ None)))
 
 -- what it tells with what it says: a challenge and an outcome are sent
@@ -135,15 +135,15 @@ NotStepped {A} state machine shows server event status = (next : A) × (says : S
 -- a step between two structs: the one that the library's acceptor of the host makes over the body
 unfoldable pub ServerStepped : Host → Given → ServerStruct → ServerStruct → ℕ → List ℕ → Type 0
 ServerStepped host event before after standing sent = (server : State) × (stands : Standing)
-    × Serves host before Wanting server
-    × IsStepped (λ (next : State). next) state_machine (Serves host) state_struct server event after stands sent
+    × HostServes host before Wanting server
+    × IsStepped (λ (next : State). next) state_machine (HostServes host) state_struct server event after stands sent
     × (standing ≡ standing_number stands)
 
 -- or none: the host has no acceptor, or it makes none
 unfoldable pub ServerNotStepped : Host → Given → ServerStruct → Status → Type 0
 ServerNotStepped host event before status = IsNoHost host status
-    ⊎ ((server : State) × Serves host before Wanting server
-    × NotStepped (λ (next : State). next) state_machine (Serves host) server event status)
+    ⊎ ((server : State) × HostServes host before Wanting server
+    × NotStepped (λ (next : State). next) state_machine (HostServes host) server event status)
 
 -- what a call makes of a body
 abbrev pub ServerSteps : Host → Given → ServerStruct → ServerStruct → ℕ → Result (List ℕ) Status → Type 0

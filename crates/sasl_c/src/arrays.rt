@@ -2,7 +2,7 @@
 
 ghost use Rattle.std.specs.Prelude.{◌≡◌, ◌<◌, ◌≤◌, length, take, IfOk, IfErr, MatchOption};
 ghost use Rattle.fe2o3_scram.specs.Hmac.{zero_filled};
-ghost use Rattle.sasl_c.specs.Status.{written};
+ghost use Rattle.sasl_c.specs.Status.{with_written};
 ghost use Rattle.sasl_c.specs.declared.status.Status.TheVariants.{RoomTooSmall};
 
 use crate::status::Status;
@@ -41,7 +41,7 @@ pub fn head(array: &[u8], len: u32) -> Option<&[u8]>
 /// `RoomTooSmall`, the length alone is written.
 pub fn put(bytes: &[u8], out: &mut [u8], len: &mut usize) -> Result<(), Status>
     ensures len { len.new ≡ length bytes.now }
-    ensures ok { IfOk result (λ _. (length bytes.now ≤ length out.old) × (out.new ≡ written bytes.now out.old)) }
+    ensures ok { IfOk result (λ _. (length bytes.now ≤ length out.old) × (out.new ≡ with_written bytes.now out.old)) }
     ensures err { IfErr result (λ status. (status ≡ RoomTooSmall) × (length out.old < length bytes.now)
         × (out.new ≡ out.old)) }
 {

@@ -3,13 +3,13 @@
 ghost use Rattle.std.specs.Prelude.{◌≡◌, ◌≢◌, ◌<◌, ◌≤◌, length, IfOk, IfErr, IfSome, MatchOption, Option, Some, List, ℕ, Ok, option_map};
 ghost use Rattle.std.specs.Str.{IsUtf8};
 ghost use Rattle.std.specs.String.{string_bytes};
-ghost use Rattle.fe2o3_scram.specs.ScramClient.{ClientFinalSent, Initial};
+ghost use Rattle.fe2o3_scram.specs.ScramClient.{ClientFinalSent, ClientInitial};
 ghost use Rattle.fe2o3_scram.specs.Readings.{IsFirst, NoneHolds, Reads};
 ghost use Rattle.sasl_c.specs.Records.{IsVersion};
 ghost use Rattle.fe2o3_scram.specs.ClientKeys.{ClientKeys as Keys};
-ghost use Rattle.sasl_c.specs.Client.{Believes, HandsOut, Holds, HoldsNone, IsLogin, IsNoLogin, IsNoSecret, IsSecret, IsReached, IsSide, IsState, Started, Starts, WritesClient, complete_struct, fresh_struct, keys_tests, name_tests, started_struct};
+ghost use Rattle.sasl_c.specs.Client.{Believes, HandsOut, Holds, HoldsNone, IsClientOf, IsNoLogin, IsNoSecret, IsSecretOf, IsReached, IsSide, IsState, StartsClient, Starts, WritesClient, complete_struct, fresh_client_struct, keys_tests, name_tests, started_struct};
 ghost use Rattle.sasl_c.specs.Keys.{ShowsKeys, WritesKeys, no_keys_struct};
-ghost use Rattle.sasl_c.specs.Status.{Answers, AsksWhere, Fills, Makes, written};
+ghost use Rattle.sasl_c.specs.Status.{Answers, AsksWhere, Fills, Makes, with_written};
 ghost use Rattle.sasl_c.specs.declared.status.Status.TheVariants.{OutOfMemory as StatusOutOfMemory, NotUtf8 as StatusNotUtf8, RoomTooSmall};
 
 use crate::arrays::{head, padded, put};
@@ -105,8 +105,8 @@ fn held(keys: Option<&ScramClientKeys>) -> ClientKeys
 impl ScramClient {
     /// The struct of a client that has sent nothing.
     pub fn fresh() -> ScramClient
-        ensures state { (user : List ℕ) → IsState user result Initial }
-        ensures writes { result ≡ fresh_struct }
+        ensures state { (user : List ℕ) → IsState user result ClientInitial }
+        ensures writes { result ≡ fresh_client_struct }
     {
         ScramClient {
             sent: 0,
@@ -330,8 +330,8 @@ impl Login<'_> {
         username: String,
         version: ScramVersion,
     ) -> Result<Machine, Status>
-        ensures ok { IfOk result (λ side. IsSecret self.now side.secret × (side.user ≡ string_bytes username)
-            × (side.state ≡ Initial)) }
+        ensures ok { IfOk result (λ side. IsSecretOf self.now side.secret × (side.user ≡ string_bytes username)
+            × (side.state ≡ ClientInitial)) }
         ensures version { IfOk result (λ side. IsVersion self.now.version version
             → IsVersion self.now.version side.version) }
         ensures err { IfErr result (λ status. status ≢ StatusOutOfMemory → IsNoSecret self.now status) }
@@ -358,8 +358,8 @@ impl Login<'_> {
         version: ScramVersion,
     ) -> Result<Machine, Status>
         requires { 2 < self.now.secret }
-        ensures ok { IfOk result (λ side. IsSecret self.now side.secret × (side.user ≡ string_bytes username)
-            × (side.state ≡ Initial)) }
+        ensures ok { IfOk result (λ side. IsSecretOf self.now side.secret × (side.user ≡ string_bytes username)
+            × (side.state ≡ ClientInitial)) }
         ensures version { IfOk result (λ side. IsVersion self.now.version version
             → IsVersion self.now.version side.version) }
         ensures err { IfErr result (λ status. status ≢ StatusOutOfMemory → IsNoSecret self.now status) }
@@ -379,7 +379,7 @@ impl Login<'_> {
     /// A client that has sent nothing.
     #[tactic(auto, using(crate::proofs::LoginLemmas::named))]
     fn client(&self, alloc: Global) -> Result<Machine, Status>
-        ensures ok { IfOk result (λ side. IsLogin self.now side × (side.state ≡ Initial)) }
+        ensures ok { IfOk result (λ side. IsClientOf self.now side × (side.state ≡ ClientInitial)) }
         ensures names { IfOk result (λ _. NoneHolds (name_tests self.now)) }
         ensures err { IfErr result (λ status. status ≢ StatusOutOfMemory → IsNoLogin self.now status) }
         ensures memory { AsksWhere (NoneHolds (name_tests self.now)) result }
@@ -428,7 +428,7 @@ fn begin(
     len: &mut usize,
 ) -> Result<(), Status>
     ensures len { len.new ≡ length message.now }
-    ensures ok { IfOk result (λ _. (length message.now ≤ length out.old) × (out.new ≡ written message.now out.old)) }
+    ensures ok { IfOk result (λ _. (length message.now ≤ length out.old) × (out.new ≡ with_written message.now out.old)) }
     ensures sent { IfOk result (λ _. client.new ≡ started_struct nonce.now) }
     ensures err { IfErr result (λ status. (status ≡ RoomTooSmall) × (length out.old < length message.now)
         × (out.new ≡ out.old)) }
@@ -454,7 +454,7 @@ fn first(
 ) -> Result<(), Status>
     ensures text { Fills (Starts login.now nonce.now) (record { bytes = out.old; len = len.old })
         (record { bytes = out.new; len = len.new }) result }
-    ensures moved { Started login.now nonce.now client.old client.new result }
+    ensures moved { StartsClient login.now nonce.now client.old client.new result }
     ensures memory { AsksWhere (NoneHolds (name_tests login.now)) result }
 {
     let message = match first_message(alloc, login, nonce) {
@@ -476,7 +476,7 @@ pub extern "C" fn fe2o3_scram_client_first(
     len: &mut usize,
 ) -> u32
     ensures { Answers result (λ answer. Fills (Starts login.now nonce.now) (record { bytes = out.old; len = len.old })
-        (record { bytes = out.new; len = len.new }) answer × Started login.now nonce.now client.old client.new answer
+        (record { bytes = out.new; len = len.new }) answer × StartsClient login.now nonce.now client.old client.new answer
         × AsksWhere (NoneHolds (name_tests login.now)) answer) }
 {
     number(first(alloc, login, client, nonce, out, len))

@@ -6,7 +6,7 @@ ghost use Rattle.sasl_c.specs.Records.{IsVersion};
 ghost use Rattle.fe2o3_scram.specs.ClientFinal.{answer_values};
 ghost use Rattle.fe2o3_scram.specs.ClientSecret.{secret_of};
 ghost use Rattle.fe2o3_scram.specs.Texts.{base64_text};
-ghost use Rattle.sasl_c.specs.Client.{Responds, IsAnswer, IsSecret, NotAnswered, name_tests};
+ghost use Rattle.sasl_c.specs.Client.{Responds, IsAnswer, IsSecretOf, NotAnswered, name_tests};
 ghost use Rattle.std.specs.Str.{IsUtf8};
 ghost use Rattle.sasl_c.specs.Status.{Answers, AsksWhere, FillsWithin};
 ghost use Rattle.sasl_c.specs.declared.status.Status.TheVariants.{OutOfMemory as StatusOutOfMemory, RoomTooSmall};
@@ -45,11 +45,11 @@ fn answered_by(
     meter: &mut Meter,
 ) -> Result<ClientAnswer, Status>
     requires { meter.old ≤ 2 ^ 63 }
-    ensures ok { IfOk result (λ answer. IsVersion login.now.version version → IsSecret login.now
+    ensures ok { IfOk result (λ answer. IsVersion login.now.version version → IsSecretOf login.now
         (secret_of secret.entry)
         → client.now.sent ≡ 1 → IsAnswer login.now client.now server_first.now (answer_values answer)) }
     ensures err { IfErr result (λ status. status ≢ StatusOutOfMemory → IsVersion login.now.version version
-        → IsSecret login.now (secret_of secret.entry) → client.now.sent ≡ 1
+        → IsSecretOf login.now (secret_of secret.entry) → client.now.sent ≡ 1
         → NotAnswered login.now client.now server_first.now status) }
     ensures room { IfErr result (λ status. status ≢ RoomTooSmall) }
 {

@@ -5,7 +5,7 @@ ghost use Rattle.fe2o3_sasl_negotiation.specs.declared.standing.Due.{Due as DueU
 ghost use Rattle.fe2o3_sasl_negotiation.specs.declared.standing.Standing.TheVariants.{Wanting};
 ghost use Rattle.sasl_c.specs.declared.status.Status.TheVariants.{RoomTooSmall};
 ghost use Rattle.fe2o3_scram.specs.Readings.{IsFirst};
-ghost use Rattle.sasl_c.specs.Connection.{Keeps, closed_status, code_status, due_number, frame_status, profile_status, side_tests, struct_of};
+ghost use Rattle.sasl_c.specs.Connection.{Keeps, closed_status, code_status, due_number, frame_status, profile_status, side_tests, connection_struct};
 
 use crate::arrays::{head, padded};
 use crate::status::Status;
@@ -127,7 +127,7 @@ impl Connection {
         ensures keeps { MatchOption result (512 < length kept.now.held.now)
             (λ connection. Keeps connection kept.now.standing kept.now.due kept.now.held.now) }
         ensures writes { IfSome result (λ connection.
-            connection ≡ struct_of kept.now.standing kept.now.due kept.now.held.now) }
+            connection ≡ connection_struct kept.now.standing kept.now.due kept.now.held.now) }
     {
         let (standing, why) = match kept.standing {
             Standing::Wanting => (0, 0),

@@ -2,7 +2,7 @@
 
 ghost use Rattle.std.specs.Prelude.{◌≡◌, [], None};
 ghost use Rattle.fe2o3_sasl_wire.specs.FrameView.{shown, viewed_frame};
-ghost use Rattle.sasl_c.specs.Frames.{Given, Offers, Shows, ShowsFrame, Views, code_number};
+ghost use Rattle.sasl_c.specs.Frames.{GivenBytes, OffersName, ShowsFields, ShowsFrame, Views, code_number};
 ghost use Rattle.sasl_c.specs.Status.{Answers};
 
 use crate::connection::of_frame;
@@ -57,7 +57,7 @@ fn number_of(code: SaslCode) -> u32
 
 /// Whether there are bytes, and them.
 fn given<'a>(bytes: Option<&'a [u8]>) -> (u32, &'a [u8])
-    ensures { Given result.0 result.1.now (shown bytes.entry) }
+    ensures { GivenBytes result.0 result.1.now (shown bytes.entry) }
 {
     match bytes {
         Some(bytes) => (1, bytes),
@@ -68,7 +68,7 @@ fn given<'a>(bytes: Option<&'a [u8]>) -> (u32, &'a [u8])
 impl<'a> SaslFrameView<'a> {
     /// A struct with this message alone.
     fn with_message(kind: u32, code: u32, message: Option<&'a [u8]>) -> SaslFrameView<'a>
-        ensures { Shows result kind code 0 [] (shown message.entry) None }
+        ensures { ShowsFields result kind code 0 [] (shown message.entry) None }
     {
         let (has_message, message) = given(message);
         SaslFrameView {
@@ -141,7 +141,7 @@ pub extern "C" fn fe2o3_sasl_view_frame<'a>(body: &'a [u8], view: &mut SaslFrame
 
 /// Whether a server offers a mechanism.
 fn offers(body: &[u8], mechanism: &[u8]) -> Result<(), Status>
-    ensures { Offers body.now mechanism.now result }
+    ensures { OffersName body.now mechanism.now result }
 {
     let name = text(mechanism)?;
     match view_frame(body) {
@@ -161,7 +161,7 @@ fn offers(body: &[u8], mechanism: &[u8]) -> Result<(), Status>
 /// not in the list, and `OUT_OF_TURN` where the frame is another one.
 #[unsafe(no_mangle)]
 pub extern "C" fn fe2o3_sasl_offers(body: &[u8], mechanism: &[u8]) -> u32
-    ensures { Answers result (Offers body.now mechanism.now) }
+    ensures { Answers result (OffersName body.now mechanism.now) }
 {
     number(offers(body, mechanism))
 }

@@ -3,9 +3,9 @@
 ghost use Rattle.std.specs.Prelude.{◌≡◌, ◌≢◌, MatchOption, IfOk, IfErr};
 ghost use Rattle.fe2o3_scram.specs.Passwords.{Prepared, Typed};
 ghost use Rattle.fe2o3_scram.specs.Readings.{Gives, NoneHolds};
-ghost use Rattle.sasl_c.specs.Keys.{HasRoom, MakesStruct, ShowsKeys, ShowsNoKeys, struct_of};
+ghost use Rattle.sasl_c.specs.Keys.{KeysHaveRoom, MakesKeysStruct, ShowsKeys, ShowsNoKeys, keys_struct};
 ghost use Rattle.sasl_c.specs.Passwords.{in_form};
-ghost use Rattle.sasl_c.specs.Records.{making_tests};
+ghost use Rattle.sasl_c.specs.Records.{struct_making_tests};
 ghost use Rattle.sasl_c.specs.Status.{Answers, Makes};
 ghost use Rattle.sasl_c.specs.declared.keys.ClientKeys.{ClientKeys as Struct};
 ghost use Rattle.sasl_c.specs.declared.status.Status.TheVariants.{OutOfMemory as StatusOutOfMemory};
@@ -42,7 +42,7 @@ pub struct ClientKeys {
 impl ClientKeys {
     /// The struct of keys, or `None` where it cannot hold them.
     pub fn of(keys: &ScramClientKeys) -> Option<ClientKeys>
-        ensures { MatchOption result (¬ HasRoom keys.now) (λ shown. HasRoom keys.now × (shown ≡ struct_of keys.now)) }
+        ensures { MatchOption result (¬ KeysHaveRoom keys.now) (λ shown. KeysHaveRoom keys.now × (shown ≡ keys_struct keys.now)) }
     {
         let (version, salt) = (keys.scram_version(), keys.salt());
         let len = digest_len(version);
@@ -106,8 +106,8 @@ fn made(
     salt: &[u8],
     iterations: u32,
 ) -> Result<ClientKeys, Status>
-    ensures { Gives StatusOutOfMemory (NoneHolds (making_tests version (in_form form password.now) salt.now iterations))
-        (λ (keys : Struct). keys) result (MakesStruct version (in_form form password.now) salt.now iterations) }
+    ensures { Gives StatusOutOfMemory (NoneHolds (struct_making_tests version (in_form form password.now) salt.now iterations))
+        (λ (keys : Struct). keys) result (MakesKeysStruct version (in_form form password.now) salt.now iterations) }
 {
     let version = version_of(version).ok_or(Status::NoSuchVersion)?;
     let password = text(password)?;
@@ -143,8 +143,8 @@ fn make(
     iterations: u32,
     keys: &mut ClientKeys,
 ) -> Result<(), Status>
-    ensures { Makes (NoneHolds (making_tests version (in_form form password.now) salt.now iterations))
-        (MakesStruct version (in_form form password.now) salt.now iterations) keys.old keys.new result }
+    ensures { Makes (NoneHolds (struct_making_tests version (in_form form password.now) salt.now iterations))
+        (MakesKeysStruct version (in_form form password.now) salt.now iterations) keys.old keys.new result }
 {
     match made(alloc, version, form, password, salt, iterations) {
         Ok(made) => {
@@ -165,8 +165,8 @@ pub extern "C" fn fe2o3_scram_keys_make(
     iterations: u32,
     keys: &mut ClientKeys,
 ) -> u32
-    ensures { Answers result (Makes (NoneHolds (making_tests version (Typed password.now) salt.now iterations))
-        (MakesStruct version (Typed password.now) salt.now iterations) keys.old keys.new) }
+    ensures { Answers result (Makes (NoneHolds (struct_making_tests version (Typed password.now) salt.now iterations))
+        (MakesKeysStruct version (Typed password.now) salt.now iterations) keys.old keys.new) }
 {
     number(make(
         alloc,
@@ -190,8 +190,8 @@ pub extern "C" fn fe2o3_scram_keys_make_prepared(
     iterations: u32,
     keys: &mut ClientKeys,
 ) -> u32
-    ensures { Answers result (Makes (NoneHolds (making_tests version (Prepared password.now) salt.now iterations))
-        (MakesStruct version (Prepared password.now) salt.now iterations) keys.old keys.new) }
+    ensures { Answers result (Makes (NoneHolds (struct_making_tests version (Prepared password.now) salt.now iterations))
+        (MakesKeysStruct version (Prepared password.now) salt.now iterations) keys.old keys.new) }
 {
     number(make(
         alloc,

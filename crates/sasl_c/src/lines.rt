@@ -1,7 +1,7 @@
 //! The text of users and their records, a line for each (RFC 5802, section 5.1; RFC 5803, section 2).
 
 ghost use Rattle.std.specs.Prelude.{◌≡◌, ◌≢◌, Ok, Err, IfOk, IfErr};
-ghost use Rattle.sasl_c.specs.Lines.{Chosen, Finds, FindsInto, NotChosen, SpellsLine, line_status};
+ghost use Rattle.sasl_c.specs.Lines.{Chosen, FindsRecord, FindsInto, NotChosen, SpellsLine, line_status};
 ghost use Rattle.sasl_c.specs.Status.{Answers, Fills};
 ghost use Rattle.sasl_c.specs.declared.status.Status.TheVariants.{OutOfMemory as StatusOutOfMemory, RoomTooSmall};
 
@@ -69,9 +69,9 @@ fn found(
     username: &[u8],
     version: u32,
 ) -> Result<ScramRecord, NotFound>
-    ensures ok { IfOk result (λ made. Finds lines.now username.now version 0 (Ok made)) }
+    ensures ok { IfOk result (λ made. FindsRecord lines.now username.now version 0 (Ok made)) }
     ensures err { IfErr result (λ none. none.why ≢ StatusOutOfMemory
-        → Finds lines.now username.now version none.line (Err none.why)) }
+        → FindsRecord lines.now username.now version none.line (Err none.why)) }
 {
     let Some(version) = version_of(version) else {
         return Err(NotFound::from(Status::NoSuchVersion));

@@ -7,7 +7,7 @@ ghost use Rattle.fe2o3_scram.specs.RecordText.{ReachesValues};
 ghost use Rattle.fe2o3_scram.specs.Passwords.{Prepared, Typed};
 ghost use Rattle.sasl_c.specs.Passwords.{in_form};
 ghost use Rattle.sasl_c.specs.Status.{Answers, Fills, Makes};
-ghost use Rattle.sasl_c.specs.Records.{HasRoom, Shows, struct_of, making_tests, MakesStruct, MakesUp, nobody_tests, ParsesStruct, SpellsStruct, Verifies};
+ghost use Rattle.sasl_c.specs.Records.{RecordHasRoom, ShowsRecord, record_struct, struct_making_tests, MakesRecordStruct, MakesUp, nobody_tests, ParsesStruct, SpellsStruct, Verifies};
 ghost use Rattle.sasl_c.specs.declared.records.ScramRecord.{ScramRecord as Struct};
 ghost use Rattle.sasl_c.specs.declared.status.Status.TheVariants.{OutOfMemory as StatusOutOfMemory, RoomTooSmall};
 
@@ -43,7 +43,7 @@ pub struct ScramRecord {
 impl ScramRecord {
     /// The struct of a record, or `None` where it cannot hold it.
     pub fn of(kept: &fe2o3_scram::ScramRecord) -> Option<ScramRecord>
-        ensures { MatchOption result (¬ HasRoom kept.now) (λ shown. HasRoom kept.now × (shown ≡ struct_of kept.now)) }
+        ensures { MatchOption result (¬ RecordHasRoom kept.now) (λ shown. RecordHasRoom kept.now × (shown ≡ record_struct kept.now)) }
     {
         let (version, stored) = (*kept.scram_version(), kept.as_stored_password());
         let len = digest_len(version);
@@ -63,7 +63,7 @@ impl ScramRecord {
     /// The record that the struct shows, where it stands, with its version. `NoSuchVersion`, and `TooLong` where
     /// `salt_len` is above 128.
     pub fn lent(&self) -> Result<(ScramVersion, StoredPassword<'_>), Status>
-        ensures ok { IfOk result (λ shown. Shows self.now (versioned shown.0 (kept shown.1))) }
+        ensures ok { IfOk result (λ shown. ShowsRecord self.now (versioned shown.0 (kept shown.1))) }
         ensures err { IfErr result (λ status. SpellsStruct self.now (Err status)) }
         ensures room { IfErr result (λ status. status ≢ RoomTooSmall) }
     {
@@ -82,7 +82,7 @@ impl ScramRecord {
     /// The record that the struct shows. `NoSuchVersion`, `TooLong` where `salt_len` is above 128, and else
     /// `OutOfMemory`.
     pub fn read(&self, alloc: Global) -> Result<fe2o3_scram::ScramRecord, Status>
-        ensures ok { IfOk result (λ shown. Shows self.now shown) }
+        ensures ok { IfOk result (λ shown. ShowsRecord self.now shown) }
         ensures err { IfErr result (λ status. status ≢ StatusOutOfMemory → SpellsStruct self.now (Err status)) }
     {
         let (version, stored) = self.lent()?;
@@ -106,8 +106,8 @@ fn made(
     salt: &[u8],
     iterations: u32,
 ) -> Result<ScramRecord, Status>
-    ensures { Gives StatusOutOfMemory (NoneHolds (making_tests version (in_form form password.now) salt.now iterations))
-        (λ (kept : Struct). kept) result (MakesStruct version (in_form form password.now) salt.now iterations) }
+    ensures { Gives StatusOutOfMemory (NoneHolds (struct_making_tests version (in_form form password.now) salt.now iterations))
+        (λ (kept : Struct). kept) result (MakesRecordStruct version (in_form form password.now) salt.now iterations) }
 {
     let version = version_of(version).ok_or(Status::NoSuchVersion)?;
     let password = text(password)?;
@@ -142,8 +142,8 @@ fn make(
     iterations: u32,
     kept: &mut ScramRecord,
 ) -> Result<(), Status>
-    ensures { Makes (NoneHolds (making_tests version (in_form form password.now) salt.now iterations))
-        (MakesStruct version (in_form form password.now) salt.now iterations) kept.old kept.new result }
+    ensures { Makes (NoneHolds (struct_making_tests version (in_form form password.now) salt.now iterations))
+        (MakesRecordStruct version (in_form form password.now) salt.now iterations) kept.old kept.new result }
 {
     match made(alloc, version, form, password, salt, iterations) {
         Ok(made) => {
@@ -164,8 +164,8 @@ pub extern "C" fn fe2o3_scram_record_make(
     iterations: u32,
     kept: &mut ScramRecord,
 ) -> u32
-    ensures { Answers result (Makes (NoneHolds (making_tests version (Typed password.now) salt.now iterations))
-        (MakesStruct version (Typed password.now) salt.now iterations) kept.old kept.new) }
+    ensures { Answers result (Makes (NoneHolds (struct_making_tests version (Typed password.now) salt.now iterations))
+        (MakesRecordStruct version (Typed password.now) salt.now iterations) kept.old kept.new) }
 {
     number(make(
         alloc,
@@ -189,8 +189,8 @@ pub extern "C" fn fe2o3_scram_record_make_prepared(
     iterations: u32,
     kept: &mut ScramRecord,
 ) -> u32
-    ensures { Answers result (Makes (NoneHolds (making_tests version (Prepared password.now) salt.now iterations))
-        (MakesStruct version (Prepared password.now) salt.now iterations) kept.old kept.new) }
+    ensures { Answers result (Makes (NoneHolds (struct_making_tests version (Prepared password.now) salt.now iterations))
+        (MakesRecordStruct version (Prepared password.now) salt.now iterations) kept.old kept.new) }
 {
     number(make(
         alloc,

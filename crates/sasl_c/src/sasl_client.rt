@@ -6,7 +6,7 @@ ghost use Rattle.fe2o3_sasl_runs.specs.SaslProfile.{profile_of};
 ghost use Rattle.fe2o3_sasl_negotiation.specs.declared.standing.Standing.TheVariants.{Wanting};
 ghost use Rattle.fe2o3_sasl_negotiation.specs.ClientNegotiation.{ClientReceives};
 ghost use Rattle.fe2o3_sasl_negotiation.specs.Sides.{client_side, hostname_in};
-ghost use Rattle.sasl_c.specs.SaslClient.{Comes, HasNoWords, IsClient, IsHostname, IsNoClient, HasNoHostname, IsNoProfile, ReadsClient, IsProfile, Opens, Receives, WritesProfile, WritesSide};
+ghost use Rattle.sasl_c.specs.SaslClient.{ProfileIsReached, HasNoClientWords, IsClient, IsHostname, IsNoClient, HasNoHostname, IsNoProfile, ReadsClient, IsProfile, OpensConnection, ReceivesAsClient, WritesProfile, WritesSide};
 ghost use Rattle.sasl_c.specs.declared.sasl_client.SaslClient.{SaslClient as Structs};
 ghost use Rattle.sasl_c.specs.declared.sasl_client.SaslLogin.{SaslLogin as LoginStruct};
 ghost use Rattle.sasl_c.specs.Status.{Answers, AsksWhere, Fills, FillsWithin};
@@ -67,7 +67,7 @@ impl SaslLogin<'_> {
     fn plain(&self, alloc: Global) -> Result<SaslProfile, Status>
         ensures ok { IfOk result (λ profile.
             profile_of profile ≡ PlainProfile self.now.login.username.now self.now.login.password.now) }
-        ensures err { IfErr result (λ status. status ≢ StatusOutOfMemory → HasNoWords self.now.login status) }
+        ensures err { IfErr result (λ status. status ≢ StatusOutOfMemory → HasNoClientWords self.now.login status) }
         ensures room { IfErr result (λ status. status ≢ RoomTooSmall) }
     {
         let username = text(self.login.username)?.to_string(alloc)?;
@@ -97,7 +97,7 @@ impl SaslLogin<'_> {
 
 /// The struct of a profile's client of SCRAM, and a fresh one of another profile.
 pub fn scram_of(profile: &SaslProfile) -> Option<ScramClient>
-    ensures state { (login : LoginStruct) → Comes login (profile_of profile.now)
+    ensures state { (login : LoginStruct) → ProfileIsReached login (profile_of profile.now)
         → MatchOption result ⊥ (λ scram. IsProfile login scram (profile_of profile.now)) }
     ensures writes { IfSome result (λ scram. WritesProfile scram (profile_of profile.now)) }
 {
@@ -110,7 +110,7 @@ pub fn scram_of(profile: &SaslProfile) -> Option<ScramClient>
 impl SaslClient {
     /// The structs of a side.
     fn of(side: &ClientNegotiation) -> Option<SaslClient>
-        ensures state { (login : LoginStruct) → Comes login (client_side side.now).state
+        ensures state { (login : LoginStruct) → ProfileIsReached login (client_side side.now).state
             → (client_side side.now).limit ≡ 512 → length (client_side side.now).held ≤ 512
             → MatchOption result ⊥ (λ client. IsClient login client (client_side side.now)) }
         ensures writes { IfSome result (λ client. WritesSide client (client_side side.now)) }
@@ -151,7 +151,7 @@ impl SaslClient {
 
 /// Writes the header of SASL.
 fn open(out: &mut [u8], len: &mut usize) -> Result<(), Status>
-    ensures { Fills Opens (record { bytes = out.old; len = len.old }) (record { bytes = out.new; len = len.new }) result }
+    ensures { Fills OpensConnection (record { bytes = out.old; len = len.old }) (record { bytes = out.new; len = len.new }) result }
 {
     put(&<[u8; 8]>::from(ProtocolHeader::sasl()), out, len)
 }
@@ -159,7 +159,7 @@ fn open(out: &mut [u8], len: &mut usize) -> Result<(), Status>
 /// Writes the header of SASL, with which a client begins a connection.
 #[unsafe(no_mangle)]
 pub extern "C" fn fe2o3_sasl_client_open(out: &mut [u8], len: &mut usize) -> u32
-    ensures { Answers result (Fills Opens (record { bytes = out.old; len = len.old })
+    ensures { Answers result (Fills OpensConnection (record { bytes = out.old; len = len.old })
         (record { bytes = out.new; len = len.new })) }
 {
     number(open(out, len))
@@ -218,7 +218,7 @@ fn received(
     meter: &mut Meter,
 ) -> Result<Made, Status>
     requires { meter.old ≤ 2 ^ 63 }
-    ensures ok { IfOk result (λ made. Receives login.now bytes.now nonce.now client.now made.next made.taken
+    ensures ok { IfOk result (λ made. ReceivesAsClient login.now bytes.now nonce.now client.now made.next made.taken
         (Ok made.sent.items)) }
     ensures fits { IfOk result (λ made. length made.sent.items ≤ 512) }
     ensures err { IfErr result (λ status. status ≢ StatusOutOfMemory → IsNoClient login.now client.now status) }
@@ -250,7 +250,7 @@ fn receive(
     len: &mut usize,
 ) -> Result<(), Status>
     requires { meter.old ≤ 2 ^ 63 }
-    ensures text { FillsWithin 512 (Receives login.now bytes.now nonce.now client.old client.new taken.new)
+    ensures text { FillsWithin 512 (ReceivesAsClient login.now bytes.now nonce.now client.old client.new taken.new)
         (record { bytes = out.old; len = len.old }) (record { bytes = out.new; len = len.new }) result }
     ensures stays { OnErr result ((client.new ≡ client.old) × (taken.new ≡ taken.old)) }
     ensures first { IfErr result (λ status. status ≡ RoomTooSmall → meter.new ≡ meter.old) }
@@ -288,7 +288,7 @@ pub extern "C" fn fe2o3_sasl_client_receive(
     len: &mut usize,
 ) -> u32
     ensures { Answers result (λ answer. FillsWithin 512
-        (Receives login.now bytes.now nonce.now client.old client.new taken.new)
+        (ReceivesAsClient login.now bytes.now nonce.now client.old client.new taken.new)
         (record { bytes = out.old; len = len.old }) (record { bytes = out.new; len = len.new }) answer
         × OnErr answer ((client.new ≡ client.old) × (taken.new ≡ taken.old))
         × AsksWhere (ReadsClient login.now client.old) answer) }

@@ -9,7 +9,7 @@ ghost use Rattle.fe2o3_sasl_negotiation.specs.declared.standing.Standing.TheVari
 ghost use Rattle.fe2o3_sasl_negotiation.specs.ServerNegotiation.{ServerReceives};
 ghost use Rattle.fe2o3_sasl_negotiation.specs.SetDown.{IsServerKept, side_of};
 ghost use Rattle.fe2o3_sasl_negotiation.specs.Sides.{server_side};
-ghost use Rattle.sasl_c.specs.SaslServer.{Comes, HasNoWords, HasNone, HasRecords, IsAll, IsNoHost, NotReceived, Received, Receives, ShowsBy, ShowsStanding, ShowsState, Stands, all_in, all_of, allowed_of, external_mechanism, external_name, host_tests, name_where, one_where, standing_struct, state_of, state_struct, struct_by, sum_of};
+ghost use Rattle.sasl_c.specs.SaslServer.{ServerIsReached, HasNoServerWords, HasNone, HasRecords, IsAll, IsNoHost, NotReceived, Received, ReceivesAsServer, ShowsBy, ShowsStanding, ShowsState, ShowsExchange, all_in, all_of, allowed_of, external_mechanism, external_name, host_tests, name_where, one_where, standing_struct, value_state, state_struct, struct_by, sum_of};
 ghost use Rattle.sasl_c.specs.declared.sasl_server.Choice.{Choice as Choices};
 ghost use Rattle.sasl_c.specs.declared.server.ScramServer.{ScramServer as ScramStruct};
 ghost use Rattle.fe2o3_scram.specs.Readings.{NoneHolds};
@@ -183,7 +183,7 @@ fn stands(
 ) -> Result<(Scram, Option<Part>), Status>
     ensures provider { IfOk result (λ made. provider_in made.0 ≡ store) }
     ensures unbound { IfOk result (λ made. unbound_in made.0 ≡ accepts_unbound) }
-    ensures state { IfOk result (λ made. Stands scram.now (state_in made.0) made.1) }
+    ensures state { IfOk result (λ made. ShowsExchange scram.now (state_in made.0) made.1) }
     ensures err { IfErr result (λ status. status ≡ StatusOutOfMemory) }
 {
     let fresh = server_over(store, accepts_unbound);
@@ -246,7 +246,7 @@ impl SaslHost<'_> {
     ) -> Result<All, Status>
         ensures ok { IfOk result (λ all. IsAll self.now version accepts_unbound scram.now (all_in all)) }
         ensures utf8 { IfOk result (λ _. IsUtf8 self.now.username.now × IsUtf8 self.now.peer.now) }
-        ensures err { IfErr result (λ status. status ≢ StatusOutOfMemory → HasNoWords self.now status) }
+        ensures err { IfErr result (λ status. status ≢ StatusOutOfMemory → HasNoServerWords self.now status) }
         ensures room { IfErr result (λ status. status ≢ RoomTooSmall) }
     {
         let store = self.store(alloc, version)?;
@@ -258,7 +258,7 @@ impl SaslHost<'_> {
     /// Tests that the words of the host are texts.
     fn words(&self) -> Result<(), Status>
         ensures { MatchResult result (λ _. IsUtf8 self.now.username.now × IsUtf8 self.now.peer.now)
-            (λ status. HasNoWords self.now status) }
+            (λ status. HasNoServerWords self.now status) }
     {
         text(self.username)?;
         text(self.peer)?;
@@ -268,8 +268,8 @@ impl SaslHost<'_> {
     /// The acceptor, in the exchange that the struct of SCRAM shows.
     #[tactic(auto, using(crate::proofs::SaslServerLemmas::acceptor))]
     pub fn acceptor(&self, alloc: Global, scram: &ScramServer) -> Result<Acceptor, Status>
-        ensures ok { IfOk result (λ acceptor. Comes self.now Wanting (state_of acceptor)
-            × ShowsState scram.now Wanting (state_of acceptor)) }
+        ensures ok { IfOk result (λ acceptor. ServerIsReached self.now Wanting (value_state acceptor)
+            × ShowsState scram.now Wanting (value_state acceptor)) }
         ensures tests { IfOk result (λ _. NoneHolds (host_tests self.now)) }
         ensures err { IfErr result (λ status. status ≢ StatusOutOfMemory → IsNoHost self.now status) }
         ensures memory { AsksWhere (NoneHolds (host_tests self.now)) result }
@@ -382,9 +382,9 @@ pub trait Shows: NamesUser {
 }
 
 impl Shows for Acceptor {
-    ghost shows = { λ scram standing acceptor. ShowsState scram standing (state_of acceptor) };
+    ghost shows = { λ scram standing acceptor. ShowsState scram standing (value_state acceptor) };
 
-    ghost written_for = { λ standing acceptor. state_struct standing (state_of acceptor) };
+    ghost written_for = { λ standing acceptor. state_struct standing (value_state acceptor) };
 
     fn shown(&self, standing: Standing) -> Option<ScramServer> {
         shown(
@@ -507,7 +507,7 @@ fn receive(
     len: &mut usize,
 ) -> Result<(), Status>
     requires { meter.old ≤ 2 ^ 63 }
-    ensures text { FillsWithin 520 (Receives host.now bytes.now nonce.now server.old server.new taken.new)
+    ensures text { FillsWithin 520 (ReceivesAsServer host.now bytes.now nonce.now server.old server.new taken.new)
         (record { bytes = out.old; len = len.old }) (record { bytes = out.new; len = len.new }) result }
     ensures stays { OnErr result ((server.new ≡ server.old) × (taken.new ≡ taken.old)) }
     ensures first { IfErr result (λ status. status ≡ RoomTooSmall → meter.new ≡ meter.old) }
@@ -545,7 +545,7 @@ pub extern "C" fn fe2o3_sasl_server_receive(
     len: &mut usize,
 ) -> u32
     ensures { Answers result (λ answer. FillsWithin 520
-        (Receives host.now bytes.now nonce.now server.old server.new taken.new)
+        (ReceivesAsServer host.now bytes.now nonce.now server.old server.new taken.new)
         (record { bytes = out.old; len = len.old }) (record { bytes = out.new; len = len.new }) answer
         × OnErr answer ((server.new ≡ server.old) × (taken.new ≡ taken.old))
         × AsksWhere (NoneHolds (side_tests server.old.connection) × NoneHolds (host_tests host.now)) answer) }

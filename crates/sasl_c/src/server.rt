@@ -1,10 +1,10 @@
 //! A SCRAM server, which stands in a struct between its calls.
 
 ghost use Rattle.std.specs.Prelude.{false, true, ◌≡◌, ◌≢◌, ◌<◌, ◌≤◌, ◌^◌, List, ℕ, length, take, Ok, Err, IfOk, IfErr, IfSome, OnErr, MatchOption};
-ghost use Rattle.fe2o3_scram.specs.ServerFirst.{Challenge};
+ghost use Rattle.fe2o3_scram.specs.ServerFirst.{ServerChallenge};
 ghost use Rattle.fe2o3_scram.specs.ScramServer.{Initial, ServerFirstSent, challenge_kept, provider_in, state_in, unbound_in};
 ghost use Rattle.fe2o3_scram.specs.declared.scram_messages.gs2_header.Gs2Header.{Gs2Header as HeaderOf};
-ghost use Rattle.sasl_c.specs.Server.{Challenged, Challenges, Concluded, Concludes, HasLoggedIn, HasRoom, IsOpen, NamesUser, NotChallenged, Opens, ReadsFinal, ReadsFirst, TellsUser, fresh_struct, logged_in_struct, open_number, open_struct, user_struct};
+ghost use Rattle.sasl_c.specs.Server.{MakesChallenge, Challenges, ConcludesLogin, Concludes, HasLoggedIn, ChallengeHasRoom, IsOpen, NamesUser, NotChallenged, OpensExchange, ReadsFinal, ReadsFirst, TellsUser, fresh_server_struct, logged_in_struct, open_number, open_struct, user_struct};
 ghost use Rattle.sasl_c.specs.Status.{Answers, AsksWhere, Fills, FillsWithin};
 ghost use Rattle.sasl_c.specs.declared.status.Status.TheVariants.{OutOfMemory as StatusOutOfMemory, RoomTooSmall};
 
@@ -57,7 +57,7 @@ impl ScramServer {
     /// The struct of a server that has nobody's challenge open, and has logged nobody in.
     pub fn fresh() -> ScramServer
         ensures stands { result.stands ≡ 0 }
-        ensures writes { result ≡ fresh_struct }
+        ensures writes { result ≡ fresh_server_struct }
     {
         ScramServer {
             stands: 0,
@@ -109,8 +109,8 @@ impl ScramServer {
 
     /// The struct of a server whose challenge is open, or `None` where a text of it has no room.
     pub fn of(challenge: &OpenChallenge<'_>) -> Option<ScramServer>
-        ensures open { MatchOption result (¬ HasRoom (challenge_kept challenge.now))
-            (λ server. HasRoom (challenge_kept challenge.now) × IsOpen server (challenge_kept challenge.now)) }
+        ensures open { MatchOption result (¬ ChallengeHasRoom (challenge_kept challenge.now))
+            (λ server. ChallengeHasRoom (challenge_kept challenge.now) × IsOpen server (challenge_kept challenge.now)) }
         ensures writes { IfSome result (λ server. server ≡ open_struct (challenge_kept challenge.now)) }
     {
         Some(ScramServer {
@@ -170,7 +170,7 @@ pub fn server_over<C: ScramCredentialProvider>(
 impl ScramServer {
     /// The challenge that is open, where the struct shows one.
     pub fn challenge(&self) -> Option<OpenChallenge<'_>>
-        ensures { MatchOption result ((challenge : Challenge) → ¬ IsOpen self.now challenge)
+        ensures { MatchOption result ((challenge : ServerChallenge) → ¬ IsOpen self.now challenge)
             (λ challenge. IsOpen self.now (challenge_kept challenge)) }
     {
         let header = open_header(self.stands)?;
@@ -199,8 +199,8 @@ fn challenged(
     nonce: &[u8; 32],
     client_first: &[u8],
 ) -> Result<Machine, Status>
-    ensures ok { IfOk result (λ machine. (challenge : Challenge) × (state_in machine ≡ ServerFirstSent challenge)
-        × Challenged accepts_unbound kept.now nonce.now client_first.now challenge) }
+    ensures ok { IfOk result (λ machine. (challenge : ServerChallenge) × (state_in machine ≡ ServerFirstSent challenge)
+        × MakesChallenge accepts_unbound kept.now nonce.now client_first.now challenge) }
     ensures err { IfErr result (λ status. status ≢ StatusOutOfMemory
         → NotChallenged accepts_unbound kept.now nonce.now client_first.now status) }
     ensures memory { AsksWhere (ReadsFirst accepts_unbound client_first.now) result }
@@ -233,8 +233,8 @@ fn opened(
     nonce: &[u8; 32],
     client_first: &[u8],
 ) -> Result<ScramServer, Status>
-    ensures ok { IfOk result (λ opened. (challenge : Challenge)
-        × Challenged accepts_unbound kept.now nonce.now client_first.now challenge × IsOpen opened challenge
+    ensures ok { IfOk result (λ opened. (challenge : ServerChallenge)
+        × MakesChallenge accepts_unbound kept.now nonce.now client_first.now challenge × IsOpen opened challenge
         × (opened ≡ open_struct challenge)) }
     ensures message { IfOk result (λ opened. Challenges accepts_unbound kept.now nonce.now client_first.now
         (Ok (take opened.first_len opened.first)) × (opened.first_len ≤ 1024)) }
@@ -276,7 +276,7 @@ fn first(
 ) -> Result<(), Status>
     ensures text { Fills (Challenges accepts_unbound kept.now nonce.now client_first.now)
         (record { bytes = out.old; len = len.old }) (record { bytes = out.new; len = len.new }) result }
-    ensures moved { Opens accepts_unbound kept.now nonce.now client_first.now server.old server.new result }
+    ensures moved { OpensExchange accepts_unbound kept.now nonce.now client_first.now server.old server.new result }
     ensures memory { AsksWhere (ReadsFirst accepts_unbound client_first.now) result }
 {
     let opened = opened(alloc, accepts_unbound, kept, nonce, client_first)?;
@@ -301,7 +301,7 @@ pub extern "C" fn fe2o3_scram_server_first(
 ) -> u32
     ensures { Answers result (λ answer. Fills (Challenges false kept.now nonce.now client_first.now)
         (record { bytes = out.old; len = len.old }) (record { bytes = out.new; len = len.new }) answer
-        × Opens false kept.now nonce.now client_first.now server.old server.new answer
+        × OpensExchange false kept.now nonce.now client_first.now server.old server.new answer
         × AsksWhere (ReadsFirst false client_first.now) answer) }
 {
     number(first(alloc, false, kept, server, nonce, client_first, out, len))
@@ -322,7 +322,7 @@ pub extern "C" fn fe2o3_scram_server_first_unbound(
 ) -> u32
     ensures { Answers result (λ answer. Fills (Challenges true kept.now nonce.now client_first.now)
         (record { bytes = out.old; len = len.old }) (record { bytes = out.new; len = len.new }) answer
-        × Opens true kept.now nonce.now client_first.now server.old server.new answer
+        × OpensExchange true kept.now nonce.now client_first.now server.old server.new answer
         × AsksWhere (ReadsFirst true client_first.now) answer) }
 {
     number(first(alloc, true, kept, server, nonce, client_first, out, len))
@@ -364,7 +364,7 @@ fn concluded(
 ) -> Result<Vec<u8>, Status>
     requires { meter.old ≤ 2 ^ 63 }
     ensures ok { IfOk result (λ message. (user : List ℕ)
-        × Concluded kept.now server.now client_final.now message.items user) }
+        × ConcludesLogin kept.now server.now client_final.now message.items user) }
     ensures fits { IfOk result (λ message. length message.items ≤ 90) }
     ensures named { IfOk result (λ _. server.now.user_len ≤ 256) }
     ensures err { IfErr result (λ status. status ≢ StatusOutOfMemory

@@ -8,7 +8,7 @@ ghost use Rattle.fe2o3_sasl_negotiation.specs.declared.standing.Turn.TheVariants
 ghost use Rattle.sasl_c.specs.SaslServer.{BodyNames, BodyNamesNobody, host_tests};
 ghost use Rattle.fe2o3_scram.specs.Readings.{NoneHolds};
 ghost use Rattle.sasl_c.specs.Status.{Answers, AsksWhere, Fills, FillsWithin};
-ghost use Rattle.sasl_c.specs.Steps.{IsStepped, NotStepped, Offers, ServerHides, ServerNotStepped, ServerStepped, ServerSteps, ServerTells, StepNames, standing_number};
+ghost use Rattle.sasl_c.specs.Steps.{IsStepped, NotStepped, HostOffers, ServerHides, ServerNotStepped, ServerStepped, ServerSteps, ServerTells, StepNames, standing_number};
 ghost use Rattle.sasl_c.specs.declared.status.Status.TheVariants.{FrameTooLarge, OutOfMemory as StatusOutOfMemory, RoomTooSmall};
 
 use crate::arrays::put;
@@ -43,8 +43,8 @@ fn offer_of<A: SaslAcceptor + Drop>(alloc: Global, acceptor: A) -> Result<BytesM
 
 /// The body with which a host offers its mechanisms.
 fn offered(alloc: Global, host: &SaslHost<'_>) -> Result<BytesMut, Status>
-    ensures offers { MatchResult result (λ body. Offers host.now (Ok body.items))
-        (λ status. status ≢ StatusOutOfMemory → Offers host.now (Err status)) }
+    ensures offers { MatchResult result (λ body. HostOffers host.now (Ok body.items))
+        (λ status. status ≢ StatusOutOfMemory → HostOffers host.now (Err status)) }
     ensures memory { AsksWhere (NoneHolds (host_tests host.now)) result }
     ensures room { IfErr result (λ status. status ≢ RoomTooSmall) }
 {
@@ -60,7 +60,7 @@ fn offered(alloc: Global, host: &SaslHost<'_>) -> Result<BytesMut, Status>
 
 /// Writes the body with which a host offers its mechanisms.
 fn offer(alloc: Global, host: &SaslHost<'_>, out: &mut [u8], len: &mut usize) -> Result<(), Status>
-    ensures text { Fills (Offers host.now) (record { bytes = out.old; len = len.old })
+    ensures text { Fills (HostOffers host.now) (record { bytes = out.old; len = len.old })
         (record { bytes = out.new; len = len.new }) result }
     ensures memory { AsksWhere (NoneHolds (host_tests host.now)) result }
 {
@@ -79,7 +79,7 @@ pub extern "C" fn fe2o3_sasl_server_offer(
     out: &mut [u8],
     len: &mut usize,
 ) -> u32
-    ensures { Answers result (λ answer. Fills (Offers host.now) (record { bytes = out.old; len = len.old })
+    ensures { Answers result (λ answer. Fills (HostOffers host.now) (record { bytes = out.old; len = len.old })
         (record { bytes = out.new; len = len.new }) answer × AsksWhere (NoneHolds (host_tests host.now)) answer) }
 {
     number(offer(alloc, host, out, len))

@@ -4,7 +4,7 @@ ghost use Rattle.std.specs.Prelude.{true, ◌≡◌, ◌≢◌, ℕ, List, Ok, I
 ghost use Rattle.sasl_c.specs.SaslServer.{BodyNames, BodyNamesNobody, FrameNames, InitNames, Named, Names, NotNamed, ResponseNames};
 ghost use Rattle.fe2o3_sasl_wire.specs.FrameView.{shown, viewed_frame};
 ghost use Rattle.fe2o3_scram.specs.ClientFirst.{ClientFirst as FirstValues, ReadsClientFirst};
-ghost use Rattle.fe2o3_scram.specs.ServerFirst.{Challenge};
+ghost use Rattle.fe2o3_scram.specs.ServerFirst.{ServerChallenge};
 ghost use Rattle.sasl_c.specs.Server.{IsOpen};
 ghost use Rattle.sasl_c.specs.Status.{Answers, Fills};
 ghost use Rattle.sasl_c.specs.declared.status.Status.TheVariants.{OutOfMemory as StatusOutOfMemory, RoomTooSmall};
@@ -74,8 +74,8 @@ fn response_user(
 
 /// The user of the open challenge, or `None` where none is open. `OutOfMemory` is the only refusal.
 fn open_user(alloc: Global, scram: &ScramServer) -> Result<Option<Vec<u8>>, Status>
-    ensures ok { IfOk result (λ user. MatchOption user ((challenge : Challenge) → ¬ IsOpen scram.now challenge)
-        (λ user. (challenge : Challenge) × IsOpen scram.now challenge × (user.items ≡ challenge.user))) }
+    ensures ok { IfOk result (λ user. MatchOption user ((challenge : ServerChallenge) → ¬ IsOpen scram.now challenge)
+        (λ user. (challenge : ServerChallenge) × IsOpen scram.now challenge × (user.items ≡ challenge.user))) }
     ensures err { IfErr result (λ status. status ≡ StatusOutOfMemory) }
 {
     match scram.challenge() {

@@ -62,5 +62,5 @@ abbrev pub refusal : Unassigned → List ℕ → Option SaslprepError
 refusal unassigned cs = refusal_of unassigned cs (prepared cs)
 
 -- each byte is printable ASCII
-abbrev pub IsPrintable : List ℕ → Type 0
-IsPrintable bs = All (λ b. (0x20 ≤ b) × (b ≤ 0x7E)) bs
+abbrev pub IsPrintableText : List ℕ → Type 0
+IsPrintableText bs = All (λ b. (0x20 ≤ b) × (b ≤ 0x7E)) bs

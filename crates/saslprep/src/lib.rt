@@ -11,7 +11,7 @@ ghost use Rattle.std.specs.List.{find, filter_map, list_any};
 ghost use Rattle.std.specs.Option.{option_map_or};
 ghost use Rattle.std.specs.Str.{IsAscii};
 ghost use Rattle.std.specs.Cow.{cow_str_bytes, IsBorrowedStr};
-ghost use Rattle.saslprep.specs.Saslprep.{mapping, prepared, refusal, refusal_of, has_one_direction, first_unassigned, is_prohibited, is_right_to_left, is_left_to_right, is_unassigned, IsPrintable};
+ghost use Rattle.saslprep.specs.Saslprep.{mapping, prepared, refusal, refusal_of, has_one_direction, first_unassigned, is_prohibited, is_right_to_left, is_left_to_right, is_unassigned, IsPrintableText};
 
 pub use crate::error::SaslprepError;
 use std::alloc::{AllocError, Global};
@@ -46,8 +46,8 @@ pub fn saslprep(
 
     // Of ASCII, printable text is borrowed as it is and any other refused, neither for want of memory.
     ensures ascii { IsAscii text.now → MatchResult result
-        (λ out. IsPrintable text.now × IsBorrowedStr out × (cow_str_bytes out ≡ text.now))
-        (λ error. ¬ IsPrintable text.now × (error ≢ SaslprepError.OutOfMemory)) }
+        (λ out. IsPrintableText text.now × IsBorrowedStr out × (cow_str_bytes out ≡ text.now))
+        (λ error. ¬ IsPrintableText text.now × (error ≢ SaslprepError.OutOfMemory)) }
 {
     if text.is_ascii() {
         return match prohibited_of_text(text) {

@@ -3,7 +3,7 @@
 
 ghost use Rattle.std.specs.Prelude.{◌≡◌, IfOk, OnOk, is_ok};
 ghost use Rattle.std.specs.List.{list_all, list_any};
-ghost use Rattle.scram_commands.specs.private.Audit.{Finds, FindsWhole, believes, is_whole, means_one};
+ghost use Rattle.scram_commands.specs.private.Audit.{FindsAll, FindsWhole, believes, is_whole, means_one};
 
 pub mod half;
 pub mod sentences;
@@ -234,7 +234,7 @@ impl Sides {
 
     /// What both sides have in common.
     fn findings(&self, alloc: Global, login: &Login<'_>) -> Result<Vec<Finding>, Stop>
-        ensures { IfOk result (λ findings. Finds self.now login.now findings.items) }
+        ensures { IfOk result (λ findings. FindsAll self.now login.now findings.items) }
     {
         Ok(audit_limited(
             alloc,

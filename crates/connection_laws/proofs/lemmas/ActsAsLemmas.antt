@@ -10,7 +10,7 @@ use Rattle.fe2o3_sasl_wire.specs.SaslFrames.{SaslFrame, canonical}
 use Rattle.fe2o3_sasl_runs.specs.Bodies.{SpellsBody, carried}
 use Rattle.fe2o3_sasl_runs.specs.Events.{Given, ServerSays, Challenged, Concluded, Failed}
 use Rattle.fe2o3_sasl_runs.specs.OffersOnly.{Offering, offering_machine}
-use Rattle.fe2o3_sasl_runs.specs.OneOf.{Parts, PartReplies, part_for, one_of_machine}
+use Rattle.fe2o3_sasl_runs.specs.OneOf.{BothStates, PartReplies, part_for, one_of_machine}
 use Rattle.fe2o3_sasl_runs.specs.OneOfLaws.{Machine, IsRefusal, those}
 use Rattle.fe2o3_sasl_runs.specs.Runs.{Runs, AcceptorSteps, AcceptorAnswers, server_says}
 use Rattle.fe2o3_sasl_runs.specs.SaslAcceptor.{ends_with}
@@ -24,18 +24,18 @@ use Rattle.fe2o3_sasl_negotiation.specs.declared.standing.Due.TheVariants.{Frame
 use Rattle.fe2o3_sasl_negotiation.specs.declared.standing.Standing.TheVariants.{Wanting}
 use Rattle.fe2o3_sasl_negotiation.specs.declared.standing.Turn.TheVariants as turns
 use Rattle.fe2o3_sasl_negotiation.specs.Connections.{Piece, AreFrames, Replied, ServerNegotiated, LastReply, IsOkSent}
-use Rattle.fe2o3_sasl_negotiation.specs.Negotiations.{Side, Answer}
-use Rattle.fe2o3_sasl_negotiation.specs.ServerNegotiation.{Says}
+use Rattle.fe2o3_sasl_negotiation.specs.Negotiations.{Side, SideOutput}
+use Rattle.fe2o3_sasl_negotiation.specs.ServerNegotiation.{ServerOutputs}
 use Rattle.fe2o3_sasl_negotiation.proofs.lemmas.ConnectionLemmas.{closed_is_not_wanting}
 use Rattle.fe2o3_sasl_negotiation.proofs.lemmas.KindLemmas.{closes_waits_not, sends_ends}
 use Rattle.fe2o3_sasl_negotiation.proofs.lemmas.LoginLemmas.{servers_log_in}
-use Rattle.connection_laws.specs.Servers.{in_state, NegotiatesAs, PartNegotiates, OneOfServersActAsPart, OfferingServersActAsInner}
+use Rattle.connection_laws.specs.Servers.{side_with, NegotiatesAs, PartNegotiates, OneOfServersActAsPart, OfferingServersActAsInner}
 use Rattle.connection_laws.proofs.lemmas.OneFrameLemmas.{response_of}
 
 -- ---- replies
 
 -- a reply that leaves a server waiting is no refusal
-goes_on_is_no_refusal : (says : ServerSays) (answer : Answer) → Says says turns.Init answer
+goes_on_is_no_refusal : (says : ServerSays) (answer : SideOutput) → ServerOutputs says turns.Init answer
     → answer.standing ≡ Wanting → ¬ IsRefusal says
 goes_on_is_no_refusal (Challenged body) answer said waits refused = refused
 goes_on_is_no_refusal (Concluded outcomes.Auth body) answer sends waits refused =
@@ -56,8 +56,8 @@ ok_is_no_refusal says (body, same, fits) refused = subst IsRefusal same refused
 abbrev NoneRefuses : List ServerSays → Type 0
 NoneRefuses replies = AllByRecursion (λ (says : ServerSays). ¬ IsRefusal says) replies
 
-none_refuses : (replies : List ServerSays) (answer : Answer)
-    → Replied Says (turns.Init ∷ turns.Response ∷ []) replies answer → LastReply IsOkSent replies → NoneRefuses replies
+none_refuses : (replies : List ServerSays) (answer : SideOutput)
+    → Replied ServerOutputs (turns.Init ∷ turns.Response ∷ []) replies answer → LastReply IsOkSent replies → NoneRefuses replies
 none_refuses [] answer replied ok = tt
 none_refuses (says ∷ []) answer replied ok = (ok_is_no_refusal says ok, tt)
 none_refuses (says ∷ then ∷ []) answer (first, rest, said, waits, more, is) ok =
@@ -82,7 +82,7 @@ negotiates_as {S} {T} whole machine limit state own end pieces taken sent last n
     replied = n.replied;
     sends = n.sends;
     ends = n.ends;
-    waits = λ waiting. ap (λ (side : Side S). in_state end side) (n.waits waiting);
+    waits = λ waiting. ap (λ (side : Side S). side_with end side) (n.waits waiting);
   },
   refl,
   refl,
@@ -92,13 +92,13 @@ negotiates_as {S} {T} whole machine limit state own end pieces taken sent last n
 
 module _ {S T : Type 0} (names : S → List (List ℕ)) (others : T → List (List ℕ)) (machine : Machine S)
     (other : Machine T) where
-  abbrev whole : Machine (Parts S T)
+  abbrev whole : Machine (BothStates S T)
   whole = one_of_machine names others machine other
 
   -- what was answered without a refusal went to the part that is now the one asked
-  asked_now : (parts next : Parts S T) (mark : Option Part) (nonce : List ℕ) (frame : SaslFrame) (says : ServerSays)
+  asked_now : (parts next : BothStates S T) (mark : Option Part) (nonce : List ℕ) (frame : SaslFrame) (says : ServerSays)
       → ¬ IsRefusal says
-      → AcceptorAnswers (λ (at : Parts S T). PartReplies machine other at mark) parts nonce frame says next
+      → AcceptorAnswers (λ (at : BothStates S T). PartReplies machine other at mark) parts nonce frame says next
       → next.asked ≡ mark
   asked_now parts next mark nonce frame says kept (inl want) = absurd (kept (subst IsRefusal (sym want.0) tt))
   asked_now parts next mark nonce frame says kept (inr (reply, moved, replies, sent)) = go mark replies
@@ -109,22 +109,22 @@ module _ {S T : Type 0} (names : S → List (List ℕ)) (others : T → List (Li
       moves (Some body) is same = same
 
       to : next.asked ≡ moved.asked
-      to = ap (λ (p : Parts S T). p.asked) (moves (canonical reply) sent.0 sent.1)
+      to = ap (λ (p : BothStates S T). p.asked) (moves (canonical reply) sent.0 sent.1)
 
       go : (mark : Option Part) → PartReplies machine other parts mark nonce frame reply moved → next.asked ≡ mark
       go None is = absurd (kept (subst IsRefusal (sym (sent.0 ∙ ap (λ (r : SaslFrame). carried
           (Failed faults.TooLarge) (server_says r) (canonical r)) is.0))
           (auth_is_refusal (canonical (ends_with outcomes.Auth)))))
-      go (Some First) (state, replies, is) = to ∙ ap (λ (p : Parts S T). p.asked) is
-      go (Some Second) (state, replies, is) = to ∙ ap (λ (p : Parts S T). p.asked) is
+      go (Some First) (state, replies, is) = to ∙ ap (λ (p : BothStates S T). p.asked) is
+      go (Some Second) (state, replies, is) = to ∙ ap (λ (p : BothStates S T). p.asked) is
 
   -- a step of the part that the frame goes to, which is now the one asked
-  abbrev Acts : Parts S T → Given → ServerSays → Parts S T → Type 0
+  abbrev Acts : BothStates S T → Given → ServerSays → BothStates S T → Type 0
   Acts parts event says next = (frame : SaslFrame) × SpellsBody event.body (Ok frame)
       × ((part : Part) × (part_for names others parts frame ≡ Some part) × (next.asked ≡ Some part)
       × Goes machine other parts (Some part) event says next)
 
-  of_part : (parts next : Parts S T) (event : Given) (says : ServerSays) (mark : Option Part) → ¬ IsRefusal says
+  of_part : (parts next : BothStates S T) (event : Given) (says : ServerSays) (mark : Option Part) → ¬ IsRefusal says
       → next.asked ≡ mark → Goes machine other parts mark event says next
       → (part : Part) × (mark ≡ Some part) × (next.asked ≡ Some part)
       × Goes machine other parts (Some part) event says next
@@ -134,7 +134,7 @@ module _ {S T : Type 0} (names : S → List (List ℕ)) (others : T → List (Li
   fails : (says : ServerSays) (fault : Error) → ¬ IsRefusal says → says ≡ Failed fault → ⊥
   fails says fault kept is = kept (subst IsRefusal (sym is) tt)
 
-  acts : (parts next : Parts S T) (event : Given) (says : ServerSays) → ¬ IsRefusal says
+  acts : (parts next : BothStates S T) (event : Given) (says : ServerSays) → ¬ IsRefusal says
       → AcceptorSteps whole parts event says next → Acts parts event says next
   acts parts next event says kept (Err fault, spells, gives) = absurd (fails says fault kept gives.0)
   acts parts next event says kept (Ok (frames.Mechanisms list), spells, gives) =
@@ -161,16 +161,16 @@ module _ {S T : Type 0} (names : S → List (List ℕ)) (others : T → List (Li
       )
 
   -- a run of a part
-  abbrev PartRuns : Part → Parts S T → List Given → List ServerSays → Parts S T → Type 0
+  abbrev PartRuns : Part → BothStates S T → List Given → List ServerSays → BothStates S T → Type 0
   PartRuns First parts events replies last = Runs (AcceptorSteps machine) parts.first events replies last.first
   PartRuns Second parts events replies last = Runs (AcceptorSteps other) parts.second events replies last.second
 
-  run_ends : (part : Part) (parts last : Parts S T) (replies : List ServerSays) → replies ≡ [] → last ≡ parts
+  run_ends : (part : Part) (parts last : BothStates S T) (replies : List ServerSays) → replies ≡ [] → last ≡ parts
       → PartRuns part parts [] replies last
-  run_ends First parts last replies none same = (none, ap (λ (p : Parts S T). p.first) same)
-  run_ends Second parts last replies none same = (none, ap (λ (p : Parts S T). p.second) same)
+  run_ends First parts last replies none same = (none, ap (λ (p : BothStates S T). p.first) same)
+  run_ends Second parts last replies none same = (none, ap (λ (p : BothStates S T). p.second) same)
 
-  run_more : (part : Part) (parts next last : Parts S T) (event : Given) (events : List Given) (says : ServerSays)
+  run_more : (part : Part) (parts next last : BothStates S T) (event : Given) (events : List Given) (says : ServerSays)
       (replies rest : List ServerSays) → Goes machine other parts (Some part) event says next → replies ≡ says ∷ rest
       → PartRuns part next events rest last → PartRuns part parts (event ∷ events) replies last
   run_more First parts next last event events says replies rest goes is run =
@@ -179,17 +179,17 @@ module _ {S T : Type 0} (names : S → List (List ℕ)) (others : T → List (Li
       (says, next.second, rest, goes.0, is, run)
 
   -- the part asked at last runs by itself
-  abbrev ActsAs : Parts S T → List Given → List ServerSays → Parts S T → Type 0
+  abbrev ActsAs : BothStates S T → List Given → List ServerSays → BothStates S T → Type 0
   ActsAs parts events replies last =
       (part : Part) × (last.asked ≡ Some part) × PartRuns part parts events replies last
 
   same_part : (one two : Part) → ◌≡◌ {A = Option Part} (Some one) (Some two) → one ≡ two
   same_part one two same = cc
 
-  acts_as : (pieces : List Piece) (limit : ℕ) (events : List Given) (replies : List ServerSays) (answer : Answer)
-      (state last : Parts S T) → AreFrames pieces limit 8 (turns.Init ∷ turns.Response ∷ []) events
+  acts_as : (pieces : List Piece) (limit : ℕ) (events : List Given) (replies : List ServerSays) (answer : SideOutput)
+      (state last : BothStates S T) → AreFrames pieces limit 8 (turns.Init ∷ turns.Response ∷ []) events
       → Runs (AcceptorSteps whole) state events replies last
-      → Replied Says (turns.Init ∷ turns.Response ∷ []) replies answer → LastReply IsOkSent replies
+      → Replied ServerOutputs (turns.Init ∷ turns.Response ∷ []) replies answer → LastReply IsOkSent replies
       → ActsAs state events replies last
   acts_as pieces limit [] replies answer state last due run replied ok =
       absurd (subst (λ (l : List ServerSays). LastReply IsOkSent l) run.0 ok)
@@ -199,7 +199,7 @@ module _ {S T : Type 0} (names : S → List (List ℕ)) (others : T → List (Li
       let kept = subst NoneRefuses all (none_refuses replies answer replied ok) in
       let (frame, spells, (part, goes_to, asked, goes)) = acts state next event says kept.0 step in (
         part,
-        ap (λ (p : Parts S T). p.asked) end ∙ asked,
+        ap (λ (p : BothStates S T). p.asked) end ∙ asked,
         run_more part state next last event [] says replies none goes is (run_ends part next last none empty end),
       )
   acts_as pieces limit (event ∷ second ∷ []) replies answer state last due
@@ -214,7 +214,7 @@ module _ {S T : Type 0} (names : S → List (List ℕ)) (others : T → List (Li
       let one : part_then ≡ part = same_part part_then part (sym goes_then_to ∙ (ap (part_for names others mid)
       (one_spelled_frame second.body frame_then (frames.Response text) spells_then response) ∙ asked)) in (
         part,
-        ap (λ (p : Parts S T). p.asked) end ∙ (asked_then ∙ ap (λ (p : Part). Some p) one),
+        ap (λ (p : BothStates S T). p.asked) end ∙ (asked_then ∙ ap (λ (p : Part). Some p) one),
         run_more part state mid last event (second ∷ []) says replies more goes is
             (run_more part mid next last second [] then more none
             (subst (λ (p : Part). Goes machine other mid (Some p) second then next) one goes_then) is_then

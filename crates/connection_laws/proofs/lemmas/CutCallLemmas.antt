@@ -12,12 +12,12 @@ use Rattle.fe2o3_sasl_runs.proofs.lemmas.machines.OneReplyLemmas.{one_acceptor_r
 use Rattle.fe2o3_sasl_negotiation.specs.declared.standing.Due.{Due}
 use Rattle.fe2o3_sasl_negotiation.specs.declared.standing.Standing.{Standing}
 use Rattle.fe2o3_sasl_negotiation.specs.declared.standing.Standing.TheVariants.{Wanting, LoggedIn, Closed}
-use Rattle.fe2o3_sasl_negotiation.specs.ClientNegotiation.{ClientAnswers}
-use Rattle.fe2o3_sasl_negotiation.specs.Connections.{Piece, bytes_of, NonceAt, ServerConnection, ClientConnection, fresh}
+use Rattle.fe2o3_sasl_negotiation.specs.ClientNegotiation.{ClientSideAnswers}
+use Rattle.fe2o3_sasl_negotiation.specs.Connections.{Piece, bytes_of, PieceNonceAt, ServerConnection, ClientConnection, fresh}
 use Rattle.fe2o3_sasl_negotiation.specs.Framing.{sasl_header, framed}
 use Rattle.fe2o3_sasl_negotiation.specs.Laws.{Call, Calls}
-use Rattle.fe2o3_sasl_negotiation.specs.Negotiations.{Side, Answer, Receives, ReceivesAt}
-use Rattle.fe2o3_sasl_negotiation.specs.ServerNegotiation.{ServerAnswers}
+use Rattle.fe2o3_sasl_negotiation.specs.Negotiations.{Side, SideOutput, Receives, ReceivesAt}
+use Rattle.fe2o3_sasl_negotiation.specs.ServerNegotiation.{ServerSideAnswers}
 use Rattle.fe2o3_sasl_negotiation.proofs.lemmas.ClientConnectionLemmas.{client_call, client_fresh}
 use Rattle.fe2o3_sasl_negotiation.proofs.lemmas.CutLemmas.{refused_long, whole_long}
 use Rattle.fe2o3_sasl_negotiation.proofs.lemmas.PieceLemmas.{nonce_of_piece}
@@ -30,7 +30,7 @@ bytes_of-more : (pieces : List Piece) (piece : Piece) → bytes_of (pieces ++ pi
 bytes_of-more pieces piece =
     flat_map-append (λ (p : Piece). p.bytes) pieces (piece ∷ []) ∙ ap (λ l. bytes_of pieces ++ l) (append-nil piece.bytes)
 
-module _ {S : Type 0} (Answers : Due → S → List ℕ → List ℕ → Answer → S → Type 0) where
+module _ {S : Type 0} (Answers : Due → S → List ℕ → List ℕ → SideOutput → S → Type 0) where
   -- a call takes no more than it received
   taken_within : (side next : Side S) (bytes nonce first : List ℕ) (k : ℕ) (standing : Standing)
       → ReceivesAt standing Answers side bytes nonce k first next → k ≤ length bytes
@@ -64,7 +64,7 @@ module _ {S : Type 0} (Answers : Due → S → List ℕ → List ℕ → Answer 
 
   module _ (all : List Piece) (Is : List ℕ → List ℕ → Side S → Type 0)
       (one_more : (taken sent : List ℕ) (side next : Side S) (bytes nonce first : List ℕ) (k : ℕ) → Is taken sent side
-      → IsBytes (taken ++ bytes) → ((i : ℕ) → i < k → NonceAt all (length taken + i) nonce)
+      → IsBytes (taken ++ bytes) → ((i : ℕ) → i < k → PieceNonceAt all (length taken + i) nonce)
       → Receives Answers side bytes nonce k first next → Is (taken ++ take k bytes) (sent ++ first) next) where
     in_calls : (calls : List Call) (done : List Piece) (side last : Side S) (stream before sent rest : List ℕ)
         (made : Calls Answers side calls stream sent last rest)
@@ -92,7 +92,7 @@ module _ {S : Type 0} (Answers : Due → S → List ℕ → List ℕ → Answer 
         (IsBytes-take (length (bytes_of done) + call.handed) (bytes_of done ++ stream) are_bytes) in
         let others = taken_pieces Answers next calls (drop k stream) later last rest made in
         let step = one_more (bytes_of done) before side next handed call.nonce first k is handed_bytes
-        (λ i small. subst (λ (p : List Piece). NonceAt p (length (bytes_of done) + i) call.nonce) (sym whole)
+        (λ i small. subst (λ (p : List Piece). PieceNonceAt p (length (bytes_of done) + i) call.nonce) (sym whole)
         (nonce_of_piece done others piece i (omega (arith, small, count)))) receives in
         let end = in_calls calls (done ++ piece ∷ []) next last (drop k stream) (before ++ first) later rest made
         (whole ∙ sym (append_assoc done (piece ∷ []) others))
@@ -123,11 +123,11 @@ ends_in_stream front rest stream n same (bodies, body, tail, is, place) = (
         ∙ ap (λ l. sasl_header ++ l) (append_assoc a (b ++ c) rest ∙ ap (λ l. a ++ l) (append_assoc b c rest))
 
 -- two lists of calls whose connections end equally
-module _ {S : Type 0} (Answers : Due → S → List ℕ → List ℕ → Answer → S → Type 0) (limit : ℕ) (state : S)
+module _ {S : Type 0} (Answers : Due → S → List ℕ → List ℕ → SideOutput → S → Type 0) (limit : ℕ) (state : S)
     (stream : List ℕ) (Is : List Piece → List ℕ → List ℕ → Side S → Type 0)
     (one_more : (pieces : List Piece) (taken sent : List ℕ) (side next : Side S) (bytes nonce first : List ℕ) (k : ℕ)
     → Is pieces taken sent side → IsBytes (taken ++ bytes)
-    → ((i : ℕ) → i < k → NonceAt pieces (length taken + i) nonce) → Receives Answers side bytes nonce k first next
+    → ((i : ℕ) → i < k → PieceNonceAt pieces (length taken + i) nonce) → Receives Answers side bytes nonce k first next
     → Is pieces (taken ++ take k bytes) (sent ++ first) next)
     (begins : (pieces : List Piece) → Is pieces [] [] (fresh limit state))
     (ends_equally : (pieces others : List Piece) (taken sent out : List ℕ) (last end : Side S)
@@ -160,7 +160,7 @@ module _ {S : Type 0} (Answers : Due → S → List ℕ → List ℕ → Answer 
 pub function_calls_end_equally : {S : Type 0} (names : S → List (List ℕ)) (machine : Machine S)
     → FunctionCallsEndEqually names machine
 function_calls_end_equally names machine function state limit stream small are_bytes first second same nonces =
-    calls_end_equally (ServerAnswers names machine) limit state stream
+    calls_end_equally (ServerSideAnswers names machine) limit state stream
     (λ pieces taken out side. ServerConnection names machine limit state pieces taken out side)
     (λ pieces taken out side next bytes nonce more k is fine known receives.
     server_call names machine limit state pieces taken out side next bytes nonce more k is fine known receives)
@@ -174,7 +174,7 @@ server_calls_end_equally = function_calls_end_equally acceptor_names acceptor_ma
 
 pub client_calls_end_equally : ClientCallsEndEqually
 client_calls_end_equally hostname profile limit stream small are_bytes first second same nonces =
-    calls_end_equally (ClientAnswers hostname) limit profile stream
+    calls_end_equally (ClientSideAnswers hostname) limit profile stream
     (λ pieces taken out side. ClientConnection hostname limit profile pieces taken out side)
     (λ pieces taken out side next bytes nonce more k is fine known receives.
     client_call hostname limit profile pieces taken out side next bytes nonce more k is fine known receives)

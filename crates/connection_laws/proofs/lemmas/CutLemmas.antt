@@ -15,9 +15,9 @@ use Rattle.fe2o3_sasl_negotiation.specs.declared.standing.Due.TheVariants.{Frame
 use Rattle.fe2o3_sasl_negotiation.specs.declared.standing.Standing.{Standing}
 use Rattle.fe2o3_sasl_negotiation.specs.declared.standing.Standing.TheVariants.{Wanting, Closed}
 use Rattle.fe2o3_sasl_negotiation.specs.declared.standing.Turn.{Turn}
-use Rattle.fe2o3_sasl_negotiation.specs.Connections.{Piece, NonceAt, frames_of, SpellsTurn, AreFrames, LeftOver, Unanswered, Replied, Negotiated}
+use Rattle.fe2o3_sasl_negotiation.specs.Connections.{Piece, PieceNonceAt, frames_of, SpellsTurn, AreFrames, LeftOver, Unanswered, Replied, Negotiated}
 use Rattle.fe2o3_sasl_negotiation.specs.Framing.{sasl_header, framed, size_of, Fits, IsPart}
-use Rattle.fe2o3_sasl_negotiation.specs.Negotiations.{Side, Answer, IsInTurn}
+use Rattle.fe2o3_sasl_negotiation.specs.Negotiations.{Side, SideOutput, IsInTurn}
 use Rattle.fe2o3_sasl_negotiation.proofs.lemmas.UnitLemmas.{size_of-framed, length-framed}
 use Rattle.connection_laws.specs.Cuts.{HaveOneNonceEach, EndEqually}
 use Rattle.connection_laws.proofs.lemmas.PairLemmas.{one_split}
@@ -117,13 +117,13 @@ module _ (limit : ℕ) (small : limit < 2 ^ 32) where
       ∙ sym closed_again)
 
   -- how a negotiation ends
-  abbrev EndsIn : Answer → List ℕ → Standing → Type 0
+  abbrev EndsIn : SideOutput → List ℕ → Standing → Type 0
   EndsIn answer tail standing =
       ((turn : Turn) × (answer.standing ≡ Wanting) × (answer.due ≡ Frame turn) × LeftOver turn limit tail standing)
       ⊎ ((answer.standing ≢ Wanting) × (standing ≡ answer.standing) × (tail ≡ []))
 
   -- where a frame is due, none is left over
-  no_frame_after : (turn : Turn) (answer : Answer) (tail body more : List ℕ) (standing : Standing)
+  no_frame_after : (turn : Turn) (answer : SideOutput) (tail body more : List ℕ) (standing : Standing)
       → answer.standing ≡ Wanting → answer.due ≡ Frame turn → EndsIn answer tail standing
       → tail ≡ framed body ++ more → Fits limit (length body + 4) → ¬ SpellsTurn turn body
   no_frame_after turn answer tail body more standing waits due (inl (other, wants, is, left)) same fits spells =
@@ -131,7 +131,7 @@ module _ (limit : ℕ) (small : limit < 2 ^ 32) where
       (subst (λ (t : Turn). SpellsTurn t body) (one_turn turn other answer.due due is) spells)
   no_frame_after turn answer tail body more standing waits due (inr ended) same fits spells = ended.0 waits
 
-  one_end : (answer : Answer) (tail : List ℕ) (standing other : Standing) → EndsIn answer tail standing
+  one_end : (answer : SideOutput) (tail : List ℕ) (standing other : Standing) → EndsIn answer tail standing
       → EndsIn answer tail other → standing ≡ other
   one_end answer tail standing other (inl (turn, wants, is, left)) (inl (again, waits, too, left_again)) =
       one_left_over turn tail standing other left
@@ -173,7 +173,7 @@ module _ (limit : ℕ) (small : limit < 2 ^ 32) where
           place_of at (length (flat_map framed bodies))
               (length event.body) place,
         ) frames.2
-            (subst (λ (b : List ℕ). NonceAt others (at + (length b + 3)) other.nonce) (sym both.0) also.2),
+            (subst (λ (b : List ℕ). PieceNonceAt others (at + (length b + 3)) other.nonce) (sym both.0) also.2),
         pair_nonces turns pieces others (at + (length event.body + 4)) (bodies ++ event.body ∷ []) events more stream tail
             rest one
             (next_place at (length (flat_map framed bodies)) (length event.body) place
@@ -195,8 +195,8 @@ module _ (limit : ℕ) (small : limit < 2 ^ 32) where
 
   -- ---- frames and replies
 
-  module _ {S A : Type 0} (Steps : S → Given → A → S → Type 0) (Says : A → Turn → Answer → Type 0)
-      (one_step : (turn : Turn) (state : S) (event : Given) (says other : A) (answer reply : Answer) (next end : S)
+  module _ {S A : Type 0} (Steps : S → Given → A → S → Type 0) (Says : A → Turn → SideOutput → Type 0)
+      (one_step : (turn : Turn) (state : S) (event : Given) (says other : A) (answer reply : SideOutput) (next end : S)
       → Steps state event says next → Says says turn answer → Steps state event other end → Says other turn reply
       → (says ≡ other) × (next ≡ end) × (answer ≡ reply)) where
     -- what a reply leaves due is the next turn
@@ -204,15 +204,15 @@ module _ (limit : ℕ) (small : limit < 2 ^ 32) where
     Follow [] = Unit {0}
     Follow (turn ∷ []) = Unit {0}
     Follow (turn ∷ next ∷ turns) =
-        ((says : A) (answer : Answer) → Says says turn answer → answer.standing ≡ Wanting → answer.due ≡ Frame next)
+        ((says : A) (answer : SideOutput) → Says says turn answer → answer.standing ≡ Wanting → answer.due ≡ Frame next)
         × Follow (next ∷ turns)
 
     -- one event
-    abbrev Single : Turn → S → Given → List A → Answer → S → Type 0
+    abbrev Single : Turn → S → Given → List A → SideOutput → S → Type 0
     Single turn state event replies answer last = (says : A) × (next : S) × Steps state event says next
         × (replies ≡ says ∷ []) × (last ≡ next) × Says says turn answer
 
-    single : (turn : Turn) (turns : List Turn) (state : S) (event : Given) (replies : List A) (answer : Answer) (last : S)
+    single : (turn : Turn) (turns : List Turn) (state : S) (event : Given) (replies : List A) (answer : SideOutput) (last : S)
         → Runs Steps state (event ∷ []) replies last → Replied Says (turn ∷ turns) replies answer
         → Single turn state event replies answer last
     single turn turns state event replies answer last (says, next, others, step, is, (empty, ended)) replied =
@@ -226,14 +226,14 @@ module _ (limit : ℕ) (small : limit < 2 ^ 32) where
         )
 
     -- and more of them
-    abbrev More : Turn → List Turn → S → Given → List Given → List A → Answer → S → Type 0
+    abbrev More : Turn → List Turn → S → Given → List Given → List A → SideOutput → S → Type 0
     More turn turns state event events replies answer last = (says : A) × (next : S) × (others : List A)
-        × (first : Answer) × (left : Answer) × Steps state event says next × (replies ≡ says ∷ others)
+        × (first : SideOutput) × (left : SideOutput) × Steps state event says next × (replies ≡ says ∷ others)
         × Runs Steps next events others last × Says says turn first × (first.standing ≡ Wanting)
         × Replied Says turns others left × (answer ≡ record left { sent = first.sent ++ left.sent })
 
     more_of : (turn : Turn) (turns : List Turn) (state : S) (event second : Given) (events : List Given)
-        (replies : List A) (answer : Answer) (last : S) → Runs Steps state (event ∷ second ∷ events) replies last
+        (replies : List A) (answer : SideOutput) (last : S) → Runs Steps state (event ∷ second ∷ events) replies last
         → Replied Says (turn ∷ turns) replies answer → More turn turns state event (second ∷ events) replies answer last
     more_of turn turns state event second events replies answer last
         (says, next, others, step, is, (then, mid, rest, step_then, is_then, run)) replied =
@@ -254,11 +254,11 @@ module _ (limit : ℕ) (small : limit < 2 ^ 32) where
           sum,
         )
 
-    abbrev Same : List Given → List Given → List A → List A → Answer → Answer → List ℕ → List ℕ → S → S → Type 0
+    abbrev Same : List Given → List Given → List A → List A → SideOutput → SideOutput → List ℕ → List ℕ → S → S → Type 0
     Same events others replies again answer reply tail rest last end = (events ≡ others) × (replies ≡ again)
         × (answer ≡ reply) × (tail ≡ rest) × (last ≡ end)
 
-    none : (turn : Turn) (turns : List Turn) (state : S) (replies : List A) (answer : Answer) (last : S)
+    none : (turn : Turn) (turns : List Turn) (state : S) (replies : List A) (answer : SideOutput) (last : S)
         → Runs Steps state [] replies last → Replied Says (turn ∷ turns) replies answer
         → answer ≡ record { sent = []; standing = Wanting; due = Frame turn }
     none turn turns state replies answer last run replied =
@@ -266,19 +266,19 @@ module _ (limit : ℕ) (small : limit < 2 ^ 32) where
 
     -- one side has no frame, and the other side has one
     none_and_some : (turn : Turn) (turns : List Turn) (pieces : List Piece) (at : ℕ) (state : S) (event : Given)
-        (events : List Given) (replies : List A) (answer : Answer) (last : S) (tail rest : List ℕ) (standing : Standing)
+        (events : List Given) (replies : List A) (answer : SideOutput) (last : S) (tail rest : List ℕ) (standing : Standing)
         → AreFrames pieces limit at (turn ∷ turns) (event ∷ events) → tail ≡ frames_of (event ∷ events) ++ rest
         → Runs Steps state [] replies last → Replied Says (turn ∷ turns) replies answer → EndsIn answer tail standing → ⊥
     none_and_some turn turns pieces at state event events replies answer last tail rest standing frames same run replied
         ends =
         let is = none turn turns state replies answer last run replied in
         no_frame_after turn answer tail event.body (frames_of events ++ rest) standing
-        (ap (λ (a : Answer). a.standing) is) (ap (λ (a : Answer). a.due) is) ends
+        (ap (λ (a : SideOutput). a.standing) is) (ap (λ (a : SideOutput). a.due) is) ends
         (same ∙ append_assoc (framed event.body) (frames_of events) rest) frames.0 frames.1
 
     -- one side has no frame after its first reply, and the other side has one
     one_and_more : (turn : Turn) (turns : List Turn) (pieces : List Piece) (at : ℕ) (state : S) (event second : Given)
-        (events : List Given) (says : A) (answer : Answer) (tail rest : List ℕ) (standing : Standing)
+        (events : List Given) (says : A) (answer : SideOutput) (tail rest : List ℕ) (standing : Standing)
         → Follow (turn ∷ turns) → AreFrames pieces limit at turns (second ∷ events)
         → tail ≡ frames_of (second ∷ events) ++ rest → Says says turn answer → answer.standing ≡ Wanting
         → EndsIn answer tail standing → ⊥
@@ -304,7 +304,7 @@ module _ (limit : ℕ) (small : limit < 2 ^ 32) where
 
     -- all frames and replies
     same : (turns : List Turn) (pieces others : List Piece) (at from : ℕ) (state : S) (events more : List Given)
-        (replies again : List A) (answer reply : Answer) (tail rest : List ℕ) (last end : S) (standing stood : Standing)
+        (replies again : List A) (answer reply : SideOutput) (tail rest : List ℕ) (last end : S) (standing stood : Standing)
         → Follow turns → AreFrames pieces limit at turns events → AreFrames others limit from turns more
         → PairNonces events more → frames_of events ++ tail ≡ frames_of more ++ rest
         → Runs Steps state events replies last → Runs Steps state more again end → Replied Says turns replies answer
@@ -352,7 +352,7 @@ module _ (limit : ℕ) (small : limit < 2 ^ 32) where
         let (reply_is, state_is, answer_is) = one_step turn state other says also_says answer first next mid
         (subst (λ (e : Given). Steps state e says next) one step) said went told in
         absurd (one_and_more turn turns others (from + (length other.body + 4)) state other second more says answer tail
-        rest standing follow also.3 later said (ap (λ (a : Answer). a.standing) answer_is ∙ waits) ends)
+        rest standing follow also.3 later said (ap (λ (a : SideOutput). a.standing) answer_is ∙ waits) ends)
     same (turn ∷ turns) pieces others at from state (event ∷ second ∷ events) (other ∷ []) replies again answer reply tail
         rest last end standing stood follow frames also nonces carried run ran replied too ends finishes =
         let (one, later) = first_frame turn turns pieces others at from event other (second ∷ events) [] tail rest frames
@@ -363,7 +363,7 @@ module _ (limit : ℕ) (small : limit < 2 ^ 32) where
         let (reply_is, state_is, answer_is) = one_step turn state other says also_says first reply next mid
         (subst (λ (e : Given). Steps state e says next) one step) said went told in
         absurd (one_and_more turn turns pieces (at + (length event.body + 4)) state event second events also_says reply
-        rest tail stood follow frames.3 (sym later) told (sym (ap (λ (a : Answer). a.standing) answer_is) ∙ waits)
+        rest tail stood follow frames.3 (sym later) told (sym (ap (λ (a : SideOutput). a.standing) answer_is) ∙ waits)
         finishes)
     same (turn ∷ turns) pieces others at from state (event ∷ second ∷ events) (other ∷ third ∷ more) replies again answer
         reply tail rest last end standing stood follow frames also nonces carried run ran replied too ends finishes =
@@ -379,8 +379,8 @@ module _ (limit : ℕ) (small : limit < 2 ^ 32) where
         same turns pieces others (at + (length event.body + 4)) (from + (length other.body + 4)) mid (second ∷ events)
         (third ∷ more) left over rest_answer last_answer tail rest last end standing stood (follow_on turns frames.3 follow)
         frames.3 also.3 nonces.1 later (subst (λ (s : S). Runs Steps s (second ∷ events) left last) state_is goes) runs
-        then follows (subst (λ (a : Answer). EndsIn a tail standing) sum ends)
-        (subst (λ (a : Answer). EndsIn a rest stood) total finishes) in (
+        then follows (subst (λ (a : SideOutput). EndsIn a tail standing) sum ends)
+        (subst (λ (a : SideOutput). EndsIn a rest stood) total finishes) in (
           (λ i. one i ∷ events_are i),
           all ∙ ((λ i. reply_is i ∷ replies_are i) ∙ sym every),
           sum ∙ ((λ i. record (answers_are i) { sent = (answer_is i).sent ++ (answers_are i).sent }) ∙ sym total),
@@ -413,11 +413,11 @@ module _ (limit : ℕ) (small : limit < 2 ^ 32) where
         let standings_are : last.standing ≡ end.standing =
         one_end second.answer second.tail last.standing end.standing
         (subst (λ (t : List ℕ). EndsIn second.answer t last.standing) tails_are
-        (subst (λ (a : Answer). EndsIn a first.tail last.standing) answers_are first.ends)) second.ends in (
+        (subst (λ (a : SideOutput). EndsIn a first.tail last.standing) answers_are first.ends)) second.ends in (
           events_are,
           replies_are,
           record {
-            sends = first.sends ∙ (ap (λ (a : Answer). a.sent) answers_are ∙ sym second.sends);
+            sends = first.sends ∙ (ap (λ (a : SideOutput). a.sent) answers_are ∙ sym second.sends);
             standing = standings_are;
             state = states_are;
             waits = λ waits. first.waits waits

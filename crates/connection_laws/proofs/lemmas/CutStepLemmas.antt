@@ -25,14 +25,14 @@ use Rattle.fe2o3_sasl_negotiation.specs.declared.standing.Turn.{Turn}
 use Rattle.fe2o3_sasl_negotiation.specs.declared.standing.Turn.TheVariants as turns
 use Rattle.fe2o3_sasl_negotiation.specs.ClientNegotiation as of_client
 use Rattle.fe2o3_sasl_negotiation.specs.ServerNegotiation as of_server
-use Rattle.fe2o3_sasl_negotiation.specs.Negotiations.{Answer, Sends, closes}
+use Rattle.fe2o3_sasl_negotiation.specs.Negotiations.{SideOutput, Sends, closes}
 use Rattle.fe2o3_sasl_negotiation.proofs.lemmas.ConnectionLemmas.{closed_is_not_wanting, logged_in_is_not_wanting}
 use Rattle.fe2o3_sasl_negotiation.proofs.lemmas.KindLemmas.{standing_of, closes_waits_not, sends_goes_on, sends_ends}
 use Rattle.connection_laws.specs.Cuts.{IsFunction, ServersNegotiateEqually, FunctionsNegotiateEqually, ClientsNegotiateEqually}
 use Rattle.connection_laws.proofs.lemmas.CutLemmas.{one_result}
 
 -- a body is sent in one way
-one_sent : (body : List ℕ) (standing : Standing) (due : Due) (answer reply : Answer) → Sends body standing due answer
+one_sent : (body : List ℕ) (standing : Standing) (due : Due) (answer reply : SideOutput) → Sends body standing due answer
     → Sends body standing due reply → answer ≡ reply
 one_sent body standing due answer reply (inl (fits, is)) (inl (also, too)) = is ∙ sym too
 one_sent body standing due answer reply (inl (fits, is)) (inr (long, too)) = absurd (omega (arith, fits, long))
@@ -41,8 +41,8 @@ one_sent body standing due answer reply (inr (long, is)) (inr (also, too)) = is 
 
 -- ---- a server
 
-server_answer : (says : ServerSays) (turn : Turn) (answer reply : Answer) → of_server.Says says turn answer
-    → of_server.Says says turn reply → answer ≡ reply
+server_answer : (says : ServerSays) (turn : Turn) (answer reply : SideOutput) → of_server.ServerOutputs says turn answer
+    → of_server.ServerOutputs says turn reply → answer ≡ reply
 server_answer (Challenged body) turns.Init answer reply is too = one_sent body _ _ answer reply is too
 server_answer (Challenged body) turns.Mechanisms answer reply is too = is ∙ sym too
 server_answer (Challenged body) turns.Challenge answer reply is too = is ∙ sym too
@@ -58,7 +58,7 @@ server_answer (Failed faults.DecodeError) turn answer reply is too = is ∙ sym 
 server_answer (Failed faults.NotImplemented) turn answer reply is too = is ∙ sym too
 server_answer (Failed faults.TooLarge) turn answer reply is too = is ∙ sym too
 
-server_due : (says : ServerSays) (answer : Answer) → of_server.Says says turns.Init answer → answer.standing ≡ Wanting
+server_due : (says : ServerSays) (answer : SideOutput) → of_server.ServerOutputs says turns.Init answer → answer.standing ≡ Wanting
     → answer.due ≡ Frame turns.Response
 server_due (Challenged body) answer sends waits = sends_goes_on body turns.Response answer sends waits
 server_due (Concluded outcomes.Ok body) answer sends waits =
@@ -76,10 +76,10 @@ server_due (Failed faults.DecodeError) answer is waits = absurd (closes_waits_no
 server_due (Failed faults.NotImplemented) answer is waits = absurd (closes_waits_not _ _ answer is waits)
 server_due (Failed faults.TooLarge) answer is waits = absurd (closes_waits_not _ _ answer is waits)
 
-server_has_memory : (says : ServerSays) (turn : Turn) (answer : Answer) → of_server.Says says turn answer
+server_has_memory : (says : ServerSays) (turn : Turn) (answer : SideOutput) → of_server.ServerOutputs says turn answer
     → says ≢ Failed faults.OutOfMemory
 server_has_memory says turn answer said is =
-    subst (λ (s : ServerSays). of_server.Says s turn answer) is said
+    subst (λ (s : ServerSays). of_server.ServerOutputs s turn answer) is said
 
 module _ {S : Type 0} (machine : Machine S) (function : IsFunction machine) where
   server_answers : (state : S) (nonce : List ℕ) (frame : SaslFrame) (says other : ServerSays) (next end : S)
@@ -112,9 +112,9 @@ module _ {S : Type 0} (machine : Machine S) (function : IsFunction machine) wher
   server_gives (Ok (frames.Response text)) state event says other next end memory too one two =
       server_answers state event.nonce (frames.Response text) says other next end memory too one two
 
-  server_step : (turn : Turn) (state : S) (event : Given) (says other : ServerSays) (answer reply : Answer) (next end : S)
-      → AcceptorSteps machine state event says next → of_server.Says says turn answer
-      → AcceptorSteps machine state event other end → of_server.Says other turn reply
+  server_step : (turn : Turn) (state : S) (event : Given) (says other : ServerSays) (answer reply : SideOutput) (next end : S)
+      → AcceptorSteps machine state event says next → of_server.ServerOutputs says turn answer
+      → AcceptorSteps machine state event other end → of_server.ServerOutputs other turn reply
       → (says ≡ other) × (next ≡ end) × (answer ≡ reply)
   server_step turn state event says other answer reply next end (spelled, spells, gives) said (read, reads, goes) told =
       let same = one_spelling event.body spelled read spells reads in
@@ -123,13 +123,13 @@ module _ {S : Type 0} (machine : Machine S) (function : IsFunction machine) wher
       (subst (λ (r : Result SaslFrame Error). AcceptorGives machine state event r says next) same gives) goes in (
         says_are,
         ends_are,
-        server_answer other turn answer reply (subst (λ (s : ServerSays). of_server.Says s turn answer) says_are said)
+        server_answer other turn answer reply (subst (λ (s : ServerSays). of_server.ServerOutputs s turn answer) says_are said)
             told,
       )
 
 pub functions_negotiate_equally : {S : Type 0} (machine : Machine S) → FunctionsNegotiateEqually machine
 functions_negotiate_equally machine function limit state pieces others taken sent out last end small first second nonces =
-    one_result limit small (AcceptorSteps machine) of_server.Says (server_step machine function)
+    one_result limit small (AcceptorSteps machine) of_server.ServerOutputs (server_step machine function)
     (turns.Init ∷ turns.Response ∷ []) state pieces others taken sent out last end (server_due, tt) first second nonces
 
 pub servers_negotiate_equally : ServersNegotiateEqually acceptor_machine
@@ -145,7 +145,7 @@ one_kind (kinds.Frame fault) (kinds.Frame other) same = let e : fault ≡ other 
 one_kind kinds.OutOfMemory kinds.OutOfMemory same = refl
 one_kind _ _ same = cc
 
-one_refusal : (fault : ClientFault) (turn : Turn) (answer reply : Answer)
+one_refusal : (fault : ClientFault) (turn : Turn) (answer reply : SideOutput)
     → (kind : ProfileError) × (client_fault kind ≡ fault) × (answer ≡ closes (ProfileRefused kind) (Frame turn))
     → (kind : ProfileError) × (client_fault kind ≡ fault) × (reply ≡ closes (ProfileRefused kind) (Frame turn))
     → answer ≡ reply
@@ -153,8 +153,8 @@ one_refusal fault turn answer reply (kind, is, one) (other, also, two) =
     one ∙ (ap (λ (k : ProfileError). closes (ProfileRefused k) (Frame turn)) (one_kind kind other (is ∙ sym also))
     ∙ sym two)
 
-client_answer : (says : ClientSays) (turn : Turn) (answer reply : Answer) → of_client.Says says turn answer
-    → of_client.Says says turn reply → answer ≡ reply
+client_answer : (says : ClientSays) (turn : Turn) (answer reply : SideOutput) → of_client.ClientOutputs says turn answer
+    → of_client.ClientOutputs says turn reply → answer ≡ reply
 client_answer (Started body) turns.Mechanisms answer reply is too = one_sent body _ _ answer reply is too
 client_answer (Started body) turns.Init answer reply is too = is ∙ sym too
 client_answer (Started body) turns.Challenge answer reply is too = is ∙ sym too
@@ -176,7 +176,7 @@ client_answer (ClientRefused (Scram fault)) turn answer reply is too = one_refus
 client_answer (ClientRefused OtherKeys) turn answer reply is too = one_refusal _ turn answer reply is too
 client_answer (ClientRefused (FrameFault fault)) turn answer reply is too = one_refusal _ turn answer reply is too
 
-client_first_due : (says : ClientSays) (answer : Answer) → of_client.Says says turns.Mechanisms answer
+client_first_due : (says : ClientSays) (answer : SideOutput) → of_client.ClientOutputs says turns.Mechanisms answer
     → answer.standing ≡ Wanting → answer.due ≡ Frame turns.Challenge
 client_first_due (Started body) answer sends waits = sends_goes_on body turns.Challenge answer sends waits
 client_first_due (Answered body) answer is waits = absurd (closes_waits_not _ _ answer is waits)
@@ -195,7 +195,7 @@ client_first_due (ClientRefused OtherKeys) answer closed waits = absurd (closes_
 client_first_due (ClientRefused (FrameFault fault)) answer closed waits =
     absurd (closes_waits_not _ _ answer closed.2 waits)
 
-client_second_due : (says : ClientSays) (answer : Answer) → of_client.Says says turns.Challenge answer
+client_second_due : (says : ClientSays) (answer : SideOutput) → of_client.ClientOutputs says turns.Challenge answer
     → answer.standing ≡ Wanting → answer.due ≡ Frame turns.Outcome
 client_second_due (Started body) answer is waits = absurd (closes_waits_not _ _ answer is waits)
 client_second_due (Answered body) answer sends waits = sends_goes_on body turns.Outcome answer sends waits
@@ -214,10 +214,10 @@ client_second_due (ClientRefused OtherKeys) answer closed waits = absurd (closes
 client_second_due (ClientRefused (FrameFault fault)) answer closed waits =
     absurd (closes_waits_not _ _ answer closed.2 waits)
 
-client_has_memory : (says : ClientSays) (turn : Turn) (answer : Answer) → of_client.Says says turn answer
+client_has_memory : (says : ClientSays) (turn : Turn) (answer : SideOutput) → of_client.ClientOutputs says turn answer
     → says ≢ ClientRefused OutOfMemory
 client_has_memory says turn answer said is =
-    subst (λ (s : ClientSays). of_client.Says s turn answer) is said
+    subst (λ (s : ClientSays). of_client.ClientOutputs s turn answer) is said
 
 -- what is made of one reply
 client_says : (reply : Result SaslFrame ClientFault) (profile moved : Profile) (says other : ClientSays)
@@ -258,8 +258,8 @@ client_gives (Ok frame) hostname profile event says other next end memory too on
     client_replies hostname profile event.nonce frame says other next end memory too one two
 
 client_step : (hostname : Option (List ℕ)) (turn : Turn) (profile : Profile) (event : Given) (says other : ClientSays)
-    (answer reply : Answer) (next end : Profile) → ProfileSteps hostname profile event says next
-    → of_client.Says says turn answer → ProfileSteps hostname profile event other end → of_client.Says other turn reply
+    (answer reply : SideOutput) (next end : Profile) → ProfileSteps hostname profile event says next
+    → of_client.ClientOutputs says turn answer → ProfileSteps hostname profile event other end → of_client.ClientOutputs other turn reply
     → (says ≡ other) × (next ≡ end) × (answer ≡ reply)
 client_step hostname turn profile event says other answer reply next end (spelled, spells, gives) said
     (read, reads, goes) told =
@@ -269,12 +269,12 @@ client_step hostname turn profile event says other answer reply next end (spelle
     (subst (λ (r : Result SaslFrame Error). ProfileGives hostname profile event r says next) same gives) goes in (
       says_are,
       ends_are,
-      client_answer other turn answer reply (subst (λ (s : ClientSays). of_client.Says s turn answer) says_are said)
+      client_answer other turn answer reply (subst (λ (s : ClientSays). of_client.ClientOutputs s turn answer) says_are said)
           told,
     )
 
 pub clients_negotiate_equally : ClientsNegotiateEqually
 clients_negotiate_equally hostname limit profile pieces others taken sent out last end small first second nonces =
-    one_result limit small (ProfileSteps hostname) of_client.Says (client_step hostname)
+    one_result limit small (ProfileSteps hostname) of_client.ClientOutputs (client_step hostname)
     (turns.Mechanisms ∷ turns.Challenge ∷ turns.Outcome ∷ []) profile pieces others taken sent out last end
     (client_first_due, (client_second_due, tt)) first second nonces

@@ -22,7 +22,7 @@ use Rattle.fe2o3_sasl_negotiation.specs.ClientNegotiation as of_client
 use Rattle.fe2o3_sasl_negotiation.specs.ServerNegotiation as of_server
 use Rattle.fe2o3_sasl_negotiation.specs.Framing.{sasl_header, framed, size_of, Fits}
 use Rattle.fe2o3_sasl_negotiation.specs.Laws.{Call, Calls, Negotiates}
-use Rattle.fe2o3_sasl_negotiation.specs.Negotiations.{Side, Answer, Sends, IsInTurn, AnswersTo, ReceivesAt}
+use Rattle.fe2o3_sasl_negotiation.specs.Negotiations.{Side, SideOutput, Sends, IsInTurn, AnswersTo, ReceivesAt}
 use Rattle.fe2o3_sasl_negotiation.proofs.lemmas.UnitLemmas.{awaiting, behind_answer, AnswersUnit, one_unit, size_of-framed, length-framed, body_of-framed}
 use Rattle.connection_laws.specs.Unaltered.{HasNonce}
 use Rattle.connection_laws.proofs.lemmas.SmallReplyLemmas.{fits_as, names_fit}
@@ -30,11 +30,11 @@ use Rattle.connection_laws.proofs.lemmas.SmallReplyLemmas.{fits_as, names_fit}
 -- ---- nonces of 32 bytes
 
 -- the answer to a unit, with a nonce of 32 bytes
-abbrev pub Exact : {S : Type 0} → (Due → S → List ℕ → List ℕ → Answer → S → Type 0) → Due → S → List ℕ → List ℕ
-    → Answer → S → Type 0
+abbrev pub Exact : {S : Type 0} → (Due → S → List ℕ → List ℕ → SideOutput → S → Type 0) → Due → S → List ℕ → List ℕ
+    → SideOutput → S → Type 0
 Exact Answers due state nonce unit answer next = Answers due state nonce unit answer next × (length nonce ≡ 32)
 
-exact_at : {S : Type 0} (Answers : Due → S → List ℕ → List ℕ → Answer → S → Type 0) (standing : Standing) (side : Side S)
+exact_at : {S : Type 0} (Answers : Due → S → List ℕ → List ℕ → SideOutput → S → Type 0) (standing : Standing) (side : Side S)
     (bytes nonce : List ℕ) (taken : ℕ) (sent : List ℕ) (next : Side S) → length nonce ≡ 32
     → ReceivesAt standing Answers side bytes nonce taken sent next
     → ReceivesAt standing (Exact Answers) side bytes nonce taken sent next
@@ -45,7 +45,7 @@ exact_at Answers Wanting side bytes nonce taken sent next long (inr (inr (answer
 exact_at Answers LoggedIn side bytes nonce taken sent next long rests = rests
 exact_at Answers (Closed why) side bytes nonce taken sent next long rests = rests
 
-pub exact_calls : {S : Type 0} (Answers : Due → S → List ℕ → List ℕ → Answer → S → Type 0) (calls : List Call)
+pub exact_calls : {S : Type 0} (Answers : Due → S → List ℕ → List ℕ → SideOutput → S → Type 0) (calls : List Call)
     (side : Side S) (stream sent : List ℕ) (last : Side S) (rest : List ℕ) → AllByRecursion HasNonce calls
     → Calls Answers side calls stream sent last rest → Calls (Exact Answers) side calls stream sent last rest
 exact_calls Answers [] side stream sent last rest all made = made
@@ -63,14 +63,14 @@ exact_calls Answers (call ∷ calls) side stream sent last rest all
 -- ---- headers
 
 -- what is sent of a body that is not too large
-pub sends_small : (body : List ℕ) (standing : Standing) (due : Due) (answer : Answer) → length body + 4 ≤ 512
+pub sends_small : (body : List ℕ) (standing : Standing) (due : Due) (answer : SideOutput) → length body + 4 ≤ 512
     → Sends body standing due answer → answer ≡ record { sent = framed body; standing = standing; due = due }
 sends_small body standing due answer small (inl sent) = sent.1
 sends_small body standing due answer small (inr long) = absurd (omega (arith, small, long.0))
 
 abbrev pub ClientMakes : Option (List ℕ) → ℕ → Due → Profile → List (List ℕ) → List ℕ → List ℕ → Side Profile → Type 0
 ClientMakes hostname limit due profile nonces bytes sent last =
-    Negotiates (Exact (of_client.ClientAnswers hostname)) (awaiting due limit profile) nonces bytes sent last
+    Negotiates (Exact (of_client.ClientSideAnswers hostname)) (awaiting due limit profile) nonces bytes sent last
 
 -- the client takes the server's header
 pub client_header : (hostname : Option (List ℕ)) (limit : ℕ) (profile : Profile) (nonces : List (List ℕ))
@@ -78,34 +78,34 @@ pub client_header : (hostname : Option (List ℕ)) (limit : ℕ) (profile : Prof
     → ClientMakes hostname limit Header profile nonces (sasl_header ++ more) sent last
     → (others : List (List ℕ)) × ClientMakes hostname limit (Frame turns.Mechanisms) profile others more sent last
 client_header hostname limit profile nonces more sent last made =
-    let unit = one_unit (Exact (of_client.ClientAnswers hostname)) Header limit profile nonces sasl_header more sent last
+    let unit = one_unit (Exact (of_client.ClientSideAnswers hostname)) Header limit profile nonces sasl_header more sent last
     refl (omega arith) made in
     go unit unit.answers.0
   where
-    go : (unit : AnswersUnit (Exact (of_client.ClientAnswers hostname)) Header limit profile sasl_header more sent last)
-        → of_client.Opens sasl_header unit.answer × (unit.next ≡ profile)
+    go : (unit : AnswersUnit (Exact (of_client.ClientSideAnswers hostname)) Header limit profile sasl_header more sent last)
+        → of_client.ClientOpens sasl_header unit.answer × (unit.next ≡ profile)
         → (others : List (List ℕ)) × ClientMakes hostname limit (Frame turns.Mechanisms) profile others more sent last
     go unit (inl other, kept) = absurd (other.0 refl)
     go unit (inr opens, kept) =
         let side : behind_answer unit.answer limit unit.next ≡ awaiting (Frame turns.Mechanisms) limit profile =
-        ap (λ (a : Answer). behind_answer a limit unit.next) opens.1
+        ap (λ (a : SideOutput). behind_answer a limit unit.next) opens.1
         ∙ ap (λ (p : Profile). awaiting (Frame turns.Mechanisms) limit p) kept in
-        let bytes : sent ≡ unit.behind = unit.all ∙ ap (λ (a : Answer). a.sent ++ unit.behind) opens.1 in (
+        let bytes : sent ≡ unit.behind = unit.all ∙ ap (λ (a : SideOutput). a.sent ++ unit.behind) opens.1 in (
           unit.nonces,
           subst (λ (l : List ℕ). ClientMakes hostname limit (Frame turns.Mechanisms) profile unit.nonces more l last)
               (sym bytes)
-              (subst (λ (s : Side Profile). Negotiates (Exact (of_client.ClientAnswers hostname)) s unit.nonces more
+              (subst (λ (s : Side Profile). Negotiates (Exact (of_client.ClientSideAnswers hostname)) s unit.nonces more
               unit.behind last)
               side unit.goes_on),
         )
 
 abbrev pub ServerMakes : ℕ → Due → Acceptor → List (List ℕ) → List ℕ → List ℕ → Side Acceptor → Type 0
 ServerMakes limit due acceptor nonces bytes sent last =
-    Negotiates (Exact (of_server.ServerAnswers acceptor_names acceptor_machine)) (awaiting due limit acceptor) nonces
+    Negotiates (Exact (of_server.ServerSideAnswers acceptor_names acceptor_machine)) (awaiting due limit acceptor) nonces
     bytes sent last
 
 -- the one mechanism of a SCRAM server is offered in a frame
-offers : (provider : Provider) (offer : Option (List ℕ)) (answer : Answer)
+offers : (provider : Provider) (offer : Option (List ℕ)) (answer : SideOutput)
     → offer ≡ canonical (frames.Mechanisms (mechanism_name provider.version ∷ [])) → of_server.Offers offer answer
     → (body : List ℕ) × (offer ≡ Some body) × (length body + 4 ≤ 512)
     × (answer ≡ record { sent = framed body; standing = Wanting; due = Frame turns.Init })
@@ -130,23 +130,23 @@ pub server_header : (provider : Provider) (limit : ℕ) (nonces : List (List ℕ
     → ServerMakes limit Header (ScramAcceptor provider Initial) nonces (sasl_header ++ more) sent last
     → ServerOffers provider limit more sent last
 server_header provider limit nonces more sent last made =
-    let unit = one_unit (Exact (of_server.ServerAnswers acceptor_names acceptor_machine)) Header limit state nonces
+    let unit = one_unit (Exact (of_server.ServerSideAnswers acceptor_names acceptor_machine)) Header limit state nonces
     sasl_header more sent last refl (omega arith) made in
     go unit unit.answers.0
   where
     state : Acceptor
     state = ScramAcceptor provider Initial
 
-    go : (unit : AnswersUnit (Exact (of_server.ServerAnswers acceptor_names acceptor_machine)) Header limit state
-        sasl_header more sent last) → of_server.Opens (acceptor_names state) sasl_header unit.answer
+    go : (unit : AnswersUnit (Exact (of_server.ServerSideAnswers acceptor_names acceptor_machine)) Header limit state
+        sasl_header more sent last) → of_server.ServerOpens (acceptor_names state) sasl_header unit.answer
         × (unit.next ≡ state) → ServerOffers provider limit more sent last
     go unit (inl other, kept) = absurd (other.0 refl)
     go unit (inr (is, (first, offered, same)), kept) =
         let (body, offer, small, is_sent) = offers provider (of_server.offer_body (acceptor_names state)) first refl
         offered in
         let side : behind_answer unit.answer limit unit.next ≡ awaiting (Frame turns.Init) limit state =
-        ap (λ (a : Answer). behind_answer a limit unit.next) same
-        ∙ (ap (λ (a : Answer). behind_answer (of_server.behind_header a) limit unit.next) is_sent
+        ap (λ (a : SideOutput). behind_answer a limit unit.next) same
+        ∙ (ap (λ (a : SideOutput). behind_answer (of_server.behind_header a) limit unit.next) is_sent
         ∙ ap (λ (s : Acceptor). awaiting (Frame turns.Init) limit s) kept) in
         record {
           body = body;
@@ -154,25 +154,25 @@ server_header provider limit nonces more sent last made =
           after = unit.behind;
           offer = offer;
           small = small;
-          all = unit.all ∙ (ap (λ (a : Answer). a.sent ++ unit.behind) same
-              ∙ (ap (λ (a : Answer). (sasl_header ++ a.sent) ++ unit.behind) is_sent
+          all = unit.all ∙ (ap (λ (a : SideOutput). a.sent ++ unit.behind) same
+              ∙ (ap (λ (a : SideOutput). (sasl_header ++ a.sent) ++ unit.behind) is_sent
               ∙ append_assoc sasl_header (framed body) unit.behind));
           goes_on = subst (λ (s : Side Acceptor).
-              Negotiates (Exact (of_server.ServerAnswers acceptor_names acceptor_machine)) s unit.nonces more
+              Negotiates (Exact (of_server.ServerSideAnswers acceptor_names acceptor_machine)) s unit.nonces more
               unit.behind last) side unit.goes_on;
         }
 
 -- ---- frames
 
-module _ {S A : Type 0} (Answers : Due → S → List ℕ → List ℕ → Answer → S → Type 0) (Step : S → Given → A → S → Type 0)
-    (Says : A → Turn → Answer → Type 0)
-    (asked : (turn : Turn) (state next : S) (nonce unit : List ℕ) (answer : Answer)
+module _ {S A : Type 0} (Answers : Due → S → List ℕ → List ℕ → SideOutput → S → Type 0) (Step : S → Given → A → S → Type 0)
+    (Says : A → Turn → SideOutput → Type 0)
+    (asked : (turn : Turn) (state next : S) (nonce unit : List ℕ) (answer : SideOutput)
     → Answers (Frame turn) state nonce unit answer next
     → (spelled : Result SaslFrame Error) × SpellsBody (drop 4 unit) spelled
-    × AnswersTo (λ (a : Answer) (n : S). (says : A) × Step state (record { body = drop 4 unit; nonce = nonce }) says n
+    × AnswersTo (λ (a : SideOutput) (n : S). (says : A) × Step state (record { body = drop 4 unit; nonce = nonce }) says n
     × Says says turn a) turn state spelled answer next) where
   -- its machine is asked
-  abbrev Asks : S → List ℕ → List ℕ → Turn → Answer → S → Type 0
+  abbrev Asks : S → List ℕ → List ℕ → Turn → SideOutput → S → Type 0
   Asks state unit nonce turn answer next = (says : A)
       × Step state (record { body = drop 4 unit; nonce = nonce }) says next × Says says turn answer
 
@@ -181,7 +181,7 @@ module _ {S A : Type 0} (Answers : Due → S → List ℕ → List ℕ → Answe
     pub nonces : List (List ℕ)
     pub nonce : List ℕ
     pub says : A
-    pub answer : Answer
+    pub answer : SideOutput
     pub next : S
     pub after : List ℕ
     pub long : length nonce ≡ 32
@@ -248,7 +248,7 @@ module _ {S A : Type 0} (Answers : Due → S → List ℕ → List ℕ → Answe
       made.after last
   goes_on_with limit turn state body more sent last made reply standing due small is =
       let same = sends_small reply standing due made.answer small is in (
-        made.all ∙ ap (λ (a : Answer). a.sent ++ made.after) same,
-        subst (λ (a : Answer). Negotiates (Exact Answers) (behind_answer a limit made.next) made.nonces more made.after
+        made.all ∙ ap (λ (a : SideOutput). a.sent ++ made.after) same,
+        subst (λ (a : SideOutput). Negotiates (Exact Answers) (behind_answer a limit made.next) made.nonces more made.after
             last) same made.goes_on,
       )

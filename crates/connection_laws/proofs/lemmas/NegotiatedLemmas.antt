@@ -20,7 +20,7 @@ use Rattle.fe2o3_sasl_negotiation.specs.ClientNegotiation as of_client
 use Rattle.fe2o3_sasl_negotiation.specs.ServerNegotiation as of_server
 use Rattle.fe2o3_sasl_negotiation.specs.Connections.{Piece, frames_of, SpellsTurn, AreFrames, LeftOver, Replied, Negotiated, LastReply, IsOkSent, IsOkReported}
 use Rattle.fe2o3_sasl_negotiation.specs.Framing.{sasl_header, framed, size_of}
-use Rattle.fe2o3_sasl_negotiation.specs.Negotiations.{Side, Answer}
+use Rattle.fe2o3_sasl_negotiation.specs.Negotiations.{Side, SideOutput}
 use Rattle.fe2o3_sasl_negotiation.proofs.lemmas.ConnectionLemmas.{logged_in_is_not_wanting, closed_is_not_wanting, closed_is_not_logged_in}
 use Rattle.fe2o3_sasl_negotiation.proofs.lemmas.KindLemmas.{standing_of, closes_waits_not, sends_ends}
 use Rattle.fe2o3_sasl_negotiation.proofs.lemmas.PieceLemmas.{length-frames_of}
@@ -76,7 +76,7 @@ left_is_not_logged_in turn limit tail standing (inr (inl size)) logged =
 left_is_not_logged_in turn limit tail standing (inr (inr frame)) logged =
     closed_is_not_logged_in frame.2 (sym frame.7 ∙ logged)
 
-pub no_tail : {S A : Type 0} (Steps : S → Given → A → S → Type 0) (Says : A → Turn → Answer → Type 0)
+pub no_tail : {S A : Type 0} (Steps : S → Given → A → S → Type 0) (Says : A → Turn → SideOutput → Type 0)
     (turns : List Turn) (limit : ℕ) (state : S) (pieces : List Piece) (taken sent : List ℕ) (last : Side S)
     (n : Negotiated Steps Says turns limit state pieces taken sent last) → last.standing ≡ LoggedIn → n.tail ≡ []
 no_tail Steps Says turns limit state pieces taken sent last n logged = go n.ends
@@ -90,13 +90,13 @@ no_tail Steps Says turns limit state pieces taken sent last n logged = go n.ends
 -- ---- what was said
 
 -- a body that is sent in a frame of at most 512 bytes
-abbrev Body : {A : Type 0} → (List ℕ → A) → A → Answer → Type 0
+abbrev Body : {A : Type 0} → (List ℕ → A) → A → SideOutput → Type 0
 Body wraps says answer =
     (body : List ℕ) × (says ≡ wraps body) × (length body + 4 ≤ 512) × (answer.sent ≡ framed body)
 
-client_first_waits : (says : ClientSays) (answer : Answer) → of_client.Says says turns.Mechanisms answer
+client_first_waits : (says : ClientSays) (answer : SideOutput) → of_client.ClientOutputs says turns.Mechanisms answer
     → answer.standing ≡ Wanting → Body (λ (b : List ℕ). Started b) says answer
-client_first_waits (Started body) answer (inl sent) waits = (body, refl, sent.0, ap (λ (a : Answer). a.sent) sent.1)
+client_first_waits (Started body) answer (inl sent) waits = (body, refl, sent.0, ap (λ (a : SideOutput). a.sent) sent.1)
 client_first_waits (Started body) answer (inr long) waits = absurd (closes_waits_not _ _ answer long.1 waits)
 client_first_waits (Answered body) answer is waits = absurd (closes_waits_not _ _ answer is waits)
 client_first_waits (Reported outcomes.Ok more) answer is waits =
@@ -114,9 +114,9 @@ client_first_waits (ClientRefused OtherKeys) answer closed waits = absurd (close
 client_first_waits (ClientRefused (FrameFault fault)) answer closed waits =
     absurd (closes_waits_not _ _ answer closed.2 waits)
 
-client_next_waits : (says : ClientSays) (answer : Answer) → of_client.Says says turns.Challenge answer
+client_next_waits : (says : ClientSays) (answer : SideOutput) → of_client.ClientOutputs says turns.Challenge answer
     → answer.standing ≡ Wanting → Body (λ (b : List ℕ). Answered b) says answer
-client_next_waits (Answered body) answer (inl sent) waits = (body, refl, sent.0, ap (λ (a : Answer). a.sent) sent.1)
+client_next_waits (Answered body) answer (inl sent) waits = (body, refl, sent.0, ap (λ (a : SideOutput). a.sent) sent.1)
 client_next_waits (Answered body) answer (inr long) waits = absurd (closes_waits_not _ _ answer long.1 waits)
 client_next_waits (Started body) answer is waits = absurd (closes_waits_not _ _ answer is waits)
 client_next_waits (Reported outcomes.Ok more) answer is waits =
@@ -133,9 +133,9 @@ client_next_waits (ClientRefused OtherKeys) answer closed waits = absurd (closes
 client_next_waits (ClientRefused (FrameFault fault)) answer closed waits =
     absurd (closes_waits_not _ _ answer closed.2 waits)
 
-server_waits : (says : ServerSays) (answer : Answer) → of_server.Says says turns.Init answer
+server_waits : (says : ServerSays) (answer : SideOutput) → of_server.ServerOutputs says turns.Init answer
     → answer.standing ≡ Wanting → Body (λ (b : List ℕ). Challenged b) says answer
-server_waits (Challenged body) answer (inl sent) waits = (body, refl, sent.0, ap (λ (a : Answer). a.sent) sent.1)
+server_waits (Challenged body) answer (inl sent) waits = (body, refl, sent.0, ap (λ (a : SideOutput). a.sent) sent.1)
 server_waits (Challenged body) answer (inr long) waits = absurd (closes_waits_not _ _ answer long.1 waits)
 server_waits (Concluded outcomes.Ok body) answer sends waits =
     absurd (sends_ends body LoggedIn (Frame turns.Init) answer logged_in_is_not_wanting sends waits)
@@ -154,7 +154,7 @@ server_waits (Failed faults.TooLarge) answer is waits = absurd (closes_waits_not
 
 -- ---- a server that has logged its client in
 
-pub record ServerShape (events : List Given) (replies : List ServerSays) (answer : Answer) : Type 0 where
+pub record ServerShape (events : List Given) (replies : List ServerSays) (answer : SideOutput) : Type 0 where
   pub init : Given
   pub response : Given
   pub challenge : List ℕ
@@ -192,9 +192,9 @@ no_ok_to_init provider events replies event says history at said (frames.Outcome
     absurd in_turn
 
 pub server_shape : (provider : Provider) (pieces : List Piece) (limit : ℕ) (events : List Given)
-    (replies : List ServerSays) (answer : Answer) → ServerHistory provider events replies
+    (replies : List ServerSays) (answer : SideOutput) → ServerHistory provider events replies
     → AreFrames pieces limit 8 (turns.Init ∷ turns.Response ∷ []) events
-    → Replied of_server.Says (turns.Init ∷ turns.Response ∷ []) replies answer → LastReply IsOkSent replies
+    → Replied of_server.ServerOutputs (turns.Init ∷ turns.Response ∷ []) replies answer → LastReply IsOkSent replies
     → ServerShape events replies answer
 server_shape provider pieces limit events [] answer history are replied last = absurd last
 server_shape provider pieces limit [] (g ∷ gs) answer history are replied last =
@@ -213,7 +213,7 @@ server_shape provider pieces limit (f ∷ e ∷ []) (g ∷ h ∷ []) answer hist
     (first, rest, said, went, next, is) (outcome, ok, small) =
     let challenge = server_waits g first said went in
     let ends = sends_small outcome LoggedIn (Frame turns.Response) rest small
-    (subst (λ (s : ServerSays). of_server.Says s turns.Response rest) ok next) in
+    (subst (λ (s : ServerSays). of_server.ServerOutputs s turns.Response rest) ok next) in
     record {
       init = f;
       response = e;
@@ -224,13 +224,13 @@ server_shape provider pieces limit (f ∷ e ∷ []) (g ∷ h ∷ []) answer hist
           ∙ ap (λ (s : ServerSays). Challenged challenge.0 ∷ s ∷ []) ok;
       challenge_small = challenge.2;
       outcome_small = small;
-      sent = ap (λ (a : Answer). a.sent) is ∙ (ap (λ (l : List ℕ). l ++ rest.sent) challenge.3
-          ∙ ap (λ (a : Answer). framed challenge.0 ++ a.sent) ends);
+      sent = ap (λ (a : SideOutput). a.sent) is ∙ (ap (λ (l : List ℕ). l ++ rest.sent) challenge.3
+          ∙ ap (λ (a : SideOutput). framed challenge.0 ++ a.sent) ends);
     }
 
 -- ---- and its client
 
-pub record ClientShape (replies : List ClientSays) (answer : Answer) : Type 0 where
+pub record ClientShape (replies : List ClientSays) (answer : SideOutput) : Type 0 where
   pub init : List ℕ
   pub response : List ℕ
   pub more : Option (List ℕ)
@@ -239,8 +239,8 @@ pub record ClientShape (replies : List ClientSays) (answer : Answer) : Type 0 wh
   pub response_small : length response + 4 ≤ 512
   pub sent : answer.sent ≡ framed init ++ (framed response ++ [])
 
-pub client_shape : (replies : List ClientSays) (answer : Answer) → length replies ≡ 3
-    → Replied of_client.Says (turns.Mechanisms ∷ turns.Challenge ∷ turns.Outcome ∷ []) replies answer
+pub client_shape : (replies : List ClientSays) (answer : SideOutput) → length replies ≡ 3
+    → Replied of_client.ClientOutputs (turns.Mechanisms ∷ turns.Challenge ∷ turns.Outcome ∷ []) replies answer
     → LastReply IsOkReported replies → ClientShape replies answer
 client_shape [] answer count replied last = absurd last
 client_shape (r ∷ []) answer count replied last = absurd (omega (arith, count))
@@ -251,7 +251,7 @@ client_shape (r ∷ s ∷ t ∷ []) answer count
     let init = client_first_waits r first said went in
     let response = client_next_waits s second next on in
     let ends : end ≡ record { sent = []; standing = LoggedIn; due = Frame turns.Outcome } =
-    subst (λ (x : ClientSays). of_client.Says x turns.Outcome end) ok ended in
+    subst (λ (x : ClientSays). of_client.ClientOutputs x turns.Outcome end) ok ended in
     record {
       init = init.0;
       response = response.0;
@@ -261,8 +261,8 @@ client_shape (r ∷ s ∷ t ∷ []) answer count
           ∙ ap (λ (x : ClientSays). Started init.0 ∷ Answered response.0 ∷ x ∷ []) ok);
       init_small = init.2;
       response_small = response.2;
-      sent = ap (λ (a : Answer). a.sent) is ∙ (ap (λ (l : List ℕ). l ++ rest.sent) init.3
-          ∙ (ap (λ (a : Answer). framed init.0 ++ a.sent) at
+      sent = ap (λ (a : SideOutput). a.sent) is ∙ (ap (λ (l : List ℕ). l ++ rest.sent) init.3
+          ∙ (ap (λ (a : SideOutput). framed init.0 ++ a.sent) at
           ∙ (ap (λ (l : List ℕ). framed init.0 ++ (l ++ end.sent)) response.3
-          ∙ ap (λ (a : Answer). framed init.0 ++ (framed response.0 ++ a.sent)) ends)));
+          ∙ ap (λ (a : SideOutput). framed init.0 ++ (framed response.0 ++ a.sent)) ends)));
     }

@@ -10,7 +10,7 @@ use Rattle.fe2o3_sasl_runs.specs.Events.{Given, ServerSays, Concluded, Failed}
 use Rattle.fe2o3_sasl_runs.specs.ExternalAcceptor.{External, IsInitOf, external_machine, external_user}
 use Rattle.fe2o3_sasl_runs.specs.OneOfLaws.{Machine}
 use Rattle.fe2o3_sasl_runs.specs.PlainAuthenticator.{PlainServer, PlainLogsIn, plain_machine}
-use Rattle.fe2o3_sasl_runs.specs.Runs.{Runs, AcceptorSteps, Sends, server_says}
+use Rattle.fe2o3_sasl_runs.specs.Runs.{Runs, AcceptorSteps, SendsCanonical, server_says}
 use Rattle.fe2o3_sasl_runs.specs.SaslAcceptor.{ends_with}
 use Rattle.fe2o3_sasl_runs.proofs.lemmas.frames.SpellingLemmas.{one_spelled_frame}
 use Rattle.fe2o3_sasl.proofs.lemmas.steps.StepLawLemmas.{plain_oks_log_in}
@@ -75,10 +75,10 @@ module _ {S : Type 0} (machine : Machine S) (only_inits : OnlyInits machine) whe
 -- an outcome Auth is no Ok
 auth_is_no_ok : {S : Type 0} (reply : SaslFrame) (state moved next : S) (body : List ℕ)
     → reply ≡ ends_with outcomes.Auth
-    → ¬ Sends (Failed faults.TooLarge) (server_says reply) (canonical reply) state moved (Concluded outcomes.Ok body) next
+    → ¬ SendsCanonical (Failed faults.TooLarge) (server_says reply) (canonical reply) state moved (Concluded outcomes.Ok body) next
 auth_is_no_ok {S} reply state moved next body is said =
     none (canonical (ends_with outcomes.Auth))
-    (subst (λ (f : SaslFrame). Sends (Failed faults.TooLarge) (server_says f) (canonical f) state moved
+    (subst (λ (f : SaslFrame). SendsCanonical (Failed faults.TooLarge) (server_says f) (canonical f) state moved
     (Concluded outcomes.Ok body) next) is said).0
   where
     none : (sent : Option (List ℕ)) → Concluded outcomes.Ok body
@@ -88,7 +88,7 @@ auth_is_no_ok {S} reply state moved next body is said =
 
 -- what is sent with an Ok leaves the state that it moved to
 sent_moves : {S : Type 0} (sent : Option (List ℕ)) (body : List ℕ) (state moved next : S)
-    → Sends (Failed faults.TooLarge) (λ b. Concluded outcomes.Ok b) sent state moved (Concluded outcomes.Ok body) next
+    → SendsCanonical (Failed faults.TooLarge) (λ b. Concluded outcomes.Ok b) sent state moved (Concluded outcomes.Ok body) next
     → next ≡ moved
 sent_moves None body state moved next said = let no = said.0 in absurd (cc)
 sent_moves (Some other) body state moved next said = said.1
@@ -109,7 +109,7 @@ external_oks state next event (body, (Ok (frames.Init mechanism response hostnam
     let no = wants.0 in absurd (cc)
 external_oks state next event
     (body, (Ok (frames.Init mechanism response hostname), spells, inr (reply, moved, inl (asks, is, to), said))) =
-    let sent = subst (λ (f : SaslFrame). Sends (Failed faults.TooLarge) (server_says f) (canonical f) state moved
+    let sent = subst (λ (f : SaslFrame). SendsCanonical (Failed faults.TooLarge) (server_says f) (canonical f) state moved
     (Concluded outcomes.Ok body) next) is said in (
       mechanism,
       response,

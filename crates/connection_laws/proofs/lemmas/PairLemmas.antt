@@ -28,7 +28,7 @@ use Rattle.fe2o3_sasl.proofs.lemmas.two_sides.VerdictLemmas.{shown_proofs_are_ju
 use Rattle.fe2o3_sasl_negotiation.specs.declared.standing.Standing.TheVariants.{LoggedIn}
 use Rattle.fe2o3_sasl_negotiation.specs.declared.standing.Turn.{Turn}
 use Rattle.fe2o3_sasl_negotiation.specs.declared.standing.Turn.TheVariants as turns
-use Rattle.fe2o3_sasl_negotiation.specs.Connections.{Piece, NonceAt, AreFrames, LastReply, IsOkSent, IsOkReported}
+use Rattle.fe2o3_sasl_negotiation.specs.Connections.{Piece, PieceNonceAt, AreFrames, LastReply, IsOkSent, IsOkReported}
 use Rattle.fe2o3_sasl_negotiation.proofs.lemmas.LoginLemmas.{scram_servers_serve, scram_clients_log_in}
 use Rattle.connection_laws.specs.Pairs.{ClientOf, ServerOf, ReportsLast, sides, LoggedInClientsAgree, LoggedInServersAccept, AcceptedProofsAreJudged, AcceptsLast, ChallengesWith, RepeatedResponsesMeanOneNonce, ReplaysAreRejected}
 
@@ -132,12 +132,12 @@ copies (suc n) nonce rest zero found is = inl (same_Some nonce found is)
 copies (suc n) nonce rest (suc k) found is = copies n nonce rest k found is
 
 -- the nonce at a byte is that of a piece
-piece_at : (pieces : List Piece) (n : ℕ) (nonce : List ℕ) → NonceAt pieces n nonce
+piece_at : (pieces : List Piece) (n : ℕ) (nonce : List ℕ) → PieceNonceAt pieces n nonce
     → (piece : Piece) × Contains pieces piece × (piece.nonce ≡ nonce)
 piece_at [] n nonce at = absurd (cc)
 piece_at (first ∷ pieces) n nonce at =
     ⊎_elim (λ (same : first.nonce ≡ nonce). (first, (zero, omega arith, refl), same))
-    (λ (later : (j : ℕ) × NonceAt pieces j nonce). let rest = piece_at pieces later.0 nonce later.1 in
+    (λ (later : (j : ℕ) × PieceNonceAt pieces j nonce). let rest = piece_at pieces later.0 nonce later.1 in
     (rest.0, (suc rest.1.0, omega (arith, rest.1.1), rest.1.2), rest.2))
     (copies (length first.bytes) first.nonce
     (flat_map (λ (other : Piece). replicate (length other.bytes) other.nonce) pieces) n nonce at)

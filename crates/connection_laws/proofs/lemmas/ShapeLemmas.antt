@@ -26,7 +26,7 @@ use Rattle.fe2o3_sasl_negotiation.specs.ClientNegotiation as of_client
 use Rattle.fe2o3_sasl_negotiation.specs.ServerNegotiation as of_server
 use Rattle.fe2o3_sasl_negotiation.specs.Connections.{Piece, AreFrames, LeftOver, Negotiated, Replied, frames_of}
 use Rattle.fe2o3_sasl_negotiation.specs.Framing.{sasl_header, framed, size_of}
-use Rattle.fe2o3_sasl_negotiation.specs.Negotiations.{Side, Answer, Sends}
+use Rattle.fe2o3_sasl_negotiation.specs.Negotiations.{Side, SideOutput, Sends}
 use Rattle.fe2o3_sasl_negotiation.proofs.lemmas.KindLemmas.{standing_of}
 use Rattle.fe2o3_sasl_negotiation.proofs.lemmas.LoginLemmas.{scram_servers_serve, scram_clients_log_in}
 use Rattle.fe2o3_sasl_negotiation.proofs.lemmas.UnitLemmas.{size_of-framed, length-framed, body_of-framed}
@@ -62,13 +62,13 @@ frames_within pieces limit at (turn ∷ turns) (event ∷ events) frames =
 
 -- ---- what is sent
 
-sends_fits : (body : List ℕ) (standing : Standing) (due : Due) (answer : Answer)
+sends_fits : (body : List ℕ) (standing : Standing) (due : Due) (answer : SideOutput)
     → answer.standing ≢ Closed ReplyTooLarge → Sends body standing due answer
     → (length body + 4 ≤ 512) × (answer.sent ≡ framed body)
-sends_fits body standing due answer passes (inl (fits, same)) = (fits, ap (λ (a : Answer). a.sent) same)
+sends_fits body standing due answer passes (inl (fits, same)) = (fits, ap (λ (a : SideOutput). a.sent) same)
 sends_fits body standing due answer passes (inr (long, same)) = absurd (passes (standing_of answer _ same))
 
-open_is_not_closed : (answer : Answer) (standing : Standing) → standing ≢ Closed ReplyTooLarge
+open_is_not_closed : (answer : SideOutput) (standing : Standing) → standing ≢ Closed ReplyTooLarge
     → answer.standing ≡ standing → answer.standing ≢ Closed ReplyTooLarge
 open_is_not_closed answer standing apart is closed = apart (sym is ∙ closed)
 
@@ -78,8 +78,8 @@ waits same = cc
 logged : LoggedIn ≢ Closed ReplyTooLarge
 logged same = cc
 
-server_sends : (challenge outcome : List ℕ) (answer : Answer) → answer.standing ≡ LoggedIn
-    → Replied of_server.Says (turns.Init ∷ turns.Response ∷ [])
+server_sends : (challenge outcome : List ℕ) (answer : SideOutput) → answer.standing ≡ LoggedIn
+    → Replied of_server.ServerOutputs (turns.Init ∷ turns.Response ∷ [])
     (Challenged challenge ∷ Concluded outcomes.Ok outcome ∷ []) answer
     → (length challenge + 4 ≤ 512) × (length outcome + 4 ≤ 512)
     × (answer.sent ≡ framed challenge ++ framed outcome)
@@ -91,12 +91,12 @@ server_sends challenge outcome answer in_at (first, rest, said, went, then, is) 
     in (
       one.0,
       two.0,
-      ap (λ (a : Answer). a.sent) is ∙ (ap (λ l. l ++ rest.sent) one.1 ∙ ap (λ l. framed challenge ++ l)
+      ap (λ (a : SideOutput). a.sent) is ∙ (ap (λ l. l ++ rest.sent) one.1 ∙ ap (λ l. framed challenge ++ l)
           two.1),
     )
 
-client_sends : (init response : List ℕ) (more : Option (List ℕ)) (answer : Answer)
-    → Replied of_client.Says (turns.Mechanisms ∷ turns.Challenge ∷ turns.Outcome ∷ [])
+client_sends : (init response : List ℕ) (more : Option (List ℕ)) (answer : SideOutput)
+    → Replied of_client.ClientOutputs (turns.Mechanisms ∷ turns.Challenge ∷ turns.Outcome ∷ [])
     (Started init ∷ Answered response ∷ Reported outcomes.Ok more ∷ []) answer
     → (length init + 4 ≤ 512) × (length response + 4 ≤ 512) × (answer.sent ≡ framed init ++ (framed response ++ []))
 client_sends init response more answer (first, rest, said, went, (second, last, says, goes, then, was), is) =
@@ -105,13 +105,13 @@ client_sends init response more answer (first, rest, said, went, (second, last, 
     let two = sends_fits response Wanting (Frame turns.Outcome) second
     (open_is_not_closed second Wanting waits goes) says in
     let ends : rest.sent ≡ framed response ++ [] =
-    ap (λ (a : Answer). a.sent) was ∙ (ap (λ l. l ++ last.sent) two.1
-    ∙ ap (λ (a : Answer). framed response ++ a.sent) then) in
-    (one.0, two.0, ap (λ (a : Answer). a.sent) is ∙ (ap (λ l. l ++ rest.sent) one.1 ∙ ap (λ l. framed init ++ l) ends))
+    ap (λ (a : SideOutput). a.sent) was ∙ (ap (λ l. l ++ last.sent) two.1
+    ∙ ap (λ (a : SideOutput). framed response ++ a.sent) then) in
+    (one.0, two.0, ap (λ (a : SideOutput). a.sent) is ∙ (ap (λ l. l ++ rest.sent) one.1 ∙ ap (λ l. framed init ++ l) ends))
 
 -- ---- what has logged in has nothing left over
 
-module _ {S A : Type 0} (Steps : S → Given → A → S → Type 0) (Says : A → Turn → Answer → Type 0) (turns : List Turn)
+module _ {S A : Type 0} (Steps : S → Given → A → S → Type 0) (Says : A → Turn → SideOutput → Type 0) (turns : List Turn)
     (limit : ℕ) (state : S) (pieces : List Piece) (taken sent : List ℕ) (last : Side S)
     (n : Negotiated Steps Says turns limit state pieces taken sent last) (logged_in : last.standing ≡ LoggedIn) where
   wanting_is_not : Wanting ≢ LoggedIn
@@ -231,10 +231,10 @@ server_shape provider server logged_in =
     let two = two_replies n.replies accepts.0 opened.0 accepts.3.body (omega (arith, few, history.count))
     accepts.3.last accepts.3.says opened.1.before opened.1.opened in
     let events = two_events n.events (sym history.count ∙ ap length two.1) in
-    let ends = nothing_left (AcceptorSteps acceptor_machine) of_server.Says (turns.Init ∷ turns.Response ∷ [])
+    let ends = nothing_left (AcceptorSteps acceptor_machine) of_server.ServerOutputs (turns.Init ∷ turns.Response ∷ [])
     server.limit (ScramAcceptor provider Initial) server.pieces server.taken server.sent server.last n logged_in in
     let sends = server_sends two.0 accepts.3.body n.answer ends.1
-    (subst (λ replies. Replied of_server.Says (turns.Init ∷ turns.Response ∷ []) replies n.answer) two.1 n.replied) in
+    (subst (λ replies. Replied of_server.ServerOutputs (turns.Init ∷ turns.Response ∷ []) replies n.answer) two.1 n.replied) in
     record {
       init = events.0;
       response = events.1;
@@ -278,11 +278,11 @@ client_shape login client logged_in =
     let all = three_replies n.replies reports.0 opened.0 due.0 says (omega (arith, few, history.count)) reports.2.last
     reports.2.reported opened.1.before due.1.before opened.1.opened due.1.opened in
     let events = three_events n.events (sym history.count ∙ ap length all.2) in
-    let ends = nothing_left (ProfileSteps login.hostname) of_client.Says
+    let ends = nothing_left (ProfileSteps login.hostname) of_client.ClientOutputs
     (turns.Mechanisms ∷ turns.Challenge ∷ turns.Outcome ∷ [])
     client.limit (scram_profile login) client.pieces client.taken client.sent client.last n logged_in in
     let sends = client_sends all.0 all.1 (Some reports.1) n.answer
-    (subst (λ l. Replied of_client.Says (turns.Mechanisms ∷ turns.Challenge ∷ turns.Outcome ∷ []) l n.answer)
+    (subst (λ l. Replied of_client.ClientOutputs (turns.Mechanisms ∷ turns.Challenge ∷ turns.Outcome ∷ []) l n.answer)
     all.2 n.replied) in
     record {
       offer = events.0;

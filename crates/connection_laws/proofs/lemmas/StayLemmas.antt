@@ -9,15 +9,15 @@ use Rattle.fe2o3_sasl_runs.specs.Events.{Given, ServerSays, Failed}
 use Rattle.fe2o3_sasl_runs.specs.ExternalAcceptor.{External, external_machine}
 use Rattle.fe2o3_sasl_runs.specs.OneOfLaws.{Machine}
 use Rattle.fe2o3_sasl_runs.specs.PlainAuthenticator.{PlainServer, plain_machine}
-use Rattle.fe2o3_sasl_runs.specs.Runs.{Runs, AcceptorSteps, AcceptorAnswers, Sends, server_says}
+use Rattle.fe2o3_sasl_runs.specs.Runs.{Runs, AcceptorSteps, AcceptorAnswers, SendsCanonical, server_says}
 use Rattle.fe2o3_sasl_runs.specs.SaslAcceptor.{ends_with}
 use Rattle.fe2o3_sasl_runs.proofs.lemmas.machines.OneOfLemmas.{unmoved}
 use Rattle.fe2o3_sasl_negotiation.specs.declared.standing.Due.TheVariants.{Frame}
 use Rattle.fe2o3_sasl_negotiation.specs.declared.standing.Standing.TheVariants.{Wanting, LoggedIn}
 use Rattle.fe2o3_sasl_negotiation.specs.declared.standing.Turn.TheVariants as turns
 use Rattle.fe2o3_sasl_negotiation.specs.Connections.{Piece, AreFrames, Replied, LastReply, IsOkSent}
-use Rattle.fe2o3_sasl_negotiation.specs.Negotiations.{Answer}
-use Rattle.fe2o3_sasl_negotiation.specs.ServerNegotiation.{Says}
+use Rattle.fe2o3_sasl_negotiation.specs.Negotiations.{SideOutput}
+use Rattle.fe2o3_sasl_negotiation.specs.ServerNegotiation.{ServerOutputs}
 use Rattle.fe2o3_sasl_negotiation.proofs.lemmas.FrameSizeLemmas.{outcomes_fit}
 use Rattle.fe2o3_sasl_negotiation.proofs.lemmas.KindLemmas.{sends_ends}
 use Rattle.fe2o3_sasl_negotiation.proofs.lemmas.LoginLemmas.{servers_log_in}
@@ -32,17 +32,17 @@ logged_in_waits_not : LoggedIn ≢ Wanting
 logged_in_waits_not same = cc
 
 -- an Ok leaves no server waiting
-ok_ends : (says : ServerSays) (answer : Answer) → Says says turns.Init answer → answer.standing ≡ Wanting
+ok_ends : (says : ServerSays) (answer : SideOutput) → ServerOutputs says turns.Init answer → answer.standing ≡ Wanting
     → ¬ IsOkSent says
 ok_ends says answer said waits (body, same, fits) =
     sends_ends body LoggedIn (Frame turns.Init) answer logged_in_waits_not
-    (subst (λ (s : ServerSays). Says s turns.Init answer) same said) waits
+    (subst (λ (s : ServerSays). ServerOutputs s turns.Init answer) same said) waits
 
 module _ {S : Type 0} (machine : Machine S) (steps : StaysOrOk machine) where
-  stays_or_ok : (pieces : List Piece) (limit : ℕ) (events : List Given) (replies : List ServerSays) (answer : Answer)
+  stays_or_ok : (pieces : List Piece) (limit : ℕ) (events : List Given) (replies : List ServerSays) (answer : SideOutput)
       (state last : S) → AreFrames pieces limit 8 (turns.Init ∷ turns.Response ∷ []) events
       → Runs (AcceptorSteps machine) state events replies last
-      → Replied Says (turns.Init ∷ turns.Response ∷ []) replies answer → LastReply IsOkSent replies ⊎ (last ≡ state)
+      → Replied ServerOutputs (turns.Init ∷ turns.Response ∷ []) replies answer → LastReply IsOkSent replies ⊎ (last ≡ state)
   stays_or_ok pieces limit [] replies answer state last due run replied = inr run.1
   stays_or_ok pieces limit (event ∷ []) replies answer state last due (says, next, none, step, is, (empty, end)) replied =
       let all : replies ≡ says ∷ [] = is ∙ ap (λ (l : List ServerSays). says ∷ l) empty in
@@ -55,7 +55,7 @@ module _ {S : Type 0} (machine : Machine S) (steps : StaysOrOk machine) where
       let all : replies ≡ says ∷ then ∷ [] =
       is ∙ ap (λ (l : List ServerSays). says ∷ l) (is_then ∙ ap (λ (l : List ServerSays). then ∷ l) empty) in
       let (first, rest, said, waits, _, _) =
-      subst (λ (l : List ServerSays). Replied Says (turns.Init ∷ turns.Response ∷ []) l answer) all replied in
+      subst (λ (l : List ServerSays). Replied ServerOutputs (turns.Init ∷ turns.Response ∷ []) l answer) all replied in
       elim (steps state mid event says step) [
         | inl ok ↦ absurd (ok_ends says first said waits ok)
         | inr same ↦
@@ -76,7 +76,7 @@ module _ {S : Type 0} (machine : Machine S) (steps : StaysOrOk machine) where
 
 -- an outcome Ok is sent
 ok_sent : {S : Type 0} (reply : SaslFrame) (state moved next : S) (says : ServerSays) → reply ≡ ends_with outcomes.Ok
-    → Sends (Failed faults.TooLarge) (server_says reply) (canonical reply) state moved says next → IsOkSent says
+    → SendsCanonical (Failed faults.TooLarge) (server_says reply) (canonical reply) state moved says next → IsOkSent says
 ok_sent reply state moved next says is sent = let (body, some, fits) = outcomes_fit outcomes.Ok None (omega arith) in (
   body,
   sent.0 ∙ (ap (λ (r : SaslFrame). carried (Failed faults.TooLarge) (server_says r) (canonical r)) is

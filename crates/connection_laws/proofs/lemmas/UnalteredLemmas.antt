@@ -51,7 +51,7 @@ use Rattle.fe2o3_sasl_negotiation.specs.Connections.{fresh}
 use Rattle.fe2o3_sasl_negotiation.specs.FrameSizes.{CanBeSent}
 use Rattle.fe2o3_sasl_negotiation.specs.Framing.{sasl_header, framed}
 use Rattle.fe2o3_sasl_negotiation.specs.Laws.{Negotiates}
-use Rattle.fe2o3_sasl_negotiation.specs.Negotiations.{Side, Answer, Sends, IsInTurn}
+use Rattle.fe2o3_sasl_negotiation.specs.Negotiations.{Side, SideOutput, Sends, IsInTurn}
 use Rattle.fe2o3_sasl_negotiation.specs.UnalteredConnections.{ClosedForSize, Joined}
 use Rattle.fe2o3_sasl_negotiation.proofs.lemmas.CutLemmas.{nothing_is_part, cuts_do_not_matter}
 use Rattle.fe2o3_sasl_negotiation.proofs.lemmas.FrameSizeLemmas.{scram_inits_fit, texts_fit}
@@ -71,13 +71,13 @@ ClientFine says = (says ≢ Refused OutOfMemory) × (says ≢ Refused (FrameFaul
 abbrev ServerFine : ServerSays → Type 0
 ServerFine says = (says ≢ Failed faults.OutOfMemory) × (says ≢ Failed faults.TooLarge)
 
-client_memory : (says : ClientSays) (turn : Turn) (answer : Answer) → of_client.Says says turn answer
+client_memory : (says : ClientSays) (turn : Turn) (answer : SideOutput) → of_client.ClientOutputs says turn answer
     → says ≢ Refused OutOfMemory
-client_memory says turn answer said same = subst (λ (s : ClientSays). of_client.Says s turn answer) same said
+client_memory says turn answer said same = subst (λ (s : ClientSays). of_client.ClientOutputs s turn answer) same said
 
-server_memory : (says : ServerSays) (turn : Turn) (answer : Answer) → of_server.Says says turn answer
+server_memory : (says : ServerSays) (turn : Turn) (answer : SideOutput) → of_server.ServerOutputs says turn answer
     → says ≢ Failed faults.OutOfMemory
-server_memory says turn answer said same = subst (λ (s : ServerSays). of_server.Says s turn answer) same said
+server_memory says turn answer said same = subst (λ (s : ServerSays). of_server.ServerOutputs s turn answer) same said
 
 -- ---- the machines are asked
 
@@ -88,7 +88,7 @@ logged_in_is_not_closed_for_size : (standing : Standing) → standing ≡ Logged
 logged_in_is_not_closed_for_size standing same closed = subst ClosedForSize same closed
 
 -- a side that has ended takes nothing and sends nothing
-ended_rests : {S : Type 0} (Answers : Due → S → List ℕ → List ℕ → Answer → S → Type 0) (side last : Side S)
+ended_rests : {S : Type 0} (Answers : Due → S → List ℕ → List ℕ → SideOutput → S → Type 0) (side last : Side S)
     (nonces : List (List ℕ)) (bytes sent : List ℕ) → side.standing ≢ Wanting
     → Negotiates Answers side nonces bytes sent last → (sent ≡ []) × (bytes ≡ []) × (last ≡ side)
 ended_rests Answers side last [] bytes sent ended (nothing, inl stops) = absurd (ended stops.0)
@@ -97,23 +97,23 @@ ended_rests Answers side last (nonce ∷ nonces) bytes sent ended
     (taken, first, next, more, wants, no_part, receives, rest, all) = absurd (ended wants)
 
 asked_client : (hostname : Option (List ℕ)) (turn : Turn) (profile next : Profile) (nonce unit : List ℕ)
-    (answer : Answer)
-    → of_client.ClientAnswers hostname (Frame turn) profile nonce unit answer next
-    → of_client.ClientAnswers hostname (Frame turn) profile nonce unit answer next
+    (answer : SideOutput)
+    → of_client.ClientSideAnswers hostname (Frame turn) profile nonce unit answer next
+    → of_client.ClientSideAnswers hostname (Frame turn) profile nonce unit answer next
 asked_client hostname turn profile next nonce unit answer answers = answers
 
-asked_server : (turn : Turn) (acceptor next : Acceptor) (nonce unit : List ℕ) (answer : Answer)
-    → of_server.ServerAnswers acceptor_names acceptor_machine (Frame turn) acceptor nonce unit answer next
-    → of_server.ServerAnswers acceptor_names acceptor_machine (Frame turn) acceptor nonce unit answer next
+asked_server : (turn : Turn) (acceptor next : Acceptor) (nonce unit : List ℕ) (answer : SideOutput)
+    → of_server.ServerSideAnswers acceptor_names acceptor_machine (Frame turn) acceptor nonce unit answer next
+    → of_server.ServerSideAnswers acceptor_names acceptor_machine (Frame turn) acceptor nonce unit answer next
 asked_server turn acceptor next nonce unit answer answers = answers
 
 abbrev ClientTakes : Login → ℕ → Turn → Profile → List ℕ → List ℕ → List ℕ → Side Profile → Type 0
-ClientTakes login limit turn profile body more sent last = Takes (of_client.ClientAnswers login.hostname)
-    (ProfileSteps login.hostname) of_client.Says (asked_client login.hostname) limit turn profile body more sent last
+ClientTakes login limit turn profile body more sent last = Takes (of_client.ClientSideAnswers login.hostname)
+    (ProfileSteps login.hostname) of_client.ClientOutputs (asked_client login.hostname) limit turn profile body more sent last
 
 abbrev ServerTakes : ℕ → Turn → Acceptor → List ℕ → List ℕ → List ℕ → Side Acceptor → Type 0
 ServerTakes limit turn acceptor body more sent last =
-    Takes (of_server.ServerAnswers acceptor_names acceptor_machine) (AcceptorSteps acceptor_machine) of_server.Says
+    Takes (of_server.ServerSideAnswers acceptor_names acceptor_machine) (AcceptorSteps acceptor_machine) of_server.ServerOutputs
     asked_server limit turn acceptor body more sent last
 
 -- the server-first message is UTF-8
@@ -196,7 +196,7 @@ module _ (login : Login) (provider : Provider) (password salt : List ℕ) (count
       → (sent ≡ framed reply ++ made.after)
       × ClientMakes login.hostname client_limit (Frame due) made.next made.nonces more made.after client
   client_goes_on turn profile body more sent made reply due small is =
-      goes_on_with (of_client.ClientAnswers login.hostname) (ProfileSteps login.hostname) of_client.Says
+      goes_on_with (of_client.ClientSideAnswers login.hostname) (ProfileSteps login.hostname) of_client.ClientOutputs
       (asked_client login.hostname) client_limit turn profile body more sent client made reply Wanting (Frame due) small
       is
 
@@ -206,7 +206,7 @@ module _ (login : Login) (provider : Provider) (password salt : List ℕ) (count
       → ClientMakes login.hostname client_limit (Frame turn) profile nonces bytes sent client
       → ClientTakes login client_limit turn profile body more sent client
   client_takes turn profile nonces body more bytes sent frame whole small spells in_turn all made =
-      takes (of_client.ClientAnswers login.hostname) (ProfileSteps login.hostname) of_client.Says
+      takes (of_client.ClientSideAnswers login.hostname) (ProfileSteps login.hostname) of_client.ClientOutputs
       (asked_client login.hostname) client_limit turn profile nonces body more sent client frame wide.client_limit
       (long_enough frame body whole) small spells in_turn
       (subst (λ (l : List ℕ). ClientMakes login.hostname client_limit (Frame turn) profile nonces l sent client) all
@@ -216,12 +216,12 @@ module _ (login : Login) (provider : Provider) (password salt : List ℕ) (count
       (made : ServerTakes server_limit turn acceptor body more sent server) (reply : List ℕ) (standing : Standing)
       (due : Due) → length reply + 4 ≤ 512 → Sends reply standing due made.answer
       → (sent ≡ framed reply ++ made.after)
-      × Negotiates (Exact (of_server.ServerAnswers acceptor_names acceptor_machine))
+      × Negotiates (Exact (of_server.ServerSideAnswers acceptor_names acceptor_machine))
       (record { standing = standing; due = due; limit = server_limit; held = []; state = made.next }) made.nonces more
       made.after server
   server_goes_on turn acceptor body more sent made reply standing due small is =
-      goes_on_with (of_server.ServerAnswers acceptor_names acceptor_machine) (AcceptorSteps acceptor_machine)
-      of_server.Says asked_server server_limit turn acceptor body more sent server made reply standing due small is
+      goes_on_with (of_server.ServerSideAnswers acceptor_names acceptor_machine) (AcceptorSteps acceptor_machine)
+      of_server.ServerOutputs asked_server server_limit turn acceptor body more sent server made reply standing due small is
 
   server_takes : (turn : Turn) (acceptor : Acceptor) (nonces : List (List ℕ)) (body more bytes sent : List ℕ)
       (frame : SaslFrame) → canonical frame ≡ Some body → length body + 4 ≤ 512 → SpellsBody body (Ok frame)
@@ -229,8 +229,8 @@ module _ (login : Login) (provider : Provider) (password salt : List ℕ) (count
       → ServerMakes server_limit (Frame turn) acceptor nonces bytes sent server
       → ServerTakes server_limit turn acceptor body more sent server
   server_takes turn acceptor nonces body more bytes sent frame whole small spells in_turn all made =
-      takes (of_server.ServerAnswers acceptor_names acceptor_machine) (AcceptorSteps acceptor_machine)
-      of_server.Says asked_server server_limit turn acceptor nonces body more sent server frame wide.server_limit
+      takes (of_server.ServerSideAnswers acceptor_names acceptor_machine) (AcceptorSteps acceptor_machine)
+      of_server.ServerOutputs asked_server server_limit turn acceptor nonces body more sent server frame wide.server_limit
       (long_enough frame body whole) small spells in_turn
       (subst (λ (l : List ℕ). ServerMakes server_limit (Frame turn) acceptor nonces l sent server) all made)
 
@@ -590,8 +590,8 @@ module _ (login : Login) (provider : Provider) (password salt : List ℕ) (count
                 })
             client_ends_well =
                 let ends : fourth.answer ≡ record { sent = []; standing = LoggedIn; due = Frame turns.Outcome } =
-                subst (λ (s : ClientSays). of_client.Says s turns.Outcome fourth.answer) reports fourth.said in
-                let rests = ended_rests (Exact (of_client.ClientAnswers login.hostname))
+                subst (λ (s : ClientSays). of_client.ClientOutputs s turns.Outcome fourth.answer) reports fourth.said in
+                let rests = ended_rests (Exact (of_client.ClientSideAnswers login.hostname))
                 (record {
                   standing = LoggedIn;
                   due = Frame turns.Outcome;
@@ -599,10 +599,10 @@ module _ (login : Login) (provider : Provider) (password salt : List ℕ) (count
                   held = [];
                   state = fourth.next;
                 }) client fourth.nonces more fourth.after logged_in_is_not_wanting
-                (subst (λ (a : Answer). Negotiates (Exact (of_client.ClientAnswers login.hostname))
+                (subst (λ (a : SideOutput). Negotiates (Exact (of_client.ClientSideAnswers login.hostname))
                 (behind_answer a client_limit fourth.next) fourth.nonces more fourth.after client) ends fourth.goes_on)
                 in
-                (rests.1, fourth.all ∙ (ap (λ (a : Answer). a.sent ++ fourth.after) ends ∙ rests.0), rests.2)
+                (rests.1, fourth.all ∙ (ap (λ (a : SideOutput). a.sent ++ fourth.after) ends ∙ rests.0), rests.2)
 
           -- and the rest of the connection
           from_response : joined.server_sent ≡ sasl_header ++ (framed offer ++ (framed challenge ++ server_ends))
@@ -615,8 +615,8 @@ module _ (login : Login) (provider : Provider) (password salt : List ℕ) (count
               (ok_fits provider (step.accepted_in exchange)) sent_outcome in
               let (all, ends) = server_goes_on turns.Response first.next response client_ends server_ends third outcome
               LoggedIn (Frame turns.Response) small
-              (subst (λ (s : ServerSays). of_server.Says s turns.Response third.answer) accepted third.said) in
-              let rests = ended_rests (Exact (of_server.ServerAnswers acceptor_names acceptor_machine))
+              (subst (λ (s : ServerSays). of_server.ServerOutputs s turns.Response third.answer) accepted third.said) in
+              let rests = ended_rests (Exact (of_server.ServerSideAnswers acceptor_names acceptor_machine))
               (record {
                 standing = LoggedIn;
                 due = Frame turns.Response;
@@ -685,7 +685,7 @@ module _ (login : Login) (provider : Provider) (password salt : List ℕ) (count
             let small = fits_as (frames.Response (answer_in exchange).message) response response_fits sent_response in
             let (all, client_waits) = client_goes_on turns.Challenge zeroth.next challenge server_ends client_sends second
             response turns.Outcome small
-            (subst (λ (s : ClientSays). of_client.Says s turns.Challenge second.answer) answered second.said) in
+            (subst (λ (s : ClientSays). of_client.ClientOutputs s turns.Challenge second.answer) answered second.said) in
             let third = server_takes turns.Response first.next first.nonces response second.after client_sends
             server_ends (frames.Response (answer_in exchange).message) sent_response small
             (spells_response (answer_in exchange).message response sent_response) tt all waits in
@@ -701,7 +701,7 @@ module _ (login : Login) (provider : Provider) (password salt : List ℕ) (count
         let small = fits_as (frames.Challenge (first_in exchange)) challenge challenge_fits sent_challenge in
         let (all, server_waits) = server_goes_on turns.Init first_acceptor init client_sends server_sends first challenge
         Wanting (Frame turns.Response) small
-        (subst (λ (s : ServerSays). of_server.Says s turns.Init first.answer) challenged first.said) in
+        (subst (λ (s : ServerSays). of_server.ServerOutputs s turns.Init first.answer) challenged first.said) in
         let second = client_takes turns.Challenge zeroth.next zeroth.nonces challenge first.after server_sends
         client_sends (frames.Challenge (first_in exchange)) sent_challenge small
         (spells_challenge (first_in exchange) challenge sent_challenge) tt all waits in
@@ -721,7 +721,7 @@ module _ (login : Login) (provider : Provider) (password salt : List ℕ) (count
       (init_fits offer server_sends joined.client_sent offered zeroth) sent_init in
       let (all, client_waits) = client_goes_on turns.Mechanisms first_profile offer server_sends joined.client_sent
       zeroth init turns.Challenge small
-      (subst (λ (s : ClientSays). of_client.Says s turns.Mechanisms zeroth.answer) started zeroth.said) in
+      (subst (λ (s : ClientSays). of_client.ClientOutputs s turns.Mechanisms zeroth.answer) started zeroth.said) in
       let first = server_takes turns.Init first_acceptor server_nonces init zeroth.after joined.client_sent server_sends
       (frames.Init (mechanism_name login.version) (Some text) login.hostname) sent_init small
       (spells_init login.version text login.hostname init is.hostname sent_init) tt all waits in
@@ -755,21 +755,21 @@ module _ (login : Login) (provider : Provider) (password salt : List ℕ) (count
 pub unaltered_sides_log_in : UnalteredSidesLogIn
 unaltered_sides_log_in login provider password salt count client server joined is holds fits wide =
     let (client_taken, client_nonces, client_all, client_made) = cuts_do_not_matter
-    (Exact (of_client.ClientAnswers login.hostname)) (fresh joined.client_limit (scram_profile login)) client
+    (Exact (of_client.ClientSideAnswers login.hostname)) (fresh joined.client_limit (scram_profile login)) client
     joined.client_calls joined.server_sent joined.client_sent [] (nothing_is_part Header joined.client_limit)
-    (exact_calls (of_client.ClientAnswers login.hostname) joined.client_calls
+    (exact_calls (of_client.ClientSideAnswers login.hostname) joined.client_calls
     (fresh joined.client_limit (scram_profile login)) joined.server_sent joined.client_sent client []
     wide.client_nonces joined.client_takes) in
     let (server_taken, server_nonces, server_all, server_made) = cuts_do_not_matter
-    (Exact (of_server.ServerAnswers acceptor_names acceptor_machine))
+    (Exact (of_server.ServerSideAnswers acceptor_names acceptor_machine))
     (fresh joined.server_limit (ScramAcceptor provider Initial)) server joined.server_calls
     (sasl_header ++ joined.client_sent) joined.server_sent [] (nothing_is_part Header joined.server_limit)
-    (exact_calls (of_server.ServerAnswers acceptor_names acceptor_machine) joined.server_calls
+    (exact_calls (of_server.ServerSideAnswers acceptor_names acceptor_machine) joined.server_calls
     (fresh joined.server_limit (ScramAcceptor provider Initial)) (sasl_header ++ joined.client_sent) joined.server_sent
     server [] wide.server_nonces joined.server_takes) in
     log_in login provider password salt count client server joined is holds fits wide client_nonces server_nonces
-    (taken_whole (Exact (of_client.ClientAnswers login.hostname)) (fresh joined.client_limit (scram_profile login))
+    (taken_whole (Exact (of_client.ClientSideAnswers login.hostname)) (fresh joined.client_limit (scram_profile login))
     client joined.server_sent client_taken joined.client_sent client_nonces client_all client_made)
-    (taken_whole (Exact (of_server.ServerAnswers acceptor_names acceptor_machine))
+    (taken_whole (Exact (of_server.ServerSideAnswers acceptor_names acceptor_machine))
     (fresh joined.server_limit (ScramAcceptor provider Initial)) server (sasl_header ++ joined.client_sent)
     server_taken joined.server_sent server_nonces server_all server_made)

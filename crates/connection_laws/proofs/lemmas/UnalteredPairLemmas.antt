@@ -12,7 +12,7 @@ use Rattle.fe2o3_scram.specs.Credentials.{Provider}
 use Rattle.fe2o3_scram.specs.Hmac.{mechanism_name}
 use Rattle.fe2o3_sasl_runs.specs.Events.{Login, ServerSays, Challenged, Concluded, Failed, ClientSays, Started, Answered, Reported, Refused, Frame as FrameFault, OutOfMemory}
 use Rattle.fe2o3_sasl_runs.specs.TwoSides.{Sides}
-use Rattle.fe2o3_sasl_runs.specs.UnalteredRuns.{Arrives, UnalteredRun, Suffices, agreed, client_body, server_body, agreed_findings}
+use Rattle.fe2o3_sasl_runs.specs.UnalteredRuns.{Arrives, UnalteredRun, Suffices, agreed_verdict, client_body, server_body, agreed_findings}
 use Rattle.fe2o3_sasl_runs.specs.Verdicts.{Finding, OfVerifier, OfProof, IsVerifierFinding, IsProofFinding, Audits}
 use Rattle.fe2o3_sasl_runs.proofs.lemmas.lists.EachLemmas.{each_append, each_weaker}
 use Rattle.fe2o3_sasl_runs.proofs.lemmas.unaltered.UnalteredRunLemmas as unaltered
@@ -145,12 +145,12 @@ meet_equally sides run salt count audits = (verifier all.0, proof all.1.0)
         (each_weaker (IsVerifierFinding sides) (IsFinding sides) audits.verifiers (λ f. inl) audits.verifier_verdicts)
         (each_weaker (IsProofFinding sides) (IsFinding sides) audits.proofs (λ f. inr) audits.proof_verdicts))
 
-    verifier : IsFinding sides (record { kind = OfVerifier; client = 2; server = 1; verdict = agreed run salt count })
+    verifier : IsFinding sides (record { kind = OfVerifier; client = 2; server = 1; verdict = agreed_verdict run salt count })
         → TakesEqually sides.login sides.provider sides
     verifier (inl is) = (2, 1, is.1.0, is.1.1, is.1.2, is.1.3, (is.1.4.0, is.1.4.1))
     verifier (inr is) = absurd (apart is.0)
 
-    proof : IsFinding sides (record { kind = OfProof; client = 1; server = 1; verdict = agreed run salt count })
+    proof : IsFinding sides (record { kind = OfProof; client = 1; server = 1; verdict = agreed_verdict run salt count })
         → ShowsEqually sides.login sides.provider sides
     proof (inl is) = absurd (apart (sym is.0))
     proof (inr is) = (1, 1, is.1.0, is.1.1, is.1.2, (is.1.3.1.0, is.1.3.1.1))

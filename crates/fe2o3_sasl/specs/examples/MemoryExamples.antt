@@ -39,12 +39,12 @@ AcceptorsAskForNone = ((provider : Provider) (state : ServerState) (text : List 
 abbrev pub AskForNone : (Profile → SaslFrame → Type 0) → Type 0
 AskForNone Allocates = ((profile : Profile) → ¬ Allocates profile (frames.Mechanisms []))
     × ((client : ClientSide) → ¬ Allocates (ScramProfile client) (frames.Challenge (0xff ∷ [])))
-    × ((client : ClientSide) (text : List ℕ) → client.state ≡ client_states.Initial
+    × ((client : ClientSide) (text : List ℕ) → client.state ≡ client_states.ClientInitial
     → ¬ Allocates (ScramProfile client) (frames.Challenge text))
     × ((user password text : List ℕ) → ¬ Allocates (PlainProfile user password) (frames.Challenge text))
     × ((profile : Profile) (code : SaslCode) → ¬ Allocates profile (frames.Outcome code None))
     × ((client : ClientSide) → ¬ Allocates (ScramProfile client) (frames.Outcome outcomes.Ok (Some (0xff ∷ []))))
-    × ((client : ClientSide) (text : List ℕ) → client.state ≡ client_states.Initial
+    × ((client : ClientSide) (text : List ℕ) → client.state ≡ client_states.ClientInitial
     → ¬ Allocates (ScramProfile client) (frames.Outcome outcomes.Ok (Some text)))
 
 -- where the frame is owned, also at an outcome of code Auth, and at one that is not for SCRAM

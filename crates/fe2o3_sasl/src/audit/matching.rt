@@ -2,7 +2,7 @@
 //! so that the work grows with the receipts and the findings, and not with the pairs.
 
 ghost use Rattle.std.specs.Prelude.{◌≡◌, ◌++◌, ◌∷◌, [], ℕ, List, if◌then◌else◌, map, filter, IfOk, OnOk};
-ghost use Rattle.fe2o3_sasl.specs.Audit.{finding_of, kind_of};
+ghost use Rattle.fe2o3_sasl.specs.Audit.{finding_of, finding_kind};
 ghost use Rattle.fe2o3_sasl.specs.private.Findings.{client_receipt, server_receipt, same, is_taken, is_shown, verifier_finding, proof_finding, findings_of, compared_by, finding_on, meets_on, row_at};
 
 mod verdicts;
@@ -20,7 +20,7 @@ type Index<'a> = BTreeMap<&'a [u8], Vec<&'a ServerReceipt>>;
 
 /// The bytes of a server's receipt that a finding of this kind compares.
 fn compared_bytes(kind: FindingKind, server: &ServerReceipt) -> &[u8]
-    ensures { result.now ≡ compared_by (kind_of kind) (server_receipt server.now) }
+    ensures { result.now ≡ compared_by (finding_kind kind) (server_receipt server.now) }
 {
     match kind {
         FindingKind::Verifier => &server.verifier,
@@ -49,7 +49,7 @@ fn index_of<'a>(
     oks: &'a [ServerReceipt],
 ) -> Result<Index<'a>, OutOfMemory>
     ensures { IfOk result (λ index. (bytes : List ℕ) → row_at index bytes
-        ≡ filter (λ server. same bytes (compared_by (kind_of kind) server)) (map server_receipt oks.now)) }
+        ≡ filter (λ server. same bytes (compared_by (finding_kind kind) server)) (map server_receipt oks.now)) }
 {
     let mut index = BTreeMap::new(alloc);
     for server in oks {
@@ -68,7 +68,7 @@ fn match_client<'a>(
     index: &Index<'a>,
 ) -> Result<(), OutOfMemory>
     ensures { OnOk result (map finding_of findings.new.items ≡ map finding_of findings.old.items
-        ++ map (finding_on (kind_of kind) (client_receipt client.now)) (row_at index.now client.now.shown.items)) }
+        ++ map (finding_on (finding_kind kind) (client_receipt client.now)) (row_at index.now client.now.shown.items)) }
 {
     let Some(row) = index.get(client.shown.as_slice()) else {
         return Ok(());
@@ -95,7 +95,7 @@ fn match_receipts(
     oks: &[ServerReceipt],
 ) -> Result<(), OutOfMemory>
     ensures { OnOk result (map finding_of findings.new.items ≡ map finding_of findings.old.items
-        ++ findings_of (meets_on (kind_of kind)) (finding_on (kind_of kind)) (map client_receipt clients.now)
+        ++ findings_of (meets_on (finding_kind kind)) (finding_on (finding_kind kind)) (map client_receipt clients.now)
         (map server_receipt oks.now)) }
 {
     let index = index_of(alloc, kind, oks)?;

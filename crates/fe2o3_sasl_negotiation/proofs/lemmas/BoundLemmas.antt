@@ -20,22 +20,22 @@ use Rattle.fe2o3_sasl_negotiation.specs.Connections.{fresh}
 use Rattle.fe2o3_sasl_negotiation.specs.CostLaws.{Bounded, ServersAreBounded, ClientsAreBounded}
 use Rattle.fe2o3_sasl_negotiation.specs.Framing.{sasl_header, IsPart}
 use Rattle.fe2o3_sasl_negotiation.specs.Laws.{Call, Calls, Negotiates}
-use Rattle.fe2o3_sasl_negotiation.specs.Negotiations.{Side, Answer, Sends, closes}
+use Rattle.fe2o3_sasl_negotiation.specs.Negotiations.{Side, SideOutput, Sends, closes}
 use Rattle.fe2o3_sasl_negotiation.proofs.lemmas.CutLemmas.{nothing_is_part, EndsUnit, unit_of_call, cuts_do_not_matter}
 use Rattle.fe2o3_sasl_negotiation.proofs.lemmas.UnitLemmas.{length-framed}
 
 -- an answer sends no more than is left to it, and leaves to what is due behind it what is left of that
-abbrev pub Keeps : (Due → ℕ) → ℕ → Answer → Type 0
+abbrev pub Keeps : (Due → ℕ) → ℕ → SideOutput → Type 0
 Keeps budget most answer = (length answer.sent ≤ most)
     × (answer.standing ≡ Wanting → length answer.sent + budget answer.due ≤ most)
 
 -- nothing is sent, and the side closes or has logged in
-silent : (budget : Due → ℕ) (most : ℕ) (answer other : Answer) → answer ≡ other → other.sent ≡ []
+silent : (budget : Due → ℕ) (most : ℕ) (answer other : SideOutput) → answer ≡ other → other.sent ≡ []
     → other.standing ≢ Wanting → Keeps budget most answer
 silent budget most answer other same nothing ended =
-    let sent : length answer.sent ≡ 0 = ap (λ (a : Answer). length a.sent) same ∙ ap length nothing in (
+    let sent : length answer.sent ≡ 0 = ap (λ (a : SideOutput). length a.sent) same ∙ ap length nothing in (
       omega (arith, sent),
-      λ wants. absurd (ended (sym (ap (λ (a : Answer). a.standing) same) ∙ wants)),
+      λ wants. absurd (ended (sym (ap (λ (a : SideOutput). a.standing) same) ∙ wants)),
     )
 
 closed : (why : ClosedBecause) → Closed why ≢ Wanting
@@ -44,26 +44,26 @@ closed why same = cc
 logged_in : LoggedIn ≢ Wanting
 logged_in same = cc
 
-closes_keeps : {why : ClosedBecause} {due : Due} (budget : Due → ℕ) (most : ℕ) (answer : Answer)
+closes_keeps : {why : ClosedBecause} {due : Due} (budget : Due → ℕ) (most : ℕ) (answer : SideOutput)
     → answer ≡ closes why due → Keeps budget most answer
 closes_keeps {why} {due} budget most answer same = silent budget most answer (closes why due) same refl (closed why)
 
 -- a body is sent in a frame of at most 512 bytes, and 512 less are left for what is due behind it
-sends_keeps : (budget : Due → ℕ) (most : ℕ) (body : List ℕ) (standing : Standing) (due : Due) (answer : Answer)
+sends_keeps : (budget : Due → ℕ) (most : ℕ) (body : List ℕ) (standing : Standing) (due : Due) (answer : SideOutput)
     → 512 ≤ most → (standing ≡ Wanting → 512 + budget due ≤ most) → Sends body standing due answer
     → Keeps budget most answer
 sends_keeps budget most body standing due answer room left (inr (long, same)) = closes_keeps budget most answer same
 sends_keeps budget most body standing due answer room left (inl (fits, same)) =
     let sent : length answer.sent ≡ length body + 4 =
-    ap (λ (a : Answer). length a.sent) same ∙ length-framed body in (
+    ap (λ (a : SideOutput). length a.sent) same ∙ length-framed body in (
       omega (arith, sent, fits, room),
-      λ wants. let rest = left (sym (ap (λ (a : Answer). a.standing) same) ∙ wants) in
-          let behind : budget answer.due ≡ budget due = ap (λ (a : Answer). budget a.due) same in
+      λ wants. let rest = left (sym (ap (λ (a : SideOutput). a.standing) same) ∙ wants) in
+          let behind : budget answer.due ≡ budget due = ap (λ (a : SideOutput). budget a.due) same in
           omega (arith, sent, fits, rest, behind),
     )
 
-module _ {S : Type 0} (Answers : Due → S → List ℕ → List ℕ → Answer → S → Type 0) (budget : Due → ℕ)
-    (keeps : (due : Due) (state next : S) (nonce unit : List ℕ) (answer : Answer)
+module _ {S : Type 0} (Answers : Due → S → List ℕ → List ℕ → SideOutput → S → Type 0) (budget : Due → ℕ)
+    (keeps : (due : Due) (state next : S) (nonce unit : List ℕ) (answer : SideOutput)
     → Answers due state nonce unit answer next → Keeps budget (budget due) answer) where
   -- a side at its end sends nothing
   ended_is_silent : (side last : Side S) (nonces : List (List ℕ)) (bytes sent : List ℕ) → side.standing ≢ Wanting
@@ -73,7 +73,7 @@ module _ {S : Type 0} (Answers : Due → S → List ℕ → List ℕ → Answer 
       (taken, first, next, behind, wants, no_part, receives, more, all) = absurd (ended wants)
 
   -- what is behind an answer
-  behind_answer_sent : (answer : Answer) (next last : Side S) (nonces : List (List ℕ)) (bytes behind : List ℕ)
+  behind_answer_sent : (answer : SideOutput) (next last : Side S) (nonces : List (List ℕ)) (bytes behind : List ℕ)
       (most : ℕ)
       → next.standing ≡ answer.standing → Keeps budget most answer
       → (next.standing ≡ Wanting → length behind ≤ budget answer.due)
@@ -188,10 +188,10 @@ one_frame turns.Challenge = omega arith
 one_frame turns.Response = omega arith
 one_frame turns.Outcome = omega arith
 
-abbrev ServerKeeps : Due → Answer → Type 0
+abbrev ServerKeeps : Due → SideOutput → Type 0
 ServerKeeps due answer = Keeps server_budget (server_budget due) answer
 
-server_says : (says : ServerSays) (turn : Turn) (answer : Answer) → of_server.Says says turn answer
+server_says : (says : ServerSays) (turn : Turn) (answer : SideOutput) → of_server.ServerOutputs says turn answer
     → ServerKeeps (Frame turn) answer
 server_says (Challenged body) turns.Init answer sends =
     sends_keeps server_budget (2 * 512) body Wanting (Frame turns.Response) answer (omega arith) (λ _. omega arith)
@@ -217,27 +217,27 @@ server_says (Failed faults.NotImplemented) turn answer same = closes_keeps serve
 server_says (Failed faults.TooLarge) turn answer same = closes_keeps server_budget _ answer same
 
 -- what is offered goes behind the header
-offers_keep : (offer : Option (List ℕ)) (answer : Answer) → of_server.Offers offer answer
+offers_keep : (offer : Option (List ℕ)) (answer : SideOutput) → of_server.Offers offer answer
     → Keeps server_budget (3 * 512) answer
 offers_keep None answer same = closes_keeps server_budget _ answer same
 offers_keep (Some body) answer sends =
     sends_keeps server_budget _ body Wanting (Frame turns.Init) answer (omega arith) (λ _. omega arith) sends
 
-with_header : (answer first : Answer) → answer ≡ of_server.behind_header first → Keeps server_budget (3 * 512) first
+with_header : (answer first : SideOutput) → answer ≡ of_server.behind_header first → Keeps server_budget (3 * 512) first
     → ServerKeeps Header answer
 with_header answer first same kept =
     let sent : length answer.sent ≡ 8 + length first.sent =
-    ap (λ (a : Answer). length a.sent) same ∙ length-append sasl_header first.sent in
+    ap (λ (a : SideOutput). length a.sent) same ∙ length-append sasl_header first.sent in
     let within = kept.0 in (
       omega (arith, sent, within),
-      λ wants. let rest = kept.1 (sym (ap (λ (a : Answer). a.standing) same) ∙ wants) in
-          let behind : server_budget answer.due ≡ server_budget first.due = ap (λ (a : Answer). server_budget a.due)
+      λ wants. let rest = kept.1 (sym (ap (λ (a : SideOutput). a.standing) same) ∙ wants) in
+          let behind : server_budget answer.due ≡ server_budget first.due = ap (λ (a : SideOutput). server_budget a.due)
           same in
           omega (arith, sent, rest, behind),
     )
 
-server_keeps : (due : Due) (acceptor next : Acceptor) (nonce unit : List ℕ) (answer : Answer)
-    → of_server.ServerAnswers acceptor_names acceptor_machine due acceptor nonce unit answer next
+server_keeps : (due : Due) (acceptor next : Acceptor) (nonce unit : List ℕ) (answer : SideOutput)
+    → of_server.ServerSideAnswers acceptor_names acceptor_machine due acceptor nonce unit answer next
     → ServerKeeps due answer
 server_keeps Header acceptor next nonce unit answer (inl (other, same), kept) =
     with_header answer (closes OtherHeader Header) same (closes_keeps {due = Header} server_budget (3 * 512) _ refl)
@@ -252,7 +252,7 @@ server_keeps (Frame turn) acceptor next nonce unit answer (Ok frame, spells, inr
 
 pub servers_are_bounded : ServersAreBounded
 servers_are_bounded acceptor limit calls stream sent rest last made =
-    bounded (of_server.ServerAnswers acceptor_names acceptor_machine) server_budget server_keeps limit acceptor calls
+    bounded (of_server.ServerSideAnswers acceptor_names acceptor_machine) server_budget server_keeps limit acceptor calls
     stream sent rest last made
 
 -- ---- clients
@@ -264,10 +264,10 @@ client_budget (Frame turns.Mechanisms) = 2 * 512
 client_budget (Frame turns.Challenge) = 512
 client_budget (Frame turn) = 0
 
-abbrev ClientKeeps : Due → Answer → Type 0
+abbrev ClientKeeps : Due → SideOutput → Type 0
 ClientKeeps due answer = Keeps client_budget (client_budget due) answer
 
-client_says : (says : ClientSays) (turn : Turn) (answer : Answer) → of_client.Says says turn answer
+client_says : (says : ClientSays) (turn : Turn) (answer : SideOutput) → of_client.ClientOutputs says turn answer
     → ClientKeeps (Frame turn) answer
 client_says (Started body) turns.Mechanisms answer sends = sends_keeps client_budget _ body Wanting
     (Frame turns.Challenge) answer (omega arith) (λ _. omega arith) sends
@@ -293,13 +293,13 @@ client_says (Refused (Scram kind)) turn answer refused = closes_keeps client_bud
 client_says (Refused OtherKeys) turn answer refused = closes_keeps client_budget _ answer refused.2
 client_says (Refused (FrameFault fault)) turn answer refused = closes_keeps client_budget _ answer refused.2
 
-client_keeps : (hostname : Option (List ℕ)) (due : Due) (profile next : Profile) (nonce unit : List ℕ) (answer : Answer)
-    → of_client.ClientAnswers hostname due profile nonce unit answer next → ClientKeeps due answer
+client_keeps : (hostname : Option (List ℕ)) (due : Due) (profile next : Profile) (nonce unit : List ℕ) (answer : SideOutput)
+    → of_client.ClientSideAnswers hostname due profile nonce unit answer next → ClientKeeps due answer
 client_keeps hostname Header profile next nonce unit answer (inl (other, same), kept) =
     closes_keeps client_budget _ answer same
 client_keeps hostname Header profile next nonce unit answer (inr (is, same), kept) =
-    let sent : length answer.sent ≡ 0 = ap (λ (a : Answer). length a.sent) same in
-    let behind : client_budget answer.due ≡ 2 * 512 = ap (λ (a : Answer). client_budget a.due) same in
+    let sent : length answer.sent ≡ 0 = ap (λ (a : SideOutput). length a.sent) same in
+    let behind : client_budget answer.due ≡ 2 * 512 = ap (λ (a : SideOutput). client_budget a.due) same in
     (omega (arith, sent), λ _. omega (arith, sent, behind))
 client_keeps hostname (Frame turn) profile next nonce unit answer (Err fault, spells, unread) =
     closes_keeps client_budget _ answer unread.0
@@ -321,6 +321,6 @@ client_keeps hostname (Frame turn) profile next nonce unit answer (
 
 pub clients_are_bounded : ClientsAreBounded
 clients_are_bounded hostname profile limit calls stream sent rest last made =
-    bounded (of_client.ClientAnswers hostname) client_budget (client_keeps hostname) limit profile calls stream sent
+    bounded (of_client.ClientSideAnswers hostname) client_budget (client_keeps hostname) limit profile calls stream sent
     rest
     last made

@@ -16,13 +16,13 @@ use Rattle.fe2o3_sasl_negotiation.specs.declared.standing.Standing.{Standing}
 use Rattle.fe2o3_sasl_negotiation.specs.declared.standing.Standing.TheVariants.{Wanting}
 use Rattle.fe2o3_sasl_negotiation.specs.declared.standing.Turn.{Turn}
 use Rattle.fe2o3_sasl_negotiation.specs.Negotiations.{closes}
-use Rattle.fe2o3_sasl_negotiation.specs.ClientNegotiation.{Says, Replies, ReplyCosts, UnitCosts, ClientCosts}
-use Rattle.fe2o3_sasl_negotiation.specs.private.Units.{Appends, Screens, Takes}
+use Rattle.fe2o3_sasl_negotiation.specs.ClientNegotiation.{ClientOutputs, ClientReplies, ClientReplyCosts, ClientUnitCosts, ClientCosts}
+use Rattle.fe2o3_sasl_negotiation.specs.private.Units.{Appends, Screens, TakesUnit}
 
 -- what closes before the profile is asked
 pub screened : (hostname : Option (List ℕ)) (turn : Turn) (state : Profile)
     (event : Given) (why : ClosedBecause) → Screens turn event.body (Some why)
-    → Replies hostname turn state event (closes why (Frame turn)) state
+    → ClientReplies hostname turn state event (closes why (Frame turn)) state
 screened hostname turn state event why (inl (fault, spells, is)) =
     (Err fault, spells, (ap (λ (w : ClosedBecause). closes w (Frame turn)) is, refl))
 screened hostname turn state event why (inr (frame, spells, out, is)) =
@@ -31,8 +31,8 @@ screened hostname turn state event why (inr (frame, spells, out, is)) =
 -- what the profile says
 pub asked : (hostname : Option (List ℕ)) (turn : Turn) (state next : Profile)
     (event : Given) (says : ClientSays) (old new : List ℕ) (step : Step) → Screens turn event.body None
-    → ProfileSteps hostname state event says next → Appends (Says says turn) old new step
-    → Appends (λ answer. Replies hostname turn state event answer next) old new step
+    → ProfileSteps hostname state event says next → Appends (ClientOutputs says turn) old new step
+    → Appends (λ answer. ClientReplies hostname turn state event answer next) old new step
 asked hostname turn state next event says old new step (frame, spells, in_turn) steps (sent, appended, holds) =
     (sent, appended, (Ok frame, spells, inr (in_turn, (says, steps, holds))))
 
@@ -40,8 +40,8 @@ asked hostname turn state next event says old new step (frame, spells, in_turn) 
 pub asked_in_vain : {E : Type 0} (hostname : Option (List ℕ)) (turn : Turn)
     (state next : Profile) (event : Given) (fault : ProfileError) (old : List ℕ) (result : Result Step E)
     → Screens turn event.body None → ProfileSteps hostname state event (Refused (client_fault fault)) next
-    → IfOk result (λ step. (out : List ℕ) → Appends (Says (Refused (client_fault fault)) turn) out out step)
-    → IfOk result (λ step. Appends (λ answer. Replies hostname turn state event answer next) old old step)
+    → IfOk result (λ step. (out : List ℕ) → Appends (ClientOutputs (Refused (client_fault fault)) turn) out out step)
+    → IfOk result (λ step. Appends (λ answer. ClientReplies hostname turn state event answer next) old old step)
 asked_in_vain hostname turn state next event fault old (Ok step) screens steps says =
     asked hostname turn state next event (Refused (client_fault fault)) old old step screens steps (says old)
 asked_in_vain hostname turn state next event fault old (Err failed) screens steps says = tt
@@ -50,14 +50,14 @@ asked_in_vain hostname turn state next event fault old (Err failed) screens step
 pub asked_costs : (turn : Turn) (state : Profile) (event : Given)
     (reply : Result ClientReply ProfileError) (before after : ℕ) → Screens turn event.body None
     → ProfileStepCosts state event reply before after
-    → ReplyCosts turn state event before after
+    → ClientReplyCosts turn state event before after
 asked_costs turn state event reply before after (frame, spells, in_turn) costs =
     inr (frame, reply, spells, in_turn, costs)
 
 -- what an answer to a unit costs, the call costs that completes it
 pub unit_costs : (standing : Standing) (due : Due) (limit : ℕ)
     (held bytes nonce kept : List ℕ) (state : Profile) (before after : ℕ) → standing ≡ Wanting
-    → Takes due limit (held ++ bytes) Whole kept → UnitCosts due state nonce kept before after
+    → TakesUnit due limit (held ++ bytes) Whole kept → ClientUnitCosts due state nonce kept before after
     → ClientCosts (record { standing = standing; due = due; limit = limit; held = held; state = state }) bytes nonce
     before after
 unit_costs standing Header limit held bytes nonce kept state before after wanting takes costs = inl costs

@@ -13,15 +13,15 @@ use Rattle.fe2o3_sasl_negotiation.specs.declared.standing.Standing.{Standing}
 use Rattle.fe2o3_sasl_negotiation.specs.declared.standing.Standing.TheVariants.{Wanting, LoggedIn, Closed}
 use Rattle.fe2o3_sasl_negotiation.specs.declared.standing.Turn.{Turn}
 use Rattle.fe2o3_sasl_negotiation.specs.declared.standing.Turn.TheVariants as turns
-use Rattle.fe2o3_sasl_negotiation.specs.ClientNegotiation.{Opens, Says, ClientAnswers}
+use Rattle.fe2o3_sasl_negotiation.specs.ClientNegotiation.{ClientOpens, ClientOutputs, ClientSideAnswers}
 use Rattle.fe2o3_sasl_negotiation.specs.Connections.{Piece, ClientConnection, ClientsConnect, fresh}
-use Rattle.fe2o3_sasl_negotiation.specs.Negotiations.{Side, Answer, Receives, ReceivesAt}
+use Rattle.fe2o3_sasl_negotiation.specs.Negotiations.{Side, SideOutput, Receives, ReceivesAt}
 use Rattle.fe2o3_sasl_negotiation.specs.private.Pieces.{NextNonces}
 use Rattle.fe2o3_sasl_negotiation.proofs.lemmas.ConnectionLemmas.{closed_is_not_wanting, logged_in_is_not_wanting, opened, negotiated_call, negotiated_more, rests_there, connected}
 use Rattle.fe2o3_sasl_negotiation.proofs.lemmas.KindLemmas.{standing_of, closes_waits_not, sends_goes_on}
 
 -- an init leaves a client waiting for a challenge, and a response for an outcome
-says_first : (says : ClientSays) (answer : Answer) → Says says turns.Mechanisms answer → answer.standing ≡ Wanting
+says_first : (says : ClientSays) (answer : SideOutput) → ClientOutputs says turns.Mechanisms answer → answer.standing ≡ Wanting
     → answer.due ≡ Frame turns.Challenge
 says_first (Started body) answer sends waits = sends_goes_on body turns.Challenge answer sends waits
 says_first (Answered body) answer is waits = absurd (closes_waits_not _ _ answer is waits)
@@ -37,7 +37,7 @@ says_first (ClientRefused (Scram fault)) answer closed waits = absurd (closes_wa
 says_first (ClientRefused OtherKeys) answer closed waits = absurd (closes_waits_not _ _ answer closed.2 waits)
 says_first (ClientRefused (FrameFault fault)) answer closed waits = absurd (closes_waits_not _ _ answer closed.2 waits)
 
-says_next : (says : ClientSays) (answer : Answer) → Says says turns.Challenge answer → answer.standing ≡ Wanting
+says_next : (says : ClientSays) (answer : SideOutput) → ClientOutputs says turns.Challenge answer → answer.standing ≡ Wanting
     → answer.due ≡ Frame turns.Outcome
 says_next (Started body) answer is waits = absurd (closes_waits_not _ _ answer is waits)
 says_next (Answered body) answer sends waits = sends_goes_on body turns.Outcome answer sends waits
@@ -53,7 +53,7 @@ says_next (ClientRefused (Scram fault)) answer closed waits = absurd (closes_wai
 says_next (ClientRefused OtherKeys) answer closed waits = absurd (closes_waits_not _ _ answer closed.2 waits)
 says_next (ClientRefused (FrameFault fault)) answer closed waits = absurd (closes_waits_not _ _ answer closed.2 waits)
 
-says_last : (says : ClientSays) (answer : Answer) → Says says turns.Outcome answer → answer.standing ≢ Wanting
+says_last : (says : ClientSays) (answer : SideOutput) → ClientOutputs says turns.Outcome answer → answer.standing ≢ Wanting
 says_last (Started body) answer is waits = closes_waits_not _ _ answer is waits
 says_last (Answered body) answer is waits = closes_waits_not _ _ answer is waits
 says_last (Reported outcomes.Ok more) answer is waits =
@@ -76,7 +76,7 @@ module _ (hostname : Option (List ℕ)) (limit : ℕ) (profile : Profile) (piece
   seen = turns.Mechanisms ∷ turns.Challenge ∷ turns.Outcome ∷ []
 
   header_call : (taken bytes nonce first : List ℕ) (k : ℕ) (next : Side Profile) → length taken < 8
-      → ReceivesAt Wanting (ClientAnswers hostname) (record (fresh limit profile) { held = taken }) bytes nonce k first
+      → ReceivesAt Wanting (ClientSideAnswers hostname) (record (fresh limit profile) { held = taken }) bytes nonce k first
       next → Is (taken ++ take k bytes) first next
   header_call taken bytes nonce first k next few (inl (part, waits)) =
       let all : k ≡ length bytes = waits.0 in
@@ -90,7 +90,7 @@ module _ (hostname : Option (List ℕ)) (limit : ℕ) (profile : Profile) (piece
       come = let all : k ≡ 8 - length taken = ends.0 in
           sym (take-append_past taken bytes k 8 (omega (arith, few, all)))
 
-      go : Opens (take 8 (taken ++ bytes)) answer → Is (taken ++ take k bytes) first next
+      go : ClientOpens (take 8 (taken ++ bytes)) answer → Is (taken ++ take k bytes) first next
       go (inl other) = inr (inl (
         (
           ap length come ∙ length-take-le 8 (taken ++ bytes) whole,
@@ -98,15 +98,15 @@ module _ (hostname : Option (List ℕ)) (limit : ℕ) (profile : Profile) (piece
           ap (λ (s : Side Profile). s.standing) ends.2 ∙ standing_of answer _ other.1,
           ap (λ (s : Side Profile). s.state) ends.2 ∙ answers.1,
         ),
-        ends.1 ∙ ap (λ (a : Answer). a.sent) other.1,
+        ends.1 ∙ ap (λ (a : SideOutput). a.sent) other.1,
       ))
       go (inr opens) =
-          let nothing : first ≡ [] = ends.1 ∙ ap (λ (a : Answer). a.sent) opens.1 in
+          let nothing : first ≡ [] = ends.1 ∙ ap (λ (a : SideOutput). a.sent) opens.1 in
           subst (λ (l : List ℕ). Is (taken ++ take k bytes) l next) (sym nothing)
-          (inr (inr (opened (ClientAnswers hostname) (ProfileSteps hostname) Says seen (says_first, (says_next, says_last))
+          (inr (inr (opened (ClientSideAnswers hostname) (ProfileSteps hostname) ClientOutputs seen (says_first, (says_next, says_last))
           (λ turn s n nonce unit a h. h) limit profile pieces (taken ++ take k bytes) turns.Mechanisms
           (turns.Challenge ∷ turns.Outcome ∷ []) next refl (come ∙ opens.0)
-          (ends.2 ∙ (ap (λ (a : Answer). record {
+          (ends.2 ∙ (ap (λ (a : SideOutput). record {
             standing = a.standing;
             due = a.due;
             limit = limit;
@@ -123,7 +123,7 @@ module _ (hostname : Option (List ℕ)) (limit : ℕ) (profile : Profile) (piece
   call_at : (standing : Standing) (taken sent : List ℕ) (side next : Side Profile) (bytes nonce first : List ℕ) (k : ℕ)
       → side.standing ≡ standing → Is taken sent side → IsBytes (taken ++ bytes)
       → NextNonces pieces (length taken) k nonce
-      → ReceivesAt standing (ClientAnswers hostname) side bytes nonce k first next
+      → ReceivesAt standing (ClientSideAnswers hostname) side bytes nonce k first next
       → Is (taken ++ take k bytes) (sent ++ first) next
   call_at LoggedIn taken sent side next bytes nonce first k at is are_bytes nonces rests =
       rests_there Is taken sent bytes first k side next is rests
@@ -132,17 +132,17 @@ module _ (hostname : Option (List ℕ)) (limit : ℕ) (profile : Profile) (piece
   call_at Wanting taken sent side next bytes nonce first k at (inl (few, nothing, same)) are_bytes nonces receives =
       subst (λ (l : List ℕ). Is (taken ++ take k bytes) (l ++ first) next) (sym nothing)
       (header_call taken bytes nonce first k next few
-      (subst (λ (s : Side Profile). ReceivesAt Wanting (ClientAnswers hostname) s bytes nonce k first next) same receives))
+      (subst (λ (s : Side Profile). ReceivesAt Wanting (ClientSideAnswers hostname) s bytes nonce k first next) same receives))
   call_at Wanting taken sent side next bytes nonce first k at (inr (inl other)) are_bytes nonces receives =
       absurd (closed_is_not_wanting OtherHeader (sym other.0.2 ∙ at))
   call_at Wanting taken sent side next bytes nonce first k at (inr (inr negotiated)) are_bytes nonces receives =
-      inr (inr (negotiated_call (ClientAnswers hostname) (ProfileSteps hostname) Says seen
+      inr (inr (negotiated_call (ClientSideAnswers hostname) (ProfileSteps hostname) ClientOutputs seen
       (says_first, (says_next, says_last)) (λ turn s n nonce unit a h. h) limit profile pieces taken sent side next bytes
       nonce first k negotiated at are_bytes nonces receives))
 
   pub client_call : (taken sent : List ℕ) (side next : Side Profile) (bytes nonce first : List ℕ) (k : ℕ)
       → Is taken sent side → IsBytes (taken ++ bytes) → NextNonces pieces (length taken) k nonce
-      → Receives (ClientAnswers hostname) side bytes nonce k first next
+      → Receives (ClientSideAnswers hostname) side bytes nonce k first next
       → Is (taken ++ take k bytes) (sent ++ first) next
   client_call taken sent side next bytes nonce first k is are_bytes nonces receives =
       call_at side.standing taken sent side next bytes nonce first k refl is are_bytes nonces receives
@@ -155,13 +155,13 @@ module _ (hostname : Option (List ℕ)) (limit : ℕ) (profile : Profile) (piece
   grows more taken sent side (inl part) = inl part
   grows more taken sent side (inr (inl other)) = inr (inl other)
   grows more taken sent side (inr (inr negotiated)) =
-      inr (inr (negotiated_more (ClientAnswers hostname) (ProfileSteps hostname) Says seen
+      inr (inr (negotiated_more (ClientSideAnswers hostname) (ProfileSteps hostname) ClientOutputs seen
       (says_first, (says_next, says_last)) (λ turn s n nonce unit a h. h) limit profile pieces more taken sent side
       negotiated))
 
 pub clients_connect : ClientsConnect
 clients_connect hostname limit profile calls stream sent rest last are_bytes made =
-    connected (ClientAnswers hostname)
+    connected (ClientSideAnswers hostname)
     (λ pieces taken out side. ClientConnection hostname limit profile pieces taken out side)
     (λ pieces taken out side next bytes nonce first k is fine nonces receives.
     client_call hostname limit profile pieces taken out side next bytes nonce first k is fine nonces receives)

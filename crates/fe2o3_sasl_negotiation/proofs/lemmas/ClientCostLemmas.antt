@@ -22,11 +22,11 @@ use Rattle.fe2o3_sasl_negotiation.specs.declared.standing.Standing.{Standing}
 use Rattle.fe2o3_sasl_negotiation.specs.declared.standing.Standing.TheVariants.{Wanting, Closed}
 use Rattle.fe2o3_sasl_negotiation.specs.declared.standing.Turn.{Turn}
 use Rattle.fe2o3_sasl_negotiation.specs.declared.standing.Turn.TheVariants as turns
-use Rattle.fe2o3_sasl_negotiation.specs.ClientNegotiation.{Says, AsksProfile, ClientAnswers, ClientCosts}
+use Rattle.fe2o3_sasl_negotiation.specs.ClientNegotiation.{ClientOutputs, AsksProfile, ClientSideAnswers, ClientCosts}
 use Rattle.fe2o3_sasl_negotiation.specs.CostLaws.{ClientsCost}
 use Rattle.fe2o3_sasl_negotiation.specs.Connections.{fresh}
 use Rattle.fe2o3_sasl_negotiation.specs.Framing.{size_of}
-use Rattle.fe2o3_sasl_negotiation.specs.Negotiations.{Side, Answer, closes, IsInTurn, Receives}
+use Rattle.fe2o3_sasl_negotiation.specs.Negotiations.{Side, SideOutput, closes, IsInTurn, Receives}
 use Rattle.fe2o3_sasl_negotiation.specs.Retries.{ClientsRetry}
 use Rattle.fe2o3_sasl_negotiation.proofs.lemmas.CostLemmas.{none, open_calls, rests, Left, leaves, answers_whole}
 use Rattle.fe2o3_sasl_negotiation.proofs.lemmas.RetryLemmas.{open_retried}
@@ -51,18 +51,18 @@ abbrev pub Done : Side Profile → Type 0
 Done side = (side.standing ≡ Wanting → ⊥) ⊎ (side.due ≡ Frame turns.Outcome)
 
 -- an answer with these is early, or done
-abbrev pub Later : Answer → Type 0
+abbrev pub Later : SideOutput → Type 0
 Later answer = (answer.standing ≡ Wanting → ⊥) ⊎ (answer.due ≡ Frame turns.Outcome)
 
 closed_ends : (why : ClosedBecause) (standing : Standing) → standing ≡ Closed why → standing ≡ Wanting → ⊥
 closed_ends why standing closed wants = let apart = sym closed ∙ wants in absurd (cc)
 
-ended : {why : ClosedBecause} {due : Due} (answer : Answer) → answer ≡ closes why due → Later answer
+ended : {why : ClosedBecause} {due : Due} (answer : SideOutput) → answer ≡ closes why due → Later answer
 ended answer same = inl (closed_ends _ answer.standing (standing_of answer _ same))
 
 -- behind what a profile says, but for an init to a list of mechanisms, an outcome is due, or the negotiation has ended
-said_later : (says : ClientSays) (turn : Turn) (answer : Answer)
-    → ((body : List ℕ) → says ≡ Started body → turn ≡ turns.Mechanisms → ⊥) → Says says turn answer → Later answer
+said_later : (says : ClientSays) (turn : Turn) (answer : SideOutput)
+    → ((body : List ℕ) → says ≡ Started body → turn ≡ turns.Mechanisms → ⊥) → ClientOutputs says turn answer → Later answer
 said_later (Started body) turns.Mechanisms answer other sends = absurd (other body refl refl)
 said_later (Started body) turns.Init answer other same = ended answer same
 said_later (Started body) turns.Challenge answer other same = ended answer same
@@ -87,7 +87,7 @@ said_later (ClientRefused OtherKeys) turn answer other closed = ended answer clo
 said_later (ClientRefused (FrameFault fault)) turn answer other closed = ended answer closed.2
 
 -- behind an answer to a list of mechanisms a challenge may be due, too
-said_by : (says : ClientSays) (answer : Answer) → Says says turns.Mechanisms answer
+said_by : (says : ClientSays) (answer : SideOutput) → ClientOutputs says turns.Mechanisms answer
     → Later answer ⊎ (answer.due ≡ Frame turns.Challenge)
 said_by (Started body) answer (inl (fits, same)) = inr (due_of answer _ same)
 said_by (Started body) answer (inr (long, same)) = inl (ended answer same)
@@ -107,7 +107,7 @@ keeps hostname most profile next event says (client, is, limit) (spelled, spells
 
 -- what an answer to an early unit is
 asked_early : (hostname : Option (List ℕ)) (most : ℕ) (turn : Turn) (profile next : Profile) (event : Given)
-    (frame : SaslFrame) (answer : Answer) → IsEarly (Frame turn) → IsScram most profile
+    (frame : SaslFrame) (answer : SideOutput) → IsEarly (Frame turn) → IsScram most profile
     → SpellsBody event.body (Ok frame) → IsInTurn turn frame → AsksProfile hostname turn profile event answer next
     → Later answer ⊎ (IsScram most next × IsEarly answer.due)
 asked_early hostname most turns.Mechanisms profile next event frame answer early is spells in_turn
@@ -123,8 +123,8 @@ asked_early hostname most turns.Response profile next event frame answer early i
 asked_early hostname most turns.Outcome profile next event frame answer early is spells in_turn asks = absurd early
 
 early_answer : (hostname : Option (List ℕ)) (most : ℕ) (due : Due) (profile next : Profile) (nonce unit : List ℕ)
-    (answer : Answer) → IsEarly due → IsScram most profile
-    → ClientAnswers hostname due profile nonce unit answer next
+    (answer : SideOutput) → IsEarly due → IsScram most profile
+    → ClientSideAnswers hostname due profile nonce unit answer next
     → Later answer ⊎ (IsScram most next × IsEarly answer.due)
 early_answer hostname most Header profile next nonce unit answer early is (inl other, kept) =
     inl (inl (closed_ends _ answer.standing (standing_of answer _ other.1)))
@@ -139,8 +139,8 @@ early_answer hostname most (Frame turn) profile next nonce unit answer early is 
     spells asks.0 asks.1
 
 -- and to an outcome
-outcome_answer : (hostname : Option (List ℕ)) (profile next : Profile) (nonce unit : List ℕ) (answer : Answer)
-    → ClientAnswers hostname (Frame turns.Outcome) profile nonce unit answer next → Later answer
+outcome_answer : (hostname : Option (List ℕ)) (profile next : Profile) (nonce unit : List ℕ) (answer : SideOutput)
+    → ClientSideAnswers hostname (Frame turns.Outcome) profile nonce unit answer next → Later answer
 outcome_answer hostname profile next nonce unit answer (Err fault, spells, closed) =
     inl (closed_ends _ answer.standing (standing_of answer _ closed.0))
 outcome_answer hostname profile next nonce unit answer (Ok frame, spells, inl out) =
@@ -190,8 +190,8 @@ costs_over profile event frame result before after spells costs =
 
 -- behind an answer to a challenge, too
 challenge_answer : (hostname : Option (List ℕ)) (most : ℕ) (profile next : Profile) (nonce unit : List ℕ)
-    (answer : Answer) → IsScram most profile
-    → ClientAnswers hostname (Frame turns.Challenge) profile nonce unit answer next → Later answer
+    (answer : SideOutput) → IsScram most profile
+    → ClientSideAnswers hostname (Frame turns.Challenge) profile nonce unit answer next → Later answer
 challenge_answer hostname most profile next nonce unit answer is (Err fault, spells, closed) =
     inl (closed_ends _ answer.standing (standing_of answer _ closed.0))
 challenge_answer hostname most profile next nonce unit answer is (Ok frame, spells, inl out) =
@@ -203,17 +203,17 @@ one_turn : (turn other : Turn) → ◌≡◌ {A = Due} (Frame turn) (Frame other
 one_turn turn other same = cc
 
 module _ (hostname : Option (List ℕ)) (most : ℕ) (side next : Side Profile) (bytes nonce sent : List ℕ)
-    (taken before after : ℕ) (receives : Receives (ClientAnswers hostname) side bytes nonce taken sent next) where
+    (taken before after : ℕ) (receives : Receives (ClientSideAnswers hostname) side bytes nonce taken sent next) where
   -- behind an answer
-  behind : (answer : Answer) → next.standing ≡ answer.standing → next.due ≡ answer.due → Later answer → Done next
+  behind : (answer : SideOutput) → next.standing ≡ answer.standing → next.due ≡ answer.due → Later answer → Done next
   behind answer stands dues (inl ends) = inl (λ wants. ends (sym stands ∙ wants))
   behind answer stands dues (inr outcome) = inr (dues ∙ outcome)
 
   -- a call to an open side leaves it open, or done
   moved : Open most side → Open most next ⊎ Done next
-  moved begun = go (leaves (ClientAnswers hostname) side.standing side next bytes nonce sent taken receives)
+  moved begun = go (leaves (ClientSideAnswers hostname) side.standing side next bytes nonce sent taken receives)
     where
-      go : Left (ClientAnswers hostname) side bytes nonce next → Open most next ⊎ Done next
+      go : Left (ClientSideAnswers hostname) side bytes nonce next → Open most next ⊎ Done next
       go (inl waits) = inl (
         (begun.0.0, waits.2 ∙ begun.0.1, begun.0.2),
         subst IsEarly (sym waits.1) begun.1,
@@ -246,16 +246,16 @@ module _ (hostname : Option (List ℕ)) (most : ℕ) (side next : Side Profile) 
       (costs_over side.state (record { body = body; nonce = nonce }) frame reply before after spells costs)))
     where
       ends : turn ≡ turns.Challenge → Done next
-      ends is = closing (answers_whole (ClientAnswers hostname) side next turn bytes nonce sent taken completes.0
+      ends is = closing (answers_whole (ClientSideAnswers hostname) side next turn bytes nonce sent taken completes.0
           completes.1 completes.2 receives)
         where
-          closing : (answer : Answer) × ClientAnswers hostname (Frame turn) side.state nonce
+          closing : (answer : SideOutput) × ClientSideAnswers hostname (Frame turn) side.state nonce
               (take (size_of (side.held ++ bytes)) (side.held ++ bytes)) answer next.state
               × (next.standing ≡ answer.standing) × (next.due ≡ answer.due) → Done next
           closing (answer, answers, stands, dues) = behind answer stands dues
               (challenge_answer hostname most side.state next.state nonce
               (take (size_of (side.held ++ bytes)) (side.held ++ bytes)) answer begun.0
-              (subst (λ (t : Turn). ClientAnswers hostname (Frame t) side.state nonce
+              (subst (λ (t : Turn). ClientSideAnswers hostname (Frame t) side.state nonce
               (take (size_of (side.held ++ bytes)) (side.held ++ bytes)) answer next.state) is answers))
 
       go : (after ≡ before) ⊎ ((turn ≡ turns.Challenge)
@@ -267,18 +267,18 @@ module _ (hostname : Option (List ℕ)) (most : ℕ) (side next : Side Profile) 
 
   rested : (side.standing ≡ Wanting → ⊥) → Done next
   rested ends =
-      let still = rests (ClientAnswers hostname) side.standing side next bytes nonce sent taken ends receives in
+      let still = rests (ClientSideAnswers hostname) side.standing side next bytes nonce sent taken ends receives in
       inl (λ wants. ends (ap (λ (s : Side Profile). s.standing) (sym still) ∙ wants))
 
   outcome_next : side.due ≡ Frame turns.Outcome → Done next
-  outcome_next due = go (leaves (ClientAnswers hostname) side.standing side next bytes nonce sent taken receives)
+  outcome_next due = go (leaves (ClientSideAnswers hostname) side.standing side next bytes nonce sent taken receives)
     where
-      go : Left (ClientAnswers hostname) side bytes nonce next → Done next
+      go : Left (ClientSideAnswers hostname) side bytes nonce next → Done next
       go (inl waits) = inr (waits.1 ∙ due)
       go (inr (inl closed)) = inl closed.0
       go (inr (inr whole)) = behind whole.0 whole.3 whole.4
           (outcome_answer hostname side.state next.state nonce whole.1 whole.0
-          (subst (λ (d : Due). ClientAnswers hostname d side.state nonce whole.1 whole.0 next.state) due whole.2))
+          (subst (λ (d : Due). ClientSideAnswers hostname d side.state nonce whole.1 whole.0 next.state) due whole.2))
 
   done_step : Done side → ClientCosts side bytes nonce before after → (after ≡ before) × Done next
   done_step (inl ends) (inl same) = (same, rested ends)
@@ -294,7 +294,7 @@ module _ (hostname : Option (List ℕ)) (most : ℕ) (side next : Side Profile) 
 
 pub clients_cost : ClientsCost
 clients_cost hostname client limit calls stream before after made =
-    open_calls (ClientAnswers hostname) ClientCosts (client.limits.most + 4) (Open client.limits.most) Done
+    open_calls (ClientSideAnswers hostname) ClientCosts (client.limits.most + 4) (Open client.limits.most) Done
     (λ side next bytes nonce sent taken before after begun receives costs.
     open_step hostname client.limits.most side next bytes nonce sent taken before after receives begun costs)
     (λ side next bytes nonce sent taken before after done receives costs.
@@ -332,7 +332,7 @@ done_tries side bytes nonce before after (inr due)
 
 pub clients_retry : ClientsRetry
 clients_retry hostname client limit calls stream failed before after made =
-    open_retried (ClientAnswers hostname) ClientCosts (client.limits.most + 4) (Open client.limits.most) Done
+    open_retried (ClientSideAnswers hostname) ClientCosts (client.limits.most + 4) (Open client.limits.most) Done
     (λ side next bytes nonce sent taken before after begun receives costs.
     open_step hostname client.limits.most side next bytes nonce sent taken before after receives begun costs)
     (λ side next bytes nonce sent taken before after done receives costs.

@@ -22,26 +22,26 @@ use Rattle.fe2o3_sasl_negotiation.specs.declared.standing.Standing.{Standing}
 use Rattle.fe2o3_sasl_negotiation.specs.declared.standing.Standing.TheVariants.{Wanting, LoggedIn, Closed}
 use Rattle.fe2o3_sasl_negotiation.specs.declared.standing.Turn.{Turn}
 use Rattle.fe2o3_sasl_negotiation.specs.declared.standing.Turn.TheVariants as turns
-use Rattle.fe2o3_sasl_negotiation.specs.Negotiations.{Answer, closes, Sends, IsInTurn}
-use Rattle.fe2o3_sasl_negotiation.specs.ClientNegotiation.{Says, Replies, ClientAnswers}
-use Rattle.fe2o3_sasl_negotiation.specs.SetDown.{client_due, outcome_due, client_at}
+use Rattle.fe2o3_sasl_negotiation.specs.Negotiations.{SideOutput, closes, Sends, IsInTurn}
+use Rattle.fe2o3_sasl_negotiation.specs.ClientNegotiation.{ClientOutputs, ClientReplies, ClientSideAnswers}
+use Rattle.fe2o3_sasl_negotiation.specs.SetDown.{client_due, outcome_due, client_fits}
 use Rattle.fe2o3_sasl_negotiation.specs.private.Units.{Appends}
 use Rattle.fe2o3_sasl_negotiation.proofs.lemmas.KeptLemmas.{unread_is_no_memory}
 
 -- where an answer is this one
-at_client : (answer other : Answer) → answer ≡ other → IsTrue (client_at other.standing other.due)
-    → IsTrue (client_at answer.standing answer.due)
-at_client answer other is holds = subst (λ (a : Answer). IsTrue (client_at a.standing a.due)) (sym is) holds
+at_client : (answer other : SideOutput) → answer ≡ other → IsTrue (client_fits other.standing other.due)
+    → IsTrue (client_fits answer.standing answer.due)
+at_client answer other is holds = subst (λ (a : SideOutput). IsTrue (client_fits a.standing a.due)) (sym is) holds
 
-sent_at_client : (body : List ℕ) (due : Due) (answer : Answer) → IsTrue (client_due due) → IsTrue (outcome_due due)
-    → Sends body Wanting due answer → IsTrue (client_at answer.standing answer.due)
+sent_at_client : (body : List ℕ) (due : Due) (answer : SideOutput) → IsTrue (client_due due) → IsTrue (outcome_due due)
+    → Sends body Wanting due answer → IsTrue (client_fits answer.standing answer.due)
 sent_at_client body due answer holds after (inl (fits, is)) =
     at_client answer (record { sent = _; standing = Wanting; due = due }) is holds
 sent_at_client body due answer holds after (inr (long, is)) = at_client answer (closes ReplyTooLarge due) is after
 
 -- a client that closes at a frame for a fault of its body
 unread_at_client : (fault : Error) (turn : Turn) → fault ≢ faults.OutOfMemory → IsTrue (client_due (Frame turn))
-    → IsTrue (client_at (Closed (Unread fault)) (Frame turn))
+    → IsTrue (client_fits (Closed (Unread fault)) (Frame turn))
 unread_at_client faults.DecodeError turn other unit = unit
 unread_at_client faults.NotImplemented turn other unit = unit
 unread_at_client faults.TooLarge turn other unit = unit
@@ -49,7 +49,7 @@ unread_at_client faults.OutOfMemory turn other unit = absurd (other refl)
 
 -- and for a fault of its profile
 profile_at_client : (kind : ProfileError) (turn : Turn) → client_fault kind ≢ OutOfMemory
-    → IsTrue (client_due (Frame turn)) → IsTrue (client_at (Closed (ProfileRefused kind)) (Frame turn))
+    → IsTrue (client_due (Frame turn)) → IsTrue (client_fits (Closed (ProfileRefused kind)) (Frame turn))
 profile_at_client profile_faults.NotImplemented turn other unit = unit
 profile_at_client (profile_faults.Scram kind) turn other unit = unit
 profile_at_client profile_faults.OtherKeys turn other unit = unit
@@ -98,8 +98,8 @@ after_mechanisms hostname turns.Mechanisms profile next event (frames.Response t
 after_mechanisms hostname turns.Mechanisms profile next event (frames.Outcome other extra) code more unit spells in_turn
     steps = absurd in_turn
 
-refused_at_client : (fault : ClientFault) (turn : Turn) (answer : Answer) → IsTrue (client_due (Frame turn))
-    → Says (ClientRefused fault) turn answer → IsTrue (client_at answer.standing answer.due)
+refused_at_client : (fault : ClientFault) (turn : Turn) (answer : SideOutput) → IsTrue (client_due (Frame turn))
+    → ClientOutputs (ClientRefused fault) turn answer → IsTrue (client_fits answer.standing answer.due)
 refused_at_client OutOfMemory turn answer unit says = absurd says
 refused_at_client NotImplemented turn answer unit (kind, same, is) =
     at_client answer (closes (ProfileRefused kind) (Frame turn)) is
@@ -114,9 +114,9 @@ refused_at_client (FrameFault fault) turn answer unit (kind, same, is) =
     at_client answer (closes (ProfileRefused kind) (Frame turn)) is
     (profile_at_client kind turn (λ wants. let apart = sym same ∙ wants in absurd (cc)) unit)
 
-says_at_client : (says : ClientSays) (turn : Turn) (answer : Answer) → IsTrue (client_due (Frame turn))
+says_at_client : (says : ClientSays) (turn : Turn) (answer : SideOutput) → IsTrue (client_due (Frame turn))
     → ((code : SaslCode) (more : Option (List ℕ)) → says ≡ Reported code more → IsTrue (outcome_due (Frame turn)))
-    → Says says turn answer → IsTrue (client_at answer.standing answer.due)
+    → ClientOutputs says turn answer → IsTrue (client_fits answer.standing answer.due)
 says_at_client (Started body) turns.Mechanisms answer unit reports says =
     sent_at_client body (Frame turns.Challenge) answer refl refl says
 says_at_client (Started body) turns.Challenge answer unit reports says =
@@ -146,9 +146,9 @@ says_at_client (Reported outcomes.SysTemp more) turn answer unit reports says =
 says_at_client (ClientRefused fault) turn answer unit reports says = refused_at_client fault turn answer unit says
 
 module _ (hostname : Option (List ℕ)) where
-  replied_at_client : (turn : Turn) (profile next : Profile) (event : Given) (answer : Answer)
-      → IsTrue (client_due (Frame turn)) → Replies hostname turn profile event answer next
-      → IsTrue (client_at answer.standing answer.due)
+  replied_at_client : (turn : Turn) (profile next : Profile) (event : Given) (answer : SideOutput)
+      → IsTrue (client_due (Frame turn)) → ClientReplies hostname turn profile event answer next
+      → IsTrue (client_fits answer.standing answer.due)
   replied_at_client turn profile next event answer unit (Err fault, spells, (is, same)) =
       at_client answer (closes (Unread fault) (Frame turn)) is
       (unread_at_client fault turn (λ wants. unread_is_no_memory event.body (sym spells.0 ∙ wants)) unit)
@@ -160,9 +160,9 @@ module _ (hostname : Option (List ℕ)) where
       (subst (λ (s : ClientSays). ProfileSteps hostname profile event s next) is steps)) holds
 
   -- what a client answers to a unit leaves it as a client can be
-  answered_at_client : (due : Due) (profile next : Profile) (nonce unit : List ℕ) (answer : Answer)
-      → IsTrue (client_due due) → ClientAnswers hostname due profile nonce unit answer next
-      → IsTrue (client_at answer.standing answer.due)
+  answered_at_client : (due : Due) (profile next : Profile) (nonce unit : List ℕ) (answer : SideOutput)
+      → IsTrue (client_due due) → ClientSideAnswers hostname due profile nonce unit answer next
+      → IsTrue (client_fits answer.standing answer.due)
   answered_at_client Header profile next nonce unit answer is (inl (other, same), after) =
       at_client answer (closes OtherHeader Header) same refl
   answered_at_client Header profile next nonce unit answer is (inr (sasl, same), after) =
@@ -172,10 +172,10 @@ module _ (hostname : Option (List ℕ)) where
 
   -- and so does what it appends
   pub client_stays : (standing : Standing) (due : Due) (profile next : Profile) (nonce unit old new : List ℕ)
-      (step : Step) → standing ≡ Wanting → IsTrue (client_at standing due)
-      → Appends (λ answer. ClientAnswers hostname due profile nonce unit answer next) old new step
-      → IsTrue (client_at step.standing step.due)
+      (step : Step) → standing ≡ Wanting → IsTrue (client_fits standing due)
+      → Appends (λ answer. ClientSideAnswers hostname due profile nonce unit answer next) old new step
+      → IsTrue (client_fits step.standing step.due)
   client_stays standing due profile next nonce unit old new step wanting holds (sent, appended, answers) =
       answered_at_client due profile next nonce unit
       (record { sent = sent; standing = step.standing; due = step.due })
-      (subst (λ (s : Standing). IsTrue (client_at s due)) wanting holds) answers
+      (subst (λ (s : Standing). IsTrue (client_fits s due)) wanting holds) answers

@@ -17,10 +17,10 @@ use Rattle.fe2o3_sasl_negotiation.specs.declared.standing.Due.TheVariants.{Frame
 use Rattle.fe2o3_sasl_negotiation.specs.declared.standing.Standing.{Standing}
 use Rattle.fe2o3_sasl_negotiation.specs.declared.standing.Standing.TheVariants.{Wanting, LoggedIn, Closed}
 use Rattle.fe2o3_sasl_negotiation.specs.declared.standing.Turn.{Turn}
-use Rattle.fe2o3_sasl_negotiation.specs.Connections.{Piece, bytes_of, NonceAt, frames_of, SpellsTurn, AreFrames, LeftOver, Unanswered, Replied, Negotiated, ArePieces}
+use Rattle.fe2o3_sasl_negotiation.specs.Connections.{Piece, bytes_of, PieceNonceAt, frames_of, SpellsTurn, AreFrames, LeftOver, Unanswered, Replied, Negotiated, ArePieces}
 use Rattle.fe2o3_sasl_negotiation.specs.Framing.{sasl_header, framed, size_of, Fits, unit_size, IsPart, IsRefused, IsWhole}
 use Rattle.fe2o3_sasl_negotiation.specs.Laws.{Call, Calls}
-use Rattle.fe2o3_sasl_negotiation.specs.Negotiations.{Side, Answer, AnswersTo, Ends, Rests, Waits, Receives, ReceivesAt, closes}
+use Rattle.fe2o3_sasl_negotiation.specs.Negotiations.{Side, SideOutput, AnswersTo, Ends, Rests, Waits, Receives, ReceivesAt, closes}
 use Rattle.fe2o3_sasl_negotiation.specs.private.Pieces.{NextNonces}
 use Rattle.fe2o3_sasl_negotiation.proofs.lemmas.CutLemmas.{nothing_is_part, refused_long, whole_long}
 use Rattle.fe2o3_sasl_negotiation.proofs.lemmas.FramingLemmas.{size_of-append, part_is_shorter, refused_is_short}
@@ -45,15 +45,15 @@ holding turn limit tail state =
 abbrev pub first_body : List ℕ → List ℕ
 first_body come = drop 4 (take (size_of come) come)
 
-module _ {S A : Type 0} (Answers : Due → S → List ℕ → List ℕ → Answer → S → Type 0) (Steps : S → Given → A → S → Type 0)
-    (Says : A → Turn → Answer → Type 0) (turns : List Turn) (chain : IsChain Says turns)
-    (asks : (turn : Turn) (state next : S) (nonce unit : List ℕ) (answer : Answer)
+module _ {S A : Type 0} (Answers : Due → S → List ℕ → List ℕ → SideOutput → S → Type 0) (Steps : S → Given → A → S → Type 0)
+    (Says : A → Turn → SideOutput → Type 0) (turns : List Turn) (chain : IsChain Says turns)
+    (asks : (turn : Turn) (state next : S) (nonce unit : List ℕ) (answer : SideOutput)
     → Answers (Frame turn) state nonce unit answer next
     → (spelled : Result SaslFrame Error) × SpellsBody (drop 4 unit) spelled
-    × AnswersTo (λ (a : Answer) (s : S). (says : A) × Steps state (record { body = drop 4 unit; nonce = nonce }) says s
+    × AnswersTo (λ (a : SideOutput) (s : S). (says : A) × Steps state (record { body = drop 4 unit; nonce = nonce }) says s
     × Says says turn a) turn state spelled answer next) where
   module _ (limit : ℕ) (state mid : S) (pieces : List Piece) (taken sent tail : List ℕ) (events : List Given)
-      (replies : List A) (before : Answer) (turn : Turn)
+      (replies : List A) (before : SideOutput) (turn : Turn)
       (carried : taken ≡ sasl_header ++ (frames_of events ++ tail)) (frames : AreFrames pieces limit 8 turns events)
       (run : Runs Steps state events replies mid) (replied : Replied Says turns replies before)
       (sends : sent ≡ before.sent) (wants : before.standing ≡ Wanting) (due : before.due ≡ Frame turn)
@@ -140,7 +140,7 @@ module _ {S A : Type 0} (Answers : Due → S → List ℕ → List ℕ → Answe
         )))
 
     -- a whole frame
-    module _ (bytes nonce first : List ℕ) (k : ℕ) (next : Side S) (answer : Answer) (moved : S)
+    module _ (bytes nonce first : List ℕ) (k : ℕ) (next : Side S) (answer : SideOutput) (moved : S)
         (are_bytes : IsBytes (tail ++ bytes)) (nonces : NextNonces pieces (length taken) k nonce)
         (whole : IsWhole (Frame turn) limit (tail ++ bytes))
         (ends : Ends (holding turn limit tail mid) (size_of (tail ++ bytes)) answer moved k first next) where
@@ -187,8 +187,8 @@ module _ {S A : Type 0} (Answers : Due → S → List ℕ → List ℕ → Answe
       not_answered : (spelled : Result SaslFrame Error) (why : ClosedBecause) → SpellsBody (drop 4 unit) spelled
           → Unanswered turn spelled why → answer ≡ closes why (Frame turn) → moved ≡ mid → Goes (take k bytes) first next
       not_answered spelled why spells unanswered closed kept =
-          closes_here (take k bytes) first next why (ends.1 ∙ ap (λ (a : Answer). a.sent) closed)
-          (ap (λ (s : Side S). s.standing) ends.2 ∙ ap (λ (a : Answer). a.standing) closed)
+          closes_here (take k bytes) first next why (ends.1 ∙ ap (λ (a : SideOutput). a.sent) closed)
+          (ap (λ (s : Side S). s.standing) ends.2 ∙ ap (λ (a : SideOutput). a.standing) closed)
           (ap (λ (s : Side S). s.state) ends.2 ∙ kept)
           (inr (inr (drop 4 unit, spelled, why, come ∙ is, fits, spells, unanswered, refl)))
 
@@ -203,8 +203,8 @@ module _ {S A : Type 0} (Answers : Due → S → List ℕ → List ℕ → Answe
       count_taken = ap length carried ∙ (length-append sasl_header (frames_of events ++ tail)
           ∙ ap (λ n. 8 + n) (length-append (frames_of events) tail))
 
-      nonce_is : NonceAt pieces (8 + (length (frames_of events) + (length (drop 4 unit) + 3))) nonce
-      nonce_is = subst (λ (n : ℕ). NonceAt pieces n nonce)
+      nonce_is : PieceNonceAt pieces (8 + (length (frames_of events) + (length (drop 4 unit) + 3))) nonce
+      nonce_is = subst (λ (n : ℕ). PieceNonceAt pieces n nonce)
           (place (length (frames_of events)) (length (drop 4 unit)) count_taken refl)
           (nonces (k - 1) (let few = short in
           let c : k ≡ size_of (tail ++ bytes) - length tail = ends.0 in omega (arith, few, c)))
@@ -239,7 +239,7 @@ module _ {S A : Type 0} (Answers : Due → S → List ℕ → List ℕ → Answe
             }) (sym standing_is ∙ waiting);
       }
         where
-          after : Answer
+          after : SideOutput
           after = record answer { sent = before.sent ++ answer.sent }
 
           more : Replied Says turns (replies ++ says ∷ []) (record answer { sent = before.sent ++ answer.sent })
@@ -278,7 +278,7 @@ module _ {S A : Type 0} (Answers : Due → S → List ℕ → List ℕ → Answe
         go (asks turn mid moved nonce (take (size_of (tail ++ bytes)) (tail ++ bytes)) answer answers)
       where
         go : (spelled : Result SaslFrame Error) × SpellsBody (first_body (tail ++ bytes)) spelled
-            × AnswersTo (λ (a : Answer) (s : S). (says : A)
+            × AnswersTo (λ (a : SideOutput) (s : S). (says : A)
             × Steps mid (record { body = first_body (tail ++ bytes); nonce = nonce }) says s
             × Says says turn a) turn mid spelled answer moved → Goes (take k bytes) first next
         go (Err fault, spells, closed) =
@@ -375,7 +375,7 @@ module _ {S A : Type 0} (Answers : Due → S → List ℕ → List ℕ → Answe
 -- ---- calls
 
 -- a call takes no more than it is handed
-taken_within : {S : Type 0} (Answers : Due → S → List ℕ → List ℕ → Answer → S → Type 0) (side next : Side S)
+taken_within : {S : Type 0} (Answers : Due → S → List ℕ → List ℕ → SideOutput → S → Type 0) (side next : Side S)
     (bytes nonce first : List ℕ) (k : ℕ) (standing : Standing)
     → ReceivesAt standing Answers side bytes nonce k first next → k ≤ length bytes
 taken_within Answers side next bytes nonce first k Wanting (inl waits) =
@@ -405,7 +405,7 @@ bytes_of-more : (pieces : List Piece) (piece : Piece) → bytes_of (pieces ++ pi
 bytes_of-more pieces piece =
     flat_map-append (λ (p : Piece). p.bytes) pieces (piece ∷ []) ∙ ap (λ l. bytes_of pieces ++ l) (append-nil piece.bytes)
 
-module _ {S : Type 0} (Answers : Due → S → List ℕ → List ℕ → Answer → S → Type 0)
+module _ {S : Type 0} (Answers : Due → S → List ℕ → List ℕ → SideOutput → S → Type 0)
     (Is : List Piece → List ℕ → List ℕ → Side S → Type 0)
     (one_more : (pieces : List Piece) (taken sent : List ℕ) (side next : Side S) (bytes nonce first : List ℕ) (k : ℕ)
     → Is pieces taken sent side → IsBytes (taken ++ bytes) → NextNonces pieces (length taken) k nonce

@@ -6,13 +6,13 @@ use Rattle.bytes.proofs.Ranges.{take-append_past}
 use Rattle.fe2o3_sasl_wire.specs.SaslFrames.{IsBytes}
 use Rattle.fe2o3_sasl_wire.proofs.lemmas.reading.StepLemmas.{IsBytes-take}
 use Rattle.fe2o3_sasl_negotiation.specs.declared.standing.Due.{Due}
-use Rattle.fe2o3_sasl_negotiation.specs.Connections.{Piece, NonceAt, bytes_of}
-use Rattle.fe2o3_sasl_negotiation.specs.Negotiations.{Side, Answer, Receives}
+use Rattle.fe2o3_sasl_negotiation.specs.Connections.{Piece, PieceNonceAt, bytes_of}
+use Rattle.fe2o3_sasl_negotiation.specs.Negotiations.{Side, SideOutput, Receives}
 use Rattle.fe2o3_sasl_negotiation.specs.Pieces.{first_bytes}
 use Rattle.fe2o3_sasl_negotiation.specs.private.Pieces.{NextNonces, Continues}
 use Rattle.fe2o3_sasl_negotiation.proofs.lemmas.PieceLemmas.{nonce_of_piece}
 
-module _ {S : Type 0} (Answers : Due → S → List ℕ → List ℕ → Answer → S → Type 0)
+module _ {S : Type 0} (Answers : Due → S → List ℕ → List ℕ → SideOutput → S → Type 0)
     (Is : List Piece → List ℕ → List ℕ → Side S → Type 0)
     (one_more : (pieces : List Piece) (taken sent : List ℕ) (side next : Side S) (bytes nonce first : List ℕ) (k : ℕ)
     → Is pieces taken sent side → IsBytes (taken ++ bytes) → NextNonces pieces (length taken) k nonce
@@ -40,7 +40,7 @@ module _ {S : Type 0} (Answers : Due → S → List ℕ → List ℕ → Answer 
       let step = one_more pieces (taken ++ take k bytes) (sent ++ more) mid next (drop k bytes) nonce first j
       (so_far pieces taken sent is are_bytes nonces)
       (subst (λ (l : List ℕ). IsBytes l) (sym whole) are_bytes)
-      (λ (i : ℕ) (small : i < j). subst (λ (n : ℕ). NonceAt pieces n nonce) (omega (arith, at))
+      (λ (i : ℕ) (small : i < j). subst (λ (n : ℕ). PieceNonceAt pieces n nonce) (omega (arith, at))
       (nonces (k + i) (omega (arith, small, few, left)))) receives in
       subst (λ (l : List ℕ). Is pieces l (sent ++ (more ++ first)) next)
       (append_assoc taken (take k bytes) (take j (drop k bytes)) ∙ ap (λ l. taken ++ l) all)
@@ -99,7 +99,7 @@ module _ {X S : Type 0} (f : X → Piece) (Is : List Piece → List ℕ → List
       (subst (λ (l : List ℕ). IsBytes l) start
       (IsBytes-take (length (bytes_of front ++ here.bytes)) (bytes_of (map f xs)) are_bytes))
       (λ (n : ℕ) (small : n < length here.bytes).
-      subst (λ (l : List Piece). NonceAt l (length (bytes_of front) + n) here.nonce) (sym parts)
+      subst (λ (l : List Piece). PieceNonceAt l (length (bytes_of front) + n) here.nonce) (sym parts)
       (nonce_of_piece front back here n small))
 
   whole_piece_more : (k : ℕ) → length here.bytes ≤ k

@@ -8,7 +8,7 @@ use Rattle.fe2o3_sasl_negotiation.specs.declared.standing.Turn.{Turn}
 use Rattle.fe2o3_sasl_negotiation.specs.CostLaws.{MeteredCalls}
 use Rattle.fe2o3_sasl_negotiation.specs.Framing.{size_of, unit_size, IsPart, IsRefused, IsWhole}
 use Rattle.fe2o3_sasl_negotiation.specs.Laws.{Call}
-use Rattle.fe2o3_sasl_negotiation.specs.Negotiations.{Side, Answer, Receives, ReceivesAt}
+use Rattle.fe2o3_sasl_negotiation.specs.Negotiations.{Side, SideOutput, Receives, ReceivesAt}
 
 -- no more came to a meter, or no less and at most so many
 pub none : (before after most : ℕ) → after ≡ before → (before ≤ after) × (after ≤ before + most)
@@ -17,7 +17,7 @@ none before after most same = (omega (arith, same), omega (arith, same))
 pub same_of : (before after : ℕ) → before ≤ after → after ≤ before + 0 → after ≡ before
 same_of before after least most = omega (arith, least, most)
 
-module _ {S : Type 0} (Answers : Due → S → List ℕ → List ℕ → Answer → S → Type 0)
+module _ {S : Type 0} (Answers : Due → S → List ℕ → List ℕ → SideOutput → S → Type 0)
     (Costs : Side S → List ℕ → List ℕ → ℕ → ℕ → Type 0) (most : ℕ) (Open Done : Side S → Type 0) where
   -- a call to an open side costs nothing and leaves it open, or costs what it may and is the last that does
   abbrev pub OpenSteps : Type 0
@@ -61,7 +61,7 @@ module _ {S : Type 0} (Answers : Due → S → List ℕ → List ℕ → Answer 
           let rest : after ≡ between = done_calls ends calls next (drop taken stream) between after done others in
           (omega (arith, least, rest), omega (arith, bound, rest))
 
-module _ {S : Type 0} (Answers : Due → S → List ℕ → List ℕ → Answer → S → Type 0) where
+module _ {S : Type 0} (Answers : Due → S → List ℕ → List ℕ → SideOutput → S → Type 0) where
   -- a side at its end rests
   pub rests : (standing : Standing) (side next : Side S) (bytes nonce sent : List ℕ) (taken : ℕ)
       → (standing ≡ Wanting → ⊥) → ReceivesAt standing Answers side bytes nonce taken sent next → next ≡ side
@@ -74,7 +74,7 @@ module _ {S : Type 0} (Answers : Due → S → List ℕ → List ℕ → Answer 
   Left side bytes nonce next =
       ((next.standing ≡ side.standing) × (next.due ≡ side.due) × (next.state ≡ side.state))
       ⊎ (((next.standing ≡ Wanting → ⊥) × (next.state ≡ side.state))
-      ⊎ ((answer : Answer) × (unit : List ℕ) × Answers side.due side.state nonce unit answer next.state
+      ⊎ ((answer : SideOutput) × (unit : List ℕ) × Answers side.due side.state nonce unit answer next.state
       × (next.standing ≡ answer.standing) × (next.due ≡ answer.due)))
 
   pub leaves : (standing : Standing) (side next : Side S) (bytes nonce sent : List ℕ) (taken : ℕ)
@@ -122,13 +122,13 @@ module _ {S : Type 0} (Answers : Due → S → List ℕ → List ℕ → Answer 
   pub answers_whole : (side next : Side S) (turn : Turn) (bytes nonce sent : List ℕ) (taken : ℕ)
       → side.standing ≡ Wanting → side.due ≡ Frame turn → IsWhole (Frame turn) side.limit (side.held ++ bytes)
       → Receives Answers side bytes nonce taken sent next
-      → (answer : Answer) × Answers (Frame turn) side.state nonce (take (size_of (side.held ++ bytes)) (side.held ++ bytes))
+      → (answer : SideOutput) × Answers (Frame turn) side.state nonce (take (size_of (side.held ++ bytes)) (side.held ++ bytes))
       answer next.state × (next.standing ≡ answer.standing) × (next.due ≡ answer.due)
   answers_whole side next turn bytes nonce sent taken wanting due whole receives =
       go (subst (λ (s : Standing). ReceivesAt s Answers side bytes nonce taken sent next) wanting receives)
     where
       go : ReceivesAt Wanting Answers side bytes nonce taken sent next
-          → (answer : Answer) × Answers (Frame turn) side.state nonce
+          → (answer : SideOutput) × Answers (Frame turn) side.state nonce
           (take (size_of (side.held ++ bytes)) (side.held ++ bytes)) answer next.state
           × (next.standing ≡ answer.standing) × (next.due ≡ answer.due)
       go (inl waits) =

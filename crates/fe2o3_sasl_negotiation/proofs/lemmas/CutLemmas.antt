@@ -10,7 +10,7 @@ use Rattle.fe2o3_sasl_negotiation.specs.declared.standing.Standing.TheVariants.{
 use Rattle.fe2o3_sasl_negotiation.specs.declared.standing.ClosedBecause.TheVariants.{FrameSize}
 use Rattle.fe2o3_sasl_negotiation.specs.Framing.{size_of, Fits, unit_size, IsPart, IsRefused, IsWhole}
 use Rattle.fe2o3_sasl_negotiation.specs.Laws.{Call, Calls, Stops, Negotiates, NoncesOf, CutsDoNotMatter}
-use Rattle.fe2o3_sasl_negotiation.specs.Negotiations.{Side, Answer, closes, Ends, Rests, Receives, ReceivesAt}
+use Rattle.fe2o3_sasl_negotiation.specs.Negotiations.{Side, SideOutput, closes, Ends, Rests, Receives, ReceivesAt}
 use Rattle.fe2o3_sasl_negotiation.proofs.lemmas.FramingLemmas.{size_of-append, part_is_short, refused_is_short}
 
 -- nothing is less than a whole unit
@@ -91,12 +91,12 @@ pub whole_long : (due : Due) (limit : ℕ) (come : List ℕ) → IsWhole due lim
 whole_long Header limit come whole = whole
 whole_long (Frame turn) limit come whole = whole.1
 
-module _ {S : Type 0} (Answers : Due → S → List ℕ → List ℕ → Answer → S → Type 0) where
+module _ {S : Type 0} (Answers : Due → S → List ℕ → List ℕ → SideOutput → S → Type 0) where
   -- what has come ends a unit of n bytes
   abbrev pub EndsUnit : Side S → List ℕ → List ℕ → ℕ → ℕ → List ℕ → Side S → Type 0
   EndsUnit side come nonce n taken sent next =
       (IsRefused side.due side.limit come × (n ≡ 4) × Ends side 4 (closes FrameSize side.due) side.state taken sent next)
-      ⊎ ((answer : Answer) × (state : S) × IsWhole side.due side.limit come × (n ≡ unit_size side.due come)
+      ⊎ ((answer : SideOutput) × (state : S) × IsWhole side.due side.limit come × (n ≡ unit_size side.due come)
       × Answers side.due side.state nonce (take n come) answer state × Ends side n answer state taken sent next)
 
   -- a side at its end stays there
@@ -411,13 +411,13 @@ module _ {S : Type 0} (Answers : Due → S → List ℕ → List ℕ → Answer 
       receives more all
 
 -- the law
-pub cuts_with_nonces : {S : Type 0} (Answers : Due → S → List ℕ → List ℕ → Answer → S → Type 0)
+pub cuts_with_nonces : {S : Type 0} (Answers : Due → S → List ℕ → List ℕ → SideOutput → S → Type 0)
     → CutsDoNotMatter Answers
 cuts_with_nonces Answers side last calls stream sent rest part made =
     cuts Answers calls side last stream sent rest part made
 
 -- without the nonces
-pub cuts_do_not_matter : {S : Type 0} (Answers : Due → S → List ℕ → List ℕ → Answer → S → Type 0) (side last : Side S)
+pub cuts_do_not_matter : {S : Type 0} (Answers : Due → S → List ℕ → List ℕ → SideOutput → S → Type 0) (side last : Side S)
     (calls : List Call) (stream sent rest : List ℕ) → IsPart side.due side.limit side.held
     → Calls Answers side calls stream sent last rest
     → (taken : List ℕ) × (nonces : List (List ℕ)) × (stream ≡ taken ++ rest)

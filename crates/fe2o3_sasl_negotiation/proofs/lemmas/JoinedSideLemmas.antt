@@ -26,7 +26,7 @@ use Rattle.fe2o3_sasl_negotiation.specs.ClientNegotiation as of_client
 use Rattle.fe2o3_sasl_negotiation.specs.ServerNegotiation as of_server
 use Rattle.fe2o3_sasl_negotiation.specs.Framing.{sasl_header, framed}
 use Rattle.fe2o3_sasl_negotiation.specs.Laws.{Negotiates}
-use Rattle.fe2o3_sasl_negotiation.specs.Negotiations.{Side, Answer, Sends, IsInTurn, AnswersTo}
+use Rattle.fe2o3_sasl_negotiation.specs.Negotiations.{Side, SideOutput, Sends, IsInTurn, AnswersTo}
 use Rattle.fe2o3_sasl_negotiation.specs.UnalteredConnections.{ClosedForSize}
 use Rattle.fe2o3_sasl_negotiation.proofs.lemmas.CutLemmas.{ended_stays}
 use Rattle.fe2o3_sasl_negotiation.proofs.lemmas.UnitLemmas.{awaiting, behind_answer, AnswersUnit, one_unit, one_frame, body_of-framed}
@@ -40,14 +40,14 @@ not_frame_size : (standing : Standing) → ¬ ClosedForSize standing → standin
 not_frame_size standing passes same = passes (closed_for_size standing (Closed FrameSize) same tt)
 
 -- what is sent of a body, where that is not too large
-pub sends : (body : List ℕ) (standing : Standing) (due : Due) (answer : Answer) → ¬ ClosedForSize answer.standing
+pub sends : (body : List ℕ) (standing : Standing) (due : Due) (answer : SideOutput) → ¬ ClosedForSize answer.standing
     → Sends body standing due answer
     → (length body + 4 ≤ 512) × (answer ≡ record { sent = framed body; standing = standing; due = due })
 sends body standing due answer passes (inl sent) = sent
 sends body standing due answer passes (inr (long, same)) =
-    absurd (passes (closed_for_size answer.standing (Closed ReplyTooLarge) (ap (λ (a : Answer). a.standing) same) tt))
+    absurd (passes (closed_for_size answer.standing (Closed ReplyTooLarge) (ap (λ (a : SideOutput). a.standing) same) tt))
 
-module _ {S : Type 0} (Answers : Due → S → List ℕ → List ℕ → Answer → S → Type 0) where
+module _ {S : Type 0} (Answers : Due → S → List ℕ → List ℕ → SideOutput → S → Type 0) where
   -- a side that ends without that has not closed for it before
   pub passes_before : (side last : Side S) (nonces : List (List ℕ)) (bytes sent : List ℕ) → ¬ ClosedForSize
       last.standing
@@ -85,7 +85,7 @@ arriving (Some body) = (body, refl)
 
 abbrev pub ClientMakes : Option (List ℕ) → ℕ → Due → Profile → List (List ℕ) → List ℕ → List ℕ → Side Profile → Type 0
 ClientMakes hostname limit due profile nonces bytes sent last =
-    Negotiates (of_client.ClientAnswers hostname) (awaiting due limit profile) nonces bytes sent last
+    Negotiates (of_client.ClientSideAnswers hostname) (awaiting due limit profile) nonces bytes sent last
 
 -- the server's header
 pub client_header : (hostname : Option (List ℕ)) (limit : ℕ) (profile : Profile) (nonces : List (List ℕ))
@@ -93,38 +93,38 @@ pub client_header : (hostname : Option (List ℕ)) (limit : ℕ) (profile : Prof
     → ClientMakes hostname limit Header profile nonces (sasl_header ++ more) sent last
     → (others : List (List ℕ)) × ClientMakes hostname limit (Frame turns.Mechanisms) profile others more sent last
 client_header hostname limit profile nonces more sent last made =
-    let unit = one_unit (of_client.ClientAnswers hostname) Header limit profile nonces sasl_header more sent last refl
+    let unit = one_unit (of_client.ClientSideAnswers hostname) Header limit profile nonces sasl_header more sent last refl
     (omega arith) made in
     go unit unit.answers
   where
-    go : (unit : AnswersUnit (of_client.ClientAnswers hostname) Header limit profile sasl_header more sent last)
-        → of_client.Opens sasl_header unit.answer × (unit.next ≡ profile)
+    go : (unit : AnswersUnit (of_client.ClientSideAnswers hostname) Header limit profile sasl_header more sent last)
+        → of_client.ClientOpens sasl_header unit.answer × (unit.next ≡ profile)
         → (others : List (List ℕ)) × ClientMakes hostname limit (Frame turns.Mechanisms) profile others more sent last
     go unit (inl other, kept) = absurd (other.0 refl)
     go unit (inr opens, kept) =
         let side : behind_answer unit.answer limit unit.next ≡ awaiting (Frame turns.Mechanisms) limit profile =
-        ap (λ (a : Answer). behind_answer a limit unit.next) opens.1
+        ap (λ (a : SideOutput). behind_answer a limit unit.next) opens.1
         ∙ ap (λ (p : Profile). awaiting (Frame turns.Mechanisms) limit p) kept in
-        let bytes : sent ≡ unit.behind = unit.all ∙ ap (λ (a : Answer). a.sent ++ unit.behind) opens.1 in (
+        let bytes : sent ≡ unit.behind = unit.all ∙ ap (λ (a : SideOutput). a.sent ++ unit.behind) opens.1 in (
           unit.nonces,
           subst (λ (l : List ℕ). ClientMakes hostname limit (Frame turns.Mechanisms) profile unit.nonces more l last)
               (sym bytes)
-              (subst (λ (s : Side Profile). Negotiates (of_client.ClientAnswers hostname) s unit.nonces more
+              (subst (λ (s : Side Profile). Negotiates (of_client.ClientSideAnswers hostname) s unit.nonces more
               unit.behind last)
               side unit.goes_on),
         )
 
 abbrev pub ServerMakes : ℕ → Due → Acceptor → List (List ℕ) → List ℕ → List ℕ → Side Acceptor → Type 0
 ServerMakes limit due acceptor nonces bytes sent last =
-    Negotiates (of_server.ServerAnswers acceptor_names acceptor_machine) (awaiting due limit acceptor) nonces bytes
+    Negotiates (of_server.ServerSideAnswers acceptor_names acceptor_machine) (awaiting due limit acceptor) nonces bytes
     sent last
 
 -- what is offered is sent, where that is not too large
-offers : (offer : Option (List ℕ)) (answer : Answer) → ¬ ClosedForSize answer.standing → of_server.Offers offer answer
+offers : (offer : Option (List ℕ)) (answer : SideOutput) → ¬ ClosedForSize answer.standing → of_server.Offers offer answer
     → (body : List ℕ) × (offer ≡ Some body) × (length body + 4 ≤ 512)
     × (answer ≡ record { sent = framed body; standing = Wanting; due = Frame turns.Init })
 offers None answer passes same =
-    absurd (passes (closed_for_size answer.standing (Closed ReplyTooLarge) (ap (λ (a : Answer). a.standing) same) tt))
+    absurd (passes (closed_for_size answer.standing (Closed ReplyTooLarge) (ap (λ (a : SideOutput). a.standing) same) tt))
 offers (Some body) answer passes sent =
     let (small, same) = sends body Wanting (Frame turns.Init) answer passes sent in (body, refl, small, same)
 
@@ -144,7 +144,7 @@ pub server_header : (provider : Provider) (limit : ℕ) (nonces : List (List ℕ
     → ServerMakes limit Header (ScramAcceptor provider Initial) nonces (sasl_header ++ more) sent last
     → ServerOffers provider limit more sent last
 server_header provider limit nonces more sent last passes made =
-    let unit = one_unit (of_server.ServerAnswers acceptor_names acceptor_machine) Header limit state nonces
+    let unit = one_unit (of_server.ServerSideAnswers acceptor_names acceptor_machine) Header limit state nonces
     sasl_header more
     sent last refl (omega arith) made in
     go unit unit.answers
@@ -152,21 +152,21 @@ server_header provider limit nonces more sent last passes made =
     state : Acceptor
     state = ScramAcceptor provider Initial
 
-    go : (unit : AnswersUnit (of_server.ServerAnswers acceptor_names acceptor_machine) Header limit state sasl_header
+    go : (unit : AnswersUnit (of_server.ServerSideAnswers acceptor_names acceptor_machine) Header limit state sasl_header
         more
-        sent last) → of_server.Opens (acceptor_names state) sasl_header unit.answer × (unit.next ≡ state)
+        sent last) → of_server.ServerOpens (acceptor_names state) sasl_header unit.answer × (unit.next ≡ state)
         → ServerOffers provider limit more sent last
     go unit (inl other, kept) = absurd (other.0 refl)
     go unit (inr (is, (first, offered, same)), kept) =
         let first_passes : ¬ ClosedForSize first.standing = λ closed.
-        passes_before (of_server.ServerAnswers acceptor_names acceptor_machine)
+        passes_before (of_server.ServerSideAnswers acceptor_names acceptor_machine)
         (behind_answer unit.answer limit unit.next) last unit.nonces more unit.behind passes unit.goes_on
-        (closed_for_size unit.answer.standing first.standing (ap (λ (a : Answer). a.standing) same) closed) in
+        (closed_for_size unit.answer.standing first.standing (ap (λ (a : SideOutput). a.standing) same) closed) in
         let (body, offer, small, is_sent) = offers (of_server.offer_body (acceptor_names state)) first first_passes
         offered in
         let side : behind_answer unit.answer limit unit.next ≡ awaiting (Frame turns.Init) limit state =
-        ap (λ (a : Answer). behind_answer a limit unit.next) same
-        ∙ (ap (λ (a : Answer). behind_answer (of_server.behind_header a) limit unit.next) is_sent
+        ap (λ (a : SideOutput). behind_answer a limit unit.next) same
+        ∙ (ap (λ (a : SideOutput). behind_answer (of_server.behind_header a) limit unit.next) is_sent
         ∙ ap (λ (s : Acceptor). awaiting (Frame turns.Init) limit s) kept) in
         record {
           body = body;
@@ -174,24 +174,24 @@ server_header provider limit nonces more sent last passes made =
           behind = unit.behind;
           offer = offer;
           small = small;
-          all = unit.all ∙ (ap (λ (a : Answer). a.sent ++ unit.behind) same
-              ∙ (ap (λ (a : Answer). (sasl_header ++ a.sent) ++ unit.behind) is_sent
+          all = unit.all ∙ (ap (λ (a : SideOutput). a.sent ++ unit.behind) same
+              ∙ (ap (λ (a : SideOutput). (sasl_header ++ a.sent) ++ unit.behind) is_sent
               ∙ append_assoc sasl_header (framed body) unit.behind));
-          goes_on = subst (λ (s : Side Acceptor). Negotiates (of_server.ServerAnswers acceptor_names acceptor_machine) s
+          goes_on = subst (λ (s : Side Acceptor). Negotiates (of_server.ServerSideAnswers acceptor_names acceptor_machine) s
               unit.nonces more unit.behind last) side unit.goes_on;
         }
 
 -- ---- frames
 
-module _ {S A : Type 0} (Answers : Due → S → List ℕ → List ℕ → Answer → S → Type 0) (Step : S → Given → A → S → Type 0)
-    (Says : A → Turn → Answer → Type 0)
-    (asked : (turn : Turn) (state next : S) (nonce unit : List ℕ) (answer : Answer)
+module _ {S A : Type 0} (Answers : Due → S → List ℕ → List ℕ → SideOutput → S → Type 0) (Step : S → Given → A → S → Type 0)
+    (Says : A → Turn → SideOutput → Type 0)
+    (asked : (turn : Turn) (state next : S) (nonce unit : List ℕ) (answer : SideOutput)
     → Answers (Frame turn) state nonce unit answer next
     → (spelled : Result SaslFrame Error) × SpellsBody (drop 4 unit) spelled
-    × AnswersTo (λ (a : Answer) (n : S). (says : A) × Step state (record { body = drop 4 unit; nonce = nonce }) says n
+    × AnswersTo (λ (a : SideOutput) (n : S). (says : A) × Step state (record { body = drop 4 unit; nonce = nonce }) says n
     × Says says turn a) turn state spelled answer next) where
   -- its machine is asked
-  abbrev Asks : S → List ℕ → List ℕ → Turn → Answer → S → Type 0
+  abbrev Asks : S → List ℕ → List ℕ → Turn → SideOutput → S → Type 0
   Asks state unit nonce turn answer next = (says : A)
       × Step state (record { body = drop 4 unit; nonce = nonce }) says next × Says says turn answer
 
@@ -200,7 +200,7 @@ module _ {S A : Type 0} (Answers : Due → S → List ℕ → List ℕ → Answe
     pub nonces : List (List ℕ)
     pub nonce : List ℕ
     pub says : A
-    pub answer : Answer
+    pub answer : SideOutput
     pub next : S
     pub behind : List ℕ
     pub steps : Step state (record { body = body; nonce = nonce }) says next
@@ -260,8 +260,8 @@ module _ {S A : Type 0} (Answers : Due → S → List ℕ → List ℕ → Answe
   goes_on_with limit turn state body more sent last takes reply standing due is =
       let (small, same) = sends reply standing due takes.answer takes.passes is in (
         small,
-        takes.all ∙ ap (λ (a : Answer). a.sent ++ takes.behind) same,
-        subst (λ (a : Answer). Negotiates Answers (behind_answer a limit takes.next) takes.nonces more takes.behind
+        takes.all ∙ ap (λ (a : SideOutput). a.sent ++ takes.behind) same,
+        subst (λ (a : SideOutput). Negotiates Answers (behind_answer a limit takes.next) takes.nonces more takes.behind
             last)
             same takes.goes_on,
       )

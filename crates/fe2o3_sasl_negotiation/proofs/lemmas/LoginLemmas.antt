@@ -20,18 +20,18 @@ use Rattle.fe2o3_sasl_negotiation.specs.declared.standing.Standing.TheVariants.{
 use Rattle.fe2o3_sasl_negotiation.specs.declared.standing.Turn.{Turn}
 use Rattle.fe2o3_sasl_negotiation.specs.declared.standing.Turn.TheVariants as turns
 use Rattle.fe2o3_sasl_negotiation.specs.ClientNegotiation as of_client
-use Rattle.fe2o3_sasl_negotiation.specs.Connections.{Piece, LeftOver, Replied, Negotiated, LastReply, IsOkSent, IsOkReported, ServersLogIn, ClientsLogIn}
-use Rattle.fe2o3_sasl_negotiation.specs.Negotiations.{Side, Answer, Sends, closes}
+use Rattle.fe2o3_sasl_negotiation.specs.Connections.{Piece, LeftOver, Replied, Negotiated, LastReply, IsOkSent, IsOkReported, ServerConnectionsLogIn, ClientConnectionsLogIn}
+use Rattle.fe2o3_sasl_negotiation.specs.Negotiations.{Side, SideOutput, Sends, closes}
 use Rattle.fe2o3_sasl_negotiation.specs.ScramConnections.{ScramServersServe, ScramClientsLogIn}
 use Rattle.fe2o3_sasl_negotiation.specs.ServerNegotiation as of_server
 use Rattle.fe2o3_sasl_negotiation.proofs.lemmas.ConnectionLemmas.{closed_is_not_logged_in}
 use Rattle.fe2o3_sasl_negotiation.proofs.lemmas.KindLemmas.{standing_of}
 
 -- an answer has logged in, and that exactly on an Ok
-abbrev Kind : Type 0 → Answer → Type 0
+abbrev Kind : Type 0 → SideOutput → Type 0
 Kind Is answer = ((answer.standing ≡ LoggedIn) × Is) ⊎ ((answer.standing ≢ LoggedIn) × ¬ Is)
 
-not_in : (answer : Answer) (standing : Standing) (Is : Type 0) → standing ≢ LoggedIn → answer.standing ≡ standing → ¬ Is
+not_in : (answer : SideOutput) (standing : Standing) (Is : Type 0) → standing ≢ LoggedIn → answer.standing ≡ standing → ¬ Is
     → Kind Is answer
 not_in answer standing Is out at other = inr ((λ logged. out (sym at ∙ logged)), other)
 
@@ -39,14 +39,14 @@ wanting_is_not_logged_in : Wanting ≢ LoggedIn
 wanting_is_not_logged_in same = cc
 
 -- what is sent and is no Ok
-sends_kind : (body : List ℕ) (standing : Standing) (due : Due) (answer : Answer) (Is : Type 0) → standing ≢ LoggedIn
+sends_kind : (body : List ℕ) (standing : Standing) (due : Due) (answer : SideOutput) (Is : Type 0) → standing ≢ LoggedIn
     → ¬ Is → Sends body standing due answer → Kind Is answer
 sends_kind body standing due answer Is out other (inl (fits, same)) =
     not_in answer standing Is out (standing_of answer _ same) other
 sends_kind body standing due answer Is out other (inr (long, same)) =
     not_in answer _ Is (closed_is_not_logged_in ReplyTooLarge) (standing_of answer _ same) other
 
-closes_kind : (why : ClosedBecause) (due : Due) (answer : Answer) (Is : Type 0) → ¬ Is → answer ≡ closes why due
+closes_kind : (why : ClosedBecause) (due : Due) (answer : SideOutput) (Is : Type 0) → ¬ Is → answer ≡ closes why due
     → Kind Is answer
 closes_kind why due answer Is other same =
     not_in answer _ Is (closed_is_not_logged_in why) (standing_of answer _ same) other
@@ -59,7 +59,7 @@ challenge_is_no_ok body (other, same, fits) = cc
 fault_is_no_ok : (fault : Error) → ¬ IsOkSent (Failed fault)
 fault_is_no_ok fault (other, same, fits) = cc
 
-challenge_kind : (body : List ℕ) (turn : Turn) (answer : Answer) → of_server.Says (Challenged body) turn answer
+challenge_kind : (body : List ℕ) (turn : Turn) (answer : SideOutput) → of_server.ServerOutputs (Challenged body) turn answer
     → Kind (IsOkSent (Challenged body)) answer
 challenge_kind body turns.Init answer sends =
     sends_kind body Wanting (Frame turns.Response) answer _ wanting_is_not_logged_in (challenge_is_no_ok body) sends
@@ -68,7 +68,7 @@ challenge_kind body turns.Challenge answer is = closes_kind OutOfTurn _ answer _
 challenge_kind body turns.Response answer is = closes_kind OutOfTurn _ answer _ (challenge_is_no_ok body) is
 challenge_kind body turns.Outcome answer is = closes_kind OutOfTurn _ answer _ (challenge_is_no_ok body) is
 
-server_kind : (says : ServerSays) (turn : Turn) (answer : Answer) → of_server.Says says turn answer
+server_kind : (says : ServerSays) (turn : Turn) (answer : SideOutput) → of_server.ServerOutputs says turn answer
     → Kind (IsOkSent says) answer
 server_kind (Challenged body) turn answer said = challenge_kind body turn answer said
 server_kind (Concluded outcomes.Ok body) turn answer (inl (fits, same)) =
@@ -110,7 +110,7 @@ answered_is_no_ok body (more, same) = cc
 refused_is_no_ok : (fault : ClientFault) → ¬ IsOkReported (ClientRefused fault)
 refused_is_no_ok fault (more, same) = cc
 
-started_kind : (body : List ℕ) (turn : Turn) (answer : Answer) → of_client.Says (Started body) turn answer
+started_kind : (body : List ℕ) (turn : Turn) (answer : SideOutput) → of_client.ClientOutputs (Started body) turn answer
     → Kind (IsOkReported (Started body)) answer
 started_kind body turns.Mechanisms answer sends =
     sends_kind body Wanting (Frame turns.Challenge) answer _ wanting_is_not_logged_in (started_is_no_ok body) sends
@@ -119,7 +119,7 @@ started_kind body turns.Challenge answer is = closes_kind OutOfTurn _ answer _ (
 started_kind body turns.Response answer is = closes_kind OutOfTurn _ answer _ (started_is_no_ok body) is
 started_kind body turns.Outcome answer is = closes_kind OutOfTurn _ answer _ (started_is_no_ok body) is
 
-answered_kind : (body : List ℕ) (turn : Turn) (answer : Answer) → of_client.Says (Answered body) turn answer
+answered_kind : (body : List ℕ) (turn : Turn) (answer : SideOutput) → of_client.ClientOutputs (Answered body) turn answer
     → Kind (IsOkReported (Answered body)) answer
 answered_kind body turns.Challenge answer sends =
     sends_kind body Wanting (Frame turns.Outcome) answer _ wanting_is_not_logged_in (answered_is_no_ok body) sends
@@ -128,7 +128,7 @@ answered_kind body turns.Init answer is = closes_kind OutOfTurn _ answer _ (answ
 answered_kind body turns.Response answer is = closes_kind OutOfTurn _ answer _ (answered_is_no_ok body) is
 answered_kind body turns.Outcome answer is = closes_kind OutOfTurn _ answer _ (answered_is_no_ok body) is
 
-client_kind : (says : ClientSays) (turn : Turn) (answer : Answer) → of_client.Says says turn answer
+client_kind : (says : ClientSays) (turn : Turn) (answer : SideOutput) → of_client.ClientOutputs says turn answer
     → Kind (IsOkReported says) answer
 client_kind (Started body) turn answer said = started_kind body turn answer said
 client_kind (Answered body) turn answer said = answered_kind body turn answer said
@@ -152,13 +152,13 @@ client_kind (ClientRefused (FrameFault fault)) turn answer closed =
 
 -- ---- negotiations
 
-module _ {S A : Type 0} (Steps : S → Given → A → S → Type 0) (Says : A → Turn → Answer → Type 0) (Is : A → Type 0)
-    (kind : (says : A) (turn : Turn) (answer : Answer) → Says says turn answer → Kind (Is says) answer) where
-  by_last : (turns : List Turn) (replies : List A) (answer : Answer) → Replied Says turns replies answer
+module _ {S A : Type 0} (Steps : S → Given → A → S → Type 0) (Says : A → Turn → SideOutput → Type 0) (Is : A → Type 0)
+    (kind : (says : A) (turn : Turn) (answer : SideOutput) → Says says turn answer → Kind (Is says) answer) where
+  by_last : (turns : List Turn) (replies : List A) (answer : SideOutput) → Replied Says turns replies answer
       → (answer.standing ≡ LoggedIn) ↔ LastReply Is replies
   by_last [] replies answer replied = absurd replied
   by_last (turn ∷ turns) [] answer replied = (
-    (λ logged. wanting_is_not_logged_in (sym (ap (λ (a : Answer). a.standing) replied) ∙ logged)),
+    (λ logged. wanting_is_not_logged_in (sym (ap (λ (a : SideOutput). a.standing) replied) ∙ logged)),
     (λ none. absurd none),
   )
   by_last (turn ∷ turns) (says ∷ []) answer said = go (kind says turn answer said)
@@ -168,7 +168,7 @@ module _ {S A : Type 0} (Steps : S → Given → A → S → Type 0) (Says : A �
       go (inr neither) = ((λ logged. absurd (neither.0 logged)), (λ ok. absurd (neither.1 ok)))
   by_last (turn ∷ turns) (says ∷ next ∷ replies) answer (first, rest, said, went, replied, is) =
       let others = by_last turns (next ∷ replies) rest replied in
-      let at : answer.standing ≡ rest.standing = ap (λ (a : Answer). a.standing) is in
+      let at : answer.standing ≡ rest.standing = ap (λ (a : SideOutput). a.standing) is in
       ((λ logged. others.0 (sym at ∙ logged)), (λ ok. at ∙ others.1 ok))
 
   logs_in : (turns : List Turn) (limit : ℕ) (state : S) (pieces : List Piece) (taken sent : List ℕ) (last : Side S)
@@ -194,14 +194,14 @@ module _ {S A : Type 0} (Steps : S → Given → A → S → Type 0) (Says : A �
       )
       go (inr ended) = ((λ logged. both.0 (sym ended.1 ∙ logged)), (λ ok. ended.1 ∙ both.1 ok))
 
-pub servers_log_in : {S : Type 0} (machine : S → List ℕ → SaslFrame → SaslFrame → S → Type 0) → ServersLogIn machine
+pub servers_log_in : {S : Type 0} (machine : S → List ℕ → SaslFrame → SaslFrame → S → Type 0) → ServerConnectionsLogIn machine
 servers_log_in machine limit state pieces taken sent last n =
-    logs_in (AcceptorSteps machine) of_server.Says IsOkSent server_kind (turns.Init ∷ turns.Response ∷ []) limit state
+    logs_in (AcceptorSteps machine) of_server.ServerOutputs IsOkSent server_kind (turns.Init ∷ turns.Response ∷ []) limit state
     pieces taken sent last n
 
-pub clients_log_in : ClientsLogIn
+pub clients_log_in : ClientConnectionsLogIn
 clients_log_in hostname limit profile pieces taken sent last n =
-    logs_in (ProfileSteps hostname) of_client.Says IsOkReported client_kind
+    logs_in (ProfileSteps hostname) of_client.ClientOutputs IsOkReported client_kind
     (turns.Mechanisms ∷ turns.Challenge ∷ turns.Outcome ∷ []) limit profile pieces taken sent last n
 
 pub scram_servers_serve : ScramServersServe

@@ -6,11 +6,11 @@ use Rattle.fe2o3_sasl_negotiation.specs.declared.standing.Due.TheVariants.{Heade
 use Rattle.fe2o3_sasl_negotiation.specs.declared.standing.Standing.{Standing}
 use Rattle.fe2o3_sasl_negotiation.specs.declared.standing.Standing.TheVariants.{Wanting}
 use Rattle.fe2o3_sasl_negotiation.specs.Memory.{ServerAsks, ClientAsks}
-use Rattle.fe2o3_sasl_negotiation.specs.private.Units.{Takes, ServerUnitAsks, ClientUnitAsks}
+use Rattle.fe2o3_sasl_negotiation.specs.private.Units.{TakesUnit, ServerUnitAsks, ClientUnitAsks}
 
 -- a server's answer to the unit that a call completes
 pub server_asks : {S : Type 0} (standing : Standing) (due : Due) (limit room : ℕ) (held bytes kept : List ℕ) (state : S)
-    → standing ≡ Wanting → Takes due limit (held ++ bytes) Whole kept → ServerUnitAsks due kept
+    → standing ≡ Wanting → TakesUnit due limit (held ++ bytes) Whole kept → ServerUnitAsks due kept
     → ServerAsks room (record { standing = standing; due = due; limit = limit; held = held; state = state }) bytes
 server_asks standing Header limit room held bytes kept state wanting takes asks =
     (wanting, inr (inl (refl, takes.0)))
@@ -21,7 +21,7 @@ server_asks standing (Frame turn) limit room held bytes kept state wanting takes
 
 -- and a client's
 pub client_asks : {S : Type 0} (standing : Standing) (due : Due) (limit room : ℕ) (held bytes kept : List ℕ) (state : S)
-    → standing ≡ Wanting → Takes due limit (held ++ bytes) Whole kept → ClientUnitAsks due kept
+    → standing ≡ Wanting → TakesUnit due limit (held ++ bytes) Whole kept → ClientUnitAsks due kept
     → ClientAsks room (record { standing = standing; due = due; limit = limit; held = held; state = state }) bytes
 client_asks standing Header limit room held bytes kept state wanting takes asks = absurd asks
 client_asks standing (Frame turn) limit room held bytes kept state wanting takes (frame, spells, in_turn) = (

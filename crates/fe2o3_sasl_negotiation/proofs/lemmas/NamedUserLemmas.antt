@@ -7,7 +7,7 @@ use Rattle.fe2o3_sasl_wire.specs.SaslFrames as frames
 use Rattle.fe2o3_sasl_wire.specs.SaslFrames.{SaslFrame, canonical}
 use Rattle.fe2o3_sasl_runs.specs.Bodies.{SpellsBody, carried}
 use Rattle.fe2o3_sasl_runs.specs.Events.{Given, ServerSays, Challenged, Concluded, Failed}
-use Rattle.fe2o3_sasl_runs.specs.OneOf.{Parts, PartReplies, part_for, part_with, one_of_machine}
+use Rattle.fe2o3_sasl_runs.specs.OneOf.{BothStates, PartReplies, part_for, part_with, one_of_machine}
 use Rattle.fe2o3_sasl_runs.specs.OneOfLaws.{IsRefusal}
 use Rattle.fe2o3_sasl_runs.specs.Runs.{Runs, AcceptorSteps, AcceptorAnswers, server_says}
 use Rattle.fe2o3_sasl_runs.specs.SaslAcceptor.{ends_with}
@@ -20,8 +20,8 @@ use Rattle.fe2o3_sasl_negotiation.specs.declared.standing.Standing.TheVariants.{
 use Rattle.fe2o3_sasl_negotiation.specs.declared.standing.Turn.TheVariants as turns
 use Rattle.fe2o3_sasl_negotiation.specs.Connections.{Piece, SpellsTurn, AreFrames, Replied, LastReply, IsOkSent}
 use Rattle.fe2o3_sasl_negotiation.specs.NamedUsers.{PartSteps, OneOfLogsIn, OneOfServersLogIn, OneOfStepsLogIn}
-use Rattle.fe2o3_sasl_negotiation.specs.Negotiations.{Answer}
-use Rattle.fe2o3_sasl_negotiation.specs.ServerNegotiation.{Says}
+use Rattle.fe2o3_sasl_negotiation.specs.Negotiations.{SideOutput}
+use Rattle.fe2o3_sasl_negotiation.specs.ServerNegotiation.{ServerOutputs}
 use Rattle.fe2o3_sasl_negotiation.proofs.lemmas.ConnectionLemmas.{closed_is_not_wanting}
 use Rattle.fe2o3_sasl_negotiation.proofs.lemmas.KindLemmas.{closes_waits_not, sends_ends}
 use Rattle.fe2o3_sasl_negotiation.proofs.lemmas.LoginLemmas.{servers_log_in}
@@ -57,7 +57,7 @@ response_of body frame (frames.Challenge text, spells, in_turn) spelled = absurd
 response_of body frame (frames.Outcome code more, spells, in_turn) spelled = absurd in_turn
 
 -- what leaves a server waiting is no refusal
-goes_on_is_no_refusal : (says : ServerSays) (answer : Answer) → Says says turns.Init answer
+goes_on_is_no_refusal : (says : ServerSays) (answer : SideOutput) → ServerOutputs says turns.Init answer
     → answer.standing ≡ Wanting → ¬ IsRefusal says
 goes_on_is_no_refusal (Challenged body) answer said waits refused = refused
 goes_on_is_no_refusal (Concluded outcomes.Auth body) answer sends waits refused =
@@ -75,12 +75,12 @@ module _ {S T : Type 0} (names : S → List (List ℕ)) (others : T → List (Li
     (machine : S → List ℕ → SaslFrame → SaslFrame → S → Type 0)
     (other : T → List ℕ → SaslFrame → SaslFrame → T → Type 0) where
   -- an answer of a part
-  abbrev PartAnswers : Part → Parts S T → List ℕ → SaslFrame → ServerSays → Parts S T → Type 0
+  abbrev PartAnswers : Part → BothStates S T → List ℕ → SaslFrame → ServerSays → BothStates S T → Type 0
   PartAnswers First parts nonce frame says next = AcceptorAnswers machine parts.first nonce frame says next.first
   PartAnswers Second parts nonce frame says next = AcceptorAnswers other parts.second nonce frame says next.second
 
   -- an answer that is sent
-  sent_by : (asked : Option Part) (parts next moved : Parts S T) (nonce : List ℕ) (frame reply : SaslFrame)
+  sent_by : (asked : Option Part) (parts next moved : BothStates S T) (nonce : List ℕ) (frame reply : SaslFrame)
       (says : ServerSays) (body : Option (List ℕ)) → ¬ IsRefusal says
       → PartReplies machine other parts asked nonce frame reply moved → canonical reply ≡ body
       → says ≡ carried (Failed faults.TooLarge) (server_says reply) body → next ≡ carried parts (λ _. moved) body
@@ -95,14 +95,14 @@ module _ {S T : Type 0} (names : S → List (List ℕ)) (others : T → List (Li
       let after = same ∙ now in (
         First,
         refl,
-        ap (λ (p : Parts S T). p.asked) after,
+        ap (λ (p : BothStates S T). p.asked) after,
         inr (
           reply,
           state,
           moves,
           (
             is ∙ ap (λ b. carried (Failed faults.TooLarge) (server_says reply) b) (sym some),
-            ap (λ (p : Parts S T). p.first) after ∙ ap (λ b. carried parts.first (λ _. state) b) (sym some),
+            ap (λ (p : BothStates S T). p.first) after ∙ ap (λ b. carried parts.first (λ _. state) b) (sym some),
           ),
         ),
       )
@@ -110,19 +110,19 @@ module _ {S T : Type 0} (names : S → List (List ℕ)) (others : T → List (Li
       let after = same ∙ now in (
         Second,
         refl,
-        ap (λ (p : Parts S T). p.asked) after,
+        ap (λ (p : BothStates S T). p.asked) after,
         inr (
           reply,
           state,
           moves,
           (
             is ∙ ap (λ b. carried (Failed faults.TooLarge) (server_says reply) b) (sym some),
-            ap (λ (p : Parts S T). p.second) after ∙ ap (λ b. carried parts.second (λ _. state) b) (sym some),
+            ap (λ (p : BothStates S T). p.second) after ∙ ap (λ b. carried parts.second (λ _. state) b) (sym some),
           ),
         ),
       )
 
-  answered_by : (parts next : Parts S T) (nonce : List ℕ) (frame : SaslFrame) (says : ServerSays) → ¬ IsRefusal says
+  answered_by : (parts next : BothStates S T) (nonce : List ℕ) (frame : SaslFrame) (says : ServerSays) → ¬ IsRefusal says
       → AcceptorAnswers (one_of_machine names others machine other) parts nonce frame says next
       → (part : Part) × (part_for names others parts frame ≡ Some part) × (next.asked ≡ Some part)
       × PartAnswers part parts nonce frame says next
@@ -132,7 +132,7 @@ module _ {S T : Type 0} (names : S → List (List ℕ)) (others : T → List (Li
       refl sends.0 sends.1
 
   steps_of_init : (event : Given) (mechanism : List ℕ) (response hostname : Option (List ℕ)) (part : Part)
-      (parts next : Parts S T) (says : ServerSays)
+      (parts next : BothStates S T) (says : ServerSays)
       → SpellsBody event.body (Ok (frames.Init mechanism response hostname))
       → PartAnswers part parts event.nonce (frames.Init mechanism response hostname) says next
       → PartSteps machine other part parts event says next
@@ -141,7 +141,7 @@ module _ {S T : Type 0} (names : S → List (List ℕ)) (others : T → List (Li
   steps_of_init event mechanism response hostname Second parts next says spells answers =
       (Ok (frames.Init mechanism response hostname), spells, answers)
 
-  steps_of_response : (event : Given) (text : List ℕ) (part : Part) (parts next : Parts S T) (says : ServerSays)
+  steps_of_response : (event : Given) (text : List ℕ) (part : Part) (parts next : BothStates S T) (says : ServerSays)
       → SpellsBody event.body (Ok (frames.Response text))
       → PartAnswers part parts event.nonce (frames.Response text) says next
       → PartSteps machine other part parts event says next
@@ -149,7 +149,7 @@ module _ {S T : Type 0} (names : S → List (List ℕ)) (others : T → List (Li
   steps_of_response event text Second parts next says spells answers = (Ok (frames.Response text), spells, answers)
 
   -- a step that does not refuse is one of the part that the frame goes to
-  abbrev Kept : Parts S T → Given → ServerSays → Parts S T → Type 0
+  abbrev Kept : BothStates S T → Given → ServerSays → BothStates S T → Type 0
   Kept parts event says next = (frame : SaslFrame) × SpellsBody event.body (Ok frame)
       × ((part : Part) × (part_for names others parts frame ≡ Some part) × (next.asked ≡ Some part)
       × PartSteps machine other part parts event says next)
@@ -157,7 +157,7 @@ module _ {S T : Type 0} (names : S → List (List ℕ)) (others : T → List (Li
   refuses : (says : ServerSays) (fault : Error) → says ≡ Failed fault → IsRefusal says
   refuses says fault is = subst IsRefusal (sym is) tt
 
-  one_step : (parts next : Parts S T) (event : Given) (says : ServerSays) → ¬ IsRefusal says
+  one_step : (parts next : BothStates S T) (event : Given) (says : ServerSays) → ¬ IsRefusal says
       → AcceptorSteps (one_of_machine names others machine other) parts event says next → Kept parts event says next
   one_step parts next event says kept (Err fault, spells, gives) = absurd (kept (refuses says fault gives.0))
   one_step parts next event says kept (Ok (frames.Mechanisms list), spells, gives) =
@@ -193,11 +193,11 @@ module _ {S T : Type 0} (names : S → List (List ℕ)) (others : T → List (Li
 
   -- ---- a negotiation
 
-  abbrev Steps : Parts S T → Given → ServerSays → Parts S T → Type 0
+  abbrev Steps : BothStates S T → Given → ServerSays → BothStates S T → Type 0
   Steps = AcceptorSteps (one_of_machine names others machine other)
 
   -- the part that an init goes to
-  part_of_init : (parts next : Parts S T) (event : Given) (says : ServerSays) → SpellsTurn turns.Init event.body
+  part_of_init : (parts next : BothStates S T) (event : Given) (says : ServerSays) → SpellsTurn turns.Init event.body
       → Kept parts event says next
       → (mechanism : List ℕ) × (response : Option (List ℕ)) × (hostname : Option (List ℕ)) × (part : Part)
       × SpellsBody event.body (Ok (frames.Init mechanism response hostname))
@@ -215,9 +215,9 @@ module _ {S T : Type 0} (names : S → List (List ℕ)) (others : T → List (Li
         steps,
       )
 
-  by_frames : (pieces : List Piece) (limit : ℕ) (events : List Given) (replies : List ServerSays) (answer : Answer)
-      (state last : Parts S T) → AreFrames pieces limit 8 (turns.Init ∷ turns.Response ∷ []) events
-      → Runs Steps state events replies last → Replied Says (turns.Init ∷ turns.Response ∷ []) replies answer
+  by_frames : (pieces : List Piece) (limit : ℕ) (events : List Given) (replies : List ServerSays) (answer : SideOutput)
+      (state last : BothStates S T) → AreFrames pieces limit 8 (turns.Init ∷ turns.Response ∷ []) events
+      → Runs Steps state events replies last → Replied ServerOutputs (turns.Init ∷ turns.Response ∷ []) replies answer
       → LastReply IsOkSent replies → OneOfLogsIn names others machine other events state last
   by_frames pieces limit [] replies answer state last frames run replied ok =
       absurd (subst (λ (l : List ServerSays). LastReply IsOkSent l) run.0 ok)
@@ -227,7 +227,7 @@ module _ {S T : Type 0} (names : S → List (List ℕ)) (others : T → List (Li
       let (body, same, fits) = subst (λ (l : List ServerSays). LastReply IsOkSent l) all ok in
       let now : Steps state event (Concluded outcomes.Ok body) last =
       subst (λ (s : ServerSays). Steps state event s last) same
-      (subst (λ (p : Parts S T). Steps state event says p) (sym end) step) in
+      (subst (λ (p : BothStates S T). Steps state event says p) (sym end) step) in
       let (mechanism, response, hostname, part, spells, has, asked, steps) =
       part_of_init state last event (Concluded outcomes.Ok body) frames.1
       (one_step state last event (Concluded outcomes.Ok body) (λ never. never) now) in
@@ -249,13 +249,13 @@ module _ {S T : Type 0} (names : S → List (List ℕ)) (others : T → List (Li
       is ∙ ap (λ (l : List ServerSays). says ∷ l) (is_then ∙ ap (λ (l : List ServerSays). then ∷ l) empty) in
       let (body, same, fits) = subst (λ (l : List ServerSays). LastReply IsOkSent l) all ok in
       let (first, rest, said, waits, _, _) =
-      subst (λ (l : List ServerSays). Replied Says (turns.Init ∷ turns.Response ∷ []) l answer) all replied in
+      subst (λ (l : List ServerSays). Replied ServerOutputs (turns.Init ∷ turns.Response ∷ []) l answer) all replied in
       let (mechanism, response, hostname, part, spells, has, asked, steps) =
       part_of_init state mid event says frames.1
       (one_step state mid event says (goes_on_is_no_refusal says first said waits) step) in
       let now : Steps mid second (Concluded outcomes.Ok body) last =
       subst (λ (s : ServerSays). Steps mid second s last) same
-      (subst (λ (p : Parts S T). Steps mid second then p) (sym end) step_then) in
+      (subst (λ (p : BothStates S T). Steps mid second then p) (sym end) step_then) in
       let (frame, spelled, (part_then, goes, asked_then, steps_then)) =
       one_step mid last second (Concluded outcomes.Ok body) (λ never. never) now in
       let (text, response_is) = response_of second.body frame frames.3.1 spelled in

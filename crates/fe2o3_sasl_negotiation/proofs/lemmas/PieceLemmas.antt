@@ -13,9 +13,9 @@ use Rattle.fe2o3_sasl_negotiation.specs.declared.standing.Due.{Due}
 use Rattle.fe2o3_sasl_negotiation.specs.declared.standing.Due.TheVariants.{Frame}
 use Rattle.fe2o3_sasl_negotiation.specs.declared.standing.Standing.TheVariants.{Wanting}
 use Rattle.fe2o3_sasl_negotiation.specs.declared.standing.Turn.{Turn}
-use Rattle.fe2o3_sasl_negotiation.specs.Connections.{Piece, bytes_of, NonceAt, frames_of, SpellsTurn, AreFrames, Replied}
+use Rattle.fe2o3_sasl_negotiation.specs.Connections.{Piece, bytes_of, PieceNonceAt, frames_of, SpellsTurn, AreFrames, Replied}
 use Rattle.fe2o3_sasl_negotiation.specs.Framing.{framed, size_of, Fits}
-use Rattle.fe2o3_sasl_negotiation.specs.Negotiations.{Answer}
+use Rattle.fe2o3_sasl_negotiation.specs.Negotiations.{SideOutput}
 use Rattle.fe2o3_sasl_negotiation.proofs.lemmas.UnitLemmas.{length-framed}
 
 -- ---- lists
@@ -64,8 +64,8 @@ length-nonces_of (piece ∷ pieces) =
     ∙ sym (length-append piece.bytes (bytes_of pieces))))
 
 -- the nonces stay where more pieces follow
-pub nonce_of_more : (pieces more : List Piece) (n : ℕ) (nonce : List ℕ) → NonceAt pieces n nonce
-    → NonceAt (pieces ++ more) n nonce
+pub nonce_of_more : (pieces more : List Piece) (n : ℕ) (nonce : List ℕ) → PieceNonceAt pieces n nonce
+    → PieceNonceAt (pieces ++ more) n nonce
 nonce_of_more pieces more n nonce at =
     subst (λ l. slice_get l n ≡ Some nonce)
     (sym (flat_map-append (λ (piece : Piece). replicate (length piece.bytes) piece.nonce) pieces more))
@@ -73,7 +73,7 @@ nonce_of_more pieces more n nonce at =
 
 -- the nonces of a piece that follows others, and has more after it
 pub nonce_of_piece : (pieces more : List Piece) (piece : Piece) (n : ℕ) → n < length piece.bytes
-    → NonceAt (pieces ++ piece ∷ more) (length (bytes_of pieces) + n) piece.nonce
+    → PieceNonceAt (pieces ++ piece ∷ more) (length (bytes_of pieces) + n) piece.nonce
 nonce_of_piece pieces more piece n few =
     subst (λ l. slice_get l (length (bytes_of pieces) + n) ≡ Some piece.nonce)
     (sym (flat_map-append (λ (p : Piece). replicate (length p.bytes) p.nonce) pieces (piece ∷ more)))
@@ -127,7 +127,7 @@ frames_of_more pieces more limit at (turn ∷ turns) (event ∷ events) (fits, s
 pub one_frame_more : (pieces : List Piece) (limit at : ℕ) (turns : List Turn) (events : List Given) (turn : Turn)
     (event : Given) → AreFrames pieces limit at turns events → slice_get turns (length events) ≡ Some turn
     → Fits limit (length event.body + 4) → SpellsTurn turn event.body
-    → NonceAt pieces (at + (length (frames_of events) + (length event.body + 3))) event.nonce
+    → PieceNonceAt pieces (at + (length (frames_of events) + (length event.body + 3))) event.nonce
     → AreFrames pieces limit at turns (events ++ event ∷ [])
 one_frame_more pieces limit at [] [] turn event are due fits spells nonce = absurd (none due)
   where
@@ -138,7 +138,7 @@ one_frame_more pieces limit at (first ∷ turns) [] turn event are due fits spel
     let same : turn ≡ first = cc in (
       fits,
       subst (λ (t : Turn). SpellsTurn t event.body) same spells,
-      subst (λ n. NonceAt pieces n event.nonce) (omega arith) nonce,
+      subst (λ n. PieceNonceAt pieces n event.nonce) (omega arith) nonce,
       tt,
     )
 one_frame_more pieces limit at (first ∷ turns) (other ∷ events) turn event (fits_first, spells_first, nonce_first, others)
@@ -147,7 +147,7 @@ one_frame_more pieces limit at (first ∷ turns) (other ∷ events) turn event (
       spells_first,
       nonce_first,
       one_frame_more pieces limit (at + (length other.body + 4)) turns events turn event others due fits spells
-          (subst (λ n. NonceAt pieces n event.nonce) (place (length-frames_of other events)) nonce),
+          (subst (λ n. PieceNonceAt pieces n event.nonce) (place (length-frames_of other events)) nonce),
     )
   where
     place : length (frames_of (other ∷ events)) ≡ (length other.body + 4) + length (frames_of events)
@@ -158,41 +158,41 @@ one_frame_more pieces limit at (first ∷ turns) (other ∷ events) turn event (
 -- ---- replies
 
 -- what a reply leaves due is the next turn
-abbrev pub IsChain : {A : Type 0} → (A → Turn → Answer → Type 0) → List Turn → Type 0
+abbrev pub IsChain : {A : Type 0} → (A → Turn → SideOutput → Type 0) → List Turn → Type 0
 IsChain Says [] = Unit {0}
-IsChain {A} Says (turn ∷ []) = (says : A) (answer : Answer) → Says says turn answer → answer.standing ≢ Wanting
+IsChain {A} Says (turn ∷ []) = (says : A) (answer : SideOutput) → Says says turn answer → answer.standing ≢ Wanting
 IsChain {A} Says (turn ∷ next ∷ turns) =
-    ((says : A) (answer : Answer) → Says says turn answer → answer.standing ≡ Wanting → answer.due ≡ Frame next)
+    ((says : A) (answer : SideOutput) → Says says turn answer → answer.standing ≡ Wanting → answer.due ≡ Frame next)
     × IsChain Says (next ∷ turns)
 
 frame_turn : (turn other : Turn) (due : Due) → due ≡ Frame turn → due ≡ Frame other → turn ≡ other
 frame_turn turn other due one two = let same : Frame turn ≡ Frame other = sym one ∙ two in cc
 
-module _ {A : Type 0} (Says : A → Turn → Answer → Type 0) where
+module _ {A : Type 0} (Says : A → Turn → SideOutput → Type 0) where
   -- where a side waits after its replies, a turn is due
-  pub due_after : (turns : List Turn) (replies : List A) (answer : Answer) → IsChain Says turns
+  pub due_after : (turns : List Turn) (replies : List A) (answer : SideOutput) → IsChain Says turns
       → Replied Says turns replies answer → answer.standing ≡ Wanting
       → (turn : Turn) × (answer.due ≡ Frame turn) × (slice_get turns (length replies) ≡ Some turn)
   due_after [] replies answer chain replied waits = absurd replied
-  due_after (turn ∷ turns) [] answer chain replied waits = (turn, ap (λ (a : Answer). a.due) replied, refl)
+  due_after (turn ∷ turns) [] answer chain replied waits = (turn, ap (λ (a : SideOutput). a.due) replied, refl)
   due_after (turn ∷ []) (says ∷ []) answer chain replied waits = absurd (chain says answer replied waits)
   due_after (turn ∷ next ∷ turns) (says ∷ []) answer chain replied waits =
       (next, chain.0 says answer replied waits, refl)
   due_after (turn ∷ []) (says ∷ more ∷ replies) answer chain (first, rest, _, _, replied, _) waits = absurd replied
   due_after (turn ∷ next ∷ turns) (says ∷ more ∷ replies) answer chain (first, rest, _, _, replied, is) waits =
       let (due, same, at) = due_after (next ∷ turns) (more ∷ replies) rest chain.1 replied
-      (sym (ap (λ (a : Answer). a.standing) is) ∙ waits) in
-      (due, ap (λ (a : Answer). a.due) is ∙ same, at)
+      (sym (ap (λ (a : SideOutput). a.standing) is) ∙ waits) in
+      (due, ap (λ (a : SideOutput). a.due) is ∙ same, at)
 
   -- one reply more
-  pub one_reply_more : (turns : List Turn) (replies : List A) (before after : Answer) (turn : Turn) (says : A)
+  pub one_reply_more : (turns : List Turn) (replies : List A) (before after : SideOutput) (turn : Turn) (says : A)
       → IsChain Says turns → Replied Says turns replies before → before.standing ≡ Wanting → before.due ≡ Frame turn
       → Says says turn after
       → Replied Says turns (replies ++ says ∷ []) (record after { sent = before.sent ++ after.sent })
   one_reply_more [] replies before after turn says chain replied waits due more = absurd replied
   one_reply_more (first ∷ turns) [] before after turn says chain replied waits due more =
-      let same : turn ≡ first = frame_turn turn first before.due due (ap (λ (a : Answer). a.due) replied) in
-      let nothing : before.sent ≡ [] = ap (λ (a : Answer). a.sent) replied in
+      let same : turn ≡ first = frame_turn turn first before.due due (ap (λ (a : SideOutput). a.due) replied) in
+      let nothing : before.sent ≡ [] = ap (λ (a : SideOutput). a.sent) replied in
       subst (λ (l : List ℕ). Says says first (record after { sent = l ++ after.sent })) (sym nothing)
       (subst (λ (t : Turn). Says says t after) same more)
   one_reply_more (first ∷ []) (one ∷ []) before after turn says chain replied waits due more =
@@ -209,9 +209,9 @@ module _ {A : Type 0} (Says : A → Turn → Answer → Type 0) where
         said,
         went,
         one_reply_more (next ∷ turns) (other ∷ replies) rest after turn says chain.1 replied
-            (sym (ap (λ (a : Answer). a.standing) is) ∙ waits) (sym (ap (λ (a : Answer). a.due) is) ∙ due) more,
+            (sym (ap (λ (a : SideOutput). a.standing) is) ∙ waits) (sym (ap (λ (a : SideOutput). a.due) is) ∙ due) more,
         ap (λ (l : List ℕ). record after { sent = l })
-            (ap (λ (a : Answer). a.sent ++ after.sent) is ∙ append_assoc start.sent rest.sent after.sent),
+            (ap (λ (a : SideOutput). a.sent ++ after.sent) is ∙ append_assoc start.sent rest.sent after.sent),
       )
 
 -- a reply for each event

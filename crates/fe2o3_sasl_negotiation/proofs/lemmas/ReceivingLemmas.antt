@@ -11,12 +11,12 @@ use Rattle.fe2o3_sasl_negotiation.specs.declared.standing.Received.{Received}
 use Rattle.fe2o3_sasl_negotiation.specs.declared.standing.Standing.{Standing}
 use Rattle.fe2o3_sasl_negotiation.specs.declared.standing.Standing.TheVariants.{Wanting, LoggedIn, Closed}
 use Rattle.fe2o3_sasl_negotiation.specs.Framing.{unit_size, IsPart, IsRefused, IsWhole}
-use Rattle.fe2o3_sasl_negotiation.specs.Negotiations.{Side, Answer, closes, Receives, ReceivesAt}
-use Rattle.fe2o3_sasl_negotiation.specs.private.Units.{Takes, Appends}
+use Rattle.fe2o3_sasl_negotiation.specs.Negotiations.{Side, SideOutput, closes, Receives, ReceivesAt}
+use Rattle.fe2o3_sasl_negotiation.specs.private.Units.{TakesUnit, Appends}
 use Rattle.fe2o3_sasl_negotiation.proofs.lemmas.FramingLemmas.{part_is_short, part_is_shorter, refused_is_short}
 
 -- nothing is sent where a side closes
-pub closed_appends : (Answers : Answer → Type 0) (out : List ℕ) (why : ClosedBecause) (due : Due) (step : Step)
+pub closed_appends : (Answers : SideOutput → Type 0) (out : List ℕ) (why : ClosedBecause) (due : Due) (step : Step)
     → step ≡ record { standing = Closed why; due = due } → Answers (closes why due) → Appends Answers out out step
 closed_appends Answers out why due step is holds = (
   [],
@@ -33,7 +33,7 @@ refused_four : (due : Due) (limit : ℕ) (come : List ℕ) → IsRefused due lim
 refused_four Header limit come refused = absurd refused
 refused_four (Frame turn) limit come refused = refused.0
 
-module _ {S : Type 0} (Answers : Due → S → List ℕ → List ℕ → Answer → S → Type 0) (side : Side S) (bytes nonce : List ℕ)
+module _ {S : Type 0} (Answers : Due → S → List ℕ → List ℕ → SideOutput → S → Type 0) (side : Side S) (bytes nonce : List ℕ)
     (wanting : side.standing ≡ Wanting) where
   -- what holds of a side that wants bytes
   wants : (taken : ℕ) (sent : List ℕ) (next : Side S) → ReceivesAt Wanting Answers side bytes nonce taken sent next
@@ -42,13 +42,13 @@ module _ {S : Type 0} (Answers : Due → S → List ℕ → List ℕ → Answer 
       subst (λ (s : Standing). ReceivesAt s Answers side bytes nonce taken sent next) (sym wanting) holds
 
   -- less than the whole is kept
-  pub part_is_kept : (kept : List ℕ) → Takes side.due side.limit (side.held ++ bytes) Part kept
+  pub part_is_kept : (kept : List ℕ) → TakesUnit side.due side.limit (side.held ++ bytes) Part kept
       → Receives Answers side bytes nonce (length bytes) [] (record side { held = kept })
   part_is_kept kept takes = wants (length bytes) [] (record side { held = kept })
       (inl (takes.0, (refl, refl, ap (λ (h : List ℕ). record side { held = h }) takes.1)))
 
   -- a size is refused
-  pub size_is_refused : (kept left : List ℕ) (taken : ℕ) → Takes side.due side.limit (side.held ++ bytes) Refused kept
+  pub size_is_refused : (kept left : List ℕ) (taken : ℕ) → TakesUnit side.due side.limit (side.held ++ bytes) Refused kept
       → taken ≡ length kept - length side.held → left ≡ []
       → Receives Answers side bytes nonce taken []
       (record { standing = Closed FrameSize; due = side.due; limit = side.limit; held = left; state = side.state })
@@ -73,7 +73,7 @@ module _ {S : Type 0} (Answers : Due → S → List ℕ → List ℕ → Answer 
 
   -- a whole unit is answered
   pub unit_is_answered : (kept left sent : List ℕ) (taken : ℕ) (step : Step) (state : S)
-      → Takes side.due side.limit (side.held ++ bytes) Whole kept
+      → TakesUnit side.due side.limit (side.held ++ bytes) Whole kept
       → Answers side.due side.state nonce kept
       (record { sent = sent; standing = step.standing; due = step.due }) state
       → taken ≡ length kept - length side.held → left ≡ []
@@ -104,7 +104,7 @@ module _ {S : Type 0} (Answers : Due → S → List ℕ → List ℕ → Answer 
       )))
 
 -- a side at its end rests
-pub ended_rests : {S : Type 0} (Answers : Due → S → List ℕ → List ℕ → Answer → S → Type 0) (side : Side S)
+pub ended_rests : {S : Type 0} (Answers : Due → S → List ℕ → List ℕ → SideOutput → S → Type 0) (side : Side S)
     (bytes nonce : List ℕ) (standing : Standing) → side.standing ≡ standing → (standing ≡ Wanting → ⊥)
     → Receives Answers side bytes nonce 0 [] side
 ended_rests Answers side bytes nonce standing is ended =
@@ -117,7 +117,7 @@ ended_rests Answers side bytes nonce standing is ended =
 
 -- what was held before a unit was whole is found in front of it
 pub held_before_unit : (due : Due) (limit : ℕ) (old bytes kept : List ℕ) (had : ℕ) → IsPart due limit old
-    → Takes due limit (old ++ bytes) Whole kept → had ≡ length old → take had kept ≡ old
+    → TakesUnit due limit (old ++ bytes) Whole kept → had ≡ length old → take had kept ≡ old
 held_before_unit due limit old bytes kept had part takes is =
     let come = old ++ bytes in
     let short : length old ≤ unit_size due come = part_is_short due limit old bytes part takes.0 in
@@ -133,7 +133,7 @@ same_side standing due limit same kept = λ i.
     record { standing = standing; due = due; limit = limit; held = same i; state = kept i }
 
 -- a call to a side that wants bytes takes one at least
-pub moves : {S : Type 0} (Answers : Due → S → List ℕ → List ℕ → Answer → S → Type 0) (side next : Side S)
+pub moves : {S : Type 0} (Answers : Due → S → List ℕ → List ℕ → SideOutput → S → Type 0) (side next : Side S)
     (bytes nonce sent : List ℕ) (taken : ℕ) → IsPart side.due side.limit side.held → 0 < length bytes
     → ReceivesAt Wanting Answers side bytes nonce taken sent next → 0 < taken
 moves Answers side next bytes nonce sent taken part some (inl waits) =
@@ -148,7 +148,7 @@ moves Answers side next bytes nonce sent taken part some (inr (inr whole)) =
     omega (arith, short, all)
 
 -- the same of what a call answers
-pub moves_on : {S E : Type 0} (Answers : Due → S → List ℕ → List ℕ → Answer → S → Type 0) (side next : Side S)
+pub moves_on : {S E : Type 0} (Answers : Due → S → List ℕ → List ℕ → SideOutput → S → Type 0) (side next : Side S)
     (bytes nonce old new : List ℕ) (result : Result Received E) → IsPart side.due side.limit side.held
     → IfOk result (λ received. (sent : List ℕ) × (new ≡ old ++ sent)
     × Receives Answers side bytes nonce received.taken sent next)

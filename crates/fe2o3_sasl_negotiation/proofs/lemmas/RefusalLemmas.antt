@@ -9,18 +9,18 @@ use Rattle.fe2o3_scram.specs.ScramClient.{ClientSide, ClientState, AnswersIn, Be
 use Rattle.fe2o3_scram.specs.ScramClient as client_states
 use Rattle.fe2o3_sasl_runs.specs.Events.{Given, ClientSays, Started, Answered, Refused, ClientFault, Frame}
 use Rattle.fe2o3_sasl_runs.specs.Profiles.{Profile, ScramProfile, PlainProfile, AnonymousProfile, ExternalProfile, client_frame, profile_machine}
-use Rattle.fe2o3_sasl_runs.specs.Runs.{Sends, Replies, ProfileSteps}
+use Rattle.fe2o3_sasl_runs.specs.Runs.{SendsCanonical, Replies, ProfileSteps}
 
 answer_refused : (state : ClientState) (side after : ClientSide) (text : List ℕ) (kind : ScramErrorKind)
     → AnswersIn state side text (Err kind) after → after ≡ side
-answer_refused client_states.Initial side after text kind refused = refused.1
+answer_refused client_states.ClientInitial side after text kind refused = refused.1
 answer_refused (client_states.ClientFirstSent nonce bare) side after text kind refused = refused.1
 answer_refused (client_states.ClientFinalSent signature keys) side after text kind refused = refused.1
 answer_refused (client_states.Complete keys) side after text kind refused = refused.1
 
 belief_refused : (state : ClientState) (side after : ClientSide) (text : List ℕ) (kind : ScramErrorKind)
     → BelievesIn state side text (Err kind) after → after ≡ side
-belief_refused client_states.Initial side after text kind refused = refused.1
+belief_refused client_states.ClientInitial side after text kind refused = refused.1
 belief_refused (client_states.ClientFirstSent nonce bare) side after text kind refused = refused.1
 belief_refused (client_states.ClientFinalSent signature keys) side after text kind refused = refused.1
 belief_refused (client_states.Complete keys) side after text kind refused = refused.1
@@ -77,7 +77,7 @@ machine_refused ExternalProfile hostname nonce (frames.Response text) reply faul
 -- a frame that is not sent leaves the profile
 unsent_stays : (says : List ℕ → ClientSays) (body : Option (List ℕ)) (profile moved next : Profile) (fault : ClientFault)
     → ((b : List ℕ) → Refused fault ≡ says b → ⊥)
-    → Sends (Refused (Frame faults.TooLarge)) says body profile moved (Refused fault) next → next ≡ profile
+    → SendsCanonical (Refused (Frame faults.TooLarge)) says body profile moved (Refused fault) next → next ≡ profile
 unsent_stays says None profile moved next fault other sent = sent.1
 unsent_stays says (Some body) profile moved next fault other sent = absurd (other body sent.0)
 

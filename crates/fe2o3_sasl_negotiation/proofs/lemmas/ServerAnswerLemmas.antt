@@ -16,13 +16,13 @@ use Rattle.fe2o3_sasl_negotiation.specs.declared.standing.Turn.{Turn}
 use Rattle.fe2o3_sasl_negotiation.specs.declared.standing.Turn.TheVariants as turns
 use Rattle.fe2o3_sasl_negotiation.specs.Framing.{sasl_header}
 use Rattle.fe2o3_sasl_negotiation.specs.Negotiations.{closes, Sends}
-use Rattle.fe2o3_sasl_negotiation.specs.ServerNegotiation.{offer_body, Opens, Offers, Says, Replies, ReplyCosts, UnitCosts, ServerCosts}
-use Rattle.fe2o3_sasl_negotiation.specs.private.Units.{Appends, Screens, Takes}
+use Rattle.fe2o3_sasl_negotiation.specs.ServerNegotiation.{offer_body, ServerOpens, Offers, ServerOutputs, ServerReplies, ServerReplyCosts, ServerUnitCosts, ServerCosts}
+use Rattle.fe2o3_sasl_negotiation.specs.private.Units.{Appends, Screens, TakesUnit}
 
 -- behind its header it sends what it offers
 pub opened : (names : List (List ℕ)) (header out mid new : List ℕ) (step : Step) → header ≡ sasl_header
     → mid ≡ out ++ sasl_header → Appends (Offers (offer_body names)) mid new step
-    → Appends (Opens names header) out new step
+    → Appends (ServerOpens names header) out new step
 opened names header out mid new step is opens (sent, appended, offers) = (
   sasl_header ++ sent,
   appended ∙ (ap (λ l. l ++ sent) opens ∙ append_assoc out sasl_header sent),
@@ -38,7 +38,7 @@ offered names body mid new step is sends =
 -- what closes before the acceptor is asked
 pub screened : {S : Type 0} (machine : S → List ℕ → SaslFrame → SaslFrame → S → Type 0) (turn : Turn) (state : S)
     (event : Given) (why : ClosedBecause) → Screens turn event.body (Some why)
-    → Replies machine turn state event (closes why (Frame turn)) state
+    → ServerReplies machine turn state event (closes why (Frame turn)) state
 screened machine turn state event why (inl (fault, spells, is)) =
     (Err fault, spells, (ap (λ (w : ClosedBecause). closes w (Frame turn)) is, refl))
 screened machine turn state event why (inr (frame, spells, out, is)) =
@@ -47,8 +47,8 @@ screened machine turn state event why (inr (frame, spells, out, is)) =
 -- what the acceptor says
 pub asked : {S : Type 0} (machine : S → List ℕ → SaslFrame → SaslFrame → S → Type 0) (turn : Turn) (state next : S)
     (event : Given) (says : ServerSays) (old new : List ℕ) (step : Step) → Screens turn event.body None
-    → AcceptorSteps machine state event says next → Appends (Says says turn) old new step
-    → Appends (λ answer. Replies machine turn state event answer next) old new step
+    → AcceptorSteps machine state event says next → Appends (ServerOutputs says turn) old new step
+    → Appends (λ answer. ServerReplies machine turn state event answer next) old new step
 asked machine turn state next event says old new step (frame, spells, in_turn) steps (sent, appended, holds) =
     (sent, appended, (Ok frame, spells, inr (in_turn, (says, steps, holds))))
 
@@ -56,8 +56,8 @@ asked machine turn state next event says old new step (frame, spells, in_turn) s
 pub asked_in_vain : {S E : Type 0} (machine : S → List ℕ → SaslFrame → SaslFrame → S → Type 0) (turn : Turn)
     (state next : S) (event : Given) (fault : Error) (old : List ℕ) (result : Result Step E)
     → Screens turn event.body None → AcceptorSteps machine state event (Failed fault) next
-    → IfOk result (λ step. (out : List ℕ) → Appends (Says (Failed fault) turn) out out step)
-    → IfOk result (λ step. Appends (λ answer. Replies machine turn state event answer next) old old step)
+    → IfOk result (λ step. (out : List ℕ) → Appends (ServerOutputs (Failed fault) turn) out out step)
+    → IfOk result (λ step. Appends (λ answer. ServerReplies machine turn state event answer next) old old step)
 asked_in_vain machine turn state next event fault old (Ok step) screens steps says =
     asked machine turn state next event (Failed fault) old old step screens steps (says old)
 asked_in_vain machine turn state next event fault old (Err failed) screens steps says = tt
@@ -65,13 +65,13 @@ asked_in_vain machine turn state next event fault old (Err failed) screens steps
 -- what the acceptor's step costs
 pub asked_costs : {S : Type 0} (hmacs : S → SaslFrame → ℕ → Type 0) (turn : Turn) (state : S) (event : Given)
     (before after : ℕ) → Screens turn event.body None → AcceptorStepCosts hmacs state event before after
-    → ReplyCosts hmacs turn state event before after
+    → ServerReplyCosts hmacs turn state event before after
 asked_costs hmacs turn state event before after (frame, spells, in_turn) costs = inr (frame, spells, in_turn, costs)
 
 -- what an answer to a unit costs, the call costs that completes it
 pub unit_costs : {S : Type 0} (hmacs : S → SaslFrame → ℕ → Type 0) (standing : Standing) (due : Due) (limit : ℕ)
     (held bytes nonce kept : List ℕ) (state : S) (before after : ℕ) → standing ≡ Wanting
-    → Takes due limit (held ++ bytes) Whole kept → UnitCosts hmacs due state nonce kept before after
+    → TakesUnit due limit (held ++ bytes) Whole kept → ServerUnitCosts hmacs due state nonce kept before after
     → ServerCosts hmacs (record { standing = standing; due = due; limit = limit; held = held; state = state }) bytes
     nonce before after
 unit_costs hmacs standing Header limit held bytes nonce kept state before after wanting takes costs = inl costs

@@ -16,14 +16,14 @@ use Rattle.fe2o3_sasl_negotiation.specs.declared.standing.Turn.{Turn}
 use Rattle.fe2o3_sasl_negotiation.specs.declared.standing.Turn.TheVariants as turns
 use Rattle.fe2o3_sasl_negotiation.specs.Connections.{Piece, OffersNone, ServerConnection, ServersConnect, fresh}
 use Rattle.fe2o3_sasl_negotiation.specs.Framing.{sasl_header, framed}
-use Rattle.fe2o3_sasl_negotiation.specs.Negotiations.{Side, Answer, Receives, ReceivesAt}
-use Rattle.fe2o3_sasl_negotiation.specs.ServerNegotiation.{offer_body, Offers, Opens, Says, ServerAnswers}
+use Rattle.fe2o3_sasl_negotiation.specs.Negotiations.{Side, SideOutput, Receives, ReceivesAt}
+use Rattle.fe2o3_sasl_negotiation.specs.ServerNegotiation.{offer_body, Offers, ServerOpens, ServerOutputs, ServerSideAnswers}
 use Rattle.fe2o3_sasl_negotiation.specs.private.Pieces.{NextNonces}
 use Rattle.fe2o3_sasl_negotiation.proofs.lemmas.ConnectionLemmas.{closed_is_not_wanting, logged_in_is_not_wanting, opened, negotiated_call, negotiated_more, rests_there, connected}
 use Rattle.fe2o3_sasl_negotiation.proofs.lemmas.KindLemmas.{standing_of, closes_waits_not, sends_goes_on, sends_ends}
 
 -- a challenge leaves a server waiting for a response, and no other reply leaves it waiting
-says_next : (says : ServerSays) (answer : Answer) → Says says turns.Init answer → answer.standing ≡ Wanting
+says_next : (says : ServerSays) (answer : SideOutput) → ServerOutputs says turns.Init answer → answer.standing ≡ Wanting
     → answer.due ≡ Frame turns.Response
 says_next (Challenged body) answer sends waits = sends_goes_on body turns.Response answer sends waits
 says_next (Concluded outcomes.Ok body) answer sends waits =
@@ -41,7 +41,7 @@ says_next (Failed faults.DecodeError) answer is waits = absurd (closes_waits_not
 says_next (Failed faults.NotImplemented) answer is waits = absurd (closes_waits_not _ _ answer is waits)
 says_next (Failed faults.TooLarge) answer is waits = absurd (closes_waits_not _ _ answer is waits)
 
-says_last : (says : ServerSays) (answer : Answer) → Says says turns.Response answer → answer.standing ≢ Wanting
+says_last : (says : ServerSays) (answer : SideOutput) → ServerOutputs says turns.Response answer → answer.standing ≢ Wanting
 says_last (Challenged body) answer is waits = closes_waits_not _ _ answer is waits
 says_last (Concluded outcomes.Ok body) answer sends waits =
     sends_ends body LoggedIn (Frame turns.Response) answer logged_in_is_not_wanting sends waits
@@ -68,7 +68,7 @@ module _ {S : Type 0} (names : S → List (List ℕ)) (machine : S → List ℕ 
 
   -- ---- the header
 
-  module _ (taken bytes first : List ℕ) (k : ℕ) (next : Side S) (answer : Answer) (moved : S)
+  module _ (taken bytes first : List ℕ) (k : ℕ) (next : Side S) (answer : SideOutput) (moved : S)
       (come : taken ++ take k bytes ≡ take 8 (taken ++ bytes)) (whole : 8 ≤ length (taken ++ bytes))
       (kept : moved ≡ state) (sends : first ≡ answer.sent)
       (same : next ≡ record { standing = answer.standing; due = answer.due; limit = limit; held = []; state = moved }) where
@@ -85,7 +85,7 @@ module _ {S : Type 0} (names : S → List (List ℕ)) (machine : S → List ℕ 
         ap (λ (s : Side S). s.standing) same ∙ standing_of answer _ is,
         state_is,
       ),
-      sends ∙ (ap (λ (a : Answer). a.sent) is ∙ append-nil sasl_header),
+      sends ∙ (ap (λ (a : SideOutput). a.sent) is ∙ append-nil sasl_header),
     ))
 
     -- no frame for the mechanisms
@@ -95,18 +95,18 @@ module _ {S : Type 0} (names : S → List (List ℕ)) (machine : S → List ℕ 
     offers_none due header none is = inr (inr (inl (
       come ∙ header,
       none,
-      sends ∙ (ap (λ (a : Answer). a.sent) is ∙ append-nil sasl_header),
+      sends ∙ (ap (λ (a : SideOutput). a.sent) is ∙ append-nil sasl_header),
       ap (λ (s : Side S). s.standing) same ∙ standing_of answer _ is,
       state_is,
     )))
 
     -- the mechanisms
-    offers : (offer : Option (List ℕ)) (one : Answer) → offer_body (names state) ≡ offer
+    offers : (offer : Option (List ℕ)) (one : SideOutput) → offer_body (names state) ≡ offer
         → take 8 (taken ++ bytes) ≡ sasl_header → Offers offer one
         → answer ≡ record one { sent = sasl_header ++ one.sent } → Is (taken ++ take k bytes) first next
     offers None one is header closed all =
         offers_none Header header (λ body some. absurd (none body (sym is ∙ some)))
-        (all ∙ ap (λ (a : Answer). record a { sent = sasl_header ++ a.sent }) closed)
+        (all ∙ ap (λ (a : SideOutput). record a { sent = sasl_header ++ a.sent }) closed)
       where
         none : (body : List ℕ) → None ≡ Some body → ⊥
         none body same = cc
@@ -114,23 +114,23 @@ module _ {S : Type 0} (names : S → List (List ℕ)) (machine : S → List ℕ 
         offers_none (Frame turns.Init) header
         (λ other some. let l = long in let e : body ≡ other = one_body other (sym is ∙ some) in
         subst (λ (b : List ℕ). 512 < length b + 4) e l)
-        (all ∙ ap (λ (a : Answer). record a { sent = sasl_header ++ a.sent }) closed)
+        (all ∙ ap (λ (a : SideOutput). record a { sent = sasl_header ++ a.sent }) closed)
       where
         one_body : (other : List ℕ) → Some body ≡ Some other → body ≡ other
         one_body other same = cc
     offers (Some body) one is header (inl (fits, opens)) all =
         let here : answer ≡ record { sent = sasl_header ++ framed body; standing = Wanting; due = Frame turns.Init } =
-        all ∙ ap (λ (a : Answer). record a { sent = sasl_header ++ a.sent }) opens in
+        all ∙ ap (λ (a : SideOutput). record a { sent = sasl_header ++ a.sent }) opens in
         inr (inr (inr (
           body,
           [],
           is,
           fits,
-          sends ∙ (ap (λ (a : Answer). a.sent) here ∙ ap (λ l. sasl_header ++ l) (sym (append-nil (framed body)))),
-          opened (ServerAnswers names machine) (AcceptorSteps machine) Says seen (says_next, says_last)
+          sends ∙ (ap (λ (a : SideOutput). a.sent) here ∙ ap (λ l. sasl_header ++ l) (sym (append-nil (framed body)))),
+          opened (ServerSideAnswers names machine) (AcceptorSteps machine) ServerOutputs seen (says_next, says_last)
               (λ turn s n nonce unit a h. h) limit state pieces (taken ++ take k bytes) turns.Init (turns.Response ∷ [])
               next refl (come ∙ header)
-              (same ∙ (ap (λ (a : Answer). record {
+              (same ∙ (ap (λ (a : SideOutput). record {
                 standing = a.standing;
                 due = a.due;
                 limit = limit;
@@ -146,7 +146,7 @@ module _ {S : Type 0} (names : S → List (List ℕ)) (machine : S → List ℕ 
         )))
 
   header_call : (taken bytes nonce first : List ℕ) (k : ℕ) (next : Side S) → length taken < 8
-      → ReceivesAt Wanting (ServerAnswers names machine) (record (fresh limit state) { held = taken }) bytes nonce k first
+      → ReceivesAt Wanting (ServerSideAnswers names machine) (record (fresh limit state) { held = taken }) bytes nonce k first
       next → Is (taken ++ take k bytes) first next
   header_call taken bytes nonce first k next few (inl (part, waits)) =
       let all : k ≡ length bytes = waits.0 in
@@ -160,7 +160,7 @@ module _ {S : Type 0} (names : S → List (List ℕ)) (machine : S → List ℕ 
       come = let all : k ≡ 8 - length taken = ends.0 in
           sym (take-append_past taken bytes k 8 (omega (arith, few, all)))
 
-      go : Opens (names state) (take 8 (taken ++ bytes)) answer → Is (taken ++ take k bytes) first next
+      go : ServerOpens (names state) (take 8 (taken ++ bytes)) answer → Is (taken ++ take k bytes) first next
       go (inl other) =
           other_header taken bytes first k next answer moved come whole answers.1 ends.1 ends.2 other.0 other.1
       go (inr opens) =
@@ -172,7 +172,7 @@ module _ {S : Type 0} (names : S → List (List ℕ)) (machine : S → List ℕ 
   call_at : (standing : Standing) (taken sent : List ℕ) (side next : Side S) (bytes nonce first : List ℕ) (k : ℕ)
       → side.standing ≡ standing → Is taken sent side → IsBytes (taken ++ bytes)
       → NextNonces pieces (length taken) k nonce
-      → ReceivesAt standing (ServerAnswers names machine) side bytes nonce k first next
+      → ReceivesAt standing (ServerSideAnswers names machine) side bytes nonce k first next
       → Is (taken ++ take k bytes) (sent ++ first) next
   call_at LoggedIn taken sent side next bytes nonce first k at is are_bytes nonces rests =
       rests_there Is taken sent bytes first k side next is rests
@@ -181,7 +181,7 @@ module _ {S : Type 0} (names : S → List (List ℕ)) (machine : S → List ℕ 
   call_at Wanting taken sent side next bytes nonce first k at (inl (few, nothing, same)) are_bytes nonces receives =
       subst (λ (l : List ℕ). Is (taken ++ take k bytes) (l ++ first) next) (sym nothing)
       (header_call taken bytes nonce first k next few
-      (subst (λ (s : Side S). ReceivesAt Wanting (ServerAnswers names machine) s bytes nonce k first next) same receives))
+      (subst (λ (s : Side S). ReceivesAt Wanting (ServerSideAnswers names machine) s bytes nonce k first next) same receives))
   call_at Wanting taken sent side next bytes nonce first k at (inr (inl other)) are_bytes nonces receives =
       absurd (closed_is_not_wanting OtherHeader (sym other.0.2 ∙ at))
   call_at Wanting taken sent side next bytes nonce first k at (inr (inr (inl none))) are_bytes nonces receives =
@@ -195,14 +195,14 @@ module _ {S : Type 0} (names : S → List (List ℕ)) (machine : S → List ℕ 
         fits,
         ap (λ l. l ++ first) all ∙ (append_assoc sasl_header (framed offer ++ out) first
             ∙ ap (λ l. sasl_header ++ l) (append_assoc (framed offer) out first)),
-        negotiated_call (ServerAnswers names machine) (AcceptorSteps machine) Says seen (says_next, says_last)
+        negotiated_call (ServerSideAnswers names machine) (AcceptorSteps machine) ServerOutputs seen (says_next, says_last)
             (λ turn s n nonce unit a h. h) limit state pieces taken out side next bytes nonce first k negotiated at
             are_bytes nonces receives,
       )))
 
   pub server_call : (taken sent : List ℕ) (side next : Side S) (bytes nonce first : List ℕ) (k : ℕ) → Is taken sent side
       → IsBytes (taken ++ bytes) → NextNonces pieces (length taken) k nonce
-      → Receives (ServerAnswers names machine) side bytes nonce k first next
+      → Receives (ServerSideAnswers names machine) side bytes nonce k first next
       → Is (taken ++ take k bytes) (sent ++ first) next
   server_call taken sent side next bytes nonce first k is are_bytes nonces receives =
       call_at side.standing taken sent side next bytes nonce first k refl is are_bytes nonces receives
@@ -221,14 +221,14 @@ module _ {S : Type 0} (names : S → List (List ℕ)) (machine : S → List ℕ 
     is,
     fits,
     all,
-    negotiated_more (ServerAnswers names machine) (AcceptorSteps machine) Says seen (says_next, says_last)
+    negotiated_more (ServerSideAnswers names machine) (AcceptorSteps machine) ServerOutputs seen (says_next, says_last)
         (λ turn s n nonce unit a h. h) limit state pieces more taken out side negotiated,
   )))
 
 pub servers_connect : {S : Type 0} (names : S → List (List ℕ)) (machine : S → List ℕ → SaslFrame → SaslFrame → S → Type 0)
     → ServersConnect names machine
 servers_connect names machine limit state calls stream sent rest last are_bytes made =
-    connected (ServerAnswers names machine)
+    connected (ServerSideAnswers names machine)
     (λ pieces taken out side. ServerConnection names machine limit state pieces taken out side)
     (λ pieces taken out side next bytes nonce first k is fine nonces receives.
     server_call names machine limit state pieces taken out side next bytes nonce first k is fine nonces receives)

@@ -25,8 +25,8 @@ use Rattle.fe2o3_sasl_negotiation.specs.declared.standing.Turn.TheVariants as tu
 use Rattle.fe2o3_sasl_negotiation.specs.CostLaws.{ServersCost}
 use Rattle.fe2o3_sasl_negotiation.specs.Connections.{fresh}
 use Rattle.fe2o3_sasl_negotiation.specs.Framing.{size_of}
-use Rattle.fe2o3_sasl_negotiation.specs.Negotiations.{Side, Answer, Sends, IsInTurn, Receives}
-use Rattle.fe2o3_sasl_negotiation.specs.ServerNegotiation.{Says, ServerAnswers, ServerCosts}
+use Rattle.fe2o3_sasl_negotiation.specs.Negotiations.{Side, SideOutput, Sends, IsInTurn, Receives}
+use Rattle.fe2o3_sasl_negotiation.specs.ServerNegotiation.{ServerOutputs, ServerSideAnswers, ServerCosts}
 use Rattle.fe2o3_sasl_negotiation.specs.Retries.{ServersRetry}
 use Rattle.fe2o3_sasl_negotiation.proofs.lemmas.CostLemmas.{none, same_of, open_calls, rests, Left, leaves, answers_whole}
 use Rattle.fe2o3_sasl_negotiation.proofs.lemmas.RetryLemmas.{open_retried}
@@ -50,9 +50,9 @@ step_keeps provider acceptor next event says (state, is) steps =
     let back = gives_back provider state event spelled says next gives in
     (back.0, back.1)
 
-answer_keeps : (provider : Provider) (due : Due) (acceptor next : Acceptor) (nonce unit : List ℕ) (answer : Answer)
+answer_keeps : (provider : Provider) (due : Due) (acceptor next : Acceptor) (nonce unit : List ℕ) (answer : SideOutput)
     → IsScram provider acceptor
-    → ServerAnswers acceptor_names acceptor_machine due acceptor nonce unit answer next → IsScram provider next
+    → ServerSideAnswers acceptor_names acceptor_machine due acceptor nonce unit answer next → IsScram provider next
 answer_keeps provider Header acceptor next nonce unit answer is answers = (is.0, answers.1 ∙ is.1)
 answer_keeps provider (Frame turn) acceptor next nonce unit answer is (Err fault, spells, closed) =
     (is.0, closed.1 ∙ is.1)
@@ -62,7 +62,7 @@ answer_keeps provider (Frame turn) acceptor next nonce unit answer is (Ok frame,
     step_keeps provider acceptor next (record { body = drop 4 unit; nonce = nonce }) asks.1.0 is asks.1.1
 
 keeps : (provider : Provider) (side next : Side Acceptor) (bytes nonce : List ℕ) → Open provider side
-    → Left (ServerAnswers acceptor_names acceptor_machine) side bytes nonce next → Open provider next
+    → Left (ServerSideAnswers acceptor_names acceptor_machine) side bytes nonce next → Open provider next
 keeps provider side next bytes nonce early (inl waits) = (early.0, waits.2 ∙ early.1)
 keeps provider side next bytes nonce early (inr (inl closed)) = (early.0, closed.1 ∙ early.1)
 keeps provider side next bytes nonce early (inr (inr whole)) =
@@ -75,12 +75,12 @@ closed_ends why standing closed wants = let apart = sym closed ∙ wants in absu
 logged_ends : (standing : Standing) → standing ≡ LoggedIn → standing ≡ Wanting → ⊥
 logged_ends standing logged wants = let apart = sym logged ∙ wants in absurd (cc)
 
-sends_closed : (why : ClosedBecause) (body : List ℕ) (due : Due) (answer : Answer)
+sends_closed : (why : ClosedBecause) (body : List ℕ) (due : Due) (answer : SideOutput)
     → Sends body (Closed why) due answer → answer.standing ≡ Wanting → ⊥
 sends_closed why body due answer (inl (fits, same)) = closed_ends _ answer.standing (standing_of answer _ same)
 sends_closed why body due answer (inr (long, same)) = closed_ends _ answer.standing (standing_of answer _ same)
 
-said_ends : (says : ServerSays) (answer : Answer) → Says says turns.Response answer → answer.standing ≡ Wanting → ⊥
+said_ends : (says : ServerSays) (answer : SideOutput) → ServerOutputs says turns.Response answer → answer.standing ≡ Wanting → ⊥
 said_ends (Challenged body) answer is = closed_ends _ answer.standing (standing_of answer _ is)
 said_ends (Concluded outcomes.Ok body) answer (inl (fits, same)) =
     logged_ends answer.standing (standing_of answer _ same)
@@ -95,8 +95,8 @@ said_ends (Failed faults.DecodeError) answer is = closed_ends _ answer.standing 
 said_ends (Failed faults.NotImplemented) answer is = closed_ends _ answer.standing (standing_of answer _ is)
 said_ends (Failed faults.TooLarge) answer is = closed_ends _ answer.standing (standing_of answer _ is)
 
-response_ends : (acceptor next : Acceptor) (nonce unit : List ℕ) (answer : Answer)
-    → ServerAnswers acceptor_names acceptor_machine (Frame turns.Response) acceptor nonce unit answer next
+response_ends : (acceptor next : Acceptor) (nonce unit : List ℕ) (answer : SideOutput)
+    → ServerSideAnswers acceptor_names acceptor_machine (Frame turns.Response) acceptor nonce unit answer next
     → answer.standing ≡ Wanting → ⊥
 response_ends acceptor next nonce unit answer (Err fault, spells, closed) =
     closed_ends _ answer.standing (standing_of answer _ closed.0)
@@ -154,10 +154,10 @@ step_costs provider acceptor turn event frame before after (state, is) spells in
     (subst (λ (a : Acceptor). AcceptorCostsOf acceptor_hmacs a costs.0 before after) is costs.2))
 
 module _ (provider : Provider) (side next : Side Acceptor) (bytes nonce sent : List ℕ) (taken before after : ℕ)
-    (receives : Receives (ServerAnswers acceptor_names acceptor_machine) side bytes nonce taken sent next) where
+    (receives : Receives (ServerSideAnswers acceptor_names acceptor_machine) side bytes nonce taken sent next) where
   stays : Open provider side → Open provider next
   stays early = keeps provider side next bytes nonce early
-      (leaves (ServerAnswers acceptor_names acceptor_machine) side.standing side next bytes nonce sent taken receives)
+      (leaves (ServerSideAnswers acceptor_names acceptor_machine) side.standing side next bytes nonce sent taken receives)
 
   open_step : Open provider side → ServerCosts acceptor_hmacs side bytes nonce before after
       → ((after ≡ before) × Open provider next) ⊎ ((before ≤ after) × (after ≤ before + 2) × Done next)
@@ -169,9 +169,9 @@ module _ (provider : Provider) (side next : Side Acceptor) (bytes nonce sent : L
     where
       ends : turn ≡ turns.Response → Done next
       ends is =
-          let whole = answers_whole (ServerAnswers acceptor_names acceptor_machine) side next turn bytes nonce sent taken
+          let whole = answers_whole (ServerSideAnswers acceptor_names acceptor_machine) side next turn bytes nonce sent taken
           completes.0 completes.1 completes.2 receives in
-          let answers = subst (λ (t : Turn). ServerAnswers acceptor_names acceptor_machine (Frame t) side.state nonce
+          let answers = subst (λ (t : Turn). ServerSideAnswers acceptor_names acceptor_machine (Frame t) side.state nonce
           (take (size_of (side.held ++ bytes)) (side.held ++ bytes)) whole.0 next.state) is whole.1 in
           λ wants. response_ends side.state next.state nonce
           (take (size_of (side.held ++ bytes)) (side.held ++ bytes)) whole.0 answers (sym whole.2 ∙ wants)
@@ -183,14 +183,14 @@ module _ (provider : Provider) (side next : Side Acceptor) (bytes nonce sent : L
 
   done_step : Done side → ServerCosts acceptor_hmacs side bytes nonce before after → (after ≡ before) × Done next
   done_step done (inl same) =
-      let still = rests (ServerAnswers acceptor_names acceptor_machine) side.standing side next bytes nonce sent taken
+      let still = rests (ServerSideAnswers acceptor_names acceptor_machine) side.standing side next bytes nonce sent taken
       done receives in
       (same, λ wants. done (ap (λ (s : Side Acceptor). s.standing) (sym still) ∙ wants))
   done_step done (inr (turn, body, completes, costs)) = absurd (done completes.0)
 
 pub servers_cost : ServersCost
 servers_cost provider state limit calls stream before after made =
-    open_calls (ServerAnswers acceptor_names acceptor_machine) (ServerCosts acceptor_hmacs) 2 (Open provider) Done
+    open_calls (ServerSideAnswers acceptor_names acceptor_machine) (ServerCosts acceptor_hmacs) 2 (Open provider) Done
     (λ side next bytes nonce sent taken before after early receives costs.
     open_step provider side next bytes nonce sent taken before after receives early costs)
     (λ side next bytes nonce sent taken before after done receives costs.
@@ -221,7 +221,7 @@ done_tries side bytes nonce before after done (inr (turn, body, completes, costs
 
 pub servers_retry : ServersRetry
 servers_retry provider state limit calls stream failed before after made =
-    open_retried (ServerAnswers acceptor_names acceptor_machine) (ServerCosts acceptor_hmacs) 2 (Open provider) Done
+    open_retried (ServerSideAnswers acceptor_names acceptor_machine) (ServerCosts acceptor_hmacs) 2 (Open provider) Done
     (λ side next bytes nonce sent taken before after early receives costs.
     open_step provider side next bytes nonce sent taken before after receives early costs)
     (λ side next bytes nonce sent taken before after done receives costs.

@@ -39,7 +39,7 @@ use Rattle.fe2o3_sasl_negotiation.specs.ServerNegotiation as of_server
 use Rattle.fe2o3_sasl_negotiation.specs.Connections.{fresh}
 use Rattle.fe2o3_sasl_negotiation.specs.Framing.{sasl_header, framed}
 use Rattle.fe2o3_sasl_negotiation.specs.Laws.{Negotiates}
-use Rattle.fe2o3_sasl_negotiation.specs.Negotiations.{Side, Answer, Sends, IsInTurn}
+use Rattle.fe2o3_sasl_negotiation.specs.Negotiations.{Side, SideOutput, Sends, IsInTurn}
 use Rattle.fe2o3_sasl_negotiation.specs.UnalteredConnections.{ClosedForSize, JoinedSidesLogIn}
 use Rattle.fe2o3_sasl_negotiation.proofs.lemmas.CutLemmas.{nothing_is_part, ended_stays, cuts_do_not_matter}
 use Rattle.fe2o3_sasl_negotiation.proofs.lemmas.UnitLemmas.{behind_answer}
@@ -53,21 +53,21 @@ ClientFine says = (says ≢ Refused OutOfMemory) × (says ≢ Refused (FrameFaul
 abbrev ServerFine : ServerSays → Type 0
 ServerFine says = (says ≢ Failed faults.OutOfMemory) × (says ≢ Failed faults.TooLarge)
 
-client_fine : (says : ClientSays) (turn : Turn) (answer : Answer) → ¬ ClosedForSize answer.standing
-    → of_client.Says says turn answer → ClientFine says
+client_fine : (says : ClientSays) (turn : Turn) (answer : SideOutput) → ¬ ClosedForSize answer.standing
+    → of_client.ClientOutputs says turn answer → ClientFine says
 client_fine says turn answer passes said = (
-  λ same. subst (λ (s : ClientSays). of_client.Says s turn answer) same said,
-  λ same. let (fault, is, closed) = subst (λ (s : ClientSays). of_client.Says s turn answer) same said in
+  λ same. subst (λ (s : ClientSays). of_client.ClientOutputs s turn answer) same said,
+  λ same. let (fault, is, closed) = subst (λ (s : ClientSays). of_client.ClientOutputs s turn answer) same said in
       passes (closed_for_size answer.standing (Closed (ProfileRefused fault))
-      (ap (λ (a : Answer). a.standing) closed) is),
+      (ap (λ (a : SideOutput). a.standing) closed) is),
 )
 
-server_fine : (says : ServerSays) (turn : Turn) (answer : Answer) → ¬ ClosedForSize answer.standing
-    → of_server.Says says turn answer → ServerFine says
+server_fine : (says : ServerSays) (turn : Turn) (answer : SideOutput) → ¬ ClosedForSize answer.standing
+    → of_server.ServerOutputs says turn answer → ServerFine says
 server_fine says turn answer passes said = (
-  λ same. subst (λ (s : ServerSays). of_server.Says s turn answer) same said,
+  λ same. subst (λ (s : ServerSays). of_server.ServerOutputs s turn answer) same said,
   λ same. passes (closed_for_size answer.standing (Closed (Unread faults.TooLarge))
-      (ap (λ (a : Answer). a.standing) (subst (λ (s : ServerSays). of_server.Says s turn answer) same said)) tt),
+      (ap (λ (a : SideOutput). a.standing) (subst (λ (s : ServerSays). of_server.ServerOutputs s turn answer) same said)) tt),
 )
 
 -- ---- the machines are asked
@@ -76,23 +76,23 @@ logged_in_is_not_wanting : LoggedIn ≢ Wanting
 logged_in_is_not_wanting same = cc
 
 asked_client : (hostname : Option (List ℕ)) (turn : Turn) (profile next : Profile) (nonce unit : List ℕ)
-    (answer : Answer)
-    → of_client.ClientAnswers hostname (Frame turn) profile nonce unit answer next
-    → of_client.ClientAnswers hostname (Frame turn) profile nonce unit answer next
+    (answer : SideOutput)
+    → of_client.ClientSideAnswers hostname (Frame turn) profile nonce unit answer next
+    → of_client.ClientSideAnswers hostname (Frame turn) profile nonce unit answer next
 asked_client hostname turn profile next nonce unit answer answers = answers
 
-asked_server : (turn : Turn) (acceptor next : Acceptor) (nonce unit : List ℕ) (answer : Answer)
-    → of_server.ServerAnswers acceptor_names acceptor_machine (Frame turn) acceptor nonce unit answer next
-    → of_server.ServerAnswers acceptor_names acceptor_machine (Frame turn) acceptor nonce unit answer next
+asked_server : (turn : Turn) (acceptor next : Acceptor) (nonce unit : List ℕ) (answer : SideOutput)
+    → of_server.ServerSideAnswers acceptor_names acceptor_machine (Frame turn) acceptor nonce unit answer next
+    → of_server.ServerSideAnswers acceptor_names acceptor_machine (Frame turn) acceptor nonce unit answer next
 asked_server turn acceptor next nonce unit answer answers = answers
 
 abbrev ClientTakes : Login → ℕ → Turn → Profile → List ℕ → List ℕ → List ℕ → Side Profile → Type 0
-ClientTakes login limit turn profile body more sent last = TakesFrame (of_client.ClientAnswers login.hostname)
-    (ProfileSteps login.hostname) of_client.Says (asked_client login.hostname) limit turn profile body more sent last
+ClientTakes login limit turn profile body more sent last = TakesFrame (of_client.ClientSideAnswers login.hostname)
+    (ProfileSteps login.hostname) of_client.ClientOutputs (asked_client login.hostname) limit turn profile body more sent last
 
 abbrev ServerTakes : ℕ → Turn → Acceptor → List ℕ → List ℕ → List ℕ → Side Acceptor → Type 0
 ServerTakes limit turn acceptor body more sent last =
-    TakesFrame (of_server.ServerAnswers acceptor_names acceptor_machine) (AcceptorSteps acceptor_machine) of_server.Says
+    TakesFrame (of_server.ServerSideAnswers acceptor_names acceptor_machine) (AcceptorSteps acceptor_machine) of_server.ServerOutputs
     asked_server limit turn acceptor body more sent last
 
 -- ---- both sides
@@ -161,7 +161,7 @@ module _ (login : Login) (provider : Provider) (password salt : List ℕ) (count
       → (length reply + 4 ≤ 512) × (sent ≡ framed reply ++ takes.behind)
       × ClientMakes login.hostname client_limit (Frame due) takes.next takes.nonces more takes.behind client
   client_goes_on turn profile body more sent takes reply due is =
-      goes_on_with (of_client.ClientAnswers login.hostname) (ProfileSteps login.hostname) of_client.Says
+      goes_on_with (of_client.ClientSideAnswers login.hostname) (ProfileSteps login.hostname) of_client.ClientOutputs
       (asked_client login.hostname) client_limit turn profile body more sent client takes reply Wanting (Frame due) is
 
   client_takes : (turn : Turn) (profile : Profile) (nonces : List (List ℕ)) (body more bytes sent : List ℕ)
@@ -170,7 +170,7 @@ module _ (login : Login) (provider : Provider) (password salt : List ℕ) (count
       → ClientMakes login.hostname client_limit (Frame turn) profile nonces bytes sent client
       → ClientTakes login client_limit turn profile body more sent client
   client_takes turn profile nonces body more bytes sent frame small spells in_turn all made =
-      takes_frame (of_client.ClientAnswers login.hostname) (ProfileSteps login.hostname) of_client.Says
+      takes_frame (of_client.ClientSideAnswers login.hostname) (ProfileSteps login.hostname) of_client.ClientOutputs
       (asked_client login.hostname) client_limit turn profile nonces body more sent client frame small spells in_turn
       client_passes (subst (λ (l : List ℕ). ClientMakes login.hostname client_limit (Frame turn) profile nonces l sent
       client) all made)
@@ -179,20 +179,20 @@ module _ (login : Login) (provider : Provider) (password salt : List ℕ) (count
       (takes : ServerTakes server_limit turn acceptor body more sent server) (reply : List ℕ) (standing : Standing)
       (due : Due) → Sends reply standing due takes.answer
       → (length reply + 4 ≤ 512) × (sent ≡ framed reply ++ takes.behind)
-      × Negotiates (of_server.ServerAnswers acceptor_names acceptor_machine)
+      × Negotiates (of_server.ServerSideAnswers acceptor_names acceptor_machine)
       (record { standing = standing; due = due; limit = server_limit; held = []; state = takes.next }) takes.nonces more
       takes.behind server
   server_goes_on turn acceptor body more sent takes reply standing due is =
-      goes_on_with (of_server.ServerAnswers acceptor_names acceptor_machine) (AcceptorSteps acceptor_machine)
-      of_server.Says asked_server server_limit turn acceptor body more sent server takes reply standing due is
+      goes_on_with (of_server.ServerSideAnswers acceptor_names acceptor_machine) (AcceptorSteps acceptor_machine)
+      of_server.ServerOutputs asked_server server_limit turn acceptor body more sent server takes reply standing due is
 
   server_takes : (turn : Turn) (acceptor : Acceptor) (nonces : List (List ℕ)) (body more bytes sent : List ℕ)
       (frame : SaslFrame) → length body + 4 ≤ 512 → SpellsBody body (Ok frame) → IsInTurn turn frame
       → bytes ≡ framed body ++ more → ServerMakes server_limit (Frame turn) acceptor nonces bytes sent server
       → ServerTakes server_limit turn acceptor body more sent server
   server_takes turn acceptor nonces body more bytes sent frame small spells in_turn all made =
-      takes_frame (of_server.ServerAnswers acceptor_names acceptor_machine) (AcceptorSteps acceptor_machine)
-      of_server.Says asked_server server_limit turn acceptor nonces body more sent server frame small spells in_turn
+      takes_frame (of_server.ServerSideAnswers acceptor_names acceptor_machine) (AcceptorSteps acceptor_machine)
+      of_server.ServerOutputs asked_server server_limit turn acceptor nonces body more sent server frame small spells in_turn
       server_passes (subst (λ (l : List ℕ). ServerMakes server_limit (Frame turn) acceptor nonces l sent server) all
       made)
 
@@ -430,17 +430,17 @@ module _ (login : Login) (provider : Provider) (password salt : List ℕ) (count
                 ((refl, sent_challenge), (response, ap (λ (s : ClientSays). Some s) answered)) (refl, sent_outcome))
 
             client_ends_well : client.standing ≡ LoggedIn
-            client_ends_well = stands ends (ended_stays (of_client.ClientAnswers login.hostname)
+            client_ends_well = stands ends (ended_stays (of_client.ClientSideAnswers login.hostname)
                 (behind_answer fourth.answer client_limit fourth.next) client fourth.nonces more fourth.behind LoggedIn
-                (ap (λ (a : Answer). a.standing) ends) logged_in_is_not_wanting fourth.goes_on)
+                (ap (λ (a : SideOutput). a.standing) ends) logged_in_is_not_wanting fourth.goes_on)
               where
                 ends : fourth.answer ≡ record { sent = []; standing = LoggedIn; due = Frame turns.Outcome }
-                ends = subst (λ (s : ClientSays). of_client.Says s turns.Outcome fourth.answer) reports fourth.said
+                ends = subst (λ (s : ClientSays). of_client.ClientOutputs s turns.Outcome fourth.answer) reports fourth.said
 
                 stands : fourth.answer ≡ record { sent = []; standing = LoggedIn; due = Frame turns.Outcome }
                     → client ≡ behind_answer fourth.answer client_limit fourth.next → client.standing ≡ LoggedIn
                 stands same stays =
-                    ap (λ (s : Side Profile). s.standing) stays ∙ ap (λ (a : Answer). a.standing) same
+                    ap (λ (s : Side Profile). s.standing) stays ∙ ap (λ (a : SideOutput). a.standing) same
 
           -- and the rest of the connection, from here on
           from_response : ClientMakes login.hostname client_limit (Frame turns.Outcome) second.next second.nonces
@@ -450,8 +450,8 @@ module _ (login : Login) (provider : Provider) (password salt : List ℕ) (count
               let (outcome, accepted, sent_outcome) = accepts in
               let (small, all, ends) = server_goes_on turns.Response first.next response client_ends server_ends third
               outcome LoggedIn (Frame turns.Response)
-              (subst (λ (s : ServerSays). of_server.Says s turns.Response third.answer) accepted third.said) in
-              let stays = ended_stays (of_server.ServerAnswers acceptor_names acceptor_machine)
+              (subst (λ (s : ServerSays). of_server.ServerOutputs s turns.Response third.answer) accepted third.said) in
+              let stays = ended_stays (of_server.ServerSideAnswers acceptor_names acceptor_machine)
               (behind_answer (record { sent = []; standing = LoggedIn; due = Frame turns.Response }) server_limit
               third.next)
               server third.nonces client_ends third.behind LoggedIn refl logged_in_is_not_wanting ends in
@@ -473,7 +473,7 @@ module _ (login : Login) (provider : Provider) (password salt : List ℕ) (count
             let (small, all, client_waits) = client_goes_on turns.Challenge zeroth.next challenge server_ends
             client_sends
             second response turns.Outcome
-            (subst (λ (s : ClientSays). of_client.Says s turns.Challenge second.answer) answered second.said) in
+            (subst (λ (s : ClientSays). of_client.ClientOutputs s turns.Challenge second.answer) answered second.said) in
             let third = server_takes turns.Response first.next first.nonces response second.behind client_sends
             server_ends
             (frames.Response (answer_in exchange).message) small
@@ -486,7 +486,7 @@ module _ (login : Login) (provider : Provider) (password salt : List ℕ) (count
         let (challenge, challenged, sent_challenge) = challenges in
         let (small, all, server_waits) = server_goes_on turns.Init first_acceptor init client_sends server_sends first
         challenge Wanting (Frame turns.Response)
-        (subst (λ (s : ServerSays). of_server.Says s turns.Init first.answer) challenged first.said) in
+        (subst (λ (s : ServerSays). of_server.ServerOutputs s turns.Init first.answer) challenged first.said) in
         let second = client_takes turns.Challenge zeroth.next zeroth.nonces challenge first.behind server_sends
         client_sends
         (frames.Challenge (first_in exchange)) small (spells_challenge (first_in exchange) challenge sent_challenge)
@@ -503,7 +503,7 @@ module _ (login : Login) (provider : Provider) (password salt : List ℕ) (count
       let (small, all, client_waits) = client_goes_on turns.Mechanisms first_profile offer server_sends client_sent
       zeroth
       init turns.Challenge
-      (subst (λ (s : ClientSays). of_client.Says s turns.Mechanisms zeroth.answer) started zeroth.said) in
+      (subst (λ (s : ClientSays). of_client.ClientOutputs s turns.Mechanisms zeroth.answer) started zeroth.said) in
       let text : List ℕ = client_first login.user (base64_text zeroth.nonce) in
       let first = server_takes turns.Init first_acceptor server_nonces init zeroth.behind client_sent server_sends
       (frames.Init (mechanism_name login.version) (Some text) login.hostname) small
@@ -536,18 +536,18 @@ module _ (login : Login) (provider : Provider) (password salt : List ℕ) (count
 pub joined_sides_log_in : JoinedSidesLogIn
 joined_sides_log_in login provider password salt count client server is holds joined client_passes server_passes =
     let (client_taken, client_nonces, client_all, client_made) = cuts_do_not_matter
-    (of_client.ClientAnswers login.hostname) (fresh joined.client_limit (scram_profile login)) client
+    (of_client.ClientSideAnswers login.hostname) (fresh joined.client_limit (scram_profile login)) client
     joined.client_calls joined.server_sent joined.client_sent [] (nothing_is_part Header joined.client_limit)
     joined.client_takes in
     let (server_taken, server_nonces, server_all, server_made) = cuts_do_not_matter
-    (of_server.ServerAnswers acceptor_names acceptor_machine)
+    (of_server.ServerSideAnswers acceptor_names acceptor_machine)
     (fresh joined.server_limit (ScramAcceptor provider Initial)) server joined.server_calls
     (sasl_header ++ joined.client_sent) joined.server_sent [] (nothing_is_part Header joined.server_limit)
     joined.server_takes in
     log_in login provider password salt count joined.client_limit joined.server_limit client server is holds
     client_passes server_passes client_nonces server_nonces joined.client_sent joined.server_sent
-    (taken_whole (of_client.ClientAnswers login.hostname) (fresh joined.client_limit (scram_profile login)) client
+    (taken_whole (of_client.ClientSideAnswers login.hostname) (fresh joined.client_limit (scram_profile login)) client
     joined.server_sent client_taken joined.client_sent client_nonces client_all client_made)
-    (taken_whole (of_server.ServerAnswers acceptor_names acceptor_machine)
+    (taken_whole (of_server.ServerSideAnswers acceptor_names acceptor_machine)
     (fresh joined.server_limit (ScramAcceptor provider Initial)) server (sasl_header ++ joined.client_sent) server_taken
     joined.server_sent server_nonces server_all server_made)

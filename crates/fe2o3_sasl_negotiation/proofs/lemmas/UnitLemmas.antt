@@ -11,7 +11,7 @@ use Rattle.fe2o3_sasl_negotiation.specs.declared.standing.Standing.TheVariants.{
 use Rattle.fe2o3_sasl_negotiation.specs.declared.standing.Turn.{Turn}
 use Rattle.fe2o3_sasl_negotiation.specs.Framing.{framed, size_of, Fits, unit_size, IsRefused, IsWhole}
 use Rattle.fe2o3_sasl_negotiation.specs.Laws.{Negotiates}
-use Rattle.fe2o3_sasl_negotiation.specs.Negotiations.{Side, Answer}
+use Rattle.fe2o3_sasl_negotiation.specs.Negotiations.{Side, SideOutput}
 use Rattle.fe2o3_sasl_negotiation.proofs.lemmas.CutLemmas.{EndsUnit, ended_stays, unit_of_call, whole_is_no_part, refused_is_no_part}
 
 -- a frame's size is what its first four bytes say
@@ -44,16 +44,16 @@ abbrev pub awaiting : {S : Type 0} → Due → ℕ → S → Side S
 awaiting due limit state = record { standing = Wanting; due = due; limit = limit; held = []; state = state }
 
 -- the side behind an answer
-abbrev pub behind_answer : {S : Type 0} → Answer → ℕ → S → Side S
+abbrev pub behind_answer : {S : Type 0} → SideOutput → ℕ → S → Side S
 behind_answer answer limit state =
     record { standing = answer.standing; due = answer.due; limit = limit; held = []; state = state }
 
-module _ {S : Type 0} (Answers : Due → S → List ℕ → List ℕ → Answer → S → Type 0) where
+module _ {S : Type 0} (Answers : Due → S → List ℕ → List ℕ → SideOutput → S → Type 0) where
   -- it answers the unit, and goes on with the bytes behind it
   pub record AnswersUnit (due : Due) (limit : ℕ) (state : S) (unit more sent : List ℕ) (last : Side S) : Type 0 where
     pub nonces : List (List ℕ)
     pub nonce : List ℕ
-    pub answer : Answer
+    pub answer : SideOutput
     pub next : S
     pub behind : List ℕ
     pub answers : Answers due state nonce unit answer next

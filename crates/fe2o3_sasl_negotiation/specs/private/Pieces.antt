@@ -1,12 +1,12 @@
 -- What private contracts cite of bytes that arrive in pieces.
 use Rattle.std.specs.Prelude.{ℕ, ◌+◌, ◌<◌, List, ◌++◌, length, take}
 use Rattle.fe2o3_sasl_wire.specs.SaslFrames.{IsBytes}
-use Rattle.fe2o3_sasl_negotiation.specs.Connections.{Piece, NonceAt}
+use Rattle.fe2o3_sasl_negotiation.specs.Connections.{Piece, PieceNonceAt}
 use Rattle.fe2o3_sasl_negotiation.specs.Negotiations.{Side}
 
 -- the nonce of the next k bytes of a stream
 abbrev pub NextNonces : List Piece → ℕ → ℕ → List ℕ → Type 0
-NextNonces pieces at k nonce = (i : ℕ) → i < k → NonceAt pieces (at + i) nonce
+NextNonces pieces at k nonce = (i : ℕ) → i < k → PieceNonceAt pieces (at + i) nonce
 
 -- calls with these bytes, which take the first k of them, turn one side into the other: what is a connection stays one
 abbrev pub Continues : {S : Type 0} → (List Piece → List ℕ → List ℕ → Side S → Type 0) → Side S → List ℕ → List ℕ → ℕ

@@ -12,16 +12,16 @@ use Rattle.fe2o3_sasl_negotiation.specs.declared.standing.ClosedBecause.{ClosedB
 use Rattle.fe2o3_sasl_negotiation.specs.declared.standing.ClosedBecause.TheVariants.{OutOfTurn, Unread}
 use Rattle.fe2o3_sasl_negotiation.specs.declared.standing.Turn.{Turn}
 use Rattle.fe2o3_sasl_negotiation.specs.Framing.{unit_size, IsPart, IsRefused, IsWhole}
-use Rattle.fe2o3_sasl_negotiation.specs.Negotiations.{Answer, IsInTurn}
+use Rattle.fe2o3_sasl_negotiation.specs.Negotiations.{SideOutput, IsInTurn}
 
 -- what has come of the unit that is due, and what of it is kept
-abbrev pub Takes : Due → ℕ → List ℕ → Arrived → List ℕ → Type 0
-Takes due limit come Part kept = IsPart due limit come × (kept ≡ come)
-Takes due limit come Refused kept = IsRefused due limit come × (kept ≡ take 4 come)
-Takes due limit come Whole kept = IsWhole due limit come × (kept ≡ take (unit_size due come) come)
+abbrev pub TakesUnit : Due → ℕ → List ℕ → Arrived → List ℕ → Type 0
+TakesUnit due limit come Part kept = IsPart due limit come × (kept ≡ come)
+TakesUnit due limit come Refused kept = IsRefused due limit come × (kept ≡ take 4 come)
+TakesUnit due limit come Whole kept = IsWhole due limit come × (kept ≡ take (unit_size due come) come)
 
 -- an answer is appended to what is to be sent
-abbrev pub Appends : (Answer → Type 0) → List ℕ → List ℕ → Step → Type 0
+abbrev pub Appends : (SideOutput → Type 0) → List ℕ → List ℕ → Step → Type 0
 Appends Answers old new step = (sent : List ℕ) × (new ≡ old ++ sent)
     × Answers (record { sent = sent; standing = step.standing; due = step.due })
 

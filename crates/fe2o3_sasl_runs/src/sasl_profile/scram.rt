@@ -5,7 +5,7 @@ ghost use Rattle.fe2o3_scram.specs.declared.hmac.ScramVersion.{ScramVersion};
 ghost use Rattle.fe2o3_scram.specs.declared.hmac.ScramVersion.TheVariants.{Sha1, Sha256, Sha512};
 ghost use Rattle.fe2o3_scram.specs.ClientSecret.{Password, Keys, Both, no_limit, up_to};
 ghost use Rattle.fe2o3_scram.specs.Passwords.{Typed, Prepared};
-ghost use Rattle.fe2o3_scram.specs.ScramClient.{Initial, login_keys, with_limits};
+ghost use Rattle.fe2o3_scram.specs.ScramClient.{ClientInitial, login_keys, with_limits};
 ghost use Rattle.fe2o3_sasl_runs.specs.Profiles.{ScramProfile, scram_profile};
 ghost use Rattle.fe2o3_sasl_runs.specs.Runs.{login_of};
 ghost use Rattle.fe2o3_sasl_runs.specs.SaslProfile.{profile_of, variant_version};
@@ -128,7 +128,7 @@ impl<V: OfVersion> SaslScram<V> {
           version =
               V.version;
           limits = up_to no_limit;
-          state = Initial;
+          state = ClientInitial;
         } }
     {
         Self::of(ScramClient::with_prepared_password(username, password, V::version()))
@@ -149,7 +149,7 @@ impl<V: OfVersion> SaslScram<V> {
               version = V.version;
               limits = up_to no_limit;
               state =
-                  Initial;
+                  ClientInitial;
             })) }
     {
         Self::of_version(ScramClient::with_keys(username, keys))
@@ -173,7 +173,7 @@ impl<V: OfVersion> SaslScram<V> {
               version = V.version;
               limits = up_to no_limit;
               state =
-                  Initial;
+                  ClientInitial;
             })) }
     {
         Self::of_version(ScramClient::with_password_and_keys(username, password, keys))
@@ -193,7 +193,7 @@ impl<V: OfVersion> SaslScram<V> {
               version = V.version;
               limits = up_to no_limit;
               state =
-                  Initial;
+                  ClientInitial;
             })) }
     {
         Self::of_version(ScramClient::with_prepared_password_and_keys(username, password, keys))

@@ -2,7 +2,7 @@
 
 ghost use Rattle.std.specs.Prelude.{◌≡◌, ◌≢◌, ◌++◌, ℕ, List, IfOk, IfErr, OnOk, codes};
 ghost use Rattle.fe2o3_scram.specs.Readings.{Gives, IsFirst, NoneHolds};
-ghost use Rattle.fe2o3_scram.specs.ClientFinal.{HasBinding, HasProof, ReachesBase64, ReachesBinding, ReadsFinalText, client_final_values, binding_tests, nonce_tests, spelling_tests};
+ghost use Rattle.fe2o3_scram.specs.ClientFinal.{HasBinding, HasProof, ReachesBase64, ReachesBinding, ReadsFinalText, client_final_values, binding_tests, final_nonce_tests, spelling_tests};
 ghost use Rattle.fe2o3_scram.specs.ClientFirst.{header_text};
 ghost use Rattle.fe2o3_scram.specs.Texts.{Part, LastPart};
 
@@ -93,9 +93,9 @@ fn test_binding(
 
 /// Tests that the nonce is that of the challenge.
 fn test_nonce(client_server_nonce: &[u8], client_final: &str) -> Result<(), ServerScramErrorKind>
-    ensures tested { OnOk result (NoneHolds (nonce_tests client_server_nonce.now client_final.now)) }
+    ensures tested { OnOk result (NoneHolds (final_nonce_tests client_server_nonce.now client_final.now)) }
     ensures same { OnOk result (Part client_final.now 1 (codes "r=" ++ client_server_nonce.now)) }
-    ensures err { IfErr result (IsFirst (nonce_tests client_server_nonce.now client_final.now)) }
+    ensures err { IfErr result (IsFirst (final_nonce_tests client_server_nonce.now client_final.now)) }
 {
     let Some(nonce) = attribute(client_final, 1, NONCE_KEY) else {
         return Err(ServerScramErrorKind::CannotParseClientFinalMessage);

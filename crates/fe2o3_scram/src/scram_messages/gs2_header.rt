@@ -2,7 +2,7 @@
 
 ghost use Rattle.std.specs.Prelude.{◌≡◌, ◌++◌, IsTrue, MatchOption};
 ghost use Rattle.fe2o3_scram.specs.ClientFirst.{TakesHeader, header_text};
-ghost use Rattle.fe2o3_scram.specs.Texts.{Begins, base64_text};
+ghost use Rattle.fe2o3_scram.specs.Texts.{StartsWith, base64_text};
 
 use crate::scram_messages::attributes::{
     GS2_HEADER, GS2_HEADER_BASE64, UNOFFERED_GS2_HEADER, UNOFFERED_GS2_HEADER_BASE64,
@@ -46,7 +46,7 @@ impl Gs2Header {
 /// client that supports channel binding only where `accepts_unbound` says so.
 pub(crate) fn cut_header(text: &str, accepts_unbound: bool) -> Option<(Gs2Header, &str)>
     ensures { MatchOption result
-        ((header : Gs2Header) → TakesHeader accepts_unbound header → ¬ Begins text.now (header_text header))
+        ((header : Gs2Header) → TakesHeader accepts_unbound header → ¬ StartsWith text.now (header_text header))
         (λ cut. TakesHeader accepts_unbound cut.0 × (text.now ≡ header_text cut.0 ++ cut.1.now)) }
 {
     if let Some(bare) = after(text, GS2_HEADER) {

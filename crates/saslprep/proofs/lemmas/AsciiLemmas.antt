@@ -18,7 +18,7 @@ use Rattle.saslprep.specs.declared.error.SaslprepError.{SaslprepError}
 use Rattle.saslprep.specs.declared.error.SaslprepError.TheVariants.{ProhibitedCharacter}
 use Rattle.saslprep.specs.declared.Unassigned.{Unassigned}
 use Rattle.saslprep.specs.declared.Unassigned.TheVariants.{Allowed, Refused}
-use Rattle.saslprep.specs.Saslprep.{mapping, prepared, is_prohibited, is_right_to_left, is_unassigned, has_one_direction, first_unassigned, refusal, refusal_of, IsPrintable}
+use Rattle.saslprep.specs.Saslprep.{mapping, prepared, is_prohibited, is_right_to_left, is_unassigned, has_one_direction, first_unassigned, refusal, refusal_of, IsPrintableText}
 use Rattle.saslprep.proofs.lemmas.ListLemmas.{find_either, find-none, All-find, tail_of}
 use Rattle.saslprep.specs.Tables.{b_1, c_1_2}
 use Rattle.saslprep.proofs.lemmas.TableLemmas.{spaces_stepped, nothing_stepped, union_stepped, is_prohibited_stepped, is_right_to_left_stepped, is_unassigned_stepped}
@@ -114,14 +114,14 @@ in_print c h = grind (arith, nat_tests)
 not_control : (c : ℕ) → (0x20 ≤ c) × (c ≤ 0x7E) → is_control c ≡ false
 not_control c h = grind (arith, nat_tests)
 
-pub printable-of_ascii : (bs : List ℕ) → IsAscii bs → find is_prohibited (chars bs) ≡ None → IsPrintable bs
+pub printable-of_ascii : (bs : List ℕ) → IsAscii bs → find is_prohibited (chars bs) ≡ None → IsPrintableText bs
 printable-of_ascii bs ascii none k d lt =
     let all = All-from_ascii bs ascii in
     let clean = All-find is_prohibited bs (sym (ap (find is_prohibited) (chars-IsAscii bs ascii)) ∙ none) k d lt in
     in_print _ (sym (prohibited-ascii _ (all k d lt)) ∙ clean)
 
 pub not_printable-of_ascii : (bs : List ℕ) (c : ℕ) → IsAscii bs → find is_prohibited (chars bs) ≡ Some c →
-    ¬ (IsPrintable bs)
+    ¬ (IsPrintableText bs)
 not_printable-of_ascii bs c ascii some printable =
     let all = All-from_ascii bs ascii in
     let none = find-none is_prohibited bs (λ k d lt. prohibited-ascii _ (all k d lt)

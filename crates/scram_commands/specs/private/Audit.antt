@@ -14,13 +14,13 @@ use Rattle.scram_commands.specs.declared.audit.Login.{Login}
 use Rattle.scram_commands.specs.declared.audit.Sides.{Sides}
 
 -- both sides mean one login
-abbrev pub agreed : Verdict → Bool
-agreed (verdicts.Agreed user nonce parameters) = true
-agreed verdict = false
+abbrev pub has_agreed : Verdict → Bool
+has_agreed (verdicts.Agreed user nonce parameters) = true
+has_agreed verdict = false
 
 -- of this finding
 abbrev pub means_one : Finding → Bool
-means_one finding = agreed finding.verdict
+means_one finding = has_agreed finding.verdict
 
 -- the finding is of a verifier that the client took, by which it believes the server
 abbrev pub verifying : FindingKind → Bool
@@ -36,12 +36,12 @@ abbrev pub is_whole : List Finding → Bool
 is_whole findings = list_all means_one findings && list_any believes findings
 
 -- what is found of the bodies that both sides were given
-abbrev pub Finds : Sides → Login → List Finding → Type 0
-Finds sides login findings =
+abbrev pub FindsAll : Sides → Login → List Finding → Type 0
+FindsAll sides login findings =
     AuditsEvents (login_of login.version login.user.now login.password.now login.limit)
     (map given sides.client.events.items) (serving false login.credentials.now) (map given sides.server.events.items)
     (map finding_of findings)
 
 -- what is found is whole
 abbrev pub FindsWhole : Sides → Login → Type 0
-FindsWhole sides login = (findings : List Finding) × Finds sides login findings × (is_whole findings ≡ true)
+FindsWhole sides login = (findings : List Finding) × FindsAll sides login findings × (is_whole findings ≡ true)

@@ -9,7 +9,7 @@ use Rattle.fe2o3_scram.specs.ClientFinal.{ClientFinal, HasProof, ReadsFinalText}
 use Rattle.fe2o3_scram.specs.declared.scram_messages.gs2_header.Gs2Header.{Gs2Header}
 use Rattle.fe2o3_scram.specs.ClientFirst.{ClientFirst, ReadsClientFirst}
 use Rattle.fe2o3_scram.specs.Credentials.{Provider, Record, Store, record_at, serving}
-use Rattle.fe2o3_scram.specs.ServerFirst.{Challenge, challenge_of, AnswersClientFirst}
+use Rattle.fe2o3_scram.specs.ServerFirst.{ServerChallenge, challenge_of, AnswersClientFirst}
 use Rattle.fe2o3_scram.proofs.lemmas.messages.ClientFinalLemmas.{names_final_text, one_proof}
 use Rattle.fe2o3_scram.proofs.lemmas.messages.OneValueLemmas.{one_client_first_value}
 use Rattle.fe2o3_scram.proofs.lemmas.texts.PartsLemmas.{pieces, Parts-pieces, one_list_of_parts}
@@ -38,7 +38,7 @@ HasParts-length text n has =
 -- ---- the challenge and the response again
 
 -- what is answered to a message that was read, where this is the record of its user
-pub challenge_again : (provider : Provider) (nonce text : List ℕ) (challenge : Challenge) (client : ClientFirst)
+pub challenge_again : (provider : Provider) (nonce text : List ℕ) (challenge : ServerChallenge) (client : ClientFirst)
     (stored : Record) → AnswersClientFirst provider nonce text (Ok (Some challenge))
     → ReadsClientFirst provider.unbound text (Ok client) → Some stored ≡ record_at provider.records client.user
     → challenge ≡ challenge_of client nonce stored

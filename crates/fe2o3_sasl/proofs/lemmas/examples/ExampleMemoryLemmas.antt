@@ -23,13 +23,13 @@ no_text : ¬ IsUtf8 (0xff ∷ [])
 unfolding is_utf8 chars
 no_text is = absurd (true≢false (sym (is_utf8-from_IsUtf8 (0xff ∷ []) is)))
 
-not_due : (state : ClientState) (text : List ℕ) → state ≡ client_states.Initial → ¬ ReachesSaltIn state text
+not_due : (state : ClientState) (text : List ℕ) → state ≡ client_states.ClientInitial → ¬ ReachesSaltIn state text
 not_due state text is reaches = subst (λ (s : ClientState). ReachesSaltIn s text) is reaches
 
-not_started : (state : ClientState) → state ≡ client_states.Initial → ¬ IsStarted state
+not_started : (state : ClientState) → state ≡ client_states.ClientInitial → ¬ IsStarted state
 not_started state is started = let same = sym is ∙ started.2 in absurd (cc)
 
-not_answered : (state : ClientState) → state ≡ client_states.Initial → ¬ IsAnswered state
+not_answered : (state : ClientState) → state ≡ client_states.ClientInitial → ¬ IsAnswered state
 not_answered state is answered = let same = sym is ∙ answered.2 in absurd (cc)
 
 no_signature : (state : ClientState) → ¬ ReachesVerifierIn state (0xff ∷ [])

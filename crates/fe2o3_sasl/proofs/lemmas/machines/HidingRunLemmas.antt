@@ -18,13 +18,13 @@ use Rattle.fe2o3_scram.specs.HidingServer.{HidingServer, NamedBy, NamedIn}
 use Rattle.fe2o3_scram.specs.Hmac.{digest}
 use Rattle.fe2o3_scram.specs.Nobody.{Nobody, nobody_record, with_nobody}
 use Rattle.fe2o3_scram.specs.ScramServer.{ServerState, Initial, ServerFirstSent, ServerFinalSent, ChallengesFrom, ConcludesFrom}
-use Rattle.fe2o3_scram.specs.ServerFirst.{Challenge}
+use Rattle.fe2o3_scram.specs.ServerFirst.{ServerChallenge}
 use Rattle.fe2o3_scram.proofs.lemmas.providers.HidingLemmas.{record_at-behind}
 use Rattle.fe2o3_sasl_runs.specs.Bodies.{SpellsBody}
 use Rattle.fe2o3_sasl_runs.specs.Events.{Given, ServerSays, Failed}
 use Rattle.fe2o3_sasl_runs.specs.HidingAcceptor.{NamedAt, hiding_machine}
 use Rattle.fe2o3_sasl_runs.specs.HidingLaws.{HoldsName, HiddenRunsAreRuns, HiddenRunsAreHistories, NobodyIsMet, hiding}
-use Rattle.fe2o3_sasl_runs.specs.Runs.{Runs, AcceptorAnswers, AcceptorGives, AcceptorSteps, Sends, server_says}
+use Rattle.fe2o3_sasl_runs.specs.Runs.{Runs, AcceptorAnswers, AcceptorGives, AcceptorSteps, SendsCanonical, server_says}
 use Rattle.fe2o3_sasl_runs.specs.SaslAcceptor.{Acceptor, ScramAcceptor, acceptor_machine}
 use Rattle.fe2o3_sasl_runs.specs.ServerHistory.{Accepted, Challenging, FitsAsInit, FitsAsResponse, server_at}
 use Rattle.fe2o3_sasl_runs.proofs.lemmas.machines.ServerMachineLemmas.{acceptor_runs_are_histories}
@@ -129,7 +129,7 @@ module _ (provider : Provider) (nobody : Nobody) (names : List (List ℕ)) where
   first_holds state next nonce text (Ok (Some message)) holds opened
       (challenge, (client, stored, reads, known, is), said, same) =
       subst HoldsOpen (sym same)
-      (subst (λ (user : List ℕ). Contains names user) (sym (ap (λ (c : Challenge). c.user) is)) (holds client reads))
+      (subst (λ (user : List ℕ). Contains names user) (sym (ap (λ (c : ServerChallenge). c.user) is)) (holds client reads))
   first_holds state next nonce text (Ok None) holds opened (reads, same) = subst HoldsOpen (sym same) opened
   first_holds state next nonce text (Err fault) holds opened (reads, same) = subst HoldsOpen (sym same) opened
 
@@ -198,9 +198,9 @@ module _ (provider : Provider) (nobody : Nobody) (names : List (List ℕ)) where
 
   sent_alike : (state moved : ServerState) (next : HidingServer) (reply : SaslFrame) (says : ServerSays)
       (sent : Option (List ℕ)) → HoldsOpen state → HoldsOpen moved
-      → Sends (Failed faults.TooLarge) (server_says reply) sent (hiding provider nobody state)
+      → SendsCanonical (Failed faults.TooLarge) (server_says reply) sent (hiding provider nobody state)
       (hiding provider nobody moved) says next
-      → EndsIn next (λ after. Sends (Failed faults.TooLarge) (server_says reply) sent (ScramAcceptor all state)
+      → EndsIn next (λ after. SendsCanonical (Failed faults.TooLarge) (server_says reply) sent (ScramAcceptor all state)
       (ScramAcceptor all moved) says (ScramAcceptor all after))
   sent_alike state moved next reply says None opened too is = (state, is.1, (is.0, refl), opened)
   sent_alike state moved next reply says (Some body) opened too is = (moved, is.1, (is.0, refl), too)
@@ -214,7 +214,7 @@ module _ (provider : Provider) (nobody : Nobody) (names : List (List ℕ)) where
   answers_alike state next nonce frame says opened holds (inr (reply, moved, (name, to, named, machine, is), said)) =
       let alike = machine_alike state to nonce name frame reply opened holds named machine in
       let sent = sent_alike state to next reply says (canonical reply) opened alike.1
-      (subst (λ (server : HidingServer). Sends (Failed faults.TooLarge) (server_says reply) (canonical reply)
+      (subst (λ (server : HidingServer). SendsCanonical (Failed faults.TooLarge) (server_says reply) (canonical reply)
       (hiding provider nobody state) server says next) is said) in
       (sent.0, sent.1, inr (reply, ScramAcceptor all to, alike.0, sent.2), sent.3)
 

@@ -15,12 +15,12 @@ use Rattle.fe2o3_scram.specs.ClientKeys.{ClientKeys}
 use Rattle.fe2o3_scram.specs.ClientSecret.{Secret, Password, Keys}
 use Rattle.fe2o3_scram.specs.Laws.{AreKeysOf}
 use Rattle.fe2o3_scram.specs.Passwords.{PasswordText, IsNormal, password_bytes}
-use Rattle.fe2o3_scram.specs.ScramClient.{ClientSide, ClientState, Initial, ClientFirstSent, ClientFinalSent, Complete, AnswersIn, BelievesIn, started}
+use Rattle.fe2o3_scram.specs.ScramClient.{ClientSide, ClientState, ClientInitial, ClientFirstSent, ClientFinalSent, Complete, AnswersIn, BelievesIn, started}
 use Rattle.fe2o3_scram.proofs.lemmas.messages.KeptKeyLemmas.{keys_stand}
 use Rattle.fe2o3_sasl_runs.specs.Events.{Given, Login, ClientSays, Refused, ClientFault, OtherKeys}
 use Rattle.fe2o3_sasl_runs.specs.Laws.{KeysFit, KeyedRunsAreRuns, KeyedRunsAreHistories}
 use Rattle.fe2o3_sasl_runs.specs.Profiles.{Profile, ScramProfile, StepAllocates, client_frame, profile_machine}
-use Rattle.fe2o3_sasl_runs.specs.Runs.{ProfileGives, ProfileReplies, ProfileSteps, Replies, Runs, Sends}
+use Rattle.fe2o3_sasl_runs.specs.Runs.{ProfileGives, ProfileReplies, ProfileSteps, Replies, Runs, SendsCanonical}
 use Rattle.fe2o3_sasl_runs.specs.Bodies.{SpellsBody}
 use Rattle.fe2o3_sasl_runs.proofs.lemmas.machines.ClientMachineLemmas.{profile_runs_are_histories}
 
@@ -63,8 +63,8 @@ module _ (user : List ℕ) (limits : IterationLimits) (keys : ClientKeys) (passw
 
       other : ◌≢◌ {A = Result Answer ScramErrorKind} (Err fault) (Err kinds.OtherKeys)
       other e = fit (ap (λ (kind : ScramErrorKind). Err kind) (same_fault e))
-  answer_alike Initial own text (Ok message) next fit none = absurd none
-  answer_alike Initial own text (Err fault) next fit is = (own, is.1, (is.0, refl))
+  answer_alike ClientInitial own text (Ok message) next fit none = absurd none
+  answer_alike ClientInitial own text (Err fault) next fit is = (own, is.1, (is.0, refl))
   answer_alike (ClientFinalSent signature kept) own text (Ok message) next fit none = absurd none
   answer_alike (ClientFinalSent signature kept) own text (Err fault) next fit is = (own, is.1, (is.0, refl))
   answer_alike (Complete kept) own text (Ok message) next fit none = absurd none
@@ -79,8 +79,8 @@ module _ (user : List ℕ) (limits : IterationLimits) (keys : ClientKeys) (passw
       → BelievesAlike state own text answer next
   belief_alike (ClientFinalSent signature kept) own text (Ok believed) next is = (Complete kept, is.1, (is.0, refl))
   belief_alike (ClientFinalSent signature kept) own text (Err fault) next is = (own, is.1, (is.0, refl))
-  belief_alike Initial own text (Ok believed) next none = absurd none
-  belief_alike Initial own text (Err fault) next is = (own, is.1, (is.0, refl))
+  belief_alike ClientInitial own text (Ok believed) next none = absurd none
+  belief_alike ClientInitial own text (Err fault) next is = (own, is.1, (is.0, refl))
   belief_alike (ClientFirstSent nonce bare) own text (Ok believed) next none = absurd none
   belief_alike (ClientFirstSent nonce bare) own text (Err fault) next is = (own, is.1, (is.0, refl))
   belief_alike (Complete kept) own text (Ok believed) next none = absurd none
@@ -130,8 +130,8 @@ module _ (user : List ℕ) (limits : IterationLimits) (keys : ClientKeys) (passw
   -- a frame in its body
   sent_alike : (state after : ClientState) (moved next : Profile) (too_large says : ClientSays)
       (carry : List ℕ → ClientSays) (body : Option (List ℕ)) → moved ≡ keyed after
-      → Sends too_large carry body (keyed state) moved says next
-      → EndsIn next (λ last. Sends too_large carry body (twin state) (twin after) says (twin last))
+      → SendsCanonical too_large carry body (keyed state) moved says next
+      → EndsIn next (λ last. SendsCanonical too_large carry body (twin state) (twin after) says (twin last))
   sent_alike state after moved next too_large says carry None m is = (state, is.1, (is.0, refl))
   sent_alike state after moved next too_large says carry (Some body) m is = (after, is.1 ∙ m, (is.0, refl))
 
@@ -202,7 +202,7 @@ profile_by login version secret = ScramProfile (record {
   secret = secret;
   version = version;
   limits = login.limits;
-  state = Initial;
+  state = ClientInitial;
 })
 
 pub keyed_runs_are_runs : KeyedRunsAreRuns
@@ -211,7 +211,7 @@ keyed_runs_are_runs login keys password events replies last same normal are run 
     replies last → (after : Profile)
     × Runs (ProfileSteps login.hostname) (profile_by login version (Password password)) events replies after)
     same
-    (λ here. runs_alike login.user login.limits keys password normal are Initial login.hostname events replies last
+    (λ here. runs_alike login.user login.limits keys password normal are ClientInitial login.hostname events replies last
     here fit) run
 
 pub keyed_runs_are_histories : KeyedRunsAreHistories

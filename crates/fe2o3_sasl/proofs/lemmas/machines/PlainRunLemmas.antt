@@ -10,7 +10,7 @@ use Rattle.fe2o3_sasl_wire.specs.SaslFrames.{canonical, SaslFrame}
 use Rattle.fe2o3_sasl_wire.specs.SaslFrames as frames
 use Rattle.fe2o3_sasl_runs.specs.Events.{Given, ServerSays, Concluded, Failed}
 use Rattle.fe2o3_sasl_runs.specs.MechanismLaws.{SaysOk, PlainRunsNameUsers}
-use Rattle.fe2o3_sasl_runs.specs.Runs.{Runs, AcceptorGives, AcceptorSteps, Sends, server_says}
+use Rattle.fe2o3_sasl_runs.specs.Runs.{Runs, AcceptorGives, AcceptorSteps, SendsCanonical, server_says}
 use Rattle.fe2o3_sasl_runs.specs.SaslAcceptor.{Acceptor, PlainAcceptor, acceptor_machine, acceptor_user, ends_with}
 
 -- ---- one step
@@ -30,17 +30,17 @@ Ends code state moved says next = ((says ≡ Failed faults.TooLarge) × (next �
     ⊎ ((body : List ℕ) × (says ≡ Concluded code body) × (next ≡ moved))
 
 ends : (sent : Option (List ℕ)) (code : SaslCode) (state moved next : Acceptor) (says : ServerSays)
-    → Sends (Failed faults.TooLarge) (λ body. Concluded code body) sent state moved says next
+    → SendsCanonical (Failed faults.TooLarge) (λ body. Concluded code body) sent state moved says next
     → Ends code state moved says next
 ends None code state moved next says said = inl said
 ends (Some body) code state moved next says said = inr (body, said.0, said.1)
 
 sends : (code : SaslCode) (reply : SaslFrame) (state moved next : Acceptor) (says : ServerSays)
     → reply ≡ ends_with code
-    → Sends (Failed faults.TooLarge) (server_says reply) (canonical reply) state moved says next
+    → SendsCanonical (Failed faults.TooLarge) (server_says reply) (canonical reply) state moved says next
     → Ends code state moved says next
 sends code reply state moved next says is said = ends (canonical (ends_with code)) code state moved next says (subst
-    (λ (f : SaslFrame). Sends (Failed faults.TooLarge) (server_says f) (canonical f) state moved says next) is said)
+    (λ (f : SaslFrame). SendsCanonical (Failed faults.TooLarge) (server_says f) (canonical f) state moved says next) is said)
 
 failed_is_no_ok : (fault : Error) (says : ServerSays) → says ≡ Failed fault → ¬ IsOk says
 failed_is_no_ok fault says is ok = let same = sym is ∙ ok.1 in absurd (cc)
@@ -78,7 +78,7 @@ init_turns : (user password : List ℕ) (accepted : Bool) (nonce mechanism : Lis
     (reply : SaslFrame) (moved next : Acceptor) (says : ServerSays)
     → acceptor_machine (PlainAcceptor user password accepted) nonce (frames.Init mechanism response hostname) reply
     moved
-    → Sends (Failed faults.TooLarge) (server_says reply) (canonical reply) (PlainAcceptor user password accepted) moved
+    → SendsCanonical (Failed faults.TooLarge) (server_says reply) (canonical reply) (PlainAcceptor user password accepted) moved
     says next → Turns user password accepted says next
 init_turns user password accepted nonce mechanism None hostname reply moved next says m said =
     let state = PlainAcceptor user password accepted in

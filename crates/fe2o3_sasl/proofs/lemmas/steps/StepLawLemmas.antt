@@ -20,7 +20,7 @@ use Rattle.fe2o3_sasl_runs.specs.HidingAcceptor.{with_name}
 use Rattle.fe2o3_sasl_runs.specs.HidingLaws.{HiddenBodyLogsIn, HiddenOksLogIn}
 use Rattle.fe2o3_sasl_runs.specs.PlainAuthenticator.{PlainLogsIn, PlainServer, plain_machine}
 use Rattle.fe2o3_sasl_runs.specs.Profiles.{Profile, ScramProfile, client_frame, profile_machine}
-use Rattle.fe2o3_sasl_runs.specs.Runs.{Replies, Sends, server_says}
+use Rattle.fe2o3_sasl_runs.specs.Runs.{Replies, SendsCanonical, server_says}
 use Rattle.fe2o3_sasl_runs.specs.SaslAcceptor.{Acceptor, AnonymousAcceptor, ScramAcceptor, acceptor_machine, ends_with, server_frame}
 use Rattle.fe2o3_sasl_runs.specs.StepLaws.{BodyLogsIn, OksLogIn, PlainOksLogIn, ReportedOksAreSigned}
 
@@ -29,7 +29,7 @@ use Rattle.fe2o3_sasl_runs.specs.StepLaws.{BodyLogsIn, OksLogIn, PlainOksLogIn, 
 -- a reply is sent with the state behind it
 abbrev SendsOk : SaslFrame → Acceptor → Acceptor → List ℕ → Acceptor → Type 0
 SendsOk reply state moved body next =
-    Sends (Failed faults.TooLarge) (server_says reply) (canonical reply) state moved (Concluded outcomes.Ok body) next
+    SendsCanonical (Failed faults.TooLarge) (server_says reply) (canonical reply) state moved (Concluded outcomes.Ok body) next
 
 -- an outcome of code Auth is no Ok, and neither is a challenge
 auth_is_no_ok : (reply : SaslFrame) (state moved next : Acceptor) (body : List ℕ) → reply ≡ ends_with outcomes.Auth
@@ -55,7 +55,7 @@ challenge_is_no_ok reply text state moved next body is said =
 
 -- what is sent with an Ok leaves the state that it moved to
 sent_moves : {S : Type 0} (sent : Option (List ℕ)) (code : SaslCode) (body : List ℕ) (state moved next : S)
-    → Sends (Failed faults.TooLarge) (λ b. Concluded code b) sent state moved (Concluded outcomes.Ok body) next
+    → SendsCanonical (Failed faults.TooLarge) (λ b. Concluded code b) sent state moved (Concluded outcomes.Ok body) next
     → next ≡ moved
 sent_moves None code body state moved next said = let no = said.0 in absurd (cc)
 sent_moves (Some other) code body state moved next said = said.1
@@ -132,14 +132,14 @@ hidden_response_logs_in : (server next : HidingServer) (to after : ServerState) 
     → SpellsBody event.body (Ok (frames.Response text)) → Concludes server text answer after name
     → reply ≡ server_frame (λ message. frames.Outcome outcomes.Ok (Some message)) answer
     → ScramAcceptor (hiding_name server name) to ≡ ScramAcceptor (hiding_name server name) after
-    → Sends (Failed faults.TooLarge) (server_says reply) (canonical reply) server (record server { state = to })
+    → SendsCanonical (Failed faults.TooLarge) (server_says reply) (canonical reply) server (record server { state = to })
     (Concluded outcomes.Ok body) next
     → (user : List ℕ) × HiddenBodyLogsIn server event.body user
     × (next ≡ record server { state = ServerFinalSent user })
 hidden_response_logs_in server next to after event text name (Ok (Some message)) reply body spells (counts, from) is same
     said =
     let logs = hidden_text_logs_in server after text name (Some message) counts from in
-    let sent = subst (λ (f : SaslFrame). Sends (Failed faults.TooLarge) (server_says f) (canonical f) server
+    let sent = subst (λ (f : SaslFrame). SendsCanonical (Failed faults.TooLarge) (server_says f) (canonical f) server
     (record server { state = to }) (Concluded outcomes.Ok body) next) is said in
     let ends : to ≡ ServerFinalSent logs.0 = cc in (
       logs.0,
@@ -175,18 +175,18 @@ hidden_oks_log_in server next event body (
   inr (reply, moved, (name, to, counts, (answer, after, from, replies, same), is), said),
 ) =
     hidden_response_logs_in server next to after event text name answer reply body spells (counts, from) replies same
-    (subst (λ (end : HidingServer). Sends (Failed faults.TooLarge) (server_says reply) (canonical reply) server end
+    (subst (λ (end : HidingServer). SendsCanonical (Failed faults.TooLarge) (server_says reply) (canonical reply) server end
     (Concluded outcomes.Ok body) next) is said)
 
 -- ---- a server of PLAIN over records
 
 plain_answer_logs_in : (server moved next : PlainServer) (event : Given) (frame reply : SaslFrame) (body : List ℕ)
     → SpellsBody event.body (Ok frame) → plain_machine server event.nonce frame reply moved
-    → Sends (Failed faults.TooLarge) (server_says reply) (canonical reply) server moved (Concluded outcomes.Ok body) next
+    → SendsCanonical (Failed faults.TooLarge) (server_says reply) (canonical reply) server moved (Concluded outcomes.Ok body) next
     → (frame : SaslFrame) × (user : List ℕ) × SpellsBody event.body (Ok frame)
     × PlainLogsIn server.provider frame user × (next ≡ record server { user = Some user })
 plain_answer_logs_in server moved next event frame reply body spells (inl (user, logs, is, to)) said =
-    let sent = subst (λ (f : SaslFrame). Sends (Failed faults.TooLarge) (server_says f) (canonical f) server moved
+    let sent = subst (λ (f : SaslFrame). SendsCanonical (Failed faults.TooLarge) (server_says f) (canonical f) server moved
     (Concluded outcomes.Ok body) next) is said in (
       frame,
       user,

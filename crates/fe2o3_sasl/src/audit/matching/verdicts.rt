@@ -1,7 +1,7 @@
 //! The verdict on two receipts that meet.
 
 ghost use Rattle.std.specs.Prelude.{◌≡◌, IfOk, option_map};
-ghost use Rattle.fe2o3_sasl.specs.Audit.{verdict_of, parameters_of, kind_of};
+ghost use Rattle.fe2o3_sasl.specs.Audit.{verdict_of, parameters_of, finding_kind};
 ghost use Rattle.fe2o3_sasl.specs.private.Findings.{client_receipt, server_receipt, agreed_on, verifier_verdict, proof_verdict, verdict_on};
 
 use crate::OutOfMemory;
@@ -17,7 +17,7 @@ pub(super) fn judge(
     client: &ClientReceipt,
     server: &ServerReceipt,
 ) -> Result<Verdict, OutOfMemory>
-    ensures { IfOk result (λ verdict. verdict_of verdict ≡ verdict_on (kind_of kind) (client_receipt client.now)
+    ensures { IfOk result (λ verdict. verdict_of verdict ≡ verdict_on (finding_kind kind) (client_receipt client.now)
         (server_receipt server.now)) }
 {
     match kind {

@@ -5,7 +5,7 @@ use Rattle.fe2o3_sasl_runs.specs.ProfileFaults.{client_fault}
 use Rattle.fe2o3_sasl_runs.specs.SaslProfile.{profile_of}
 use Rattle.fe2o3_sasl_wire.specs.FrameView.{shown}
 use Rattle.fe2o3_sasl_negotiation.specs.declared.standing.Due.TheVariants.{Frame}
-use Rattle.fe2o3_sasl_negotiation.specs.ClientNegotiation.{Replies}
+use Rattle.fe2o3_sasl_negotiation.specs.ClientNegotiation.{ClientReplies}
 use Rattle.fe2o3_sasl_negotiation.proofs.lemmas.ReceivingLemmas.{closed_appends}
 use Rattle.fe2o3_sasl_negotiation.proofs.lemmas.ClientAnswerLemmas.{screened, asked, asked_in_vain, asked_costs}
 use Rattle.fe2o3_sasl_negotiation.proofs.lemmas.RefusalLemmas.{step_refused}
@@ -16,7 +16,7 @@ returns-in-Some-clause-ok c =
     let hostname = shown c.args.hostname in
     let profile = profile_of c.args.profile.now in
     let event : Given = record { body = c.args.body.now; nonce = c.args.nonce.now } in
-    closed_appends (λ answer. Replies hostname c.args.turn profile event answer profile) c.args.out.now.items
+    closed_appends (λ answer. ClientReplies hostname c.args.turn profile event answer profile) c.args.out.now.items
     c.in-Some.why (Frame c.args.turn) c.closed.result c.closed.ensures
     (screened hostname c.args.turn profile event c.in-Some.why c.in-Some.ensures)
 

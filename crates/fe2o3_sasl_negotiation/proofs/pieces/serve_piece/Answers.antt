@@ -1,7 +1,7 @@
 use Rattle.std.proofs.Common.{ℕ, ◌≤◌, List, [], ◌++◌, length, sym, ap, ◌∙◌, subst, append_assoc, arith}
 use Rattle.std.proofs.lemmas.List.{append-nil, length-drop, take_rest}
 use Rattle.fe2o3_sasl_negotiation.specs.Connections.{ServerConnection}
-use Rattle.fe2o3_sasl_negotiation.specs.ServerNegotiation.{ServerAnswers, ServerReceives}
+use Rattle.fe2o3_sasl_negotiation.specs.ServerNegotiation.{ServerSideAnswers, ServerReceives}
 use Rattle.fe2o3_sasl_negotiation.specs.Sides.{server_side}
 use Rattle.fe2o3_sasl_negotiation.proofs.lemmas.ContinueLemmas.{continues_so_far, continues_further}
 use Rattle.fe2o3_sasl_negotiation.proofs.lemmas.ServerConnectionLemmas.{server_call}
@@ -15,7 +15,7 @@ loop-taken-init g c =
       kept = (
         [],
         sym (append-nil c.args.sent.now.items),
-        λ limit state. continues_so_far (ServerAnswers m.names m.machine)
+        λ limit state. continues_so_far (ServerSideAnswers m.names m.machine)
             (ServerConnection m.names m.machine limit state) (server_call m.names m.machine limit state)
             (server_side m.state c.args.side.now) c.args.piece.now.bytes.now c.args.piece.now.nonce,
       );
@@ -36,7 +36,7 @@ loop-taken-preserved g c =
       kept = (
         more ++ first,
         sent ∙ (ap (λ l. l ++ first) kept ∙ append_assoc c.args.sent.now.items more first),
-        λ limit state. continues_further (ServerAnswers m.names m.machine)
+        λ limit state. continues_further (ServerSideAnswers m.names m.machine)
             (ServerConnection m.names m.machine limit state) (server_call m.names m.machine limit state)
             (server_side m.state c.args.side.now) (server_side m.state c.loop-taken.side)
             (server_side m.state c.receive.new.self) bytes nonce more first c.loop-taken.taken

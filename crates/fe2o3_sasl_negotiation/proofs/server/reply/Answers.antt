@@ -3,7 +3,7 @@ use Rattle.std.proofs.lemmas.List.{take_rest}
 use Rattle.fe2o3_sasl_runs.specs.Events.{Given}
 use Rattle.fe2o3_sasl_runs.specs.Runs.{server_reply}
 use Rattle.fe2o3_sasl_negotiation.specs.declared.standing.Due.TheVariants.{Frame}
-use Rattle.fe2o3_sasl_negotiation.specs.ServerNegotiation.{Replies}
+use Rattle.fe2o3_sasl_negotiation.specs.ServerNegotiation.{ServerReplies}
 use Rattle.fe2o3_sasl_negotiation.proofs.lemmas.ReceivingLemmas.{closed_appends}
 use Rattle.fe2o3_sasl_negotiation.proofs.lemmas.ServerAnswerLemmas.{screened, asked, asked_in_vain}
 use Rattle.fe2o3_sasl_negotiation.proofs.server.reply.Goals as goal
@@ -13,7 +13,7 @@ returns-in-Some-clause-ok g c =
     let m = g.A.SaslAcceptor in
     let state = m.state c.args.acceptor.now in
     let event : Given = record { body = drop 4 c.args.unit.now; nonce = c.args.nonce.now } in
-    closed_appends (λ answer. Replies m.machine c.args.turn state event answer state) c.args.out.now.items
+    closed_appends (λ answer. ServerReplies m.machine c.args.turn state event answer state) c.args.out.now.items
     c.in-Some.why (Frame c.args.turn) c.closed.result c.closed.ensures
     (screened m.machine c.args.turn state event c.in-Some.why (rw take_rest at c.in-Some.ensures))
 

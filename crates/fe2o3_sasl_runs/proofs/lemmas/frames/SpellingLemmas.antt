@@ -13,7 +13,7 @@ use Rattle.fe2o3_sasl_wire.proofs.lemmas.reading.TextLemmas.{IsAscii-from_is_asc
 use Rattle.fe2o3_scram.specs.declared.hmac.ScramVersion.{ScramVersion}
 use Rattle.fe2o3_scram.specs.declared.hmac.ScramVersion.TheVariants.{Sha1, Sha256, Sha512}
 use Rattle.fe2o3_scram.specs.Hmac.{mechanism_name}
-use Rattle.fe2o3_sasl_runs.specs.Runs.{Sends}
+use Rattle.fe2o3_sasl_runs.specs.Runs.{SendsCanonical}
 use Rattle.fe2o3_sasl_runs.specs.Bodies.{SpellsBody, carried}
 
 -- a canonical body spells its frame
@@ -50,7 +50,7 @@ carried_not too_large says (Some body) reply large none is = none body is
 
 -- what was sent: the reply in its body, or the fault that leaves the state
 pub sent : {S A : Type 0} (too_large : A) (says : List ℕ → A) (body : Option (List ℕ)) (state moved : S) (reply : A)
-    (next : S) → Sends too_large says body state moved reply next →
+    (next : S) → SendsCanonical too_large says body state moved reply next →
     (reply ≡ carried too_large says body) × (((reply ≡ too_large) × (next ≡ state))
     ⊎ ((bytes : List ℕ) × (reply ≡ says bytes) × (next ≡ moved)))
 sent too_large says None state moved reply next h = (h.0, inl h)

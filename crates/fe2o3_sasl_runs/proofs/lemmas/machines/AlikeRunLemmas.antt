@@ -5,9 +5,9 @@ use Rattle.fe2o3_sasl_wire.specs.declared.sasl_frames.error.Error.TheVariants as
 use Rattle.fe2o3_sasl_wire.specs.SaslFrames as frames
 use Rattle.fe2o3_sasl_wire.specs.SaslFrames.{SaslFrame, canonical}
 use Rattle.fe2o3_sasl_runs.specs.Events.{Given, ServerSays, Failed}
-use Rattle.fe2o3_sasl_runs.specs.OneOf.{Parts, PartReplies, one_of_machine, part_for, part_with}
+use Rattle.fe2o3_sasl_runs.specs.OneOf.{BothStates, PartReplies, one_of_machine, part_for, part_with}
 use Rattle.fe2o3_sasl_runs.specs.OneOfLaws.{Machine}
-use Rattle.fe2o3_sasl_runs.specs.Runs.{Runs, AcceptorSteps, AcceptorAnswers, AcceptorGives, Sends, server_says}
+use Rattle.fe2o3_sasl_runs.specs.Runs.{Runs, AcceptorSteps, AcceptorAnswers, AcceptorGives, SendsCanonical, server_says}
 use Rattle.fe2o3_sasl_runs.specs.declared.one_of.Part.{Part}
 use Rattle.fe2o3_sasl_runs.specs.declared.one_of.Part.TheVariants.{First, Second}
 
@@ -21,8 +21,8 @@ module _ {I S T : Type 0} (of : I → S) (to : I → T) (machine : Machine S) (o
     (moves : MovesAlike of to machine other) where
   sends_alike : (i j : I) (reply : SaslFrame) (moved next : S) (says : ServerSays) (body : Option (List ℕ))
       → moved ≡ of j
-      → Sends (Failed faults.TooLarge) (server_says reply) body (of i) moved says next
-      → (k : I) × (next ≡ of k) × Sends (Failed faults.TooLarge) (server_says reply) body (to i) (to j) says (to k)
+      → SendsCanonical (Failed faults.TooLarge) (server_says reply) body (of i) moved says next
+      → (k : I) × (next ≡ of k) × SendsCanonical (Failed faults.TooLarge) (server_says reply) body (to i) (to j) says (to k)
   sends_alike i j reply moved next says None is sent = (i, sent.1, (sent.0, refl))
   sends_alike i j reply moved next says (Some body) is sent = (j, sent.1 ∙ is, (sent.0, refl))
 
@@ -60,7 +60,7 @@ module _ {I S T : Type 0} (of : I → S) (to : I → T) (machine : Machine S) (o
 -- ---- one server of two
 
 -- the states of both
-abbrev pub both_of : {I J S T : Type 0} → (I → S) → (J → T) → I × J × Option Part → Parts S T
+abbrev pub both_of : {I J S T : Type 0} → (I → S) → (J → T) → I × J × Option Part → BothStates S T
 both_of of other_of at = record { first = of at.0; second = other_of at.1; asked = at.2 }
 
 module _ {I J S T X Y : Type 0} (of : I → S) (to : I → T) (other_of : J → X) (other_to : J → Y)
@@ -68,7 +68,7 @@ module _ {I J S T X Y : Type 0} (of : I → S) (to : I → T) (other_of : J → 
     (to_others : Y → List (List ℕ)) (machine : Machine S) (to_machine : Machine T) (other : Machine X)
     (to_other : Machine Y) where
   parts_alike : MovesAlike of to machine to_machine → MovesAlike other_of other_to other to_other
-      → (at : I × J × Option Part) (mark : Option Part) (nonce : List ℕ) (frame reply : SaslFrame) (next : Parts S X)
+      → (at : I × J × Option Part) (mark : Option Part) (nonce : List ℕ) (frame reply : SaslFrame) (next : BothStates S X)
       → PartReplies machine other (both_of of other_of at) mark nonce frame reply next
       → (after : I × J × Option Part) × (next ≡ both_of of other_of after)
       × PartReplies to_machine to_other (both_of to other_to at) mark nonce frame reply (both_of to other_to after)

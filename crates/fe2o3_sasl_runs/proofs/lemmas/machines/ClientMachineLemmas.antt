@@ -16,7 +16,7 @@ use Rattle.fe2o3_scram.specs.ClientFinal.{Answer, answer_of}
 use Rattle.fe2o3_scram.specs.ClientFirst.{client_first, client_first_bare}
 use Rattle.fe2o3_scram.specs.ClientKeys.{ClientKeys}
 use Rattle.fe2o3_sasl_runs.specs.ClientHistory.{Answering, answer_at, says_answer, ReadsChallenge, ReadsOutcome, ClientAnswers, ClientAllocates, is_start, is_answer, ends_answer, NonceAt, IsDue, AnswersAt, OpenAnswer, ClientHistory}
-use Rattle.fe2o3_scram.specs.ScramClient.{ClientState, Initial, ClientFirstSent, ClientFinalSent, Complete, ClientSide, AnswersIn, BelievesIn}
+use Rattle.fe2o3_scram.specs.ScramClient.{ClientState, ClientInitial, ClientFirstSent, ClientFinalSent, Complete, ClientSide, AnswersIn, BelievesIn}
 use Rattle.fe2o3_sasl_runs.specs.Events.{Given, Login, ClientSays, Started, Answered, Reported, Refused, ClientFault, NotImplemented, Scram, Frame, OutOfMemory, scram_fault}
 use Rattle.fe2o3_sasl_runs.specs.Laws.{ProfileRunsAreHistories}
 use Rattle.fe2o3_scram.specs.Hmac.{mechanism_name}
@@ -56,7 +56,7 @@ answered_state login answer =
 
 -- in this state this nonce is due and this answer is open
 abbrev pub StandsFor : Login → ClientState → Option (List ℕ) → Option Answering → Type 0
-StandsFor login Initial due waits = (due ≡ None) × (waits ≡ None)
+StandsFor login ClientInitial due waits = (due ≡ None) × (waits ≡ None)
 StandsFor login (ClientFirstSent nonce bare) due waits =
     (due ≡ Some nonce) × (bare ≡ client_first_bare login.user nonce) × (waits ≡ None)
 StandsFor login (ClientFinalSent signature keys) due waits =
@@ -129,7 +129,7 @@ answers_due : (login : Login) (state : ClientState) (due : Option (List ℕ)) (w
     → AnswersIn state (side_in login state) text (Ok message) after →
     (answer : Answering) × ReadsChallenge login (λ nonce. due ≡ Some nonce) text (Ok answer)
     × (message ≡ (answer_at login answer).message) × (after ≡ side_in login (answered_state login answer))
-answers_due login Initial due waits text message after stands utf8 h = absurd h
+answers_due login ClientInitial due waits text message after stands utf8 h = absurd h
 answers_due login (ClientFinalSent signature keys) due waits text message after stands utf8 h = absurd h
 answers_due login (Complete keys) due waits text message after stands utf8 h = absurd h
 answers_due login (ClientFirstSent nonce bare) due waits text message after stands utf8 h =
@@ -148,7 +148,7 @@ refuses_due : (login : Login) (state : ClientState) (due : Option (List ℕ)) (w
     (kind : ScramErrorKind) (after : ClientSide) → StandsFor login state due waits → IsUtf8 text
     → AnswersIn state (side_in login state) text (Err kind) after →
     ReadsChallenge login (λ nonce. due ≡ Some nonce) text (Err kind) × (after ≡ side_in login state)
-refuses_due login Initial due waits text kind after stands utf8 h =
+refuses_due login ClientInitial due waits text kind after stands utf8 h =
     (inr (inl (utf8, (λ nonce e. absurd (none-some nonce (sym stands.0 ∙ e))), h.0)), h.1)
 refuses_due login (ClientFinalSent signature keys) due waits text kind after stands utf8 h =
     (inr (inl (utf8, (λ nonce e. absurd (none-some nonce (sym stands.0 ∙ e))), h.0)), h.1)
@@ -163,7 +163,7 @@ believes_open : (login : Login) (state : ClientState) (due : Option (List ℕ)) 
     → BelievesIn state (side_in login state) text (Ok believed) after →
     (keys : Option ClientKeys) × ReadsOutcome login (λ answer. waits ≡ Some answer) (Some text) (Ok tt)
     × (due ≡ None) × (after ≡ side_in login (Complete keys))
-believes_open login Initial due waits text believed after stands h = absurd h
+believes_open login ClientInitial due waits text believed after stands h = absurd h
 believes_open login (ClientFirstSent nonce bare) due waits text believed after stands h = absurd h
 believes_open login (Complete keys) due waits text believed after stands h = absurd h
 believes_open login (ClientFinalSent signature keys) due waits text believed after stands h = (
@@ -178,7 +178,7 @@ refuses_open : (login : Login) (state : ClientState) (due : Option (List ℕ)) (
     (kind : ScramErrorKind) (after : ClientSide) → StandsFor login state due waits
     → BelievesIn state (side_in login state) text (Err kind) after →
     ReadsOutcome login (λ answer. waits ≡ Some answer) (Some text) (Err kind) × (after ≡ side_in login state)
-refuses_open login Initial due waits text kind after stands h =
+refuses_open login ClientInitial due waits text kind after stands h =
     (inl ((λ answer e. absurd (none-some answer (sym stands.1 ∙ e))), h.0), h.1)
 refuses_open login (ClientFirstSent nonce bare) due waits text kind after stands h =
     (inl ((λ answer e. absurd (none-some answer (sym stands.2 ∙ e))), h.0), h.1)
@@ -461,7 +461,7 @@ runs_on login events (event ∷ more) replies others state last running run =
 -- each run of a SCRAM profile's machine from its first state is a client history
 pub profile_runs_are_histories : ProfileRunsAreHistories
 profile_runs_are_histories login events replies last run =
-    runs_on login [] events [] replies Initial last (record {
+    runs_on login [] events [] replies ClientInitial last (record {
       history = record { count = refl; each = λ k event says at said. absurd (none-some event at) };
       due = None;
       waits = None;

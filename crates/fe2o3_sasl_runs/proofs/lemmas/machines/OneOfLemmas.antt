@@ -8,7 +8,7 @@ use Rattle.fe2o3_sasl_wire.specs.SaslFrames as frames
 use Rattle.fe2o3_sasl_wire.specs.SaslFrames.{SaslFrame, canonical}
 use Rattle.fe2o3_sasl_runs.specs.Bodies.{SpellsBody, carried}
 use Rattle.fe2o3_sasl_runs.specs.Events.{Given, ServerSays, Failed}
-use Rattle.fe2o3_sasl_runs.specs.OneOf.{Parts, PartReplies, part_for, one_of_machine}
+use Rattle.fe2o3_sasl_runs.specs.OneOf.{BothStates, PartReplies, part_for, one_of_machine}
 use Rattle.fe2o3_sasl_runs.specs.OneOfLaws.{Machine, mark_of, MarkedSteps, MarkedRuns, those, to_first, to_second, IsRefusal, Splits, OneOfRunsAreSplit}
 use Rattle.fe2o3_sasl_runs.specs.Runs.{Runs, AcceptorSteps, AcceptorAnswers, AcceptorGives, server_says}
 use Rattle.fe2o3_sasl_runs.specs.SaslAcceptor.{ends_with}
@@ -16,7 +16,7 @@ use Rattle.fe2o3_sasl_runs.specs.declared.one_of.Part.{Part}
 use Rattle.fe2o3_sasl_runs.specs.declared.one_of.Part.TheVariants.{First, Second}
 
 -- what went to a part is a step of it, and the other stays; what went to neither is refused
-abbrev pub Goes : {S T : Type 0} → Machine S → Machine T → Parts S T → Option Part → Given → ServerSays → Parts S T
+abbrev pub Goes : {S T : Type 0} → Machine S → Machine T → BothStates S T → Option Part → Given → ServerSays → BothStates S T
     → Type 0
 Goes machine other parts None event says next = IsRefusal says × (next ≡ parts)
 Goes machine other parts (Some First) event says next =
@@ -25,8 +25,8 @@ Goes machine other parts (Some Second) event says next =
     AcceptorSteps other parts.second event says next.second × (next.first ≡ parts.first)
 
 -- the same of an answer to a frame
-abbrev AnswersAs : {S T : Type 0} → Machine S → Machine T → Parts S T → Option Part → List ℕ → SaslFrame → ServerSays
-    → Parts S T → Type 0
+abbrev AnswersAs : {S T : Type 0} → Machine S → Machine T → BothStates S T → Option Part → List ℕ → SaslFrame → ServerSays
+    → BothStates S T → Type 0
 AnswersAs machine other parts None nonce frame says next = IsRefusal says × (next ≡ parts)
 AnswersAs machine other parts (Some First) nonce frame says next =
     AcceptorAnswers machine parts.first nonce frame says next.first × (next.second ≡ parts.second)
@@ -44,33 +44,33 @@ pub unmoved : {S : Type 0} (state moved next : S) (body : Option (List ℕ)) →
 unmoved state moved next None same is = is
 unmoved state moved next (Some body) same is = is ∙ same
 
-first_moved : {S T : Type 0} (parts moved next : Parts S T) (state : S) (body : Option (List ℕ))
+first_moved : {S T : Type 0} (parts moved next : BothStates S T) (state : S) (body : Option (List ℕ))
     → moved ≡ record { first = state; second = parts.second; asked = Some First }
     → next ≡ carried parts (λ _. moved) body
     → (next.first ≡ carried parts.first (λ _. state) body) × (next.second ≡ parts.second)
 first_moved {S} {T} parts moved next state None same is =
-    (ap (λ (p : Parts S T). p.first) is, ap (λ (p : Parts S T). p.second) is)
+    (ap (λ (p : BothStates S T). p.first) is, ap (λ (p : BothStates S T). p.second) is)
 first_moved {S} {T} parts moved next state (Some body) same is =
-    (ap (λ (p : Parts S T). p.first) (is ∙ same), ap (λ (p : Parts S T). p.second) (is ∙ same))
+    (ap (λ (p : BothStates S T). p.first) (is ∙ same), ap (λ (p : BothStates S T). p.second) (is ∙ same))
 
-second_moved : {S T : Type 0} (parts moved next : Parts S T) (state : T) (body : Option (List ℕ))
+second_moved : {S T : Type 0} (parts moved next : BothStates S T) (state : T) (body : Option (List ℕ))
     → moved ≡ record { first = parts.first; second = state; asked = Some Second }
     → next ≡ carried parts (λ _. moved) body
     → (next.second ≡ carried parts.second (λ _. state) body) × (next.first ≡ parts.first)
 second_moved {S} {T} parts moved next state None same is =
-    (ap (λ (p : Parts S T). p.second) is, ap (λ (p : Parts S T). p.first) is)
+    (ap (λ (p : BothStates S T). p.second) is, ap (λ (p : BothStates S T). p.first) is)
 second_moved {S} {T} parts moved next state (Some body) same is =
-    (ap (λ (p : Parts S T). p.second) (is ∙ same), ap (λ (p : Parts S T). p.first) (is ∙ same))
+    (ap (λ (p : BothStates S T). p.second) (is ∙ same), ap (λ (p : BothStates S T). p.first) (is ∙ same))
 
-answered : {S T : Type 0} (machine : Machine S) (other : Machine T) (parts : Parts S T) (mark : Option Part)
-    (nonce : List ℕ) (frame : SaslFrame) (says : ServerSays) (next : Parts S T)
-    → AcceptorAnswers (λ (at : Parts S T). PartReplies machine other at mark) parts nonce frame says next
+answered : {S T : Type 0} (machine : Machine S) (other : Machine T) (parts : BothStates S T) (mark : Option Part)
+    (nonce : List ℕ) (frame : SaslFrame) (says : ServerSays) (next : BothStates S T)
+    → AcceptorAnswers (λ (at : BothStates S T). PartReplies machine other at mark) parts nonce frame says next
     → AnswersAs machine other parts mark nonce frame says next
 answered machine other parts None nonce frame says next (inl want) = (subst IsRefusal (sym want.0) tt, want.1)
 answered {S} {T} machine other parts (Some First) nonce frame says next (inl want) =
-    (inl (want.0, ap (λ (p : Parts S T). p.first) want.1), ap (λ (p : Parts S T). p.second) want.1)
+    (inl (want.0, ap (λ (p : BothStates S T). p.first) want.1), ap (λ (p : BothStates S T). p.second) want.1)
 answered {S} {T} machine other parts (Some Second) nonce frame says next (inl want) =
-    (inl (want.0, ap (λ (p : Parts S T). p.second) want.1), ap (λ (p : Parts S T). p.first) want.1)
+    (inl (want.0, ap (λ (p : BothStates S T). p.second) want.1), ap (λ (p : BothStates S T). p.first) want.1)
 answered machine other parts None nonce frame says next (inr (reply, moved, is, sent)) = (
   subst IsRefusal (sym (sent.0 ∙ ap (λ (reply : SaslFrame). carried (Failed faults.TooLarge) (server_says reply)
       (canonical reply)) is.0)) (auth_is_refusal (canonical (ends_with outcomes.Auth))),
@@ -84,8 +84,8 @@ answered machine other parts (Some Second) nonce frame says next (inr (reply, mo
     (inr (reply, state, replies, (sent.0, both.0)), both.1)
 
 -- an answer to a frame that acceptors take is a step
-as_step : {S T : Type 0} (machine : Machine S) (other : Machine T) (parts : Parts S T) (mark : Option Part)
-    (event : Given) (frame : SaslFrame) (says : ServerSays) (next : Parts S T)
+as_step : {S T : Type 0} (machine : Machine S) (other : Machine T) (parts : BothStates S T) (mark : Option Part)
+    (event : Given) (frame : SaslFrame) (says : ServerSays) (next : BothStates S T)
     → ((R : Type 0) (any : Machine R) (state after : R) → AcceptorAnswers any state event.nonce frame says after
     → AcceptorSteps any state event says after)
     → AnswersAs machine other parts mark event.nonce frame says next → Goes machine other parts mark event says next
@@ -97,8 +97,8 @@ as_step {S} {T} machine other parts (Some Second) event frame says next steps is
 
 -- each step goes to a part or to neither, as the state before it says
 pub one_goes : {S T : Type 0} (names : S → List (List ℕ)) (others : T → List (List ℕ)) (machine : Machine S)
-    (other : Machine T) (parts : Parts S T) (event : Given) (spelled : Result SaslFrame Error) (says : ServerSays)
-    (next : Parts S T) → SpellsBody event.body spelled
+    (other : Machine T) (parts : BothStates S T) (event : Given) (spelled : Result SaslFrame Error) (says : ServerSays)
+    (next : BothStates S T) → SpellsBody event.body spelled
     → AcceptorGives (one_of_machine names others machine other) parts event spelled says next
     → Goes machine other parts (mark_of None (part_for names others) parts spelled) event says next
 one_goes names others machine other parts event (Err fault) says next spells is = (subst IsRefusal (sym is.0) tt, is.1)
@@ -131,7 +131,7 @@ marked_more machine none mark state next last it event events says replies marks
 }
 
 split_more : {S T : Type 0} (names : S → List (List ℕ)) (others : T → List (List ℕ)) (machine : Machine S)
-    (other : Machine T) (parts next last : Parts S T) (mark : Option Part) (event : Given) (events : List Given)
+    (other : Machine T) (parts next last : BothStates S T) (mark : Option Part) (event : Given) (events : List Given)
     (says : ServerSays) (replies : List ServerSays) (marks : List (Option Part))
     → MarkedSteps (one_of_machine names others machine other) None (part_for names others) parts event (mark, says) next
     → Goes machine other parts mark event says next
@@ -142,10 +142,10 @@ split_more {S} {T} names others machine other parts next last None event events 
       marked = marked_more (one_of_machine names others machine other) None (part_for names others) parts next last
           None event events says replies marks step split.marked;
       first =
-          subst (λ (at : Parts S T). Runs (AcceptorSteps machine) at.first (those to_first marks events)
+          subst (λ (at : BothStates S T). Runs (AcceptorSteps machine) at.first (those to_first marks events)
           (those to_first marks replies) last.first) goes.1 split.first;
       second =
-          subst (λ (at : Parts S T). Runs (AcceptorSteps other) at.second (those to_second marks events)
+          subst (λ (at : BothStates S T). Runs (AcceptorSteps other) at.second (those to_second marks events)
           (those to_second marks replies) last.second) goes.1 split.second;
       neither = (goes.0, split.neither);
     }
@@ -176,8 +176,8 @@ one_of_runs {S} {T} names others machine other parts last [] replies runs = (
   [],
   record {
     marked = record { count = refl; steps = (refl, runs.1) };
-    first = (refl, ap (λ (p : Parts S T). p.first) runs.1);
-    second = (refl, ap (λ (p : Parts S T). p.second) runs.1);
+    first = (refl, ap (λ (p : BothStates S T). p.first) runs.1);
+    second = (refl, ap (λ (p : BothStates S T). p.second) runs.1);
     neither = tt;
   },
 )

@@ -7,7 +7,7 @@ use Rattle.fe2o3_sasl_wire.specs.SaslFrames.{SaslFrame, canonical}
 use Rattle.fe2o3_sasl_runs.specs.Bodies.{SpellsBody, carried}
 use Rattle.fe2o3_sasl_runs.specs.Events.{Given, ServerSays}
 use Rattle.fe2o3_sasl_runs.specs.OffersOnly.{Offering, OfferingReplies, is_passed_on, offering_machine}
-use Rattle.fe2o3_sasl_runs.specs.OneOf.{Parts, PartReplies, both_names, part_for, part_names, one_of_machine}
+use Rattle.fe2o3_sasl_runs.specs.OneOf.{BothStates, PartReplies, both_names, part_for, part_names, one_of_machine}
 use Rattle.fe2o3_sasl_runs.specs.OneOfLaws.{Machine}
 use Rattle.fe2o3_sasl_runs.specs.OneOfUsers.{OneOfNamesUsers, OfferedNamesUsers, SomeEvent}
 use Rattle.fe2o3_sasl_runs.specs.Runs.{Runs, AcceptorSteps, AcceptorGives}
@@ -87,63 +87,63 @@ moved_or_stays value state moved next None is = inl (ap value is)
 moved_or_stays value state moved next (Some body) is = inr is
 
 -- what an answer of both does with the part that was asked
-asked_after : {S T : Type 0} (machine : Machine S) (other : Machine T) (parts moved : Parts S T) (mark : Option Part)
+asked_after : {S T : Type 0} (machine : Machine S) (other : Machine T) (parts moved : BothStates S T) (mark : Option Part)
     (nonce : List ℕ) (frame reply : SaslFrame) → PartReplies machine other parts mark nonce frame reply moved
     → (moved.asked ≡ parts.asked) ⊎ (moved.asked ≡ mark)
-asked_after {S} {T} machine other parts moved None nonce frame reply is = inl (ap (λ (p : Parts S T). p.asked) is.1)
+asked_after {S} {T} machine other parts moved None nonce frame reply is = inl (ap (λ (p : BothStates S T). p.asked) is.1)
 asked_after {S} {T} machine other parts moved (Some First) nonce frame reply is =
-    inr (ap (λ (p : Parts S T). p.asked) is.2)
+    inr (ap (λ (p : BothStates S T). p.asked) is.2)
 asked_after {S} {T} machine other parts moved (Some Second) nonce frame reply is =
-    inr (ap (λ (p : Parts S T). p.asked) is.2)
+    inr (ap (λ (p : BothStates S T). p.asked) is.2)
 
 -- the part that is asked, and an init that asks it; neither is asked by none
-abbrev SetsAsked : {S T : Type 0} → (S → List (List ℕ)) → (T → List (List ℕ)) → Option Part → Parts S T → Given → Type 0
+abbrev SetsAsked : {S T : Type 0} → (S → List (List ℕ)) → (T → List (List ℕ)) → Option Part → BothStates S T → Given → Type 0
 SetsAsked names others asked parts event = (mechanism : List ℕ) × (response hostname : Option (List ℕ))
     × SpellsBody event.body (Ok (frames.Init mechanism response hostname))
     × (part_for names others parts (frames.Init mechanism response hostname) ≡ asked)
 
 -- an answer of both, by what the frame is
 one_asked : {S T : Type 0} (names : S → List (List ℕ)) (others : T → List (List ℕ)) (machine : Machine S)
-    (other : Machine T) (parts next : Parts S T) (event : Given) (spelled : Result SaslFrame Error) (says : ServerSays)
+    (other : Machine T) (parts next : BothStates S T) (event : Given) (spelled : Result SaslFrame Error) (says : ServerSays)
     → SpellsBody event.body spelled
     → AcceptorGives (one_of_machine names others machine other) parts event spelled says next
-    → Changes (λ (p : Parts S T). p.asked) (SetsAsked names others) parts event next
+    → Changes (λ (p : BothStates S T). p.asked) (SetsAsked names others) parts event next
 one_asked {S} {T} names others machine other parts next event (Err fault) says spells is =
-    inl (ap (λ (p : Parts S T). p.asked) is.1)
+    inl (ap (λ (p : BothStates S T). p.asked) is.1)
 one_asked {S} {T} names others machine other parts next event (Ok (frames.Mechanisms list)) says spells is =
-    inl (ap (λ (p : Parts S T). p.asked) is.1)
+    inl (ap (λ (p : BothStates S T). p.asked) is.1)
 one_asked {S} {T} names others machine other parts next event (Ok (frames.Challenge text)) says spells is =
-    inl (ap (λ (p : Parts S T). p.asked) is.1)
+    inl (ap (λ (p : BothStates S T). p.asked) is.1)
 one_asked {S} {T} names others machine other parts next event (Ok (frames.Outcome code more)) says spells is =
-    inl (ap (λ (p : Parts S T). p.asked) is.1)
+    inl (ap (λ (p : BothStates S T). p.asked) is.1)
 one_asked {S} {T} names others machine other parts next event (Ok (frames.Init mechanism response hostname)) says spells
-    (inl want) = inl (ap (λ (p : Parts S T). p.asked) want.1)
+    (inl want) = inl (ap (λ (p : BothStates S T). p.asked) want.1)
 one_asked {S} {T} names others machine other parts next event (Ok (frames.Init mechanism response hostname)) says spells
     (inr (reply, moved, is, sent)) =
     let frame = frames.Init mechanism response hostname in
-    elim (moved_or_stays (λ (p : Parts S T). p.asked) parts moved next (canonical reply) sent.1) [
+    elim (moved_or_stays (λ (p : BothStates S T). p.asked) parts moved next (canonical reply) sent.1) [
       | inl same ↦ inl same
       | inr there ↦
           elim (asked_after machine other parts moved (part_for names others parts frame) event.nonce frame reply is) [
-            | inl same ↦ inl (ap (λ (p : Parts S T). p.asked) there ∙ same)
+            | inl same ↦ inl (ap (λ (p : BothStates S T). p.asked) there ∙ same)
             | inr to ↦ inr (
               part_for names others parts frame,
-              ap (λ (p : Parts S T). p.asked) there ∙ to,
+              ap (λ (p : BothStates S T). p.asked) there ∙ to,
               (mechanism, response, hostname, spells, refl),
             )
           ]
     ]
 one_asked {S} {T} names others machine other parts next event (Ok (frames.Response text)) says spells (inl want) =
-    inl (ap (λ (p : Parts S T). p.asked) want.1)
+    inl (ap (λ (p : BothStates S T). p.asked) want.1)
 one_asked {S} {T} names others machine other parts next event (Ok (frames.Response text)) says spells
     (inr (reply, moved, is, sent)) =
     let frame = frames.Response text in
-    elim (moved_or_stays (λ (p : Parts S T). p.asked) parts moved next (canonical reply) sent.1) [
+    elim (moved_or_stays (λ (p : BothStates S T). p.asked) parts moved next (canonical reply) sent.1) [
       | inl same ↦ inl same
       | inr there ↦
           elim (asked_after machine other parts moved parts.asked event.nonce frame reply is) [
-            | inl same ↦ inl (ap (λ (p : Parts S T). p.asked) there ∙ same)
-            | inr to ↦ inl (ap (λ (p : Parts S T). p.asked) there ∙ to)
+            | inl same ↦ inl (ap (λ (p : BothStates S T). p.asked) there ∙ same)
+            | inr to ↦ inl (ap (λ (p : BothStates S T). p.asked) there ∙ to)
           ]
     ]
 
@@ -174,22 +174,22 @@ none_names user other = refl
 pub one_of_names_users : {S T : Type 0} (names : S → List (List ℕ)) (others : T → List (List ℕ)) (machine : Machine S)
     (other : Machine T) → OneOfNamesUsers names others machine other
 one_of_names_users {S} {T} names others machine other user other_user parts last events replies name runs fresh is =
-    let Step : Parts S T → Given → ServerSays → Parts S T → Type 0 =
+    let Step : BothStates S T → Given → ServerSays → BothStates S T → Type 0 =
     AcceptorSteps (one_of_machine names others machine other) in
-    named_part Step (λ (p : Parts S T). p.asked) (SetsAsked names others) parts last events replies (user last.first)
+    named_part Step (λ (p : BothStates S T). p.asked) (SetsAsked names others) parts last events replies (user last.first)
     (other_user last.second) name part_names none_names
-    (changes_over Step (λ (p : Parts S T). p.asked) (SetsAsked names others)
+    (changes_over Step (λ (p : BothStates S T). p.asked) (SetsAsked names others)
     (λ state next event says step. one_asked names others machine other state next event step.0 says step.1 step.2)
     parts last events replies runs) fresh is
 
 -- ---- one that offers only some of its names
 
 -- the names of both
-abbrev names_of : {S T : Type 0} → (S → List (List ℕ)) → (T → List (List ℕ)) → Parts S T → List (List ℕ)
+abbrev names_of : {S T : Type 0} → (S → List (List ℕ)) → (T → List (List ℕ)) → BothStates S T → List (List ℕ)
 names_of names others parts = both_names (names parts.first) (others parts.second)
 
 -- an init that asks a part is passed on
-abbrev SetsOffered : {S T : Type 0} → (S → List (List ℕ)) → (T → List (List ℕ)) → Option Part → Offering (Parts S T)
+abbrev SetsOffered : {S T : Type 0} → (S → List (List ℕ)) → (T → List (List ℕ)) → Option Part → Offering (BothStates S T)
     → Given → Type 0
 SetsOffered names others asked offering event = (mechanism : List ℕ) × (response hostname : Option (List ℕ))
     × SpellsBody event.body (Ok (frames.Init mechanism response hostname))
@@ -198,72 +198,72 @@ SetsOffered names others asked offering event = (mechanism : List ℕ) × (respo
 
 -- what an answer does with the part that was asked: it stays, or the frame was passed on
 offered_after : {S T : Type 0} (names : S → List (List ℕ)) (others : T → List (List ℕ)) (machine : Machine S)
-    (other : Machine T) (offering moved : Offering (Parts S T)) (mark : Bool) (nonce : List ℕ) (frame reply : SaslFrame)
+    (other : Machine T) (offering moved : Offering (BothStates S T)) (mark : Bool) (nonce : List ℕ) (frame reply : SaslFrame)
     → OfferingReplies (one_of_machine names others machine other) offering mark nonce frame reply moved
     → (moved.inner.asked ≡ offering.inner.asked)
     ⊎ ((moved.inner.asked ≡ part_for names others offering.inner frame) × (mark ≡ true))
 offered_after {S} {T} names others machine other offering moved false nonce frame reply is =
-    inl (ap (λ (o : Offering (Parts S T)). o.inner.asked) is.1)
+    inl (ap (λ (o : Offering (BothStates S T)). o.inner.asked) is.1)
 offered_after {S} {T} names others machine other offering moved true nonce frame reply (inner, is, to) =
     elim (asked_after machine other offering.inner inner (part_for names others offering.inner frame) nonce frame reply
     is) [
-      | inl same ↦ inl (ap (λ (o : Offering (Parts S T)). o.inner.asked) to ∙ same)
-      | inr part ↦ inr (ap (λ (o : Offering (Parts S T)). o.inner.asked) to ∙ part, refl)
+      | inl same ↦ inl (ap (λ (o : Offering (BothStates S T)). o.inner.asked) to ∙ same)
+      | inr part ↦ inr (ap (λ (o : Offering (BothStates S T)). o.inner.asked) to ∙ part, refl)
     ]
 
 one_offered : {S T : Type 0} (names : S → List (List ℕ)) (others : T → List (List ℕ)) (machine : Machine S)
-    (other : Machine T) (offering next : Offering (Parts S T)) (event : Given) (spelled : Result SaslFrame Error)
+    (other : Machine T) (offering next : Offering (BothStates S T)) (event : Given) (spelled : Result SaslFrame Error)
     (says : ServerSays) → SpellsBody event.body spelled
     → AcceptorGives (offering_machine (names_of names others) (one_of_machine names others machine other)) offering event
     spelled says next
-    → Changes (λ (o : Offering (Parts S T)). o.inner.asked) (SetsOffered names others) offering event next
+    → Changes (λ (o : Offering (BothStates S T)). o.inner.asked) (SetsOffered names others) offering event next
 one_offered {S} {T} names others machine other offering next event (Err fault) says spells is =
-    inl (ap (λ (o : Offering (Parts S T)). o.inner.asked) is.1)
+    inl (ap (λ (o : Offering (BothStates S T)). o.inner.asked) is.1)
 one_offered {S} {T} names others machine other offering next event (Ok (frames.Mechanisms list)) says spells is =
-    inl (ap (λ (o : Offering (Parts S T)). o.inner.asked) is.1)
+    inl (ap (λ (o : Offering (BothStates S T)). o.inner.asked) is.1)
 one_offered {S} {T} names others machine other offering next event (Ok (frames.Challenge text)) says spells is =
-    inl (ap (λ (o : Offering (Parts S T)). o.inner.asked) is.1)
+    inl (ap (λ (o : Offering (BothStates S T)). o.inner.asked) is.1)
 one_offered {S} {T} names others machine other offering next event (Ok (frames.Outcome code more)) says spells is =
-    inl (ap (λ (o : Offering (Parts S T)). o.inner.asked) is.1)
+    inl (ap (λ (o : Offering (BothStates S T)). o.inner.asked) is.1)
 one_offered {S} {T} names others machine other offering next event (Ok (frames.Init mechanism response hostname)) says
-    spells (inl want) = inl (ap (λ (o : Offering (Parts S T)). o.inner.asked) want.1)
+    spells (inl want) = inl (ap (λ (o : Offering (BothStates S T)). o.inner.asked) want.1)
 one_offered {S} {T} names others machine other offering next event (Ok (frames.Init mechanism response hostname)) says
     spells (inr (reply, moved, is, sent)) =
     let frame = frames.Init mechanism response hostname in
     let mark = is_passed_on (names_of names others) offering frame in
-    elim (moved_or_stays (λ (o : Offering (Parts S T)). o.inner.asked) offering moved next (canonical reply) sent.1) [
+    elim (moved_or_stays (λ (o : Offering (BothStates S T)). o.inner.asked) offering moved next (canonical reply) sent.1) [
       | inl same ↦ inl same
       | inr there ↦
           elim (offered_after names others machine other offering moved mark event.nonce frame reply is) [
-            | inl same ↦ inl (ap (λ (o : Offering (Parts S T)). o.inner.asked) there ∙ same)
+            | inl same ↦ inl (ap (λ (o : Offering (BothStates S T)). o.inner.asked) there ∙ same)
             | inr to ↦ inr (
               part_for names others offering.inner frame,
-              ap (λ (o : Offering (Parts S T)). o.inner.asked) there ∙ to.0,
+              ap (λ (o : Offering (BothStates S T)). o.inner.asked) there ∙ to.0,
               (mechanism, response, hostname, spells, refl, to.1),
             )
           ]
     ]
 one_offered {S} {T} names others machine other offering next event (Ok (frames.Response text)) says spells (inl want) =
-    inl (ap (λ (o : Offering (Parts S T)). o.inner.asked) want.1)
+    inl (ap (λ (o : Offering (BothStates S T)). o.inner.asked) want.1)
 one_offered {S} {T} names others machine other offering next event (Ok (frames.Response text)) says spells
     (inr (reply, moved, is, sent)) =
     let frame = frames.Response text in
-    elim (moved_or_stays (λ (o : Offering (Parts S T)). o.inner.asked) offering moved next (canonical reply) sent.1) [
+    elim (moved_or_stays (λ (o : Offering (BothStates S T)). o.inner.asked) offering moved next (canonical reply) sent.1) [
       | inl same ↦ inl same
       | inr there ↦
           elim (offered_after names others machine other offering moved true event.nonce frame reply is) [
-            | inl same ↦ inl (ap (λ (o : Offering (Parts S T)). o.inner.asked) there ∙ same)
-            | inr to ↦ inl (ap (λ (o : Offering (Parts S T)). o.inner.asked) there ∙ to.0)
+            | inl same ↦ inl (ap (λ (o : Offering (BothStates S T)). o.inner.asked) there ∙ same)
+            | inr to ↦ inl (ap (λ (o : Offering (BothStates S T)). o.inner.asked) there ∙ to.0)
           ]
     ]
 
 pub offered_names_users : {S T : Type 0} (names : S → List (List ℕ)) (others : T → List (List ℕ)) (machine : Machine S)
     (other : Machine T) → OfferedNamesUsers names others machine other
 offered_names_users {S} {T} names others machine other user other_user offering last events replies name runs fresh is =
-    let Step : Offering (Parts S T) → Given → ServerSays → Offering (Parts S T) → Type 0 =
+    let Step : Offering (BothStates S T) → Given → ServerSays → Offering (BothStates S T) → Type 0 =
     AcceptorSteps (offering_machine (names_of names others) (one_of_machine names others machine other)) in
-    named_part Step (λ (o : Offering (Parts S T)). o.inner.asked) (SetsOffered names others) offering last events replies
+    named_part Step (λ (o : Offering (BothStates S T)). o.inner.asked) (SetsOffered names others) offering last events replies
     (user last.inner.first) (other_user last.inner.second) name part_names none_names
-    (changes_over Step (λ (o : Offering (Parts S T)). o.inner.asked) (SetsOffered names others)
+    (changes_over Step (λ (o : Offering (BothStates S T)). o.inner.asked) (SetsOffered names others)
     (λ state next event says step. one_offered names others machine other state next event step.0 says step.1 step.2)
     offering last events replies runs) fresh is

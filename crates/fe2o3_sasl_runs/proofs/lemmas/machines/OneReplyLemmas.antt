@@ -15,7 +15,7 @@ use Rattle.fe2o3_scram.specs.ScramClient.{ClientState, ClientSide, AnswersIn, Be
 use Rattle.fe2o3_scram.specs.ScramServer as server_states
 use Rattle.fe2o3_scram.specs.ScramServer.{ServerState, ChallengesFrom, ConcludesFrom, server_against}
 use Rattle.fe2o3_scram.specs.ServerFinal.{ReadsServerFinal, server_final_of}
-use Rattle.fe2o3_scram.specs.ServerFirst.{Challenge, ServerFirst, ReadsServerFirst, challenge_of}
+use Rattle.fe2o3_scram.specs.ServerFirst.{ServerChallenge, ServerFirst, ReadsServerFirst, challenge_of}
 use Rattle.fe2o3_scram.specs.Texts.{base64_text}
 use Rattle.fe2o3_scram.proofs.lemmas.messages.ClientFinalLemmas.{one_client_final}
 use Rattle.fe2o3_scram.proofs.lemmas.messages.ClientFirstLemmas.{one_client_first}
@@ -59,8 +59,8 @@ challenge_made : (state : ServerState) (provider : Provider) (nonce text : List 
     → MadeOf (ReadsClientFirst provider.unbound text) (first_turn state provider nonce) (answer, next)
 challenge_made state provider nonce text (Ok (Some message)) next is =
     let made = is.1.4 in
-    let first = is.2 ∙ ap (λ (x : Challenge). x.first) made in
-    let after = is.3 ∙ ap (λ (x : Challenge). server_states.ServerFirstSent x) made in
+    let first = is.2 ∙ ap (λ (x : ServerChallenge). x.first) made in
+    let after = is.3 ∙ ap (λ (x : ServerChallenge). server_states.ServerFirstSent x) made in
     let turn : ◌≡◌ {A = ServerTurn} (Ok (Some message), next) (challenged state is.1.0 nonce (Some is.1.1)) =
     λ i. (Ok (Some (first i)), after i) in
     (Ok is.1.0, is.1.2, turn ∙ ap (challenged state is.1.0 nonce) (sym is.1.3))
@@ -70,20 +70,20 @@ challenge_made state provider nonce text (Ok None) next is =
 challenge_made state provider nonce text (Err fault) next is = (Err fault, is.0, λ i. (Err fault, is.1 i))
 
 -- the turn to a client-final message that was read against this record
-abbrev final_turn : Challenge → Server → Result ClientFinal ServerScramErrorKind → ServerTurn
+abbrev final_turn : ServerChallenge → Server → Result ClientFinal ServerScramErrorKind → ServerTurn
 final_turn challenge server (Ok final) =
     (Ok (Some (server_final_of server final)), server_states.ServerFinalSent challenge.user)
 final_turn challenge server (Err fault) = (Err fault, server_states.ServerFirstSent challenge)
 
 -- the turn to a client-final message where the challenge is open: the record is there, or is not
-abbrev ConcludesWith : Challenge → Provider → List ℕ → Option Record → ServerTurn → Type 0
+abbrev ConcludesWith : ServerChallenge → Provider → List ℕ → Option Record → ServerTurn → Type 0
 ConcludesWith challenge provider text (Some stored) turn =
     let server = server_against provider challenge stored in
     MadeOf (ReadsClientFinal server text) (final_turn challenge server) turn
 ConcludesWith challenge provider text None turn =
     turn ≡ (Err AuthenticationFailed, server_states.ServerFirstSent challenge)
 
-one_concluded : (challenge : Challenge) (provider : Provider) (text : List ℕ) (stored : Option Record)
+one_concluded : (challenge : ServerChallenge) (provider : Provider) (text : List ℕ) (stored : Option Record)
     (turn other : ServerTurn) → ConcludesWith challenge provider text stored turn
     → ConcludesWith challenge provider text stored other → turn ≡ other
 one_concluded challenge provider text (Some stored) turn other is too =
@@ -92,7 +92,7 @@ one_concluded challenge provider text (Some stored) turn other is too =
     is too
 one_concluded challenge provider text None turn other is too = is ∙ sym too
 
-conclusion_made : (challenge : Challenge) (provider : Provider) (text : List ℕ)
+conclusion_made : (challenge : ServerChallenge) (provider : Provider) (text : List ℕ)
     (answer : Result (Option (List ℕ)) ServerScramErrorKind) (next : ServerState)
     → ConcludesFrom (server_states.ServerFirstSent challenge) provider text answer next
     → ConcludesWith challenge provider text (record_at provider.records challenge.user) (answer, next)
@@ -216,9 +216,9 @@ one_answer (client_states.ClientFirstSent nonce bare) side text answer other nex
     one_made (ReadsServerFirst (holding side nonce) text) (answer_turn side bare text) (answer, next) (other, last)
     (one_server_first (holding side nonce) text) (answer_made nonce bare side text answer next is)
     (answer_made nonce bare side text other last too)
-one_answer client_states.Initial side text (Ok message) other next last is too = absurd is
-one_answer client_states.Initial side text (Err fault) (Ok message) next last is too = absurd too
-one_answer client_states.Initial side text (Err fault) (Err kind) next last is too =
+one_answer client_states.ClientInitial side text (Ok message) other next last is too = absurd is
+one_answer client_states.ClientInitial side text (Err fault) (Ok message) next last is too = absurd too
+one_answer client_states.ClientInitial side text (Err fault) (Err kind) next last is too =
     λ i. (Err ((is.0 ∙ sym too.0) i), (is.1 ∙ sym too.1) i)
 one_answer (client_states.ClientFinalSent signature keys) side text (Ok message) other next last is too = absurd is
 one_answer (client_states.ClientFinalSent signature keys) side text (Err fault) (Ok message) next last is too =
@@ -249,9 +249,9 @@ one_belief (client_states.ClientFinalSent signature keys) side text answer other
     one_made (ReadsServerFinal signature text) (belief_turn side keys) (answer, next) (other, last)
     (one_server_final signature text) (belief_made signature keys side text answer next is)
     (belief_made signature keys side text other last too)
-one_belief client_states.Initial side text (Ok believed) other next last is too = absurd is
-one_belief client_states.Initial side text (Err fault) (Ok believed) next last is too = absurd too
-one_belief client_states.Initial side text (Err fault) (Err kind) next last is too =
+one_belief client_states.ClientInitial side text (Ok believed) other next last is too = absurd is
+one_belief client_states.ClientInitial side text (Err fault) (Ok believed) next last is too = absurd too
+one_belief client_states.ClientInitial side text (Err fault) (Err kind) next last is too =
     λ i. (Err ((is.0 ∙ sym too.0) i), (is.1 ∙ sym too.1) i)
 one_belief (client_states.ClientFirstSent nonce bare) side text (Ok believed) other next last is too = absurd is
 one_belief (client_states.ClientFirstSent nonce bare) side text (Err fault) (Ok believed) next last is too = absurd too

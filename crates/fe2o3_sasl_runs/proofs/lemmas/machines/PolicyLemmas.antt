@@ -8,7 +8,7 @@ use Rattle.fe2o3_scram.specs.declared.hmac.ScramVersion.TheVariants.{Sha1, Sha25
 use Rattle.fe2o3_scram.specs.ClientSecret.{Secret}
 use Rattle.fe2o3_scram.specs.declared.client_secret.IterationLimits.{IterationLimits}
 use Rattle.fe2o3_scram.specs.ScramClient.{ClientSide, with_limits}
-use Rattle.fe2o3_sasl_runs.specs.ClientPolicy.{CanTake, IsFirstTaken, fresh_client, keys_for, scram_by}
+use Rattle.fe2o3_sasl_runs.specs.ClientPolicy.{CanTake, IsFirstTaken, fresh_client, keys_for_version, scram_by}
 use Rattle.fe2o3_sasl_runs.specs.Profiles.{ScramProfile}
 use Rattle.fe2o3_sasl_runs.specs.declared.client_policy.ClientPolicy.{ClientPolicy}
 use Rattle.fe2o3_sasl_runs.specs.declared.client_policy.Mechanism.{Mechanism}
@@ -27,7 +27,7 @@ pub ruleset taking = (some_is_not_none, none_is_none)
 
 -- keys of the version serve, and others do not
 pub keys_of_version : (version of : ScramVersion) (same other : Option Secret) → of ≡ version
-    → keys_for version of same other ≡ same
+    → keys_for_version version of same other ≡ same
 keys_of_version Sha1 Sha1 same other is = refl
 keys_of_version Sha256 Sha256 same other is = refl
 keys_of_version Sha512 Sha512 same other is = refl
@@ -39,7 +39,7 @@ keys_of_version Sha512 Sha1 same other is = grind (arith, is)
 keys_of_version Sha512 Sha256 same other is = grind (arith, is)
 
 pub keys_of_another : (version of : ScramVersion) (same other : Option Secret) → of ≢ version
-    → keys_for version of same other ≡ other
+    → keys_for_version version of same other ≡ other
 keys_of_another Sha1 Sha1 same other not = absurd (not refl)
 keys_of_another Sha256 Sha256 same other not = absurd (not refl)
 keys_of_another Sha512 Sha512 same other not = absurd (not refl)

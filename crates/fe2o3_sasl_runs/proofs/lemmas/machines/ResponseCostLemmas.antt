@@ -10,13 +10,13 @@ use Rattle.fe2o3_scram.specs.Readings.{Gives}
 use Rattle.fe2o3_scram.specs.ScramServer as server_states
 use Rattle.fe2o3_scram.specs.ScramServer.{ServerState, ConcludesFrom, FinalCostsFrom, server_against}
 use Rattle.fe2o3_scram.specs.ServerFinal.{FinalCosts}
-use Rattle.fe2o3_scram.specs.ServerFirst.{Challenge}
+use Rattle.fe2o3_scram.specs.ServerFirst.{ServerChallenge}
 use Rattle.fe2o3_sasl_runs.specs.Costs.{acceptor_hmacs, CostsAtMost}
 use Rattle.fe2o3_sasl_runs.specs.SaslAcceptor.{ScramAcceptor}
 use Rattle.fe2o3_sasl_runs.proofs.lemmas.machines.OneReplyLemmas.{ServerTurn, one_conclusion}
 
 -- the server that a challenge makes of this record
-abbrev with_record : Challenge → Provider → Record → Server
+abbrev with_record : ServerChallenge → Provider → Record → Server
 with_record challenge provider stored =
     server_against provider challenge stored
 
@@ -50,7 +50,7 @@ takes_of server text answer other next last n turn takes =
     (sym (ap (λ (t : ServerTurn). t.0) turn)) takes
 
 -- a refusal was read against the record that stands there
-refuses : (challenge : Challenge) (provider : Provider) (text : List ℕ) (stored : Record)
+refuses : (challenge : ServerChallenge) (provider : Provider) (text : List ℕ) (stored : Record)
     (fault : ServerScramErrorKind) (last : ServerState) → record_at provider.records challenge.user ≡ Some stored
     → ConcludesFrom (server_states.ServerFirstSent challenge) provider text (Err fault) last
     → ReadsClientFinal (with_record challenge provider stored) text (Err fault)
@@ -61,7 +61,7 @@ refuses challenge provider text stored fault last is (inr unknown, after) =
     let none = unknown.0 in absurd (cc)
 
 -- no more than an answer against this record takes
-against : {V : Type 0} (Allocates : Type 0) (view : V → Option (List ℕ)) (challenge : Challenge) (provider : Provider)
+against : {V : Type 0} (Allocates : Type 0) (view : V → Option (List ℕ)) (challenge : ServerChallenge) (provider : Provider)
     (text : List ℕ) (stored : Record) (result : Result V ServerScramErrorKind)
     (answer : Result (Option (List ℕ)) ServerScramErrorKind) (next last : ServerState) (before after n : ℕ)
     → record_at provider.records challenge.user ≡ Some stored
@@ -123,7 +123,7 @@ response_costs Allocates view provider (server_states.ServerFinalSent user) next
 -- ---- where memory is not wanting
 
 -- as many as an answer against this record takes
-exactly_against : {V : Type 0} (Allocates : Type 0) (view : V → Option (List ℕ)) (challenge : Challenge)
+exactly_against : {V : Type 0} (Allocates : Type 0) (view : V → Option (List ℕ)) (challenge : ServerChallenge)
     (provider : Provider) (text : List ℕ) (stored : Record) (result : Result V ServerScramErrorKind)
     (answer : Result (Option (List ℕ)) ServerScramErrorKind) (next last : ServerState) (before after n : ℕ)
     → result ≢ Err OutOfMemory

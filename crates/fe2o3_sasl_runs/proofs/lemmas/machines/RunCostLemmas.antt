@@ -104,7 +104,7 @@ pub in_state_costs : {A F : Type 0} (state : ClientState) (client : ClientSide) 
     → (before ≤ after) × (after ≤ before + (client.limits.most + 4))
 in_state_costs (client_states.ClientFirstSent nonce bare) client text result before after costs =
     (costs.never_falls, costs.limited)
-in_state_costs client_states.Initial client text result before after costs =
+in_state_costs client_states.ClientInitial client text result before after costs =
     (omega (arith, costs), omega (arith, costs))
 in_state_costs (client_states.ClientFinalSent signature keys) client text result before after costs =
     (omega (arith, costs), omega (arith, costs))
@@ -139,8 +139,8 @@ answered_keeps (client_states.ClientFirstSent nonce bare) client text (Ok messag
     ap (λ (side : ClientSide). side.limits) is.3
 answered_keeps (client_states.ClientFirstSent nonce bare) client text (Err fault) after is =
     ap (λ (side : ClientSide). side.limits) is.1
-answered_keeps client_states.Initial client text (Ok message) after is = absurd is
-answered_keeps client_states.Initial client text (Err fault) after is = ap (λ (side : ClientSide). side.limits) is.1
+answered_keeps client_states.ClientInitial client text (Ok message) after is = absurd is
+answered_keeps client_states.ClientInitial client text (Err fault) after is = ap (λ (side : ClientSide). side.limits) is.1
 answered_keeps (client_states.ClientFinalSent signature keys) client text (Ok message) after is = absurd is
 answered_keeps (client_states.ClientFinalSent signature keys) client text (Err fault) after is =
     ap (λ (side : ClientSide). side.limits) is.1
@@ -155,8 +155,8 @@ believed_keeps (client_states.ClientFinalSent signature keys) client text (Ok be
     ap (λ (side : ClientSide). side.limits) is.1
 believed_keeps (client_states.ClientFinalSent signature keys) client text (Err fault) after is =
     ap (λ (side : ClientSide). side.limits) is.1
-believed_keeps client_states.Initial client text (Ok believed) after is = absurd is
-believed_keeps client_states.Initial client text (Err fault) after is = ap (λ (side : ClientSide). side.limits) is.1
+believed_keeps client_states.ClientInitial client text (Ok believed) after is = absurd is
+believed_keeps client_states.ClientInitial client text (Err fault) after is = ap (λ (side : ClientSide). side.limits) is.1
 believed_keeps (client_states.ClientFirstSent nonce bare) client text (Ok believed) after is = absurd is
 believed_keeps (client_states.ClientFirstSent nonce bare) client text (Err fault) after is =
     ap (λ (side : ClientSide). side.limits) is.1

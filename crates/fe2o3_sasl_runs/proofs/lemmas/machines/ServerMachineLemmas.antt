@@ -12,13 +12,13 @@ use Rattle.fe2o3_sasl_wire.specs.SaslFrames as frames
 use Rattle.fe2o3_scram.specs.declared.scram_messages.error.ServerScramErrorKind.{ServerScramErrorKind}
 use Rattle.fe2o3_scram.specs.declared.scram_messages.error.ServerScramErrorKind.TheVariants.{AuthenticationFailed}
 use Rattle.fe2o3_scram.specs.Texts.{base64_text}
-use Rattle.fe2o3_scram.specs.ServerFirst.{Challenge, challenge_of}
+use Rattle.fe2o3_scram.specs.ServerFirst.{ServerChallenge, challenge_of}
 use Rattle.fe2o3_scram.specs.ClientFirst.{ClientFirst}
 use Rattle.fe2o3_scram.specs.Credentials.{Record, Provider, record_at}
 use Rattle.fe2o3_sasl_runs.specs.Events.{Given, ServerSays, Challenged, Concluded, Failed}
 use Rattle.fe2o3_sasl_runs.specs.Laws.{AcceptorRunsAreHistories, AcceptorRunsNameUsers}
 use Rattle.fe2o3_scram.specs.Hmac.{mechanism_name}
-use Rattle.fe2o3_sasl_runs.specs.Runs.{AcceptorGives, AcceptorSteps, Sends, server_says, Runs}
+use Rattle.fe2o3_sasl_runs.specs.Runs.{AcceptorGives, AcceptorSteps, SendsCanonical, server_says, Runs}
 use Rattle.fe2o3_sasl_runs.specs.SaslAcceptor.{acceptor_machine, acceptor_user, Acceptor, ScramAcceptor, ends_with, server_frame}
 use Rattle.fe2o3_scram.specs.ClientFinal.{ReadsClientFinal, server_of}
 use Rattle.fe2o3_sasl_runs.specs.Bodies.{SpellsBody, carried}
@@ -38,7 +38,7 @@ use Rattle.fe2o3_sasl_runs.proofs.lemmas.histories.LongerServerHistoryLemmas.{fi
 -- the state has the challenge that is open, or it has none
 abbrev Shown : Option Challenging → ServerState → Type 0
 Shown (Some c) state = state ≡ ServerFirstSent (challenge_of c.client c.nonce c.stored)
-Shown None state = (challenge : Challenge) → state ≢ ServerFirstSent challenge
+Shown None state = (challenge : ServerChallenge) → state ≢ ServerFirstSent challenge
 
 -- the record of an open challenge is the provider's
 abbrev Known : Provider → Option Challenging → Type 0
@@ -78,7 +78,7 @@ idle provider held event spelled says state next c o e shown answers =
 
 -- where the machine leaves the state, what is sent leaves it too
 stays : {S A : Type 0} (too_large : A) (says : List ℕ → A) (body : Option (List ℕ)) (state moved : S) (reply : A)
-    (next : S) → moved ≡ state → Sends too_large says body state moved reply next → next ≡ state
+    (next : S) → moved ≡ state → SendsCanonical too_large says body state moved reply next → next ≡ state
 stays too_large says None state moved reply next e h = h.1
 stays too_large says (Some body) state moved reply next e h = h.1 ∙ e
 
@@ -94,10 +94,10 @@ auth_init : (provider : Provider) (held : Option Challenging) (event : Given) (m
     → Shown held state
     → ((c : Challenging) → ¬ FitsAsInit provider event (frames.Init mechanism response hostname) c)
     → reply ≡ ends_with outcomes.Auth → moved ≡ state
-    → Sends (Failed faults.TooLarge) (server_says reply) (canonical reply) state moved says next
+    → SendsCanonical (Failed faults.TooLarge) (server_says reply) (canonical reply) state moved says next
     → Stepped provider held event (Ok (frames.Init mechanism response hostname)) says state next
 auth_init provider held event mechanism response hostname says state moved next reply shown unfit r m h =
-    let g = subst (λ (f : SaslFrame). Sends (Failed faults.TooLarge) (server_says f)
+    let g = subst (λ (f : SaslFrame). SendsCanonical (Failed faults.TooLarge) (server_says f)
     (canonical f) state moved says next) r h in
     let e : says ≡ says_auth = (sent (Failed faults.TooLarge) (λ b. Concluded outcomes.Auth b)
     (canonical (frames.Outcome outcomes.Auth None)) state moved says next g).0 in
@@ -111,10 +111,10 @@ auth_response : (provider : Provider) (held : Option Challenging) (event : Given
     (state moved next : ServerState) (reply : SaslFrame) → Shown held state
     → ((p : Accepted) → ¬ FitsAsResponse provider (λ c. held ≡ Some c) (frames.Response text) p)
     → reply ≡ ends_with outcomes.Auth → moved ≡ state
-    → Sends (Failed faults.TooLarge) (server_says reply) (canonical reply) state moved says next
+    → SendsCanonical (Failed faults.TooLarge) (server_says reply) (canonical reply) state moved says next
     → Stepped provider held event (Ok (frames.Response text)) says state next
 auth_response provider held event text says state moved next reply shown unfit r m h =
-    let g = subst (λ (f : SaslFrame). Sends (Failed faults.TooLarge) (server_says f)
+    let g = subst (λ (f : SaslFrame). SendsCanonical (Failed faults.TooLarge) (server_says f)
     (canonical f) state moved says next) r h in
     let e : says ≡ says_auth = (sent (Failed faults.TooLarge) (λ b. Concluded outcomes.Auth b)
     (canonical (frames.Outcome outcomes.Auth None)) state moved says next g).0 in
@@ -128,7 +128,7 @@ challenge_step : (provider : Provider) (held : Option Challenging) (event : Give
     (body : Option (List ℕ)) (says : ServerSays) (state moved next : ServerState) → Shown held state
     → FitsAsInit provider event frame c
     → moved ≡ ServerFirstSent (challenge_of c.client c.nonce c.stored)
-    → Sends (Failed faults.TooLarge) (λ b. Challenged b) body state moved says next
+    → SendsCanonical (Failed faults.TooLarge) (λ b. Challenged b) body state moved says next
     → ServerAnswers provider (λ c. held ≡ Some c) event (Ok frame) says
     → Stepped provider held event (Ok frame) says state next
 challenge_step provider held event frame c None says state moved next shown fits m h answers =
@@ -147,7 +147,7 @@ challenge_step provider held event frame c (Some body) says state moved next sho
 ok_step : (provider : Provider) (held : Option Challenging) (event : Given) (frame : SaslFrame) (p : Accepted)
     (body : Option (List ℕ)) (says : ServerSays) (state moved next : ServerState) → Shown held state
     → FitsAsResponse provider (λ c. held ≡ Some c) frame p → moved ≡ ServerFinalSent p.challenge.client.user
-    → Sends (Failed faults.TooLarge) (λ b. Concluded outcomes.Ok b) body state moved says next
+    → SendsCanonical (Failed faults.TooLarge) (λ b. Concluded outcomes.Ok b) body state moved says next
     → ServerAnswers provider (λ c. held ≡ Some c) event (Ok frame) says
     → Stepped provider held event (Ok frame) says state next
 ok_step provider held event frame p None says state moved next shown fits m h answers =
@@ -170,7 +170,7 @@ init_step : (provider : Provider) (held : Option Challenging) (event : Given) (m
     → Shown held state → mechanism ≡ mechanism_name provider.version
     → ChallengesFrom state provider event.nonce text answer moved
     → reply ≡ server_frame (λ message. frames.Challenge message) answer
-    → Sends (Failed faults.TooLarge) (server_says reply) (canonical reply) state moved says next
+    → SendsCanonical (Failed faults.TooLarge) (server_says reply) (canonical reply) state moved says next
     → Stepped provider held event (Ok (frames.Init mechanism (Some text) hostname)) says state next
 init_step provider held event mechanism text hostname says state moved next reply
     (Ok (Some message)) shown name from r h =
@@ -179,15 +179,15 @@ init_step provider held event mechanism text hostname says state moved next repl
     let fits : FitsAsInit provider event (frames.Init mechanism (Some text) hostname) c =
     (name, from.1.2, from.1.3, refl) in
     let made : challenge ≡ challenge_of c.client c.nonce c.stored = from.1.4 in
-    let first : message ≡ first_message c = from.2 ∙ ap (λ (x : Challenge). x.first) made in
+    let first : message ≡ first_message c = from.2 ∙ ap (λ (x : ServerChallenge). x.first) made in
     let frame : reply ≡ frames.Challenge (first_message c) = r ∙ ap (λ (t : List ℕ). frames.Challenge t) first in
-    let g = subst (λ (f : SaslFrame). Sends (Failed faults.TooLarge) (server_says f)
+    let g = subst (λ (f : SaslFrame). SendsCanonical (Failed faults.TooLarge) (server_says f)
     (canonical f) state moved says next) frame h in
     let e = (sent (Failed faults.TooLarge) (λ b. Challenged b)
     (canonical (frames.Challenge (first_message c))) state moved says next g).0 in
     challenge_step provider held event (frames.Init mechanism (Some text) hostname) c
     (canonical (frames.Challenge (first_message c))) says state moved next shown fits
-    (from.3 ∙ ap (λ (x : Challenge). ServerFirstSent x) made) g (inl (c, fits, e))
+    (from.3 ∙ ap (λ (x : ServerChallenge). ServerFirstSent x) made) g (inl (c, fits, e))
 init_step provider held event mechanism text hostname says state moved next reply (Ok None) shown name from r h =
     auth_init provider held event mechanism (Some text) hostname says state moved next reply shown
     (λ c fits. none-some c.stored
@@ -209,7 +209,7 @@ response_step : (provider : Provider) (c : Challenging) (event : Given) (text : 
     → record_at provider.records c.client.user ≡ Some c.stored
     → ConcludesFrom (ServerFirstSent (challenge_of c.client c.nonce c.stored)) provider text answer moved
     → reply ≡ server_frame (λ message. frames.Outcome outcomes.Ok (Some message)) answer
-    → Sends (Failed faults.TooLarge) (server_says reply) (canonical reply)
+    → SendsCanonical (Failed faults.TooLarge) (server_says reply) (canonical reply)
     (ServerFirstSent (challenge_of c.client c.nonce c.stored)) moved says next
     → Stepped provider (Some c) event (Ok (frames.Response text)) says
     (ServerFirstSent (challenge_of c.client c.nonce c.stored)) next
@@ -226,7 +226,7 @@ response_step provider c event text says moved next reply (Ok (Some message)) kn
     (server_of provider.version c.client.header c.client.bare (first_message c) (full_nonce c) x) final) stored in
     let frame : reply ≡ frames.Outcome outcomes.Ok (Some (final_message provider p)) =
     r ∙ ap (λ (t : List ℕ). frames.Outcome outcomes.Ok (Some t)) said in
-    let g = subst (λ (f : SaslFrame). Sends (Failed faults.TooLarge) (server_says f) (canonical f)
+    let g = subst (λ (f : SaslFrame). SendsCanonical (Failed faults.TooLarge) (server_says f) (canonical f)
     (ServerFirstSent (challenge_of c.client c.nonce c.stored)) moved says next) frame h in
     let e = (sent (Failed faults.TooLarge) (λ b. Concluded outcomes.Ok b)
     (canonical (frames.Outcome outcomes.Ok (Some (final_message provider p))))
@@ -264,7 +264,7 @@ closed_step : (provider : Provider) (event : Given) (text : List ℕ) (says : Se
     (reply : SaslFrame) (answer : Result (Option (List ℕ)) ServerScramErrorKind)
     → Shown None state → ConcludesFrom state provider text answer moved
     → reply ≡ server_frame (λ message. frames.Outcome outcomes.Ok (Some message)) answer
-    → Sends (Failed faults.TooLarge) (server_says reply) (canonical reply) state moved says next
+    → SendsCanonical (Failed faults.TooLarge) (server_says reply) (canonical reply) state moved says next
     → Stepped provider None event (Ok (frames.Response text)) says state next
 closed_step provider event text says (ServerFirstSent challenge) moved next reply answer shown from r h =
     absurd (shown challenge refl)
@@ -297,7 +297,7 @@ gives_init : (provider : Provider) (held : Option Challenging) (event : Given) (
     (response hostname : Option (List ℕ)) (says : ServerSays) (state moved next : ServerState) (reply : SaslFrame)
     → Shown held state
     → machine provider state event.nonce (frames.Init mechanism response hostname) reply moved
-    → Sends (Failed faults.TooLarge) (server_says reply) (canonical reply) state moved says next
+    → SendsCanonical (Failed faults.TooLarge) (server_says reply) (canonical reply) state moved says next
     → Stepped provider held event (Ok (frames.Init mechanism response hostname)) says state next
 gives_init provider held event mechanism None hostname says state moved next reply shown m h =
     auth_init provider held event mechanism None hostname says state moved next reply shown (λ c fits. fits) m.0 m.1 h
@@ -310,7 +310,7 @@ gives_init provider held event mechanism (Some text) hostname says state moved n
 gives_response : (provider : Provider) (held : Option Challenging) (event : Given) (text : List ℕ) (says : ServerSays)
     (state moved next : ServerState) (reply : SaslFrame) → Shown held state → Known provider held
     → machine provider state event.nonce (frames.Response text) reply moved
-    → Sends (Failed faults.TooLarge) (server_says reply) (canonical reply) state moved says next
+    → SendsCanonical (Failed faults.TooLarge) (server_says reply) (canonical reply) state moved says next
     → Stepped provider held event (Ok (frames.Response text)) says state next
 gives_response provider None event text says state moved next reply shown known m h =
     closed_step provider event text says state moved next reply m.0 shown m.1 m.2 h
@@ -318,7 +318,7 @@ gives_response provider (Some c) event text says state moved next reply shown kn
     subst (λ (s : ServerState). Stepped provider (Some c) event (Ok (frames.Response text)) says s next) (sym shown)
     (response_step provider c event text says moved next reply m.0 (known c refl)
     (subst (λ (s : ServerState). ConcludesFrom s provider text m.0 moved) shown m.1) m.2
-    (subst (λ (s : ServerState). Sends (Failed faults.TooLarge) (server_says reply)
+    (subst (λ (s : ServerState). SendsCanonical (Failed faults.TooLarge) (server_says reply)
     (canonical reply) s moved says next) shown h))
 
 -- what the machine gives is what the table gives
@@ -488,20 +488,20 @@ stated provider state nonce (frames.Outcome code more) reply next x = absurd x
 
 sends_back : (body : Option (List ℕ)) (says_body : List ℕ → ServerSays) (provider : Provider)
     (state after : ServerState) (moved next : Acceptor) (says : ServerSays) → moved ≡ ScramAcceptor provider after
-    → Sends (Failed faults.TooLarge) says_body body (ScramAcceptor provider state) moved says next
+    → SendsCanonical (Failed faults.TooLarge) says_body body (ScramAcceptor provider state) moved says next
     → (last : ServerState) × (next ≡ ScramAcceptor provider last)
-    × Sends (Failed faults.TooLarge) says_body body state after says last
+    × SendsCanonical (Failed faults.TooLarge) says_body body state after says last
 sends_back None says_body provider state after moved next says e h = (state, h.1, (h.0, refl))
 sends_back (Some body) says_body provider state after moved next says e h = (after, h.1 ∙ e, (h.0, refl))
 
 step_back : (provider : Provider) (state : ServerState) (event : Given) (frame reply : SaslFrame)
     (moved next : Acceptor) (says : ServerSays) → acceptor_machine
     (ScramAcceptor provider state) event.nonce frame reply moved
-    → Sends (Failed faults.TooLarge) (server_says reply) (canonical reply)
+    → SendsCanonical (Failed faults.TooLarge) (server_says reply) (canonical reply)
     (ScramAcceptor provider state) moved says next
     → (last : ServerState) × (next ≡ ScramAcceptor provider last)
     × ((reply : SaslFrame) × (moved : ServerState) × machine provider state event.nonce frame reply moved
-    × Sends (Failed faults.TooLarge) (server_says reply) (canonical reply) state moved says last)
+    × SendsCanonical (Failed faults.TooLarge) (server_says reply) (canonical reply) state moved says last)
 step_back provider state event frame reply moved next says m h =
     let x = stated provider state event.nonce frame reply moved m in
     let b = sends_back (canonical reply) (server_says reply) provider state x.0 moved next says x.1 h in

@@ -28,7 +28,7 @@ use Rattle.fe2o3_scram.proofs.lemmas.messages.SomeReadingLemmas.{some_client_fir
 use Rattle.fe2o3_scram.proofs.lemmas.texts.DecisionLemmas.{Decided, same_or, utf8_or}
 use Rattle.fe2o3_sasl_runs.specs.Events.{Given, ServerSays, Failed, ClientSays, Started, Answered, Reported, Refused, ClientFault, NotImplemented, Scram, Frame, OutOfMemory}
 use Rattle.fe2o3_sasl_runs.specs.Laws.{BodiesAreBytes, SomeServerHistory, SomeClientHistory}
-use Rattle.fe2o3_sasl_runs.specs.Runs.{Runs, AcceptorGives, AcceptorSteps, ProfileGives, ProfileSteps, Replies, Sends, server_says}
+use Rattle.fe2o3_sasl_runs.specs.Runs.{Runs, AcceptorGives, AcceptorSteps, ProfileGives, ProfileSteps, Replies, SendsCanonical, server_says}
 use Rattle.fe2o3_sasl_runs.specs.SaslAcceptor.{ScramAcceptor, acceptor_machine, ends_with, server_frame}
 use Rattle.fe2o3_sasl_runs.specs.Profiles.{ScramProfile, profile_machine, client_frame, initial_response}
 use Rattle.fe2o3_sasl_runs.specs.Complete.{ServerComplete, ClientComplete}
@@ -131,7 +131,7 @@ some_start provider state nonce mechanism (Some text) hostname =
 
 -- the reply that carries a frame
 some_sent : (provider : Provider) (state moved : ServerState) (reply : SaslFrame) (body : Option (List ℕ))
-    → (says : ServerSays) × (after : ServerState) × Sends (Failed faults.TooLarge) (server_says reply) body
+    → (says : ServerSays) × (after : ServerState) × SendsCanonical (Failed faults.TooLarge) (server_says reply) body
     (ScramAcceptor provider state) (ScramAcceptor provider moved) says (ScramAcceptor provider after)
     × (says ≢ Failed faults.OutOfMemory)
 some_sent provider state moved reply None = (Failed faults.TooLarge, state, (refl, refl), λ is. cc)
@@ -221,7 +221,7 @@ contains_or (first ∷ names) name = go (same_or first name) (contains_or names 
 -- an answer to a server-first message
 some_answer : (state : ClientState) (side : ClientSide) (text : List ℕ)
     → (answer : Result (List ℕ) ScramErrorKind) × (after : ClientSide) × AnswersIn state side text answer after
-some_answer client_states.Initial side text = (Err IllegalClientState, side, (refl, refl))
+some_answer client_states.ClientInitial side text = (Err IllegalClientState, side, (refl, refl))
 some_answer (client_states.ClientFinalSent signature keys) side text = (Err IllegalClientState, side, (refl, refl))
 some_answer (client_states.Complete keys) side text = (Err IllegalClientState, side, (refl, refl))
 some_answer (client_states.ClientFirstSent nonce bare) side text =
@@ -240,7 +240,7 @@ some_answer (client_states.ClientFirstSent nonce bare) side text =
 -- an answer to a server-final message
 some_belief : (state : ClientState) (side : ClientSide) (text : List ℕ)
     → (answer : Result (Unit {0}) ScramErrorKind) × (after : ClientSide) × BelievesIn state side text answer after
-some_belief client_states.Initial side text = (Err IllegalClientState, side, (refl, refl))
+some_belief client_states.ClientInitial side text = (Err IllegalClientState, side, (refl, refl))
 some_belief (client_states.ClientFirstSent nonce bare) side text = (Err IllegalClientState, side, (refl, refl))
 some_belief (client_states.Complete keys) side text = (Err IllegalClientState, side, (refl, refl))
 some_belief (client_states.ClientFinalSent signature keys) side text =
@@ -318,7 +318,7 @@ SaysWith side moved reply = (says : ClientSays) × (after : ClientSide)
 -- the reply that carries a frame
 abbrev CarriesIn : ClientSide → ClientSide → (List ℕ → ClientSays) → Option (List ℕ) → Type 0
 CarriesIn side moved carry body = (says : ClientSays) × (after : ClientSide)
-    × Sends (Refused (Frame faults.TooLarge)) carry body (ScramProfile side) (ScramProfile moved) says
+    × SendsCanonical (Refused (Frame faults.TooLarge)) carry body (ScramProfile side) (ScramProfile moved) says
     (ScramProfile after) × (says ≢ Refused OutOfMemory)
 
 some_carried : (side moved : ClientSide) (carry : List ℕ → ClientSays) (body : Option (List ℕ))
@@ -374,7 +374,7 @@ some_client_history login events are =
       secret = login.secret;
       version = login.version;
       limits = login.limits;
-      state = client_states.Initial;
+      state = client_states.ClientInitial;
     } in
     let run = some_profile_run login.hostname side events are in
     (run.0, profile_runs_are_histories login events run.0 (ScramProfile run.1) run.2, run.3)

@@ -21,7 +21,7 @@ use Rattle.fe2o3_sasl_runs.specs.HidingAcceptor.{NamedAt, hiding_hmacs, hiding_m
 use Rattle.fe2o3_sasl_runs.specs.HidingLaws.{hiding}
 use Rattle.fe2o3_sasl_runs.specs.OneOf.{one_of_machine}
 use Rattle.fe2o3_sasl_runs.specs.SaslAcceptor.{Acceptor, ScramAcceptor, acceptor_machine}
-use Rattle.fe2o3_sasl_runs.specs.UnknownUsers.{Gives, over, SaltTextsDiffer, UnknownCostsAsMock, UnknownIsMock, UnknownIsMockInBoth}
+use Rattle.fe2o3_sasl_runs.specs.UnknownUsers.{GivesReplies, over, SaltTextsDiffer, UnknownCostsAsMock, UnknownIsMock, UnknownIsMockInBoth}
 use Rattle.fe2o3_sasl_runs.specs.declared.one_of.Part.{Part}
 use Rattle.fe2o3_sasl_runs.proofs.lemmas.machines.AlikeRunLemmas.{MovesAlike, both_alike, both_of, runs_alike}
 
@@ -268,10 +268,10 @@ at provider nobody records state = hiding (over provider records) nobody state
 both_move : (provider other : Provider) (nobody other_nobody : Nobody) (records to_records more to_more : Records)
     → FindAlike nobody records to_records → FindAlike other_nobody more to_more
     → (state other_state : ServerState) (asked : Option Part) (events : List Given) (replies : List ServerSays)
-    → Gives (one_of_machine hiding_names hiding_names hiding_machine hiding_machine)
+    → GivesReplies (one_of_machine hiding_names hiding_names hiding_machine hiding_machine)
     (record { first = at provider nobody records state; second = at other other_nobody more other_state; asked = asked })
     events replies
-    → Gives (one_of_machine hiding_names hiding_names hiding_machine hiding_machine)
+    → GivesReplies (one_of_machine hiding_names hiding_names hiding_machine hiding_machine)
     (record {
       first = at provider nobody to_records state;
       second = at other other_nobody to_more other_state;

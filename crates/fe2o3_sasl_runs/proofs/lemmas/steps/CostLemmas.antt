@@ -40,7 +40,7 @@ again_in : {A F B G : Type 0} (state : ClientState) (client : ClientSide) (text 
     → AnswerCostsIn state client text result before after → AnswerCostsIn state client text other before after
 again_in (client_states.ClientFirstSent nonce bare) client text result other before after fewer costs =
     again _ text result other before after fewer costs
-again_in client_states.Initial client text result other before after fewer costs = costs
+again_in client_states.ClientInitial client text result other before after fewer costs = costs
 again_in (client_states.ClientFinalSent signature keys) client text result other before after fewer costs = costs
 again_in (client_states.Complete keys) client text result other before after fewer costs = costs
 

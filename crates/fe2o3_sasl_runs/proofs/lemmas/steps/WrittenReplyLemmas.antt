@@ -8,7 +8,7 @@ use Rattle.fe2o3_sasl_wire.specs.declared.sasl_frames.error.Error.TheVariants as
 use Rattle.fe2o3_sasl_wire.specs.SaslFrames as frames
 use Rattle.fe2o3_sasl_wire.specs.SaslFrames.{SaslFrame, canonical}
 use Rattle.fe2o3_sasl_runs.specs.Events.{ClientFault, NotImplemented, Scram, OtherKeys, Frame, OutOfMemory, Started, Answered, Reported, Refused}
-use Rattle.fe2o3_sasl_runs.specs.Runs.{ProfileReplies, Sends}
+use Rattle.fe2o3_sasl_runs.specs.Runs.{ProfileReplies, SendsCanonical}
 use Rattle.fe2o3_sasl_runs.specs.Profiles.{Profile, ScramProfile, profile_name, initial_response, after_init, profile_machine, FrameAllocates, StepAllocates, IsStarted, ProfileAnswers}
 use Rattle.fe2o3_scram.specs.ScramClient as client_states
 use Rattle.fe2o3_scram.specs.ScramClient.{ClientState, ReachesSaltIn}
@@ -81,7 +81,7 @@ started_ok hostname profile begun moved nonce names init body same has is after 
       Ok (init_of profile),
       after_init profile nonce,
       inl (has, refl, refl),
-      subst (λ (b : Option (List ℕ)). Sends (Refused (Frame faults.TooLarge)) (λ b. Started b) b profile
+      subst (λ (b : Option (List ℕ)). SendsCanonical (Refused (Frame faults.TooLarge)) (λ b. Started b) b profile
           (after_init profile nonce) (Started body) moved) (sym (ap canonical (sym e) ∙ written))
           (refl, after ∙ ap (λ (p : Profile). after_init p nonce) same),
     )
@@ -102,7 +102,7 @@ started_err view hostname profile begun nonce names init (profile_faults.Frame f
       Ok (init_of profile),
       after_init profile nonce,
       inl (has, refl, refl),
-      subst (λ (b : Option (List ℕ)). Sends (Refused (Frame faults.TooLarge)) (λ b. Started b) b profile
+      subst (λ (b : Option (List ℕ)). SendsCanonical (Refused (Frame faults.TooLarge)) (λ b. Started b) b profile
           (after_init profile nonce) (Refused (Frame fault)) profile) (sym (ap canonical (sym e) ∙ w.1))
           (ap (λ (f : Error). Refused (Frame f)) w.0, refl),
     )
@@ -131,7 +131,7 @@ responded_ok hostname profile begun moved nonce text response body same made wri
       moved,
       subst (λ (p : Profile). profile_machine p hostname nonce (frames.Challenge text)
           (Ok (frames.Response response)) moved) same made,
-      subst (λ (b : Option (List ℕ)). Sends (Refused (Frame faults.TooLarge)) (λ b. Answered b) b profile moved
+      subst (λ (b : Option (List ℕ)). SendsCanonical (Refused (Frame faults.TooLarge)) (λ b. Answered b) b profile moved
           (Answered body) moved) (sym written) (refl, refl),
     )
 
@@ -150,7 +150,7 @@ responded_err view hostname profile begun moved nonce text response (profile_fau
       moved,
       subst (λ (p : Profile). profile_machine p hostname nonce (frames.Challenge text)
           (Ok (frames.Response response)) moved) same made,
-      subst (λ (b : Option (List ℕ)). Sends (Refused (Frame faults.TooLarge)) (λ b. Answered b) b profile moved
+      subst (λ (b : Option (List ℕ)). SendsCanonical (Refused (Frame faults.TooLarge)) (λ b. Answered b) b profile moved
           (Refused (Frame fault)) profile) (sym w.1) (ap (λ (f : Error). Refused (Frame f)) w.0, refl),
     )
 responded_err view hostname profile begun moved nonce text response profile_faults.NotImplemented same is made w =

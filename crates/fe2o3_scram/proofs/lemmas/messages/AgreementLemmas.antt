@@ -7,7 +7,7 @@ use Rattle.fe2o3_scram.specs.declared.hmac.ScramVersion.{ScramVersion}
 use Rattle.fe2o3_scram.specs.declared.hmac.ScramVersion.TheVariants.{Sha1, Sha256, Sha512}
 use Rattle.fe2o3_scram.specs.declared.scram_messages.gs2_header.Gs2Header.{Gs2Header}
 use Rattle.fe2o3_scram.specs.declared.scram_messages.gs2_header.Gs2Header.TheVariants.{Unsupported, Unoffered}
-use Rattle.fe2o3_scram.specs.Agreement.{Agree, BelievedTextsAgree, ClientKnows, InParts, IsPlain, ServerKnows, challenge_known, client_message, keys_known, server_message}
+use Rattle.fe2o3_scram.specs.Agreement.{TextsAgree, BelievedTextsAgree, ClientKnows, InParts, IsPlain, ServerKnows, challenge_known, client_auth_message, keys_known, server_auth_message}
 use Rattle.fe2o3_scram.specs.ClientFinal.{Answer, ClientFinal, answer_of, server_of, without_proof}
 use Rattle.fe2o3_scram.specs.ClientFirst.{ClientFirst, NamesClientFirst, client_first_bare, header_text}
 use Rattle.fe2o3_scram.specs.Credentials.{Provider, Record, record_at}
@@ -19,7 +19,7 @@ use Rattle.fe2o3_scram.specs.Laws.{HoldsBytes}
 use Rattle.fe2o3_scram.specs.ScramClient.{ClientSide, ClientFinalSent, BelievesIn, holding, with_state}
 use Rattle.fe2o3_scram.specs.ScramServer.{ServerState, ServerFirstSent, ConcludesFrom, server_against}
 use Rattle.fe2o3_scram.specs.ServerFinal.{AnswersClientFinal, HasSignature}
-use Rattle.fe2o3_scram.specs.ServerFirst.{Challenge, NamesServerFirst, ServerFirst, challenge_of}
+use Rattle.fe2o3_scram.specs.ServerFirst.{ServerChallenge, NamesServerFirst, ServerFirst, challenge_of}
 use Rattle.fe2o3_scram.specs.Texts.{IsCount, NoComma, Part, Parts, base64_text, joined}
 use Rattle.fe2o3_scram.proofs.lemmas.hashes.DigestLemmas.{length-hmac_of, IsBytes-hmac_of}
 use Rattle.fe2o3_scram.proofs.lemmas.messages.ClientFinalLemmas.{NamesAcceptedFinal, names_client_final}
@@ -381,8 +381,8 @@ server_has provider its init response server =
 agree : (side : ClientSide) (provider : Provider) (own text its init response : List ℕ)
     (client : ClientKnows side own text) (server : ServerKnows provider its init response)
     → HoldsBytes (server.client.user, server.stored)
-    → (keys_known client).version ≡ provider.version → client_message client ≡ server_message server
-    → Agree client server
+    → (keys_known client).version ≡ provider.version → client_auth_message client ≡ server_auth_message server
+    → TextsAgree client server
 agree side provider own text its init response client server holds version same =
     let values = same_login side.user (base64_text own) text client.first provider.version server.client
     (base64_text its) server.stored server.final holds (client_has side own text client)
@@ -407,7 +407,7 @@ shown side waiting done answer own last same is believes =
     (names_server_final answer.signature last tt reads.0)
 
 -- what a server accepted it read against its challenge
-concluded : (provider : Provider) (waiting done : ServerState) (challenge : Challenge) (client : ClientFirst)
+concluded : (provider : Provider) (waiting done : ServerState) (challenge : ServerChallenge) (client : ClientFirst)
     (nonce response last : List ℕ) (stored : Record) → waiting ≡ ServerFirstSent challenge
     → challenge ≡ challenge_of client nonce stored → record_at provider.records client.user ≡ Some stored
     → ConcludesFrom waiting provider response (Ok (Some last)) done
@@ -439,7 +439,7 @@ believed_texts_agree side provider own text last its init response verifier beli
     (answer_of side.version side.secret (client_first_bare side.user (base64_text own)) text answer.0) last
     answer.2 believed.answers.3 believed.believes in
     let one = one_signature (keys_known client).version provider.version (keys_known client).server_key
-    server.stored.server_key (client_message client) (server_message server) last has
+    server.stored.server_key (client_auth_message client) (server_auth_message server) last has
     (subst (Part last 0) final.2 part) in (
       client,
       server,
@@ -447,7 +447,7 @@ believed_texts_agree side provider own text last its init response verifier beli
         agree side provider own text its init response client server holds one.0,
         λ differ. record {
           version = one.0;
-          one = ap (λ (of : ScramVersion). hmac_of of (keys_known client).server_key (client_message client))
+          one = ap (λ (of : ScramVersion). hmac_of of (keys_known client).server_key (client_auth_message client))
               (sym one.0) ∙ one.1;
         },
       ),

@@ -8,10 +8,10 @@ use Rattle.fe2o3_scram.specs.declared.scram_messages.error.ServerScramErrorKind.
 use Rattle.fe2o3_scram.specs.declared.scram_messages.gs2_header.Gs2Header.{Gs2Header}
 use Rattle.fe2o3_scram.specs.declared.scram_messages.gs2_header.Gs2Header.TheVariants.{Unsupported, Unoffered}
 use Rattle.fe2o3_scram.specs.ClientFirst.{header_text}
-use Rattle.fe2o3_scram.specs.Texts.{base64_text, IsBase64, Part, LastPart, Begins}
+use Rattle.fe2o3_scram.specs.Texts.{base64_text, IsBase64, Part, LastPart, StartsWith}
 use Rattle.fe2o3_scram.specs.Hmac.{digest_len}
 use Rattle.fe2o3_scram.specs.Readings.{IsFirst, NoneHolds, Gives}
-use Rattle.fe2o3_scram.specs.ClientFinal.{Server, ClientFinal, HasBinding, HasProof, Meets, NamesClientFinal, ReachesBase64, ReadsFinalText, ReadsClientFinal, binding_tests, nonce_tests, spelling_tests, final_text_tests, proof_tests}
+use Rattle.fe2o3_scram.specs.ClientFinal.{Server, ClientFinal, HasBinding, HasProof, Meets, NamesClientFinal, ReachesBase64, ReadsFinalText, ReadsClientFinal, binding_tests, final_nonce_tests, spelling_tests, final_text_tests, proof_tests}
 use Rattle.fe2o3_scram.specs.ServerFinal.{AnswersClientFinal, FinalCosts}
 use Rattle.fe2o3_scram.specs.private.Answers.{AnswersProof, IsMet, ProofCosts}
 use Rattle.fe2o3_scram.proofs.lemmas.hashes.DigestLemmas.{IsBytes-nil, IsBytes-cons}
@@ -60,13 +60,13 @@ pub other_nonce : (text named nonce : List ℕ) → Part text 1 (codes "r=" ++ n
 other_nonce text named nonce is other has = other (one_behind text 1 (codes "r=") named nonce is has)
 
 -- no test of the nonce has the fault for refused memory
-pub not_the_nonces : (nonce text : List ℕ) → ¬ IsFirst (nonce_tests nonce text) OutOfMemory
-not_the_nonces nonce text = not_first (nonce_tests nonce text) OutOfMemory
+pub not_the_nonces : (nonce text : List ℕ) → ¬ IsFirst (final_nonce_tests nonce text) OutOfMemory
+not_the_nonces nonce text = not_first (final_nonce_tests nonce text) OutOfMemory
     (λ wrong. absurd (cc), (λ wrong. absurd (cc), tt))
 
 -- the proof
 
-pub no_proof : (text without last : List ℕ) → LastPart text without last → ¬ Begins last (codes "p=")
+pub no_proof : (text without last : List ℕ) → LastPart text without last → ¬ StartsWith last (codes "p=")
     → (before rest : List ℕ) → ¬ LastPart text before (codes "p=" ++ rest)
 no_proof text without last is other before rest has = other
     (rest, (one_last_cut 44 text without last before (codes "p=" ++ rest) is has).1)
@@ -114,44 +114,44 @@ module _ (header : Gs2Header) (nonce text : List ℕ) (utf8 : IsUtf8 text) where
   unfolding ReadsFinalText
   binding_refused fault first = inr (
     λ fails. fails utf8,
-    IsFirst-front (binding_tests header text) (nonce_tests nonce text ++ spelling_tests text) fault first,
+    IsFirst-front (binding_tests header text) (final_nonce_tests nonce text ++ spelling_tests text) fault first,
   )
 
   pub nonce_refused : (fault : ServerScramErrorKind) → NoneHolds (binding_tests header text)
-      → IsFirst (nonce_tests nonce text) fault → ReadsFinalText header nonce text (Err fault)
+      → IsFirst (final_nonce_tests nonce text) fault → ReadsFinalText header nonce text (Err fault)
   unfolding ReadsFinalText
   nonce_refused fault binding first = inr (
     λ fails. fails utf8,
-    IsFirst-back (binding_tests header text) (nonce_tests nonce text ++ spelling_tests text) fault binding
-        (IsFirst-front (nonce_tests nonce text) (spelling_tests text) fault first),
+    IsFirst-back (binding_tests header text) (final_nonce_tests nonce text ++ spelling_tests text) fault binding
+        (IsFirst-front (final_nonce_tests nonce text) (spelling_tests text) fault first),
   )
 
   pub spelling_refused : (fault : ServerScramErrorKind) → NoneHolds (binding_tests header text)
-      → NoneHolds (nonce_tests nonce text) → IsFirst (spelling_tests text) fault → ReadsFinalText header nonce text
+      → NoneHolds (final_nonce_tests nonce text) → IsFirst (spelling_tests text) fault → ReadsFinalText header nonce text
       (Err fault)
   unfolding ReadsFinalText
   spelling_refused fault binding tested first = inr (
     λ fails. fails utf8,
-    IsFirst-back (binding_tests header text) (nonce_tests nonce text ++ spelling_tests text) fault binding
-        (IsFirst-back (nonce_tests nonce text) (spelling_tests text) fault tested first),
+    IsFirst-back (binding_tests header text) (final_nonce_tests nonce text ++ spelling_tests text) fault binding
+        (IsFirst-back (final_nonce_tests nonce text) (spelling_tests text) fault tested first),
   )
 
-  pub text_read : (final : ClientFinal) → NoneHolds (binding_tests header text) → NoneHolds (nonce_tests nonce text)
+  pub text_read : (final : ClientFinal) → NoneHolds (binding_tests header text) → NoneHolds (final_nonce_tests nonce text)
       → NoneHolds (spelling_tests text) → NamesClientFinal header nonce text final → ReadsFinalText header nonce text
       (Ok final)
   unfolding ReadsFinalText
   text_read final binding tested spelling names = (
     (
       λ fails. fails utf8,
-      NoneHolds-append (binding_tests header text) (nonce_tests nonce text ++ spelling_tests text) binding
-          (NoneHolds-append (nonce_tests nonce text) (spelling_tests text) tested spelling),
+      NoneHolds-append (binding_tests header text) (final_nonce_tests nonce text ++ spelling_tests text) binding
+          (NoneHolds-append (final_nonce_tests nonce text) (spelling_tests text) tested spelling),
     ),
     names,
   )
 
   -- what is read of the proof is what is read of the text, where the tests before it have passed
   pub text_answered : {A : Type 0} (view : A → ClientFinal) (result : Result A ServerScramErrorKind)
-      → NoneHolds (binding_tests header text) → NoneHolds (nonce_tests nonce text) → HasBinding text
+      → NoneHolds (binding_tests header text) → NoneHolds (final_nonce_tests nonce text) → HasBinding text
       (header_text header)
       → Part text 1 (codes "r=" ++ nonce) → IfOk result (λ _. NoneHolds (spelling_tests text))
       → IfOk result (λ final. HasProof text (view final))

@@ -9,7 +9,7 @@ use Rattle.fe2o3_scram.specs.ClientFirst.{HasEscapes, ClientFirst, BarePart, Nam
 use Rattle.fe2o3_scram.specs.declared.scram_messages.escape.UnescapeError.{UnescapeError}
 use Rattle.fe2o3_scram.specs.declared.scram_messages.escape.UnescapeError.TheVariants.{Invalid, OutOfMemory as UnescapeOutOfMemory}
 use Rattle.fe2o3_scram.specs.Escape.{NoEquals, escaped}
-use Rattle.fe2o3_scram.specs.Texts.{Part, Begins}
+use Rattle.fe2o3_scram.specs.Texts.{Part, StartsWith}
 use Rattle.fe2o3_scram.proofs.lemmas.texts.EscapingLemmas.{one_escaped}
 use Rattle.fe2o3_scram.proofs.lemmas.texts.PartsLemmas.{one_behind}
 use Rattle.fe2o3_scram.proofs.lemmas.messages.TestListLemmas.{one_reading}
@@ -38,7 +38,7 @@ unfolding ReadsClientFirst
 not_utf8 unbound text fails = inl (fails, refl)
 
 pub no_header : (unbound : Bool) (text : List ℕ) → IsUtf8 text
-    → ((header : Gs2Header) → TakesHeader unbound header → ¬ Begins text (header_text header))
+    → ((header : Gs2Header) → TakesHeader unbound header → ¬ StartsWith text (header_text header))
     → ReadsClientFirst unbound text (Err CannotParseGs2Header)
 unfolding ReadsClientFirst
 no_header unbound text utf8 none = inr (λ fails. fails utf8, inl (none, refl))

@@ -16,7 +16,7 @@ use Rattle.fe2o3_scram.specs.declared.scram_messages.gs2_header.Gs2Header.{Gs2He
 use Rattle.fe2o3_scram.specs.declared.scram_messages.gs2_header.Gs2Header.TheVariants.{Unsupported, Unoffered}
 use Rattle.fe2o3_scram.specs.ClientFirst.{client_first_bare, header_text, ReadsClientFirst}
 use Rattle.fe2o3_scram.specs.Escape.{escaped}
-use Rattle.fe2o3_scram.specs.Exchanges.{Exchange, IsSound, Opens, Succeeds, nonce_in, bare_in, first_in, named_in, server_in, final_in, answer_in, client_first_with, without_proof_with}
+use Rattle.fe2o3_scram.specs.Exchanges.{Exchange, IsSound, OpensRecord, Succeeds, nonce_in, bare_in, first_in, named_in, server_in, final_in, answer_in, client_first_with, without_proof_with}
 use Rattle.fe2o3_scram.specs.Hmac.{digest, digest_len, exclusive_or}
 use Rattle.fe2o3_scram.specs.Keys.{auth_message, client_key, client_signature, stored_key, client_proof}
 use Rattle.fe2o3_scram.specs.Pbkdf2Hi.{salted_of}
@@ -149,7 +149,7 @@ not_extended text nonce is has =
 
 -- a secret that opens a record answers by the keys of it, and serves for its salt and count
 pub opened : (version : ScramVersion) (secret : Secret) (password salt : List ℕ) (count : ℕ) (nonce : List ℕ)
-    → Opens version secret password salt count
+    → OpensRecord version secret password salt count
     → (keys_for version secret (record { nonce = nonce; salt = salt; count = count })
     ≡ keys_of version password salt count)
     × Serves secret (record { nonce = nonce; salt = salt; count = count })
@@ -173,7 +173,7 @@ opened version (Both own keys) password salt count nonce opens = go (fit keys fi
     other (inl differs) holds = differs (fit_is keys first holds).0
     other (inr differs) holds = differs (fit_is keys first holds).1
 
-    go : (fitting : Bool) → fitting ≡ fit keys first → Opens version (Both own keys) password salt count
+    go : (fitting : Bool) → fitting ≡ fit keys first → OpensRecord version (Both own keys) password salt count
         → ((if fitting then keys else keys_of version (password_bytes own) salt count)
         ≡ keys_of version password salt count)
         × (T fitting ⊎ IsNormal own)

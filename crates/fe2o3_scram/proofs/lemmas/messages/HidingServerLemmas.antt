@@ -11,7 +11,7 @@ use Rattle.fe2o3_scram.specs.Credentials.{Record, Records, Provider, Store, reco
 use Rattle.fe2o3_scram.specs.HidingServer.{HidingCosts, NamedIn, NamedBy}
 use Rattle.fe2o3_scram.specs.Nobody.{Nobody, nobody_record, with_nobody}
 use Rattle.fe2o3_scram.specs.ScramServer.{ServerState, Initial, ServerFirstSent, ServerFinalSent, ChallengesFrom}
-use Rattle.fe2o3_scram.specs.ServerFirst.{Challenge, ReachesChallenge}
+use Rattle.fe2o3_scram.specs.ServerFirst.{ServerChallenge, ReachesChallenge}
 use Rattle.fe2o3_scram.specs.private.MadeUp.{KeepsMadeUp, followed_by}
 use Rattle.fe2o3_scram.proofs.lemmas.messages.ClientFirstLemmas.{one_client_first}
 use Rattle.fe2o3_scram.proofs.lemmas.messages.OneValueLemmas.{one_client_first_value}
@@ -71,7 +71,7 @@ keeps_first provider nobody state next nonce text client (Some message) reads an
     })) nobody = ap (λ (user : List ℕ). Some (record {
       version = nobody.version;
       records = (user, nobody_record nobody user) ∷ [];
-    })) (sym (ap (λ (c : Challenge). c.user) other.4 ∙ user)) in
+    })) (sym (ap (λ (c : ServerChallenge). c.user) other.4 ∙ user)) in
     subst (λ (s : ServerState). KeepsMadeUp s (Some (record {
       version = nobody.version;
       records = (client.user, nobody_record nobody client.user) ∷ [];

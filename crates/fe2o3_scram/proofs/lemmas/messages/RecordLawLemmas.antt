@@ -11,7 +11,7 @@ use Rattle.fe2o3_scram.specs.declared.credentials.record_text.RecordTextError.Th
 use Rattle.fe2o3_scram.specs.Credentials.{VersionedRecord, record_of}
 use Rattle.fe2o3_scram.specs.Hmac.{mechanism_name, digest_len}
 use Rattle.fe2o3_scram.specs.Readings.{NoneHolds}
-use Rattle.fe2o3_scram.specs.RecordText.{ArePlain, Fields, HasFields, IsKey, IsReadable, NamesRecord, Plain, ReadsFields, ReadsRecord, fields_of, head_tests, laid_out, record_text, value_tests}
+use Rattle.fe2o3_scram.specs.RecordText.{ArePlain, Fields, HasFields, IsKey, IsReadable, NamesRecord, Plain, ReadsFields, ReadsRecord, record_fields, head_tests, laid_out, record_text, value_tests}
 use Rattle.fe2o3_scram.specs.Texts.{IsBase64, IsPlainCount, Without, alphabet, base64_text}
 use Rattle.fe2o3_scram.proofs.lemmas.hashes.DigestLemmas.{length-digest, IsBytes-digest, length-hmac_of, IsBytes-hmac_of}
 use Rattle.fe2o3_scram.proofs.lemmas.hashes.NameLemmas.{one_version}
@@ -51,7 +51,7 @@ plain-mechanism_name Sha256 = plain-literal (mechanism_name Sha256) refl refl
 plain-mechanism_name Sha512 = plain-literal (mechanism_name Sha512) refl refl
 
 -- a record's text has its fields
-has_its_fields : (kept : VersionedRecord) → IsReadable kept → HasFields (record_text kept) (fields_of kept)
+has_its_fields : (kept : VersionedRecord) → IsReadable kept → HasFields (record_text kept) (record_fields kept)
 has_its_fields kept is = (
   (
     plain-mechanism_name kept.version,
@@ -90,7 +90,7 @@ none_from_names fields kept names = (
   ),
 )
 
-names_itself : (kept : VersionedRecord) → IsReadable kept → NamesRecord (fields_of kept) kept
+names_itself : (kept : VersionedRecord) → IsReadable kept → NamesRecord (record_fields kept) kept
 names_itself kept is = record {
   version = refl;
   count = (refl, is.some, is.small);
@@ -103,11 +103,11 @@ pub read_again : (kept : VersionedRecord) → IsReadable kept → ReadsRecord (r
 unfolding ReadsRecord
 read_again kept is =
     let names = names_itself kept is in
-    inr (fields_of kept, has_its_fields kept is, (none_from_names (fields_of kept) kept names, names))
+    inr (record_fields kept, has_its_fields kept is, (none_from_names (record_fields kept) kept names, names))
 
 -- ---- a record has one text
 
-fields_named : (fields : Fields) (kept : VersionedRecord) → NamesRecord fields kept → fields ≡ fields_of kept
+fields_named : (fields : Fields) (kept : VersionedRecord) → NamesRecord fields kept → fields ≡ record_fields kept
 fields_named fields kept names =
     let version = sym names.version in
     let count = names.count.0 in

@@ -9,7 +9,7 @@ use Rattle.fe2o3_scram.specs.private.Serving.{Serves, ServesNot}
 use Rattle.fe2o3_scram.proofs.lemmas.messages.FittingKeyLemmas.{fit_is, is_fit}
 use Rattle.fe2o3_scram.specs.declared.scram_messages.error.ScramErrorKind.{ScramErrorKind}
 use Rattle.fe2o3_scram.specs.declared.scram_messages.error.ScramErrorKind.TheVariants.{OutOfMemory}
-use Rattle.fe2o3_scram.specs.Texts.{base64_text, IsBase64, IsCount, Part, Begins}
+use Rattle.fe2o3_scram.specs.Texts.{base64_text, IsBase64, IsCount, Part, StartsWith}
 use Rattle.fe2o3_scram.specs.Readings.{IsFirst, NoneHolds}
 use Rattle.fe2o3_scram.specs.ServerFirst.{Client, ServerFirst, HasSalt, HasCount, NamesServerFirst, ReachesSalt, ReadsServerFirst, nonce_tests, salt_tests, count_tests, secret_tests, NamesOther}
 use Rattle.fe2o3_scram.proofs.lemmas.texts.Base64Lemmas.{one_spelled}
@@ -37,7 +37,7 @@ not_the_secret (Keys keys) first (unfit, wrong) = absurd (cc)
 not_the_secret (Both password keys) first (unfit, unprintable, wrong) = absurd (cc)
 
 -- the nonce does not go on from the client's
-pub other_nonce : (text client_nonce nonce : List ℕ) → Part text 0 (codes "r=" ++ nonce) → ¬ Begins nonce client_nonce
+pub other_nonce : (text client_nonce nonce : List ℕ) → Part text 0 (codes "r=" ++ nonce) → ¬ StartsWith nonce client_nonce
     → (rest : List ℕ) → ¬ Part text 0 (codes "r=" ++ (client_nonce ++ rest))
 other_nonce text client_nonce nonce is other rest has =
     other (rest, one_behind text 0 (codes "r=") nonce (client_nonce ++ rest) is has)

@@ -18,7 +18,7 @@ use Rattle.fe2o3_scram.specs.ServerFirst.{Client, ServerFirst, HasSalt, HasCount
 use Rattle.fe2o3_scram.specs.declared.client_secret.IterationLimits.{IterationLimits}
 use Rattle.fe2o3_scram.specs.ClientKeys.{ClientKeys}
 use Rattle.fe2o3_scram.specs.ClientSecret.{Secret, Password, Keys, Both}
-use Rattle.fe2o3_scram.specs.Texts.{base64_text, Begins, Part, LastPart}
+use Rattle.fe2o3_scram.specs.Texts.{base64_text, StartsWith, Part, LastPart}
 use Rattle.fe2o3_scram.specs.Passwords.{PasswordText, Typed, Prepared, IsNormal}
 use Rattle.base64.specs.GeneralPurpose.{IsBytes}
 use Rattle.fe2o3_scram.proofs.lemmas.messages.ClientFirstLemmas.{one_header}
@@ -90,7 +90,7 @@ cut_or unbound text = elim (rest_or (header_text Unsupported) text) [
 
 -- whether the message begins with no header that is taken
 no_header_or : (unbound : Bool) (text : List ℕ)
-    → Decided ((header : Gs2Header) → TakesHeader unbound header → ¬ Begins text (header_text header))
+    → Decided ((header : Gs2Header) → TakesHeader unbound header → ¬ StartsWith text (header_text header))
 no_header_or unbound text = elim (cut_or unbound text) [
   | inl ((header, bare), cut) ↦ inr (λ none. none header cut.0 (bare, cut.1))
   | inr none ↦ inl (λ header takes begins. none (header, begins.0) (takes, begins.1))
@@ -277,7 +277,7 @@ binding_decided header text = (
   (none_or (binding_or text), (not_or (this_binding_or text (header_text header)), tt)),
 )
 
-final_nonce_decided : (nonce text : List ℕ) → AllDecided (client_final.nonce_tests nonce text)
+final_nonce_decided : (nonce text : List ℕ) → AllDecided (client_final.final_nonce_tests nonce text)
 final_nonce_decided nonce text = (
   none_or (attribute_text_or text 1 (codes "r=")),
   (not_or (part_is_or text 1 (codes "r=" ++ nonce)), tt),
@@ -291,16 +291,16 @@ some_final_text : (header : Gs2Header) (nonce text : List ℕ)
     → (answer : Result ClientFinal ServerScramErrorKind) × ReadsFinalText header nonce text answer
 unfolding ReadsFinalText
 some_final_text header nonce text =
-    let after_binding = client_final.nonce_tests nonce text ++ spelling_tests text in
+    let after_binding = client_final.final_nonce_tests nonce text ++ spelling_tests text in
     some_reading (final_text_tests header nonce text) (NamesClientFinal header nonce text) (
       not_or (utf8_or text),
       decided-append (binding_tests header text) after_binding (binding_decided header text)
-          (decided-append (client_final.nonce_tests nonce text) (spelling_tests text) (final_nonce_decided nonce text)
+          (decided-append (client_final.final_nonce_tests nonce text) (spelling_tests text) (final_nonce_decided nonce text)
           (spelling_decided text)),
     )
     (λ none.
     let binding_parts = none-split (binding_tests header text) after_binding none.1 in
-    let nonce_parts = none-split (client_final.nonce_tests nonce text) (spelling_tests text) binding_parts.1 in
+    let nonce_parts = none-split (client_final.final_nonce_tests nonce text) (spelling_tests text) binding_parts.1 in
     let final = found_one (proof_or text) nonce_parts.1.1.0 in (
       final.0,
       record {

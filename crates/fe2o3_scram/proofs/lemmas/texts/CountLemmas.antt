@@ -5,7 +5,7 @@ use Rattle.std.proofs.lemmas.Str.Parse.{digit_from_value, numerals_by_value, tel
 use Rattle.std.specs.Fmt.{decimal}
 use Rattle.std.specs.Prelude.{Option, None, Some, MatchOption}
 use Rattle.std.specs.Str.Parse.{IsNumeral, digits_value}
-use Rattle.fe2o3_scram.specs.Texts.{Begins, IsCount, IsPlainCount}
+use Rattle.fe2o3_scram.specs.Texts.{StartsWith, IsCount, IsPlainCount}
 
 -- a plus is no digit
 no_plus : (digits : List ℕ) → ¬ IsNumeral 10 (43 ∷ digits)
@@ -57,14 +57,14 @@ zero_first text rest begins count is =
     let byte : get_or (decimal count) 0 0 ≡ 48 = ap (λ (spelt : List ℕ). get_or spelt 0 0) (sym is.0 ∙ begins) in
     absurd (omega (arith, first, byte))
 
-no_zero_first : (text : List ℕ) → ¬ Begins text (codes "0") → get_or text 0 0 ≡ 48 → length text ≡ 1
+no_zero_first : (text : List ℕ) → ¬ StartsWith text (codes "0") → get_or text 0 0 ≡ 48 → length text ≡ 1
 no_zero_first [] plain is = absurd (omega (arith, is))
 no_zero_first (x ∷ text) plain is = absurd (plain (text, ap (λ (byte : ℕ). byte ∷ text) is))
 
-pub plain_count : (text : List ℕ) (count : ℕ) → ¬ Begins text (codes "+") → ¬ Begins text (codes "0")
+pub plain_count : (text : List ℕ) (count : ℕ) → ¬ StartsWith text (codes "+") → ¬ StartsWith text (codes "0")
     → IsCount text count → IsPlainCount text count
 plain_count text count no_sign no_zero (digits, inl is, numeral, value, some, small) =
-    let plain = subst (λ (spelt : List ℕ). ¬ Begins spelt (codes "0")) is no_zero in
+    let plain = subst (λ (spelt : List ℕ). ¬ StartsWith spelt (codes "0")) is no_zero in
     let small_value : digits_value 10 digits < 2 ^ 64 = omega (arith, value, small) in (
       is
           ∙ sym (ap decimal value
@@ -76,7 +76,7 @@ plain_count text count no_sign no_zero (digits, inl is, numeral, value, some, sm
 plain_count text count no_sign no_zero (digits, inr is, numeral, value, some, small) = absurd (no_sign (digits, is))
 
 -- what is read of a text that begins with neither a plus nor a zero
-pub plain_count_from : (text : List ℕ) (found : Option ℕ) → ¬ Begins text (codes "+") → ¬ Begins text (codes "0")
+pub plain_count_from : (text : List ℕ) (found : Option ℕ) → ¬ StartsWith text (codes "+") → ¬ StartsWith text (codes "0")
     → MatchOption found ((count : ℕ) → ¬ IsCount text count) (λ count. IsCount text count)
     → MatchOption found ((count : ℕ) → ¬ IsPlainCount text count) (λ count. IsPlainCount text count)
 plain_count_from text None no_sign no_zero none = no_plain_count text none

@@ -3,7 +3,7 @@ use Rattle.std.proofs.Common.{◌≡◌, ◌≢◌, ◌<◌, ◌+◌, ℕ, true,
 use Rattle.std.specs.Prelude.{Option, None, Some, MatchOption, Result, Ok, Err, IfErr}
 use Rattle.std.proofs.lemmas.Bool.{eqb-false, ne_eqb, eqb-true}
 use Rattle.std.proofs.lemmas.List.{take_more}
-use Rattle.fe2o3_scram.specs.Texts.{NoComma, Begins}
+use Rattle.fe2o3_scram.specs.Texts.{NoComma, StartsWith}
 use Rattle.fe2o3_scram.specs.Escape.{escaped, escaped_byte, NoEquals}
 use Rattle.fe2o3_scram.proofs.lemmas.texts.Base64Lemmas.{no_comma-append, no_comma-test}
 use Rattle.fe2o3_scram.proofs.lemmas.texts.EachByteLemmas.{all-at, each-back, each-front, without-index}
@@ -151,7 +151,7 @@ one_more_read text name plain_too escape_too rest before escape more b no_comma 
 
 -- an equals sign begins no escape
 pub no_escape : (text name rest before escape : List ℕ) → NoComma text → text ≡ escaped name ++ rest → NoEquals before
-    → rest ≡ before ++ (61 ∷ escape) → ¬ Begins escape (codes "2C") → ¬ Begins escape (codes "3D") → (other : List ℕ)
+    → rest ≡ before ++ (61 ∷ escape) → ¬ StartsWith escape (codes "2C") → ¬ StartsWith escape (codes "3D") → (other : List ℕ)
     → escaped other ≢ text
 no_escape text name rest before escape no_comma read no_equals cut comma equals other is =
     let plain = before_plain text name rest before (61 ∷ escape) no_comma read no_equals cut in

@@ -4,7 +4,7 @@ use Rattle.std.proofs.lemmas.List.{length-append}
 use Rattle.std.proofs.lemmas.Option.{slice_get_within}
 use Rattle.std.specs.Prelude.{slice_get}
 use Rattle.std.specs.List.{AllByRecursion}
-use Rattle.fe2o3_scram.specs.Texts.{Parts, Begins}
+use Rattle.fe2o3_scram.specs.Texts.{Parts, StartsWith}
 use Rattle.fe2o3_scram.specs.Extensions.{HasAttributeFrom, is_attribute}
 use Rattle.fe2o3_scram.proofs.lemmas.texts.PartsLemmas.{one_list_of_parts}
 
@@ -65,11 +65,11 @@ one_mark P (x ∷ xs) ys (u ∷ us) vs p q has none after same =
 
 -- the part is a channel binding
 abbrev IsBinding : List ℕ → Type 0
-IsBinding part = Begins part (codes "c=")
+IsBinding part = StartsWith part (codes "c=")
 
 -- it is an iteration count
 abbrev IsCounting : List ℕ → Type 0
-IsCounting part = Begins part (codes "i=")
+IsCounting part = StartsWith part (codes "i=")
 
 -- both are attributes that RFC 5802 defines
 no_bindings : (parts : List (List ℕ)) → NoAttributes parts → AllNot IsBinding parts
@@ -83,7 +83,7 @@ no_countings (x ∷ parts) none =
     (λ has. none.0 (ap is_attribute has.1), no_countings parts none.1)
 
 -- a part that begins with another letter is neither; 114, 115, 105 and 99 are r, s, i and c, and 61 is =
-other_letter : (letter mark : ℕ) (value : List ℕ) → (letter ≡ mark → ⊥) → ¬ Begins (letter ∷ 61 ∷ value) (mark ∷ 61 ∷ [])
+other_letter : (letter mark : ℕ) (value : List ℕ) → (letter ≡ mark → ⊥) → ¬ StartsWith (letter ∷ 61 ∷ value) (mark ∷ 61 ∷ [])
 other_letter letter mark value apart has =
     let first : letter ≡ mark = ap (λ (z : List ℕ). get_or z 0 0) has.1 in apart first
 

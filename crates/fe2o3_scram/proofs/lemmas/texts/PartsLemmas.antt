@@ -7,7 +7,7 @@ use Rattle.std.proofs.lemmas.List.{append_cancel_left}
 use Rattle.std.proofs.lemmas.List.Elements.{All-from_recursion}
 use Rattle.std.proofs.lemmas.List.Splits.{join_with_byte-slice_split, slice_split_at, slice_split_none, length-slice_split}
 use Rattle.std.proofs.lemmas.Option.{none-some, same_Some}
-use Rattle.fe2o3_scram.specs.Texts.{NoComma, Parts, Part, Begins}
+use Rattle.fe2o3_scram.specs.Texts.{NoComma, Parts, Part, StartsWith}
 
 -- the pieces between commas
 abbrev pub pieces : List ℕ → List (List ℕ)
@@ -81,7 +81,7 @@ part_from_pieces now text k (Some part) is = (pieces text, Parts-pieces text, sy
 
 -- the rest of a part, behind a key
 pub attribute_from_part : {A : Type 0} (now : A → List ℕ) (text key part : List ℕ) (k : ℕ) (found : Option A)
-    → Part text k part → MatchOption found (¬ Begins part key) (λ rest. part ≡ key ++ now rest)
+    → Part text k part → MatchOption found (¬ StartsWith part key) (λ rest. part ≡ key ++ now rest)
     → MatchOption found ((rest : List ℕ) → ¬ Part text k (key ++ rest)) (λ rest. Part text k (key ++ now rest))
 attribute_from_part now text key part k None is none =
     λ rest has. none (rest, one_part text k part (key ++ rest) is has)

@@ -1,4 +1,4 @@
-use Rattle.sasl_c.specs.SaslServer.{state_of}
+use Rattle.sasl_c.specs.SaslServer.{value_state}
 use Rattle.sasl_c.proofs.StepLemmas.{server_no_host, server_not_stepped, server_stepped, server_steps_short}
 use Rattle.sasl_c.proofs.server_steps.answered.Goals as goal
 
@@ -8,13 +8,13 @@ returns-in-Err-clause-err c = λ other. server_no_host c.args.host.now _ c.args.
 
 pub returns-in-Err-stepped-clause-err : goal.returns-in-Err-stepped-clause-err
 returns-in-Err-stepped-clause-err c = λ other. server_not_stepped c.args.host.now _ c.args.server.now
-    (state_of c.in-Ok.acceptor) c.in-Err-stepped.status c.in-Ok.ensures.ok (c.in-Err-stepped.ensures.err other)
+    (value_state c.in-Ok.acceptor) c.in-Err-stepped.status c.in-Ok.ensures.ok (c.in-Err-stepped.ensures.err other)
 
 pub returns-in-Ok-stepped-clause-ok : goal.returns-in-Ok-stepped-clause-ok
 returns-in-Ok-stepped-clause-ok c = server_stepped c.args.host.now _ c.args.server.now c.in-Ok-stepped.made.next
-    (state_of c.in-Ok.acceptor) c.in-Ok-stepped.made.standing c.in-Ok-stepped.made.sent.items c.in-Ok.ensures.ok
+    (value_state c.in-Ok.acceptor) c.in-Ok-stepped.made.standing c.in-Ok-stepped.made.sent.items c.in-Ok.ensures.ok
     c.in-Ok-stepped.ensures.ok
 
 pub returns-in-Ok-stepped-clause-fits : goal.returns-in-Ok-stepped-clause-fits
-returns-in-Ok-stepped-clause-fits c = server_steps_short (state_of c.in-Ok.acceptor) _ c.in-Ok-stepped.made.next
+returns-in-Ok-stepped-clause-fits c = server_steps_short (value_state c.in-Ok.acceptor) _ c.in-Ok-stepped.made.next
     c.in-Ok-stepped.made.standing c.in-Ok-stepped.made.sent.items c.in-Ok-stepped.ensures.ok

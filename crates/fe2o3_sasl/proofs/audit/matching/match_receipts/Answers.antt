@@ -1,6 +1,6 @@
 use Rattle.std.proofs.Common.{◌++◌, ◌∙◌, map, ap, arith}
 use Rattle.std.specs.List.{flat_map}
-use Rattle.fe2o3_sasl.specs.Audit.{finding_of, kind_of}
+use Rattle.fe2o3_sasl.specs.Audit.{finding_of, finding_kind}
 use Rattle.fe2o3_sasl.specs.private.Findings.{client_receipt, server_receipt, found, meets_on, finding_on}
 use Rattle.fe2o3_sasl.proofs.lemmas.audit.FoundLemmas.{adds_more}
 use Rattle.fe2o3_sasl.proofs.lemmas.audit.IndexLemmas.{row_found}
@@ -8,7 +8,7 @@ use Rattle.fe2o3_sasl.proofs.audit.matching.match_receipts.Goals as goal
 
 pub loop-client-preserved : goal.loop-client-preserved
 loop-client-preserved c =
-    let kind = kind_of c.args.kind in
+    let kind = finding_kind c.args.kind in
     let client = client_receipt c.client-item.result in
     let now = map finding_of c.loop-client.findings.items in
     let oks = map server_receipt c.args.oks.now in

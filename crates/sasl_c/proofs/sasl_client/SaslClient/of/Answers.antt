@@ -1,7 +1,7 @@
 use Rattle.std.proofs.Common.{sym}
 use Rattle.fe2o3_sasl_runs.specs.SaslProfile.{profile_of}
 use Rattle.fe2o3_sasl_negotiation.specs.Sides.{client_side}
-use Rattle.sasl_c.specs.SaslClient.{Comes, IsProfile, WritesProfile}
+use Rattle.sasl_c.specs.SaslClient.{ProfileIsReached, IsProfile, WritesProfile}
 use Rattle.sasl_c.proofs.SaslClientLemmas.{shows_side, writes_side}
 use Rattle.sasl_c.proofs.StatusLemmas.{carried}
 use Rattle.sasl_c.proofs.sasl_client.SaslClient.of.Goals as goal
@@ -10,7 +10,7 @@ pub returns-clause-state : goal.returns-clause-state
 returns-clause-state c = λ login comes limit few.
     let shown = profile_of c.profile.result.now in
     let state = (client_side c.args.side.now).state in
-    let is = c.in-Some-scram_of.ensures.state login (carried (Comes login) state shown (sym c.profile.ensures) comes) in
+    let is = c.in-Some-scram_of.ensures.state login (carried (ProfileIsReached login) state shown (sym c.profile.ensures) comes) in
     shows_side login c.in-Some.connection c.in-Some-scram_of.scram (client_side c.args.side.now) c.set_down-kept.result
     c.set_down-kept.ensures.side limit c.in-Some.ensures.keeps
     (carried (IsProfile login c.in-Some-scram_of.scram) shown state c.profile.ensures is)
@@ -25,5 +25,5 @@ returns-clause-writes c =
 
 pub returns-in_default-scram_of-clause-state : goal.returns-in_default-scram_of-clause-state
 returns-in_default-scram_of-clause-state c = λ login comes limit few.
-    absurd (c.in_default-scram_of.ensures.state login (carried (Comes login) (client_side c.args.side.now).state
+    absurd (c.in_default-scram_of.ensures.state login (carried (ProfileIsReached login) (client_side c.args.side.now).state
     (profile_of c.profile.result.now) (sym c.profile.ensures) comes))

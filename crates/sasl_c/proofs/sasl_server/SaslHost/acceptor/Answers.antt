@@ -1,5 +1,5 @@
 use Rattle.std.proofs.Common.{map, refl}
-use Rattle.sasl_c.specs.SaslServer.{all_in, state_of}
+use Rattle.sasl_c.specs.SaslServer.{all_in, value_state}
 use Rattle.sasl_c.proofs.SaslServerLemmas.{made, no_choice, no_offer, no_words}
 use Rattle.sasl_c.proofs.sasl_server.SaslHost.acceptor.Goals as goal
 
@@ -16,7 +16,7 @@ returns-in-Err-all-clause-err c = λ other.
 pub returns-in-Ok-new-clause-ok : goal.returns-in-Ok-new-clause-ok
 returns-in-Ok-new-clause-ok c =
     made c.args.self.now c.in-Some.version c.in-Some-of.choice c.args.scram.now (all_in c.in-Ok.all)
-    (map (λ name. name.now) c.names.result) (state_of c.in-Ok-new.acceptor) c.in-Some.ensures c.in-Some-of.ensures
+    (map (λ name. name.now) c.names.result) (value_state c.in-Ok-new.acceptor) c.in-Some.ensures c.in-Some-of.ensures
     c.names.ensures c.in-Ok-new.ensures.ok c.in-Ok.ensures.ok
 
 pub returns-in-Err-NothingOffered-clause-err : goal.returns-in-Err-NothingOffered-clause-err
