@@ -24,9 +24,10 @@ check:
 	for crate in crates/*/; do (cd $$crate && rt fmt) || exit 1; done
 
 # The merge gate: what the pages quote and list, and the C header; that no modules use each other in a
-# circle; who makes a meter of its own or hashes; the programs that the borrow checker has to refuse; then
-# every proof from nothing, the tests and the programs, and beside these the wrong bodies; and the two built
-# programs that keep a secret, started again, which say nothing where all is well.
+# circle, and no name of specs/ has two meanings; who makes a meter of its own or hashes; the programs that
+# the borrow checker has to refuse; then every proof from nothing, the tests and the programs, and beside
+# these the wrong bodies; and the two built programs that keep a secret, started again, which say nothing
+# where all is well.
 test:
 	@tools/progress $$PPID 60 'a whole run takes 57 min on 4 processors, 79 on 2, and 11,158 s of processor' &
 	sh tools/quoted.sh
@@ -34,6 +35,7 @@ test:
 	python3 tools/header.py --check
 	python3 tools/header.py --rust --check
 	python3 tools/circles.py
+	python3 tools/names.py
 	python3 tools/meters.py
 	python3 tools/meters_test.py
 	python3 tools/wrong_bodies_test.py
