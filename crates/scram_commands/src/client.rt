@@ -1,5 +1,8 @@
 //! `client`: a login, in which the messages of the server come on the input.
 
+ghost use Rattle.std.specs.Prelude.{◌≡◌, true, OnOk};
+ghost use Rattle.fe2o3_scram.specs.ScramClient.{is_complete};
+
 use crate::stop::Stop;
 use crate::{frames, input, keys, nonces, wire};
 use fe2o3_scram::{ScramClient, ScramClientKeys, ScramErrorKind, ScramVersion};
@@ -129,14 +132,16 @@ impl Secret {
     }
 }
 
-/// Plays the exchange, a line for each message.
+/// Plays the exchange, a line for each message. Where it succeeds, the client has verified the server's signature.
 fn exchange<I: BufRead, O: Write>(
     alloc: Global,
     client: &mut ScramClient,
     nonce: &[u8; 32],
     input: &mut I,
     output: &mut O,
-) -> Result<(), Stop> {
+) -> Result<(), Stop>
+    ensures { OnOk result (is_complete client.new.state ≡ true) }
+{
     let first = client.compute_client_first_message(alloc, nonce)?;
     wire::send(alloc, output, &first)?;
     let server_first = receive(alloc, input)?;

@@ -1,5 +1,10 @@
 //! `--frames`: a login over the bytes of a connection of AMQP, as they come on the input.
 
+ghost use Rattle.std.specs.Prelude.{◌≡◌, IfOk, OnOk};
+ghost use Rattle.fe2o3_sasl_negotiation.specs.Sides.{client_side, server_side};
+ghost use Rattle.fe2o3_sasl_negotiation.specs.declared.standing.Standing.{Standing};
+ghost use Rattle.fe2o3_sasl_negotiation.specs.declared.standing.Standing.TheVariants.{LoggedIn};
+
 use crate::client::Login;
 use crate::nonces;
 use crate::server::Service;
@@ -17,6 +22,8 @@ use std::rt::Files;
 
 /// A side of a connection.
 trait Side {
+    ghost stands: { Self → Standing };
+
     /// Takes bytes that came, and appends what is to be sent.
     fn take(
         &mut self,
@@ -24,10 +31,13 @@ trait Side {
         bytes: &[u8],
         nonce: &[u8; 32],
         sent: &mut BytesMut,
-    ) -> Result<Received, OutOfMemory>;
+    ) -> Result<Received, OutOfMemory>
+        ensures standing { IfOk result (λ received. received.standing ≡ stands self.new) };
 }
 
 impl Side for ClientNegotiation {
+    ghost stands = { λ client. (client_side client).standing };
+
     fn take(
         &mut self,
         alloc: Global,
@@ -40,6 +50,8 @@ impl Side for ClientNegotiation {
 }
 
 impl<A: NamesUser> Side for ServerNegotiation<A> {
+    ghost stands = { λ server. (server_side A.state server).standing };
+
     fn take(
         &mut self,
         alloc: Global,
@@ -51,7 +63,7 @@ impl<A: NamesUser> Side for ServerNegotiation<A> {
     }
 }
 
-/// Carries bytes to a side and from it until the login is done, and answers how it stands.
+/// Carries bytes to a side and from it until the login is done, and returns how it stands.
 fn carry<R, S, I, O>(
     rt: &R,
     side: &mut S,
@@ -65,6 +77,7 @@ where
     S: Side,
     I: BufRead,
     O: Write,
+    ensures { IfOk result (λ standing. standing ≡ S.stands side.new) }
 {
     for _ in 0..u64::MAX {
         send(output, sent).map_err(Stop::of_output)?;
@@ -101,10 +114,28 @@ where
     O: Write,
 {
     let mut client = negotiation(rt.alloc(), client)?;
+    log_in_over(rt, login, &mut *client, input, output)?;
+    login.keep(rt, client.profile().keys())
+}
+
+/// Logs in by a client's side. Where it succeeds, the side has logged in.
+fn log_in_over<R, I, O>(
+    rt: &R,
+    login: &Login<'_>,
+    client: &mut ClientNegotiation,
+    input: &mut I,
+    output: &mut O,
+) -> Result<(), Stop>
+where
+    R: RandomSource + AllocGlobal,
+    I: BufRead,
+    O: Write,
+    ensures { OnOk result ((client_side client.new).standing ≡ LoggedIn) }
+{
     let mut sent = BytesMut::new(rt.alloc());
     ClientNegotiation::open(&mut sent)?;
-    match carry(rt, &mut *client, login.nonce, &mut sent, input, output)? {
-        Standing::LoggedIn => login.keep(rt, client.profile().keys()),
+    match carry(rt, client, login.nonce, &mut sent, input, output)? {
+        Standing::LoggedIn => Ok(()),
         Standing::Wanting => Err(Stop::Ended),
         Standing::Closed(ClosedBecause::Refused(_)) => Err(Stop::RefusedByServer),
         Standing::Closed(why) => Err(Stop::Closed(why)),
@@ -135,8 +166,26 @@ where
     O: Write,
 {
     let mut server = Box::new(rt.alloc(), ServerNegotiation::new(rt.alloc(), server))?;
+    serve_over(rt, service, &mut *server, input, output)
+}
+
+/// Serves a login by a server's side. Where it succeeds, the side has logged its client in.
+fn serve_over<R, S, I, O>(
+    rt: &R,
+    service: &Service<'_>,
+    server: &mut ServerNegotiation<S>,
+    input: &mut I,
+    output: &mut O,
+) -> Result<(), Stop>
+where
+    R: RandomSource + AllocGlobal,
+    S: NamesUser,
+    I: BufRead,
+    O: Write,
+    ensures { OnOk result ((server_side S.state server.new).standing ≡ LoggedIn) }
+{
     let mut sent = BytesMut::new(rt.alloc());
-    match carry(rt, &mut *server, service.nonce, &mut sent, input, output)? {
+    match carry(rt, server, service.nonce, &mut sent, input, output)? {
         Standing::LoggedIn => Ok(()),
         Standing::Wanting => Err(Stop::Ended),
         Standing::Closed(why) => Err(Stop::Closed(why)),

@@ -1,5 +1,8 @@
 //! `server`: serves a login for the users of a file, in which the messages of the client come on the input.
 
+ghost use Rattle.std.specs.Prelude.{◌≡◌, ℕ, List, Option, Some, IfOk, IsOk, OnOk};
+ghost use Rattle.fe2o3_scram.specs.ScramServer.{logged_in, state_in};
+
 pub mod mock;
 
 use crate::server::mock::Shape;
@@ -37,6 +40,8 @@ pub struct Service<'a> {
 
 /// A server's side of an exchange.
 pub trait Exchange {
+    ghost accepted: { Self → Option (List ℕ) };
+
     /// Answers a client-first message, or says that the user is unknown.
     fn challenge(
         &mut self,
@@ -45,15 +50,18 @@ pub trait Exchange {
         nonce: &[u8; 32],
     ) -> Result<Option<Vec<u8>>, ServerScramErrorKind>;
 
-    /// Answers a client-final message, or says that the user is unknown.
+    /// Answers a client-final message, or says that the user is unknown. After an answer a user has logged in.
     fn conclude(
         &mut self,
         alloc: Global,
         message: &[u8],
-    ) -> Result<Option<Vec<u8>>, ServerScramErrorKind>;
+    ) -> Result<Option<Vec<u8>>, ServerScramErrorKind>
+        ensures user { IfOk result (λ _. (user : List ℕ) × (accepted self.new ≡ Some user)) };
 }
 
 impl Exchange for ScramAuthenticator<ScramCredentials> {
+    ghost accepted = { λ server. logged_in (state_in server) };
+
     fn challenge(
         &mut self,
         alloc: Global,
@@ -73,6 +81,8 @@ impl Exchange for ScramAuthenticator<ScramCredentials> {
 }
 
 impl Exchange for HidingAuthenticator<ScramCredentials> {
+    ghost accepted = { λ server. logged_in server.state };
+
     fn challenge(
         &mut self,
         alloc: Global,
@@ -87,7 +97,8 @@ impl Exchange for HidingAuthenticator<ScramCredentials> {
         alloc: Global,
         message: &[u8],
     ) -> Result<Option<Vec<u8>>, ServerScramErrorKind> {
-        self.compute_server_final_message(alloc, message)
+        let answer = self.compute_server_final_message(alloc, message)?;
+        Ok(answer)
     }
 }
 
@@ -189,13 +200,15 @@ fn challenge<S: Exchange, I: BufRead, O: Write>(
     reply(alloc, answer, output)
 }
 
-/// Answers the client's response with the signature.
+/// Answers the client's response with the signature. Where it succeeds, the server names the user who has logged in.
 fn conclude<S: Exchange, I: BufRead, O: Write>(
     alloc: Global,
     server: &mut S,
     input: &mut I,
     output: &mut O,
-) -> Result<(), Stop> {
+) -> Result<(), Stop>
+    ensures { OnOk result ((user : List ℕ) × (S.accepted server.new ≡ Some user)) }
+{
     let message = wire::receive(alloc, input)?;
     let answer = server.conclude(alloc, &message);
     reply(alloc, answer, output)
@@ -206,7 +219,9 @@ fn reply<O: Write>(
     alloc: Global,
     answer: Result<Option<Vec<u8>>, ServerScramErrorKind>,
     output: &mut O,
-) -> Result<(), Stop> {
+) -> Result<(), Stop>
+    ensures { OnOk result (IsOk answer) }
+{
     match answer {
         Ok(Some(message)) => wire::send(alloc, output, &message),
         Ok(None) => {

@@ -1,6 +1,11 @@
 //! `users`: a file of records, of which each line is a user's: the name, escaped as SCRAM sends it (RFC 5802,
 //! section 5.1), a space, and the record (RFC 5803, section 2).
 
+ghost use Rattle.std.specs.Prelude.{◌↔◌, true, false, Some, [], ◌∷◌, IsTrue, OnOk};
+ghost use Rattle.std.specs.List.{Contains};
+ghost use Rattle.fe2o3_scram.specs.declared.hmac.ScramVersion.TheVariants.{Sha1, Sha256, Sha512};
+ghost use Rattle.scram_commands.specs.private.Passwords.{IsAsked, Tells, TellsEach};
+
 pub mod changes;
 pub mod lines;
 
@@ -100,18 +105,47 @@ pub fn check<R: Files + AllocGlobal, O: Write>(
 }
 
 /// Whether the password is that of the record for a version, of each that is there and asked for.
-fn answers(users: &MixedCredentials, named: &Named<'_>, password: &str) -> [Option<bool>; 3] {
-    VERSIONS.map(|version| {
-        if named.version.is_some_and(|asked| asked != version) {
-            return None;
-        }
-        let kept = users.for_version(version).get_stored_password(named.name)?;
-        Some(kept.verify_password(version, password))
-    })
+fn answers(users: &MixedCredentials, named: &Named<'_>, password: &str) -> [Option<bool>; 3]
+    ensures { TellsEach users.now named.now.version named.now.name.now password.now
+        (Sha1 ∷ Sha256 ∷ Sha512 ∷ []) result }
+{
+    [
+        answer(users, named, password, ScramVersion::Sha1),
+        answer(users, named, password, ScramVersion::Sha256),
+        answer(users, named, password, ScramVersion::Sha512),
+    ]
+}
+
+/// Whether the password is that of the user's record for a version, where that is there and asked for.
+fn answer(
+    users: &MixedCredentials,
+    named: &Named<'_>,
+    password: &str,
+    version: ScramVersion,
+) -> Option<bool>
+    ensures { Tells users.now named.now.version named.now.name.now password.now version result }
+{
+    if !is_asked(named.version, version) {
+        return None;
+    }
+    let kept = users.for_version(version).get_stored_password(named.name)?;
+    Some(kept.verify_password(version, password))
+}
+
+/// Whether a version is asked for: the one that is named, or each.
+fn is_asked(asked: Option<ScramVersion>, version: ScramVersion) -> bool
+    ensures { IsTrue result ↔ IsAsked asked version }
+{
+    match asked {
+        Some(asked) => asked == version,
+        None => true,
+    }
 }
 
 /// Prints the answers. All have to be yes, and there has to be one.
-fn conclude<O: Write>(answers: &[Option<bool>; 3], output: &mut O) -> Result<(), Stop> {
+fn conclude<O: Write>(answers: &[Option<bool>; 3], output: &mut O) -> Result<(), Stop>
+    ensures { OnOk result (¬ Contains answers.now (Some false) × Contains answers.now (Some true)) }
+{
     for (version, answer) in VERSIONS.iter().zip(answers) {
         if let Some(is_right) = answer {
             let (mechanism, word) = (version.mechanism(), if *is_right { "yes" } else { "no" });
