@@ -15,6 +15,7 @@ use Rattle.fe2o3_sasl_runs.specs.Headline.{VerifierAgrees}
 use Rattle.fe2o3_sasl_runs.specs.Laws.{HoldsRecords}
 use Rattle.fe2o3_sasl_runs.specs.Positions.{IsLastOpen}
 use Rattle.fe2o3_sasl_runs.specs.Profiles.{Profile, scram_profile}
+use Rattle.fe2o3_sasl_runs.specs.Runs.{ProfileSteps}
 use Rattle.fe2o3_sasl_runs.specs.SaslAcceptor.{Acceptor, ScramAcceptor, acceptor_names, acceptor_machine, acceptor_user}
 use Rattle.fe2o3_sasl_runs.specs.ServerHistory.{Accepted, AcceptsAt, final_message, is_challenge, is_ok}
 use Rattle.fe2o3_sasl_runs.specs.TwoSides.{Sides, sides_of, OkAt, Takes, Shows, Agree, client_message, server_message}
@@ -33,7 +34,7 @@ pub record ClientOf (login : Login) : Type 0 where
   pub taken : List ℕ
   pub sent : List ℕ
   pub last : Side Profile
-  pub connection : ClientNegotiated login.hostname limit (scram_profile login) pieces taken sent last
+  pub connection : ClientNegotiated (ProfileSteps login.hostname) limit (scram_profile login) pieces taken sent last
 
 -- a connection of a SCRAM server over this provider, after the client's header, over any bytes in any pieces
 pub record ServerOf (provider : Provider) : Type 0 where
@@ -170,7 +171,7 @@ ShowsEqually login provider sides = (k : ℕ) × (n : ℕ) × (answer : Answerin
     × Shows sides k n answer accepted × MeanOneLogin login provider answer accepted
 
 -- where both have logged in over unaltered bytes, the server with a record that the client's secret opens, their
--- AuthMessages are equal. The law `unaltered_connections` of `fe2o3_sasl_negotiation` says where both log in
+-- AuthMessages are equal. The law `unaltered` says where both log in
 abbrev pub UnalteredConnectionsAgree : Type 0
 UnalteredConnectionsAgree = (login : Login) (provider : Provider) (client : ClientOf login) (server : ServerOf provider)
     (password salt : List ℕ) (count : ℕ) → IsLogin login → HoldsLogin (sides client server) password salt count

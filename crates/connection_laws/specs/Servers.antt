@@ -1,53 +1,38 @@
 -- What holds of the connections of each kind of server (AMQP 1.0, part 5, section 5.3). Each law is the contract of a
 -- clause of a function of `servers`.
-use Rattle.std.specs.Prelude.{◌≡◌, ◌≢◌, ◌↔◌, ℕ, Bool, Option, Some, None, List, [], ◌∷◌, length, Ok}
+use Rattle.std.specs.Prelude.{◌≡◌, ◌≢◌, ℕ, Bool, Option, Some, None, List, [], ◌∷◌, Ok}
 use Rattle.std.specs.List.{AllByRecursion}
 use Rattle.fe2o3_sasl_wire.specs.SaslFrames as frames
 use Rattle.fe2o3_sasl_wire.specs.SaslFrames.{SaslFrame}
 use Rattle.fe2o3_scram.specs.Credentials.{Provider, Store}
-use Rattle.fe2o3_scram.specs.HidingServer.{HidingServer}
 use Rattle.fe2o3_scram.specs.Nobody.{Nobody, with_nobody}
-use Rattle.fe2o3_scram.specs.ScramServer.{Initial, logged_in as named_in}
 use Rattle.fe2o3_sasl_runs.specs.Bodies.{SpellsBody}
 use Rattle.fe2o3_sasl_runs.specs.Events.{Given, ServerSays}
 use Rattle.fe2o3_sasl_runs.specs.ExternalAcceptor.{External, IsInitOf, external_machine, external_user}
-use Rattle.fe2o3_sasl_runs.specs.Headline.{AnswersOkExactly}
-use Rattle.fe2o3_sasl_runs.specs.HidingAcceptor.{hiding_machine, hiding_names}
-use Rattle.fe2o3_sasl_runs.specs.HidingLaws.{HoldsName, hiding}
+use Rattle.fe2o3_sasl_runs.specs.HidingLaws.{HoldsName}
 use Rattle.fe2o3_sasl_runs.specs.OffersOnly.{Offering, offering_machine}
 use Rattle.fe2o3_sasl_runs.specs.OneOf.{BothStates, both_names, one_of_machine, part_names}
-use Rattle.fe2o3_sasl_runs.specs.OneOfLaws.{Machine, Splits, PassesOn, AnswersAsScram, those, to_first, to_second}
+use Rattle.fe2o3_sasl_runs.specs.OneOfLaws.{Machine, Splits, PassesOn}
 use Rattle.fe2o3_sasl_runs.specs.OneOfUsers.{SomeEvent, AsksOffered}
 use Rattle.fe2o3_sasl_runs.specs.PlainAuthenticator.{PlainServer, PlainLogsIn, plain_machine}
-use Rattle.fe2o3_sasl_runs.specs.Runs.{AcceptorSteps}
-use Rattle.fe2o3_sasl_runs.specs.SaslAcceptor.{Acceptor, ScramAcceptor, acceptor_machine, acceptor_names}
-use Rattle.fe2o3_sasl_runs.specs.ServerHistory.{ServerHistory, LoggedIn as UserLoggedIn}
+use Rattle.fe2o3_sasl_runs.specs.Runs.{Runs, AcceptorSteps}
 use Rattle.fe2o3_sasl_runs.specs.declared.one_of.Part.{Part}
 use Rattle.fe2o3_sasl_runs.specs.declared.one_of.Part.TheVariants.{First, Second}
 use Rattle.fe2o3_sasl_negotiation.specs.declared.standing.Standing.TheVariants.{LoggedIn}
-use Rattle.fe2o3_sasl_negotiation.specs.Connections.{Piece, ServerNegotiated, LastReply, IsOkSent}
+use Rattle.fe2o3_sasl_negotiation.specs.Connections.{Piece, ServerNegotiated}
 use Rattle.fe2o3_sasl_negotiation.specs.Negotiations.{Side}
+use Rattle.fe2o3_sasl_negotiation.specs.ScramConnections.{ScramServes}
 
 -- ---- mock authentication
 
--- a server with mock authentication answers as a SCRAM server over its provider with the mock records of these names
--- after its own: it answers Ok exactly as the headline says, has logged a client in exactly where it sent that Ok, and
--- names the user of that challenge
-pub record MockServes (provider : Provider) (nobody : Nobody) (names : List (List ℕ)) (events : List Given)
-    (replies : List ServerSays) (last : Side HidingServer) : Type 0 where
-  pub history : ServerHistory (with_nobody provider nobody names) events replies
-  pub exactly : AnswersOkExactly (with_nobody provider nobody names) events replies
-  pub logged_in : (last.standing ≡ LoggedIn) ↔ LastReply IsOkSent replies
-  pub user : (user : List ℕ) → (named_in last.state.state ≡ Some user)
-      ↔ UserLoggedIn (with_nobody provider nobody names) events replies (length replies) user
-
--- every such server that nobody has used, and all names that hold those of its inits
-abbrev pub MockServersServe : Type 0
-MockServersServe = (provider : Provider) (nobody : Nobody) (names : List (List ℕ)) (limit : ℕ) (pieces : List Piece)
-    (taken sent : List ℕ) (last : Side HidingServer)
-    (negotiated : ServerNegotiated hiding_machine limit (hiding provider nobody Initial) pieces taken sent last)
+-- every server of this machine that nobody has used: over its provider with the mock records of all names that hold those
+-- of its inits after its own, it serves as a SCRAM server
+abbrev pub MockServersServe : {S : Type 0} → Machine S → (Provider → Nobody → S) → (S → Option (List ℕ)) → Type 0
+MockServersServe {S} machine start named = (provider : Provider) (nobody : Nobody) (names : List (List ℕ)) (limit : ℕ)
+    (pieces : List Piece) (taken sent : List ℕ) (last : Side S)
+    (negotiated : ServerNegotiated machine limit (start provider nobody) pieces taken sent last)
     → AllByRecursion (HoldsName provider.unbound names) negotiated.events
-    → MockServes provider nobody names negotiated.events negotiated.replies last
+    → ScramServes (with_nobody provider nobody names) negotiated.events negotiated.replies (named last.state)
 
 -- there are such names: each negotiation of a server has a list with the names of its inits
 abbrev pub NegotiationsHaveNames : {S : Type 0} → Machine S → Type 0
@@ -68,67 +53,21 @@ OneOfServersSplit {S} {T} names others machine other = (limit : ℕ) (state : Bo
     → (marks : List (Option Part))
     × Splits names others machine other state negotiated.events negotiated.replies last.state marks
 
--- SCRAM that is the first of two answers Ok to the events that went to it exactly as the headline says, and names
--- exactly who has logged in
-abbrev pub ScramFirstServes : {T : Type 0} → (T → List (List ℕ)) → Machine T → Type 0
-ScramFirstServes {T} others other = (provider : Provider) (second : T) (limit : ℕ) (pieces : List Piece)
-    (taken sent : List ℕ) (last : Side (BothStates Acceptor T))
-    → let state : BothStates Acceptor T = record { first = ScramAcceptor provider Initial; second = second; asked = None } in
-    (negotiated : ServerNegotiated (one_of_machine acceptor_names others acceptor_machine other) limit state pieces taken
-    sent last)
-    → (marks : List (Option Part))
-    × Splits acceptor_names others acceptor_machine other state negotiated.events negotiated.replies last.state marks
-    × AnswersAsScram provider (those to_first marks negotiated.events) (those to_first marks negotiated.replies)
-    last.state.first
+-- every run of this machine from its first state serves as a SCRAM server. What went to a SCRAM acceptor is one, by
+-- `Splits`, and what was passed on to it, by `PassesOn`
+abbrev pub ScramRunsServe : {S : Type 0} → Machine S → (Provider → S) → (S → Option (List ℕ)) → Type 0
+ScramRunsServe {S} machine start named = (provider : Provider) (events : List Given) (replies : List ServerSays)
+    (last : S) → Runs (AcceptorSteps machine) (start provider) events replies last
+    → ScramServes provider events replies (named last)
 
--- and SCRAM that is the second
-abbrev pub ScramSecondServes : {S : Type 0} → (S → List (List ℕ)) → Machine S → Type 0
-ScramSecondServes {S} names machine = (provider : Provider) (first : S) (limit : ℕ) (pieces : List Piece)
-    (taken sent : List ℕ) (last : Side (BothStates S Acceptor))
-    → let state : BothStates S Acceptor = record { first = first; second = ScramAcceptor provider Initial; asked = None } in
-    (negotiated : ServerNegotiated (one_of_machine names acceptor_names machine acceptor_machine) limit state pieces taken
-    sent last)
-    → (marks : List (Option Part))
-    × Splits names acceptor_names machine acceptor_machine state negotiated.events negotiated.replies last.state marks
-    × AnswersAsScram provider (those to_second marks negotiated.events) (those to_second marks negotiated.replies)
-    last.state.second
-
--- SCRAM with mock authentication over these events, from its first state to this one: over its provider with the mock
--- records of all names that hold those of its inits, it answers Ok exactly as the headline says, and names exactly who
--- has logged in
-pub record AnswersAsMock (provider : Provider) (nobody : Nobody) (names : List (List ℕ)) (events : List Given)
-    (replies : List ServerSays) (last : HidingServer) : Type 0 where
-  pub exactly : AnswersOkExactly (with_nobody provider nobody names) events replies
-  pub user : (user : List ℕ) → (named_in last.state ≡ Some user)
-      ↔ UserLoggedIn (with_nobody provider nobody names) events replies (length replies) user
-
--- SCRAM with mock authentication that is the first of two answers so the events that went to it
-abbrev pub MockFirstServes : {T : Type 0} → (T → List (List ℕ)) → Machine T → Type 0
-MockFirstServes {T} others other = (provider : Provider) (nobody : Nobody) (second : T) (limit : ℕ)
-    (pieces : List Piece) (taken sent : List ℕ) (last : Side (BothStates HidingServer T))
-    → let state : BothStates HidingServer T =
-    record { first = hiding provider nobody Initial; second = second; asked = None } in
-    (negotiated : ServerNegotiated (one_of_machine hiding_names others hiding_machine other) limit state pieces taken
-    sent last)
-    → (marks : List (Option Part))
-    × Splits hiding_names others hiding_machine other state negotiated.events negotiated.replies last.state marks
-    × ((names : List (List ℕ)) → AllByRecursion (HoldsName provider.unbound names) (those to_first marks negotiated.events)
-    → AnswersAsMock provider nobody names (those to_first marks negotiated.events)
-    (those to_first marks negotiated.replies) last.state.first)
-
--- and so does one that is the second
-abbrev pub MockSecondServes : {S : Type 0} → (S → List (List ℕ)) → Machine S → Type 0
-MockSecondServes {S} names machine = (provider : Provider) (nobody : Nobody) (first : S) (limit : ℕ)
-    (pieces : List Piece) (taken sent : List ℕ) (last : Side (BothStates S HidingServer))
-    → let state : BothStates S HidingServer =
-    record { first = first; second = hiding provider nobody Initial; asked = None } in
-    (negotiated : ServerNegotiated (one_of_machine names hiding_names machine hiding_machine) limit state pieces taken
-    sent last)
-    → (marks : List (Option Part))
-    × Splits names hiding_names machine hiding_machine state negotiated.events negotiated.replies last.state marks
-    × ((users : List (List ℕ)) → AllByRecursion (HoldsName provider.unbound users) (those to_second marks negotiated.events)
-    → AnswersAsMock provider nobody users (those to_second marks negotiated.events)
-    (those to_second marks negotiated.replies) last.state.second)
+-- and of a machine with mock authentication, over its provider with the mock records of all names that hold those of its
+-- inits after its own
+abbrev pub MockRunsServe : {S : Type 0} → Machine S → (Provider → Nobody → S) → (S → Option (List ℕ)) → Type 0
+MockRunsServe {S} machine start named = (provider : Provider) (nobody : Nobody) (names : List (List ℕ))
+    (events : List Given) (replies : List ServerSays) (last : S)
+    → AllByRecursion (HoldsName provider.unbound names) events
+    → Runs (AcceptorSteps machine) (start provider nobody) events replies last
+    → ScramServes (with_nobody provider nobody names) events replies (named last)
 
 -- ---- only some of the names
 
