@@ -1,5 +1,5 @@
 -- A client and a server that are joined log in, by premises that can be tested before the login.
-use Rattle.std.proofs.Common.{◌≡◌, ℕ, ◌+◌, Some, List, [], ◌∷◌, ◌++◌, refl, sym, ap, ◌∙◌, subst}
+use Rattle.std.proofs.Common.{◌≡◌, ℕ, Some, List, [], ◌∷◌, ◌++◌, refl, sym, ap, ◌∙◌, subst}
 use Rattle.std.proofs.lemmas.List.{append-nil}
 use Rattle.fe2o3_sasl_wire.specs.SaslFrames.{canonical}
 use Rattle.fe2o3_sasl_wire.specs.SaslFrames as frames
