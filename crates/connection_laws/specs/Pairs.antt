@@ -16,16 +16,17 @@ use Rattle.fe2o3_sasl_runs.specs.Laws.{HoldsRecords}
 use Rattle.fe2o3_sasl_runs.specs.Positions.{IsLastOpen}
 use Rattle.fe2o3_sasl_runs.specs.Profiles.{Profile, scram_profile}
 use Rattle.fe2o3_sasl_runs.specs.Runs.{ProfileSteps}
-use Rattle.fe2o3_sasl_runs.specs.SaslAcceptor.{Acceptor, ScramAcceptor, acceptor_names, acceptor_machine, acceptor_user}
+use Rattle.fe2o3_sasl_runs.specs.SaslAcceptor.{ScramAcceptor, acceptor_names, acceptor_machine, acceptor_user}
 use Rattle.fe2o3_sasl_runs.specs.ServerHistory.{Accepted, AcceptsAt, final_message, is_challenge, is_ok}
 use Rattle.fe2o3_sasl_runs.specs.TwoSides.{Sides, sides_of, OkAt, Takes, Shows, Agree, client_message, server_message}
 use Rattle.fe2o3_sasl_runs.specs.UnalteredRuns.{HoldsLogin}
 use Rattle.fe2o3_sasl_runs.specs.Verdicts.{Verdict, JudgesProof}
 use Rattle.fe2o3_sasl_negotiation.specs.declared.standing.Standing.TheVariants.{LoggedIn}
-use Rattle.fe2o3_sasl_negotiation.specs.Connections.{Piece, ServerNegotiated, ClientNegotiated}
+use Rattle.fe2o3_sasl_negotiation.specs.Connections.{Piece, ClientNegotiated}
 use Rattle.fe2o3_sasl_negotiation.specs.Framing.{sasl_header, framed}
 use Rattle.fe2o3_sasl_negotiation.specs.Negotiations.{Side}
 use Rattle.fe2o3_sasl_negotiation.specs.ServerNegotiation.{offer_body}
+use Rattle.connection_laws.specs.Servers.{ServerBy}
 
 -- a connection of a SCRAM client of this login, after the server's header, over any bytes in any pieces
 pub record ClientOf (login : Login) : Type 0 where
@@ -37,13 +38,8 @@ pub record ClientOf (login : Login) : Type 0 where
   pub connection : ClientNegotiated (ProfileSteps login.hostname) limit (scram_profile login) pieces taken sent last
 
 -- a connection of a SCRAM server over this provider, after the client's header, over any bytes in any pieces
-pub record ServerOf (provider : Provider) : Type 0 where
-  pub limit : ℕ
-  pub pieces : List Piece
-  pub taken : List ℕ
-  pub sent : List ℕ
-  pub last : Side Acceptor
-  pub connection : ServerNegotiated acceptor_machine limit (ScramAcceptor provider Initial) pieces taken sent last
+abbrev pub ServerOf : Provider → Type 0
+ServerOf provider = ServerBy acceptor_machine (ScramAcceptor provider Initial)
 
 -- the frame bodies and the replies of both
 abbrev pub sides : {login : Login} {provider : Provider} → ClientOf login → ServerOf provider → Sides

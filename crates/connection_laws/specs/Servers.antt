@@ -23,23 +23,30 @@ use Rattle.fe2o3_sasl_negotiation.specs.Connections.{Piece, ServerNegotiated}
 use Rattle.fe2o3_sasl_negotiation.specs.Negotiations.{Side}
 use Rattle.fe2o3_sasl_negotiation.specs.ScramConnections.{ScramServes}
 
+-- a server's negotiation by this machine from this state, over any bytes in any pieces
+pub record ServerBy {S : Type 0} (machine : Machine S) (state : S) : Type 0 where
+  pub limit : ℕ
+  pub pieces : List Piece
+  pub taken : List ℕ
+  pub sent : List ℕ
+  pub last : Side S
+  pub connection : ServerNegotiated machine limit state pieces taken sent last
+
 -- ---- mock authentication
 
 -- every server of this machine that nobody has used: over its provider with the mock records of all names that hold those
 -- of its inits after its own, it serves as a SCRAM server
 abbrev pub MockServersServe : {S : Type 0} → Machine S → (Provider → Nobody → S) → (S → Option (List ℕ)) → Type 0
-MockServersServe {S} machine start named = (provider : Provider) (nobody : Nobody) (names : List (List ℕ)) (limit : ℕ)
-    (pieces : List Piece) (taken sent : List ℕ) (last : Side S)
-    (negotiated : ServerNegotiated machine limit (start provider nobody) pieces taken sent last)
-    → AllByRecursion (HoldsName provider.unbound names) negotiated.events
-    → ScramServes (with_nobody provider nobody names) negotiated.events negotiated.replies (named last.state)
+MockServersServe {S} machine start named = (provider : Provider) (nobody : Nobody) (names : List (List ℕ))
+    (server : ServerBy machine (start provider nobody))
+    → AllByRecursion (HoldsName provider.unbound names) server.connection.events
+    → ScramServes (with_nobody provider nobody names) server.connection.events server.connection.replies
+    (named server.last.state)
 
 -- there are such names: each negotiation of a server has a list with the names of its inits
 abbrev pub NegotiationsHaveNames : {S : Type 0} → Machine S → Type 0
-NegotiationsHaveNames {S} machine = (unbound : Bool) (limit : ℕ) (state : S) (pieces : List Piece)
-    (taken sent : List ℕ) (last : Side S)
-    (negotiated : ServerNegotiated machine limit state pieces taken sent last)
-    → (names : List (List ℕ)) × AllByRecursion (HoldsName unbound names) negotiated.events
+NegotiationsHaveNames {S} machine = (unbound : Bool) (state : S) (server : ServerBy machine state)
+    → (names : List (List ℕ)) × AllByRecursion (HoldsName unbound names) server.connection.events
 
 -- ---- several mechanisms
 
@@ -47,11 +54,10 @@ NegotiationsHaveNames {S} machine = (unbound : Bool) (limit : ℕ) (state : S) (
 -- acceptor is a run of that acceptor by itself
 abbrev pub OneOfServersSplit : {S T : Type 0} → (S → List (List ℕ)) → (T → List (List ℕ)) → Machine S → Machine T
     → Type 0
-OneOfServersSplit {S} {T} names others machine other = (limit : ℕ) (state : BothStates S T) (pieces : List Piece)
-    (taken sent : List ℕ) (last : Side (BothStates S T))
-    (negotiated : ServerNegotiated (one_of_machine names others machine other) limit state pieces taken sent last)
+OneOfServersSplit {S} {T} names others machine other = (state : BothStates S T)
+    (server : ServerBy (one_of_machine names others machine other) state)
     → (marks : List (Option Part))
-    × Splits names others machine other state negotiated.events negotiated.replies last.state marks
+    × Splits names others machine other state server.connection.events server.connection.replies server.last.state marks
 
 -- every run of this machine from its first state serves as a SCRAM server. What went to a SCRAM acceptor is one, by
 -- `Splits`, and what was passed on to it, by `PassesOn`
@@ -74,10 +80,9 @@ MockRunsServe {S} machine start named = (provider : Provider) (nobody : Nobody) 
 -- a server that offers only some of its names: each event was passed on as `is_passed_on` says in the state before it,
 -- what was passed on is a run of its acceptor by itself, and the rest was rejected
 abbrev pub OfferingServersPassOn : {S : Type 0} → (S → List (List ℕ)) → Machine S → Type 0
-OfferingServersPassOn {S} names machine = (limit : ℕ) (state : Offering S) (pieces : List Piece)
-    (taken sent : List ℕ) (last : Side (Offering S))
-    (negotiated : ServerNegotiated (offering_machine names machine) limit state pieces taken sent last)
-    → (marks : List Bool) × PassesOn names machine state negotiated.events negotiated.replies last.state marks
+OfferingServersPassOn {S} names machine = (state : Offering S) (server : ServerBy (offering_machine names machine) state)
+    → (marks : List Bool)
+    × PassesOn names machine state server.connection.events server.connection.replies server.last.state marks
 
 -- the machine of a server of two acceptors that offers only some of their names
 abbrev pub offering_both : {S T : Type 0} → (S → List (List ℕ)) → (T → List (List ℕ)) → Machine S → Machine T
@@ -91,15 +96,14 @@ offering_both {S} {T} names others machine other =
 abbrev pub OfferingServersNameUsers : {S T : Type 0} → (S → List (List ℕ)) → (T → List (List ℕ)) → Machine S
     → Machine T → Type 0
 OfferingServersNameUsers {S} {T} names others machine other = (user : S → Option (List ℕ))
-    (other_user : T → Option (List ℕ)) (limit : ℕ) (state : Offering (BothStates S T)) (pieces : List Piece)
-    (taken sent : List ℕ) (last : Side (Offering (BothStates S T))) (name : List ℕ)
-    (negotiated : ServerNegotiated (offering_both names others machine other) limit state pieces taken sent last)
-    → let parts : BothStates S T = last.state.inner in
+    (other_user : T → Option (List ℕ)) (state : Offering (BothStates S T))
+    (server : ServerBy (offering_both names others machine other) state) (name : List ℕ)
+    → let parts : BothStates S T = server.last.state.inner in
     state.inner.asked ≡ None → part_names parts.asked (user parts.first) (other_user parts.second) ≡ Some name
     → (part : Part) × (part_names (Some part) (user parts.first) (other_user parts.second) ≡ Some name)
     × (parts.asked ≡ Some part)
-    × SomeEvent (AcceptorSteps (offering_both names others machine other)) state negotiated.events negotiated.replies
-    (AsksOffered names others part)
+    × SomeEvent (AcceptorSteps (offering_both names others machine other)) state server.connection.events
+    server.connection.replies (AsksOffered names others part)
 
 -- ---- who has logged in at one of several
 
@@ -113,46 +117,41 @@ side_with state side = record {
   state = state;
 }
 
--- the bytes are a negotiation of this machine too, between these states of it, with these events and replies
-abbrev pub NegotiatesAs : {S T : Type 0} → Machine T → ℕ → T → List Piece → List ℕ → List ℕ → Side S → T → List Given
-    → List ServerSays → Type 0
-NegotiatesAs machine limit state pieces taken sent last end events replies =
-    (own : ServerNegotiated machine limit state pieces taken sent (side_with end last)) × (own.events ≡ events)
-    × (own.replies ≡ replies)
+-- the bytes are a negotiation of this machine too, between these states of it, with the same events and replies
+abbrev pub NegotiatesAs : {S T : Type 0} (whole : Machine S) (state : S) → ServerBy whole state → Machine T → T → T
+    → Type 0
+NegotiatesAs whole state server machine begin end =
+    (own : ServerNegotiated machine server.limit begin server.pieces server.taken server.sent (side_with end server.last))
+    × (own.events ≡ server.connection.events) × (own.replies ≡ server.connection.replies)
 
 -- and one of this part of a server of two acceptors
-abbrev pub PartNegotiates : {S T : Type 0} → Machine S → Machine T → Part → ℕ → BothStates S T → List Piece → List ℕ
-    → List ℕ → Side (BothStates S T) → List Given → List ServerSays → Type 0
-PartNegotiates machine other First limit state pieces taken sent last events replies =
-    NegotiatesAs machine limit state.first pieces taken sent last last.state.first events replies
-PartNegotiates machine other Second limit state pieces taken sent last events replies =
-    NegotiatesAs other limit state.second pieces taken sent last last.state.second events replies
+abbrev pub PartNegotiates : {S T : Type 0} (whole : Machine (BothStates S T)) (state : BothStates S T)
+    → ServerBy whole state → Machine S → Machine T → Part → Type 0
+PartNegotiates whole state server machine other First =
+    NegotiatesAs whole state server machine state.first server.last.state.first
+PartNegotiates whole state server machine other Second =
+    NegotiatesAs whole state server other state.second server.last.state.second
 
 -- a server of two acceptors that has logged its client in is, byte for byte, a server of the acceptor asked last
 abbrev pub OneOfServersActAsPart : {S T : Type 0} → (S → List (List ℕ)) → (T → List (List ℕ)) → Machine S → Machine T
     → Type 0
-OneOfServersActAsPart {S} {T} names others machine other = (limit : ℕ) (state : BothStates S T) (pieces : List Piece)
-    (taken sent : List ℕ) (last : Side (BothStates S T))
-    (negotiated : ServerNegotiated (one_of_machine names others machine other) limit state pieces taken sent last)
-    → last.standing ≡ LoggedIn
-    → (part : Part) × (last.state.asked ≡ Some part)
-    × PartNegotiates machine other part limit state pieces taken sent last negotiated.events negotiated.replies
+OneOfServersActAsPart {S} {T} names others machine other = (state : BothStates S T)
+    (server : ServerBy (one_of_machine names others machine other) state) → server.last.standing ≡ LoggedIn
+    → (part : Part) × (server.last.state.asked ≡ Some part)
+    × PartNegotiates (one_of_machine names others machine other) state server machine other part
 
 -- and one that offers only some of its names is a server of its acceptor
 abbrev pub OfferingServersActAsInner : {S : Type 0} → (S → List (List ℕ)) → Machine S → Type 0
-OfferingServersActAsInner {S} names machine = (limit : ℕ) (state : Offering S) (pieces : List Piece)
-    (taken sent : List ℕ) (last : Side (Offering S))
-    (negotiated : ServerNegotiated (offering_machine names machine) limit state pieces taken sent last)
-    → last.standing ≡ LoggedIn
-    → NegotiatesAs machine limit state.inner pieces taken sent last last.state.inner negotiated.events negotiated.replies
+OfferingServersActAsInner {S} names machine = (state : Offering S)
+    (server : ServerBy (offering_machine names machine) state) → server.last.standing ≡ LoggedIn
+    → NegotiatesAs (offering_machine names machine) state server machine state.inner server.last.state.inner
 
 -- ---- who has not logged in
 
 -- the acceptor of a server that has not logged its client in is as it was, so that it names nobody new
 abbrev pub ServersStay : {S : Type 0} → Machine S → Type 0
-ServersStay {S} machine = (limit : ℕ) (state : S) (pieces : List Piece) (taken sent : List ℕ) (last : Side S)
-    (negotiated : ServerNegotiated machine limit state pieces taken sent last)
-    → last.standing ≢ LoggedIn → last.state ≡ state
+ServersStay {S} machine = (state : S) (server : ServerBy machine state) → server.last.standing ≢ LoggedIn
+    → server.last.state ≡ state
 
 -- ---- EXTERNAL
 
@@ -170,9 +169,8 @@ pub record ExternalLogsIn (user : List ℕ) (events : List Given) (last : Extern
 
 -- every server of EXTERNAL
 abbrev pub ExternalServersLogIn : Type 0
-ExternalServersLogIn = (limit : ℕ) (state : External) (pieces : List Piece) (taken sent : List ℕ)
-    (last : Side External) (negotiated : ServerNegotiated external_machine limit state pieces taken sent last)
-    → last.standing ≡ LoggedIn → ExternalLogsIn state.user negotiated.events last.state
+ExternalServersLogIn = (state : External) (server : ServerBy external_machine state) → server.last.standing ≡ LoggedIn
+    → ExternalLogsIn state.user server.connection.events server.last.state
 
 -- ---- PLAIN
 
@@ -189,6 +187,5 @@ pub record PlainServes (provider : Store) (events : List Given) (last : PlainSer
 
 -- every server of PLAIN over records
 abbrev pub PlainServersLogIn : Type 0
-PlainServersLogIn = (limit : ℕ) (state : PlainServer) (pieces : List Piece) (taken sent : List ℕ)
-    (last : Side PlainServer) (negotiated : ServerNegotiated plain_machine limit state pieces taken sent last)
-    → last.standing ≡ LoggedIn → PlainServes state.provider negotiated.events last.state
+PlainServersLogIn = (state : PlainServer) (server : ServerBy plain_machine state) → server.last.standing ≡ LoggedIn
+    → PlainServes state.provider server.connection.events server.last.state

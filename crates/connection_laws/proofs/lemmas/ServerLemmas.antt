@@ -33,21 +33,24 @@ mock_runs_serve provider nobody names events replies last holds run =
 
 pub mock_servers_serve : MockServersServe hiding_machine (λ provider nobody. hiding provider nobody Initial)
     (λ (server : HidingServer). named_in server.state)
-mock_servers_serve provider nobody names limit pieces taken sent last n holds =
-    mock_runs_serve provider nobody names n.events n.replies last.state holds n.run
+mock_servers_serve provider nobody names server holds =
+    let n = server.connection in
+    mock_runs_serve provider nobody names n.events n.replies server.last.state holds n.run
 
 pub one_of_servers_split : {S T : Type 0} (names : S → List (List ℕ)) (others : T → List (List ℕ)) (machine : Machine S)
     (other : Machine T) → OneOfServersSplit names others machine other
-one_of_servers_split names others machine other limit state pieces taken sent last n =
-    one_of_runs names others machine other state last.state n.events n.replies n.run
+one_of_servers_split names others machine other state server =
+    let n = server.connection in
+    one_of_runs names others machine other state server.last.state n.events n.replies n.run
 
 pub offering_servers_pass_on : {S : Type 0} (names : S → List (List ℕ)) (machine : Machine S)
     → OfferingServersPassOn names machine
-offering_servers_pass_on names machine limit state pieces taken sent last n =
-    offering_runs names machine state last.state n.events n.replies n.run
+offering_servers_pass_on names machine state server =
+    let n = server.connection in offering_runs names machine state server.last.state n.events n.replies n.run
 
 pub offering_servers_name_users : {S T : Type 0} (names : S → List (List ℕ)) (others : T → List (List ℕ))
     (machine : Machine S) (other : Machine T) → OfferingServersNameUsers names others machine other
-offering_servers_name_users names others machine other user other_user limit state pieces taken sent last name n fresh
-    is =
-    offered_names_users names others machine other user other_user state last.state n.events n.replies name n.run fresh is
+offering_servers_name_users names others machine other user other_user state server name fresh is =
+    let n = server.connection in
+    offered_names_users names others machine other user other_user state server.last.state n.events n.replies name n.run
+    fresh is
