@@ -227,7 +227,7 @@ some_answer (client_states.Complete keys) side text = (Err IllegalClientState, s
 some_answer (client_states.ClientFirstSent nonce bare) side text =
     let read = some_server_first (holding side nonce) text in go read.0 read.1
   where
-    go : (read : Result ServerFirst ScramErrorKind) → ReadsServerFirst (holding side nonce) text read
+    go : (read : Result ServerFirst ScramErrorKind) → ReadsServerFirst nonce side.secret side.limits text read
         → (answer : Result (List ℕ) ScramErrorKind) × (after : ClientSide)
         × AnswersIn (client_states.ClientFirstSent nonce bare) side text answer after
     go (Ok first) reads = let answer = answer_of side.version side.secret bare text first in (
