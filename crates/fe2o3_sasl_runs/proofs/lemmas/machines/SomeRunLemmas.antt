@@ -28,11 +28,11 @@ use Rattle.fe2o3_scram.proofs.lemmas.messages.SomeReadingLemmas.{some_client_fir
 use Rattle.fe2o3_scram.proofs.lemmas.texts.DecisionLemmas.{Decided, same_or, utf8_or}
 use Rattle.fe2o3_sasl_runs.specs.Events.{Given, ServerSays, Failed, ClientSays, Started, Answered, Reported, Refused, ClientFault, NotImplemented, Scram, Frame, OutOfMemory}
 use Rattle.fe2o3_sasl_runs.specs.Laws.{BodiesAreBytes, SomeServerHistory, SomeClientHistory}
-use Rattle.fe2o3_sasl_runs.specs.Runs.{Runs, AcceptorGives, AcceptorSteps, ProfileGives, ProfileSteps, Replies, SendsCanonical, server_says}
+use Rattle.fe2o3_sasl_runs.specs.Runs.{Runs, AcceptorGives, AcceptorSteps, ProfileGives, ProfileSteps, Replies, SendsCanonical}
 use Rattle.fe2o3_sasl_runs.specs.SaslAcceptor.{ScramAcceptor, acceptor_machine, ends_with, server_frame}
 use Rattle.fe2o3_sasl_runs.specs.Profiles.{ScramProfile, profile_machine, client_frame, initial_response}
 use Rattle.fe2o3_sasl_runs.specs.Complete.{ServerComplete, ClientComplete}
-use Rattle.fe2o3_sasl_runs.specs.Bodies.{SpellsBody}
+use Rattle.fe2o3_sasl_runs.specs.Bodies.{SpellsBody, server_says}
 use Rattle.fe2o3_sasl_runs.proofs.lemmas.machines.ClientMachineLemmas.{profile_runs_are_histories}
 use Rattle.fe2o3_sasl_runs.proofs.lemmas.machines.MemoryLemmas.{no_want, scram_tells}
 use Rattle.fe2o3_sasl_runs.proofs.lemmas.machines.ServerMachineLemmas.{acceptor_runs_are_histories}
