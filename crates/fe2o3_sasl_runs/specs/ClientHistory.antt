@@ -17,7 +17,7 @@ use Rattle.fe2o3_sasl_runs.specs.Events.{Given, Login, ClientSays, Started, Answ
 use Rattle.fe2o3_scram.specs.Hmac.{mechanism_name}
 use Rattle.fe2o3_sasl_runs.specs.Positions.{OpenBy}
 use Rattle.fe2o3_scram.specs.ServerFinal.{ReadsServerFinal}
-use Rattle.fe2o3_scram.specs.ServerFirst.{Client, ServerFirst, ReadsServerFirst, client_of}
+use Rattle.fe2o3_scram.specs.ServerFirst.{ServerFirst, ReadsServerFirst}
 use Rattle.fe2o3_sasl_runs.specs.Bodies.{carried, SpellsBody}
 
 -- an answer: the client's nonce, the server-first message, and what that names
@@ -25,10 +25,6 @@ pub record Answering : Type 0 where
   pub nonce : List ℕ
   pub text : List ℕ
   pub first : ServerFirst
-
--- what the client holds against a server-first message
-abbrev pub client_at : Login → List ℕ → Client
-client_at login nonce = client_of nonce login.secret login.limits
 
 -- its answer
 abbrev pub answer_at : Login → Answering → Answer
@@ -50,11 +46,11 @@ says_answer login answer = carried (Refused (Frame faults.TooLarge)) (λ body. A
 -- a challenge is read in this order: it is UTF-8, a challenge is due, and then every test of a server-first message
 abbrev pub ReadsChallenge : Login → (List ℕ → Type 0) → List ℕ → Result Answering ScramErrorKind → Type 0
 ReadsChallenge login Due text (Ok answer) = IsUtf8 text × (answer.text ≡ text) × Due answer.nonce
-    × ReadsServerFirst (client_at login answer.nonce) text (Ok answer.first)
+    × ReadsServerFirst answer.nonce login.secret login.limits text (Ok answer.first)
 ReadsChallenge login Due text (Err kind) =
     (¬ IsUtf8 text × (kind ≡ Utf8Error))
     ⊎ ((IsUtf8 text × ((nonce : List ℕ) → ¬ Due nonce) × (kind ≡ IllegalClientState))
-    ⊎ (IsUtf8 text × ((nonce : List ℕ) × Due nonce × ReadsServerFirst (client_at login nonce) text (Err kind))))
+    ⊎ (IsUtf8 text × ((nonce : List ℕ) × Due nonce × ReadsServerFirst nonce login.secret login.limits text (Err kind))))
 
 -- the data of an outcome Ok is read in this order: there is data, an answer is open, and then every test of a
 -- server-final message

@@ -1,5 +1,5 @@
 -- What holds of every history, and of every two. Each is the contract of a function of `laws` of `fe2o3_sasl`.
-use Rattle.std.specs.Prelude.{◌≡◌, ◌≢◌, ◌↔◌, ◌⊎◌, ℕ, suc, ◌<◌, ◌≤◌, Bool, true, false, Option, Some, List, length, take, slice_get, Ok}
+use Rattle.std.specs.Prelude.{◌≡◌, ◌≢◌, ◌↔◌, ◌⊎◌, ℕ, suc, ◌<◌, ◌≤◌, Bool, true, false, Option, Some, None, List, length, take, slice_get, Ok}
 use Rattle.std.specs.List.{Contains, filter}
 use Rattle.fe2o3_sasl_wire.specs.declared.amqp_types.SaslCode.TheVariants as outcomes
 use Rattle.fe2o3_sasl_wire.specs.declared.sasl_frames.error.Error.TheVariants as faults
@@ -16,8 +16,8 @@ use Rattle.fe2o3_sasl_runs.specs.Runs.{Runs, AcceptorSteps, ProfileReplies, Prof
 use Rattle.fe2o3_sasl_runs.specs.SaslAcceptor.{acceptor_machine, acceptor_user, Acceptor, ScramAcceptor}
 use Rattle.fe2o3_sasl_runs.specs.Profiles.{scram_profile, Profile, StepAllocates}
 use Rattle.fe2o3_sasl_runs.specs.Positions.{test_at, IsLastOpen}
-use Rattle.fe2o3_sasl_runs.specs.Bodies.{SpellsBody}
-use Rattle.fe2o3_sasl_runs.specs.ServerHistory.{Challenging, Accepted, AcceptsAt, LoggedIn, Open, ServerHistory, is_challenge, is_ok, full_nonce, says_auth}
+use Rattle.fe2o3_sasl_runs.specs.Bodies.{SpellsBody, says_frame}
+use Rattle.fe2o3_sasl_runs.specs.ServerHistory.{Challenging, Accepted, AcceptsAt, LoggedIn, Open, ServerHistory, is_challenge, is_ok, full_nonce}
 use Rattle.fe2o3_scram.specs.ScramServer as server_states
 use Rattle.fe2o3_sasl_runs.specs.TwoSides.{Sides, Histories, Takes, Shows, Agree, HasParts, IsPlainInit, client_message, server_message}
 use Rattle.fe2o3_sasl_runs.specs.Headline.{VerifierAgrees}
@@ -102,7 +102,8 @@ RepeatedResponsesAreRefused = (provider : Provider) (events : List Given) (repli
     → ServerHistory provider events replies → n < k → slice_get replies n ≡ Some (Concluded outcomes.Ok body)
     → ((i : ℕ) → n < i → i < k → test_at is_challenge (slice_get replies i) ≡ false)
     → slice_get events k ≡ Some event → SpellsBody event.body (Ok (frames.Response text))
-    → slice_get replies k ≡ Some says → (says ≡ says_auth) ⊎ (says ≡ Failed faults.OutOfMemory)
+    → slice_get replies k ≡ Some says
+    → (says ≡ says_frame (frames.Outcome outcomes.Auth None)) ⊎ (says ≡ Failed faults.OutOfMemory)
 
 -- a response text that is accepted under two challenges was made for one full nonce
 abbrev pub OneResponseOneNonce : Type 0

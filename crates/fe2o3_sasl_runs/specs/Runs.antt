@@ -9,7 +9,7 @@ use Rattle.fe2o3_scram.specs.declared.hmac.ScramVersion.{ScramVersion}
 use Rattle.fe2o3_scram.specs.ClientSecret.{Password, up_to}
 use Rattle.fe2o3_scram.specs.Passwords.{Typed}
 use Rattle.fe2o3_sasl_runs.specs.Events.{Given, Login, ServerSays, Challenged, Concluded, Failed, ClientSays, Started, Answered, Reported, Refused, ClientFault, Frame, OutOfMemory}
-use Rattle.fe2o3_sasl_runs.specs.Bodies.{SpellsBody, carried}
+use Rattle.fe2o3_sasl_runs.specs.Bodies.{SpellsBody, carried, server_says}
 use Rattle.fe2o3_sasl_runs.specs.Profiles.{Profile, profile_machine, scram_profile, StepAllocates}
 use Rattle.fe2o3_sasl_runs.specs.ProfileFaults.{client_fault}
 use Rattle.fe2o3_sasl_runs.specs.Hex.{SpellsHex}
@@ -26,11 +26,6 @@ use Rattle.fe2o3_sasl_runs.specs.declared.sasl_profile.error.ProfileError.{Profi
 abbrev pub SendsCanonical : {S A : Type 0} → A → (List ℕ → A) → Option (List ℕ) → S → S → A → S → Type 0
 SendsCanonical too_large says body state moved reply next =
     (reply ≡ carried too_large says body) × (next ≡ carried state (λ _. moved) body)
-
--- what a server says with a frame in this body
-abbrev pub server_says : SaslFrame → List ℕ → ServerSays
-server_says (frames.Outcome code more) body = Concluded code body
-server_says frame body = Challenged body
 
 -- what a machine of an acceptor answers to a frame that it takes: its reply, or want of memory, where the state stays
 abbrev pub AcceptorAnswers : {S : Type 0} → (S → List ℕ → SaslFrame → SaslFrame → S → Type 0) → S → List ℕ → SaslFrame

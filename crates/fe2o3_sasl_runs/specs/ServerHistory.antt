@@ -4,13 +4,13 @@ use Rattle.std.specs.Prelude.{◌≡◌, ◌⊎◌, ℕ, Bool, true, false, Some
 use Rattle.fe2o3_sasl_wire.specs.declared.amqp_types.SaslCode.TheVariants as outcomes
 use Rattle.fe2o3_sasl_wire.specs.declared.sasl_frames.error.Error.{Error}
 use Rattle.fe2o3_sasl_wire.specs.declared.sasl_frames.error.Error.TheVariants as faults
-use Rattle.fe2o3_sasl_wire.specs.SaslFrames.{canonical, SaslFrame}
+use Rattle.fe2o3_sasl_wire.specs.SaslFrames.{SaslFrame}
 use Rattle.fe2o3_sasl_wire.specs.SaslFrames as frames
 use Rattle.fe2o3_scram.specs.Texts.{base64_text}
 use Rattle.fe2o3_scram.specs.ServerFirst.{server_first_of}
 use Rattle.fe2o3_scram.specs.ClientFirst.{ClientFirst, ReadsClientFirst}
 use Rattle.fe2o3_scram.specs.Credentials.{Record, Provider, record_at}
-use Rattle.fe2o3_sasl_runs.specs.Bodies.{SpellsBody, carried}
+use Rattle.fe2o3_sasl_runs.specs.Bodies.{SpellsBody, says_frame}
 use Rattle.fe2o3_sasl_runs.specs.Events.{Given, ServerSays, Challenged, Concluded, Failed}
 use Rattle.fe2o3_scram.specs.Hmac.{mechanism_name}
 use Rattle.fe2o3_sasl_runs.specs.Positions.{OpenBy}
@@ -67,32 +67,21 @@ FitsAsResponse provider IsOpen frame accepted = ⊥
 abbrev pub final_message : Provider → Accepted → List ℕ
 final_message provider accepted = server_final_of (server_at provider accepted.challenge) accepted.final
 
--- the reply of a challenge
-abbrev pub says_challenge : Challenging → ServerSays
-says_challenge challenge = carried (Failed faults.TooLarge) (λ body. Challenged body)
-    (canonical (frames.Challenge (first_message challenge)))
-
 -- the reply of an Ok, with the server-final message
 abbrev pub says_ok : Provider → Accepted → ServerSays
-says_ok provider accepted = carried (Failed faults.TooLarge) (λ body. Concluded outcomes.Ok body)
-    (canonical (frames.Outcome outcomes.Ok (Some (final_message provider accepted))))
-
--- the reply of a refusal
-abbrev pub says_auth : ServerSays
-says_auth = carried (Failed faults.TooLarge) (λ body. Concluded outcomes.Auth body)
-    (canonical (frames.Outcome outcomes.Auth None))
+says_ok provider accepted = says_frame (frames.Outcome outcomes.Ok (Some (final_message provider accepted)))
 
 -- the reply to a body that spells this, where these challenges are open
 abbrev pub ServerAnswers : Provider → (Challenging → Type 0) → Given → Result SaslFrame Error → ServerSays → Type 0
 ServerAnswers provider IsOpen event (Err fault) says = says ≡ Failed fault
 ServerAnswers provider IsOpen event (Ok (frames.Init mechanism response hostname)) says =
     let Fits = FitsAsInit provider event (frames.Init mechanism response hostname) in
-    ((challenge : Challenging) × Fits challenge × (says ≡ says_challenge challenge))
-    ⊎ (((challenge : Challenging) → ¬ Fits challenge) × (says ≡ says_auth))
+    ((challenge : Challenging) × Fits challenge × (says ≡ says_frame (frames.Challenge (first_message challenge))))
+    ⊎ (((challenge : Challenging) → ¬ Fits challenge) × (says ≡ says_frame (frames.Outcome outcomes.Auth None)))
 ServerAnswers provider IsOpen event (Ok (frames.Response text)) says =
     let Fits = FitsAsResponse provider IsOpen (frames.Response text) in
     ((accepted : Accepted) × Fits accepted × (says ≡ says_ok provider accepted))
-    ⊎ (((accepted : Accepted) → ¬ Fits accepted) × (says ≡ says_auth))
+    ⊎ (((accepted : Accepted) → ¬ Fits accepted) × (says ≡ says_frame (frames.Outcome outcomes.Auth None)))
 ServerAnswers provider IsOpen event (Ok frame) says = says ≡ Failed faults.NotImplemented
 
 -- the replies that memory may be wanting for: those to an init and to a response

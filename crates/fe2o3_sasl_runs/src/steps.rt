@@ -2,6 +2,7 @@
 //! writes the answer, and keeps the new state last.
 
 ghost use Rattle.std.specs.Prelude.{◌≡◌, ◌↔◌, ◌≤◌, ◌^◌, true, ℕ, List, Option, Some, IfOk, IfErr, OnErr};
+ghost use Rattle.fe2o3_sasl_runs.specs.Bodies.{server_says};
 ghost use Rattle.std.specs.List.{Contains};
 ghost use Rattle.fe2o3_sasl_wire.specs.FrameView.{shown, viewed_frame};
 ghost use Rattle.fe2o3_sasl_wire.specs.Owned.{owned_frame};
@@ -10,7 +11,7 @@ ghost use Rattle.fe2o3_sasl_runs.specs.Costs.{CostsAtMost, AcceptorStepCosts, Pr
 ghost use Rattle.fe2o3_sasl_runs.specs.SaslAcceptor.{sent_frame};
 ghost use Rattle.fe2o3_sasl_runs.specs.Profiles.{profile_name, StepAllocates};
 ghost use Rattle.fe2o3_sasl_runs.specs.SaslProfile.{profile_of};
-ghost use Rattle.fe2o3_sasl_runs.specs.Runs.{AcceptorAnswers, AcceptorSteps, ProfileReplies, ProfileSteps, server_says, given, server_answer, server_reply, client_answer};
+ghost use Rattle.fe2o3_sasl_runs.specs.Runs.{AcceptorAnswers, AcceptorSteps, ProfileReplies, ProfileSteps, given, server_answer, server_reply, client_answer};
 ghost use Rattle.fe2o3_sasl_runs.specs.private.Writing.{IsRequest, Writes, WritesBody};
 
 use crate::OutOfMemory;

@@ -10,7 +10,7 @@ use Rattle.fe2o3_scram.specs.Extensions.{NoneMisplaced}
 use Rattle.fe2o3_scram.specs.Hmac.{hmac_of}
 use Rattle.fe2o3_scram.specs.Keys.{auth_message}
 use Rattle.fe2o3_scram.specs.Laws.{HoldsBytes}
-use Rattle.fe2o3_scram.specs.ScramClient.{ClientSide, AnswersIn, BelievesIn, holding, started}
+use Rattle.fe2o3_scram.specs.ScramClient.{ClientSide, AnswersIn, BelievesIn, started}
 use Rattle.fe2o3_scram.specs.ScramServer.{ServerState, ChallengesFrom, ConcludesFrom, server_against}
 use Rattle.fe2o3_scram.specs.ServerFirst.{ServerChallenge, ServerFirst, ReadsServerFirst, challenge_of}
 use Rattle.fe2o3_scram.specs.Texts.{Part, Parts, base64_text}
@@ -37,7 +37,7 @@ pub record AcceptedTexts (provider : Provider) (nonce init response last : List 
 -- what the client knows: what the server-first message named to it
 pub record ClientKnows (side : ClientSide) (nonce text : List ℕ) : Type 0 where
   pub first : ServerFirst
-  pub reads : ReadsServerFirst (holding side (base64_text nonce)) text (Ok first)
+  pub reads : ReadsServerFirst (base64_text nonce) side.secret side.limits text (Ok first)
 
 -- what the server knows: what the client-first message named to it, the record of its user, and what the client-final
 -- message named

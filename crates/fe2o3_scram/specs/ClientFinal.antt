@@ -1,12 +1,12 @@
 -- The client-final message (RFC 5802, section 7), as the client writes it and as the server reads it.
-use Rattle.std.specs.Prelude.{ℕ, List, [], ◌∷◌, ◌++◌, ◌≡◌, codes, Result, Ok, Err, ◌≢◌, ◌⊎◌, length, Bool, ◌&&◌, if◌then◌else◌, nat_eq}
+use Rattle.std.specs.Prelude.{ℕ, List, [], ◌∷◌, ◌++◌, ◌≡◌, codes, Result, Ok, Err, ◌≢◌, ◌⊎◌, length, Bool, ◌&&◌, if◌then◌else◌, nat_eq, take}
 use Rattle.std.specs.Cmp.Lexicographic.{pointwise}
 use Rattle.fe2o3_scram.specs.declared.scram_messages.client_final.ClientAnswer.{ClientAnswer}
 use Rattle.fe2o3_scram.specs.declared.hmac.ScramVersion.{ScramVersion}
 use Rattle.fe2o3_scram.specs.declared.scram_messages.gs2_header.Gs2Header.{Gs2Header}
 use Rattle.fe2o3_scram.specs.declared.scram_messages.gs2_header.Gs2Header.TheVariants.{Unsupported}
 use Rattle.fe2o3_scram.specs.ClientFirst.{header_text}
-use Rattle.fe2o3_scram.specs.Texts.{base64_text, joined, Part, LastPart}
+use Rattle.fe2o3_scram.specs.Texts.{base64_text, joined, Part, LastPart, HasBase64}
 use Rattle.fe2o3_scram.specs.Keys.{auth_message, client_proof, server_signature, recovered_client_key, MeetsStoredKey}
 use Rattle.fe2o3_scram.specs.ClientKeys.{ClientKeys, keys_of}
 use Rattle.fe2o3_scram.specs.ClientSecret.{Secret, Password, Keys, Both}
@@ -101,10 +101,6 @@ server_of version header bare first nonce stored = record {
   stored = stored;
 }
 
--- the first part is this channel binding (RFC 5802, section 5.1)
-abbrev pub HasBinding : List ℕ → List ℕ → Type 0
-HasBinding text binding = IsBytes binding × Part text 0 (codes "c=" ++ base64_text binding)
-
 -- the last part is this proof, and this stands before it (RFC 5802, section 5.1)
 abbrev pub HasProof : List ℕ → ClientFinal → Type 0
 HasProof text final = IsBytes final.proof × LastPart text final.without (codes "p=" ++ base64_text final.proof)
@@ -122,46 +118,33 @@ Meets server final = MeetsStoredKey server.version server.stored.stored_key fina
 -- the message repeats the GS2 header in place of a channel binding, and names the nonce of both sides and these values
 -- (RFC 5802, section 5.1)
 pub record NamesClientFinal (header : Gs2Header) (both text : List ℕ) (final : ClientFinal) : Type 0 where
-  pub binding : HasBinding text (header_text header)
+  pub binding : HasBase64 text 0 (codes "c=") (header_text header)
   pub nonce : Part text 1 (codes "r=" ++ both)
   pub proof : HasProof text final
 
--- the server's tests of the channel binding (RFC 5802, section 5.1), in their order
-abbrev pub binding_tests : Gs2Header → List ℕ → List (ServerScramErrorKind × Type 0)
-binding_tests header text =
-    (CannotParseClientFinalMessage, (rest : List ℕ) → ¬ Part text 0 (codes "c=" ++ rest))
-    ∷ (Base64DecodeError, (binding : List ℕ) → ¬ HasBinding text binding)
-    ∷ (InvalidChannelBinding, ¬ HasBinding text (header_text header))
-    ∷ []
-
--- its tests of the nonce (RFC 5802, section 5.1)
-abbrev pub final_nonce_tests : List ℕ → List ℕ → List (ServerScramErrorKind × Type 0)
-final_nonce_tests nonce text =
-    (CannotParseClientFinalMessage, (rest : List ℕ) → ¬ Part text 1 (codes "r=" ++ rest))
+-- the server's tests of the text (RFC 5802, section 5.1; UTF-8: RFC 3629, section 3), in their order: of the channel
+-- binding, of the nonce, and of how the proof is spelled
+abbrev pub final_text_tests : Gs2Header → List ℕ → List ℕ → List (ServerScramErrorKind × Type 0)
+final_text_tests header nonce text =
+    (Utf8Error, ¬ IsUtf8 text)
+    ∷ (CannotParseClientFinalMessage, (rest : List ℕ) → ¬ Part text 0 (codes "c=" ++ rest))
+    ∷ (Base64DecodeError, (binding : List ℕ) → ¬ HasBase64 text 0 (codes "c=") binding)
+    ∷ (InvalidChannelBinding, ¬ HasBase64 text 0 (codes "c=") (header_text header))
+    ∷ (CannotParseClientFinalMessage, (rest : List ℕ) → ¬ Part text 1 (codes "r=" ++ rest))
     ∷ (IncorrectClientFinalNonce, ¬ Part text 1 (codes "r=" ++ nonce))
-    ∷ []
-
--- its tests of how the proof is spelled (RFC 5802, section 5.1)
-abbrev pub spelling_tests : List ℕ → List (ServerScramErrorKind × Type 0)
-spelling_tests text =
-    (ProofNotFoundInClientFinal, (before rest : List ℕ) → ¬ LastPart text before (codes "p=" ++ rest))
+    ∷ (ProofNotFoundInClientFinal, (before rest : List ℕ) → ¬ LastPart text before (codes "p=" ++ rest))
     ∷ (Base64DecodeError, (final : ClientFinal) → ¬ HasProof text final)
     ∷ []
-
--- all its tests of the text (UTF-8: RFC 3629, section 3), in their order
-abbrev pub final_text_tests : Gs2Header → List ℕ → List ℕ → List (ServerScramErrorKind × Type 0)
-final_text_tests header nonce text = (Utf8Error, ¬ IsUtf8 text)
-    ∷ (binding_tests header text ++ (final_nonce_tests nonce text ++ spelling_tests text))
 
 -- the server comes to a channel binding that is not its own, for which it asks for memory (RFC 5802, section 5.1)
 abbrev pub ReachesBinding : Gs2Header → List ℕ → Type 0
 ReachesBinding header text =
-    ((rest : List ℕ) × Part text 0 (codes "c=" ++ rest)) × ¬ HasBinding text (header_text header)
+    ((rest : List ℕ) × Part text 0 (codes "c=" ++ rest)) × ¬ HasBase64 text 0 (codes "c=") (header_text header)
 
--- the server comes to the proof, for which it asks for memory: binding and nonce have passed their tests, and the last
--- part is a proof (RFC 5802, section 5.1)
+-- the server comes to the proof, for which it asks for memory: the tests up to that of the nonce have passed, and the
+-- last part is a proof (RFC 5802, section 5.1)
 abbrev pub ReachesProof : Gs2Header → List ℕ → List ℕ → Type 0
-ReachesProof header nonce text = NoneHolds (binding_tests header text) × NoneHolds (final_nonce_tests nonce text)
+ReachesProof header nonce text = NoneHolds (take 6 (final_text_tests header nonce text))
     × ((before : List ℕ) × (rest : List ℕ) × LastPart text before (codes "p=" ++ rest))
 
 -- the server comes to ask for memory (RFC 5802, section 5.1), with this header and this nonce of both sides

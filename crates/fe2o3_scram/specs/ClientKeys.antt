@@ -23,14 +23,11 @@ abbrev pub keys_with : ScramVersion → List ℕ → ℕ → List ℕ → List �
 keys_with version salt count client server =
     record { version = version; salt = salt; count = count; client_key = client; server_key = server }
 
--- the keys of a salted password (RFC 5802, section 3), which is of this salt and this count
-abbrev pub keys_of_salted : ScramVersion → List ℕ → ℕ → List ℕ → ClientKeys
-keys_of_salted version salt count salted =
-    keys_with version salt count (client_key version salted) (server_key version salted)
-
 -- the keys of a password with this salt and this count (RFC 5802, section 3)
 abbrev pub keys_of : ScramVersion → List ℕ → List ℕ → ℕ → ClientKeys
-keys_of version password salt count = keys_of_salted version salt count (salted_of version password salt count)
+keys_of version password salt count = let salted = salted_of version password salt count in
+    let client = client_key version salted in let server = server_key version salted in
+    record { version = version; salt = salt; count = count; client_key = client; server_key = server }
 
 -- what comes of making the keys of a password (RFC 5802, section 3): the first refusal that holds, or its keys
 abbrev pub MakesKeys : ScramVersion → PasswordText → List ℕ → ℕ → Result ClientKeys RecordError → Type 0

@@ -3,7 +3,7 @@ use Rattle.std.specs.Prelude.{ℕ, List, [], ◌∷◌, codes, Bool, ◌++◌, �
 use Rattle.std.specs.Str.{IsUtf8}
 use Rattle.base64.specs.GeneralPurpose.{IsBytes}
 use Rattle.fe2o3_scram.specs.declared.hmac.ScramVersion.{ScramVersion}
-use Rattle.fe2o3_scram.specs.ServerFirst.{client_of, server_first_of, ServerFirst, ReadsServerFirst}
+use Rattle.fe2o3_scram.specs.ServerFirst.{server_first_of, ServerFirst, ReadsServerFirst}
 use Rattle.fe2o3_scram.specs.ClientFinal.{Answer, answer_by, keys_for, Server, server_of, ClientFinal, ReadsClientFinal}
 use Rattle.fe2o3_scram.specs.declared.scram_messages.gs2_header.Gs2Header.{Gs2Header}
 use Rattle.fe2o3_scram.specs.ClientFirst.{TakesHeader, client_first_bare, header_text, ReadsClientFirst}
@@ -110,6 +110,6 @@ final_in x = record {
 pub record Succeeds (x : Exchange) : Type 0 where
   pub client_first : ReadsClientFirst x.unbound (client_first_with x.header x.user x.client_nonce)
       (Ok (record { header = x.header; user = x.user; nonce = x.client_nonce; bare = bare_in x }))
-  pub server_first : ReadsServerFirst (client_of x.client_nonce x.secret x.limits) (first_in x) (Ok (named_in x))
+  pub server_first : ReadsServerFirst x.client_nonce x.secret x.limits (first_in x) (Ok (named_in x))
   pub client_final : ReadsClientFinal (server_in x) (answer_in x).message (Ok (final_in x))
   pub server_final : ReadsServerFinal (answer_in x).signature (server_final_of (server_in x) (final_in x)) (Ok tt)

@@ -4,13 +4,9 @@ use Rattle.std.specs.Prelude.{ℕ, List, ◌∷◌, ◌≡◌, ◌⊎◌, ◌≤
 use Rattle.std.specs.List.{list_any}
 use Rattle.fe2o3_scram.specs.Texts.{Part}
 
--- the letters of the attributes that RFC 5802 defines (section 5.1)
-abbrev pub attribute_letters : List ℕ
-attribute_letters = codes "anmrcsipve"
-
--- whether the part is an attribute that RFC 5802 defines: one of these letters, followed by an equals sign
+-- whether the part is an attribute that RFC 5802 defines (section 5.1): one of its letters, followed by an equals sign
 abbrev pub is_attribute : List ℕ → Bool
-is_attribute (letter ∷ sign ∷ value) = nat_eq sign 61 && list_any (nat_eq letter) attribute_letters
+is_attribute (letter ∷ sign ∷ value) = nat_eq sign 61 && list_any (nat_eq letter) (codes "anmrcsipve")
 is_attribute part = false
 
 -- the text has such an attribute at place k or later, counted from 0

@@ -25,14 +25,15 @@ auth_message bare first without_proof = joined (bare ∷ first ∷ without_proof
 abbrev pub client_signature : ScramVersion → List ℕ → List ℕ → List ℕ
 client_signature version stored auth = hmac_of version stored auth
 
--- ClientProof := ClientKey XOR ClientSignature, from the ClientKey and the AuthMessage (RFC 5802, section 3)
+-- ClientProof := ClientKey XOR ClientSignature, from the ClientKey and the AuthMessage (RFC 5802, section 3), where
+-- ClientSignature := HMAC(StoredKey, AuthMessage) and StoredKey := H(ClientKey)
 abbrev pub client_proof : ScramVersion → List ℕ → List ℕ → List ℕ
-client_proof version key auth = exclusive_or key (client_signature version (stored_key version key) auth)
+client_proof version key auth = exclusive_or key (hmac_of version (digest version key) auth)
 
--- the key that a server recovers from a proof: ClientProof XOR ClientSignature, from the StoredKey, the
+-- the key that a server recovers from a proof: ClientProof XOR HMAC(StoredKey, AuthMessage), from the StoredKey, the
 -- ClientProof and the AuthMessage (RFC 5802, section 3)
 abbrev pub recovered_client_key : ScramVersion → List ℕ → List ℕ → List ℕ → List ℕ
-recovered_client_key version stored proof auth = exclusive_or proof (client_signature version stored auth)
+recovered_client_key version stored proof auth = exclusive_or proof (hmac_of version stored auth)
 
 -- the call gives a value, and this fact of it, exactly where the text of its exclusive or is as long as a digest
 abbrev pub OkWhereSized : {X F : Type 0} → ScramVersion → List ℕ → Result X F → (X → Type 0) → Type 0
@@ -46,7 +47,7 @@ CostsOne result before after = MatchResult result (λ _. after ≡ before + 1) (
 -- the proof meets the StoredKey (RFC 5802, section 3): H(ClientKey) = StoredKey of the ClientKey that is recovered
 -- from it
 abbrev pub MeetsStoredKey : ScramVersion → List ℕ → List ℕ → List ℕ → Type 0
-MeetsStoredKey version stored proof auth = stored_key version (recovered_client_key version stored proof auth) ≡ stored
+MeetsStoredKey version stored proof auth = digest version (recovered_client_key version stored proof auth) ≡ stored
 
 -- ServerSignature := HMAC(ServerKey, AuthMessage) (RFC 5802, section 3)
 abbrev pub server_signature : ScramVersion → List ℕ → List ℕ → List ℕ

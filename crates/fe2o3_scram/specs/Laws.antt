@@ -77,7 +77,8 @@ NoCommaInEscapedNames = (name : List ℕ) → NoComma (escaped name)
 -- a server-first message has at most one answer
 abbrev pub OneServerFirst : Type 0
 OneServerFirst = (client : Client) (text : List ℕ) (answer other : Result ServerFirst ScramErrorKind)
-    → ReadsServerFirst client text answer → ReadsServerFirst client text other → answer ≡ other
+    → ReadsServerFirst client.nonce client.secret client.limits text answer
+    → ReadsServerFirst client.nonce client.secret client.limits text other → answer ≡ other
 
 -- a client-first message has at most one answer
 abbrev pub OneClientFirst : Type 0
@@ -116,7 +117,8 @@ SomeClientFirst = (unbound : Bool) (text : List ℕ)
 -- a server-first message has an answer
 abbrev pub SomeServerFirst : Type 0
 SomeServerFirst = (client : Client) (text : List ℕ)
-    → (answer : Result ServerFirst ScramErrorKind) × ReadsServerFirst client text answer
+    → (answer : Result ServerFirst ScramErrorKind)
+    × ReadsServerFirst client.nonce client.secret client.limits text answer
 
 -- a client-final message has an answer
 abbrev pub SomeClientFinal : Type 0

@@ -69,7 +69,7 @@ AnswersIn (ClientFirstSent nonce bare) side text (Ok message) next =
     (answer : Answer) × AnswersServerFirst side.version (holding side nonce) bare text (Ok answer)
     × (message ≡ answer.message) × (next ≡ with_state side (ClientFinalSent answer.signature (Some answer.keys)))
 AnswersIn (ClientFirstSent nonce bare) side text (Err fault) next =
-    ReadsServerFirst (holding side nonce) text (Err fault) × (next ≡ side)
+    ReadsServerFirst nonce side.secret side.limits text (Err fault) × (next ≡ side)
 AnswersIn state side text (Ok message) next = ⊥
 AnswersIn state side text (Err fault) next = (fault ≡ IllegalClientState) × (next ≡ side)
 

@@ -1,10 +1,9 @@
 -- The server-final message (RFC 5802, section 7), as the server writes it and as the client reads it.
 use Rattle.std.specs.Prelude.{ℕ, List, [], ◌∷◌, ◌++◌, ◌≡◌, ◌≢◌, ◌⊎◌, ◌≤◌, ◌+◌, codes, Result, Ok, Err}
 use Rattle.std.specs.Str.{IsUtf8}
-use Rattle.base64.specs.GeneralPurpose.{IsBytes}
 use Rattle.fe2o3_scram.specs.declared.scram_messages.error.ServerScramErrorKind.{ServerScramErrorKind}
 use Rattle.fe2o3_scram.specs.declared.scram_messages.error.ServerScramErrorKind.TheVariants.{AuthenticationFailed, OutOfMemory}
-use Rattle.fe2o3_scram.specs.Texts.{base64_text, Part}
+use Rattle.fe2o3_scram.specs.Texts.{base64_text, Part, HasBase64}
 use Rattle.fe2o3_scram.specs.ClientFinal.{Server, ClientFinal, ReadsClientFinal}
 use Rattle.fe2o3_scram.specs.Keys.{auth_message, server_signature}
 use Rattle.fe2o3_scram.specs.Readings.{Reads}
@@ -33,16 +32,12 @@ FinalCosts server text (Err OutOfMemory) before after = (before ≤ after) × (a
     × ((fault : ServerScramErrorKind) → ReadsClientFinal server text (Err fault) → after ≡ before)
 FinalCosts server text (Err fault) before after = after ≡ before
 
--- the first part is this signature (RFC 5802, section 5.1)
-abbrev pub HasSignature : List ℕ → List ℕ → Type 0
-HasSignature text signature = IsBytes signature × Part text 0 (codes "v=" ++ base64_text signature)
-
 -- the client's tests of the text (RFC 5802, section 5.1; UTF-8: RFC 3629, section 3), in their order
 abbrev pub server_final_tests : List ℕ → List (ScramErrorKind × Type 0)
 server_final_tests text =
     (Utf8Error, ¬ IsUtf8 text)
     ∷ (ServerSignatureMismatch, (rest : List ℕ) → ¬ Part text 0 (codes "v=" ++ rest))
-    ∷ (Base64DecodeError, (signature : List ℕ) → ¬ HasSignature text signature)
+    ∷ (Base64DecodeError, (signature : List ℕ) → ¬ HasBase64 text 0 (codes "v=") signature)
     ∷ []
 
 -- the client comes to the signature, for which it asks for memory (RFC 5802, section 5.1)
@@ -52,7 +47,7 @@ ReachesVerifier text = IsUtf8 text × ((rest : List ℕ) × Part text 0 (codes "
 -- what the client reads before it looks at the signature that it waits for (RFC 5802, section 5.1): the first refusal
 -- that holds, or the signature that is named; parts after the first say nothing
 unfoldable pub ReadsSignature : List ℕ → Result (List ℕ) ScramErrorKind → Type 0
-ReadsSignature text answer = Reads (server_final_tests text) (HasSignature text) answer
+ReadsSignature text answer = Reads (server_final_tests text) (HasBase64 text 0 (codes "v=")) answer
 
 -- what the client reads (RFC 5802, section 5): the first refusal of the text, that its signature is another one, or
 -- that it is this one

@@ -5,8 +5,7 @@ use Rattle.fe2o3_scram.specs.declared.scram_messages.error.ScramErrorKind.TheVar
 use Rattle.fe2o3_scram.specs.declared.scram_messages.server_first.ServerFirstMessage.{ServerFirstMessage}
 use Rattle.fe2o3_scram.specs.declared.scram_messages.server_first_reading.ServerFirst.{ServerFirst as CodeServerFirst}
 use Rattle.std.specs.Cow.{cow_str_bytes}
-use Rattle.base64.specs.GeneralPurpose.{IsBytes}
-use Rattle.fe2o3_scram.specs.Texts.{base64_text, IsCount, Part, joined}
+use Rattle.fe2o3_scram.specs.Texts.{base64_text, IsCount, Part, joined, HasBase64}
 use Rattle.fe2o3_scram.specs.Readings.{NoneHolds, Reads}
 use Rattle.fe2o3_scram.specs.Passwords.{IsNormal}
 use Rattle.std.specs.Fmt.{decimal}
@@ -28,10 +27,6 @@ pub record ServerFirst : Type 0 where
 abbrev pub server_first_values : CodeServerFirst → ServerFirst
 server_first_values first = record { nonce = first.nonce.now; salt = first.salt.items; count = first.iterations }
 
--- the second part is this salt (RFC 5802, section 5.1)
-abbrev pub HasSalt : List ℕ → List ℕ → Type 0
-HasSalt text salt = IsBytes salt × Part text 1 (codes "s=" ++ base64_text salt)
-
 -- the third part is this count (RFC 5802, section 5.1)
 abbrev pub HasCount : List ℕ → ℕ → Type 0
 HasCount text count = (digits : List ℕ) × Part text 2 (codes "i=" ++ digits) × IsCount digits count
@@ -39,7 +34,7 @@ HasCount text count = (digits : List ℕ) × Part text 2 (codes "i=" ++ digits) 
 -- the message names these values (RFC 5802, section 5.1)
 pub record NamesServerFirst (text : List ℕ) (first : ServerFirst) : Type 0 where
   pub nonce : Part text 0 (codes "r=" ++ first.nonce)
-  pub salt : HasSalt text first.salt
+  pub salt : HasBase64 text 1 (codes "s=") first.salt
   pub count : HasCount text first.count
 
 -- what a client holds against a server-first message (RFC 5802, section 5)
@@ -61,25 +56,9 @@ nonce_tests client_nonce text =
     ∷ (ClientNonceMismatch, (rest : List ℕ) → ¬ Part text 0 (codes "r=" ++ (client_nonce ++ rest)))
     ∷ []
 
--- its tests of the salt (RFC 5802, section 5.1)
-abbrev pub salt_tests : List ℕ → List (ScramErrorKind × Type 0)
-salt_tests text =
-    (SaltNotFound, (rest : List ℕ) → ¬ Part text 1 (codes "s=" ++ rest))
-    ∷ (Base64DecodeError, (salt : List ℕ) → ¬ HasSalt text salt)
-    ∷ []
-
--- its tests of the iteration count (RFC 5802, section 5.1)
-abbrev pub count_tests : IterationLimits → List ℕ → List (ScramErrorKind × Type 0)
-count_tests limits text =
-    (IterationCountNotFound, (rest : List ℕ) → ¬ Part text 2 (codes "i=" ++ rest))
-    ∷ (IterationCountParseError, (count : ℕ) → ¬ HasCount text count)
-    ∷ (IterationCountTooSmall, (count : ℕ) × HasCount text count × (count < limits.least))
-    ∷ (IterationCountTooLarge, (count : ℕ) × HasCount text count × (limits.most < count))
-    ∷ []
-
 -- the message names another salt or another count than the keys are of (RFC 5802, section 5.1)
 abbrev pub NamesOther : ClientKeys → List ℕ → Type 0
-NamesOther keys text = ¬ (HasSalt text keys.salt × HasCount text keys.count)
+NamesOther keys text = ¬ (HasBase64 text 1 (codes "s=") keys.salt × HasCount text keys.count)
 
 -- its test of its secret: a password that is needed (RFC 4013, section 2), and keys alone (RFC 5802, section 3)
 abbrev pub secret_tests : Secret → List ℕ → List (ScramErrorKind × Type 0)
@@ -87,10 +66,17 @@ secret_tests (Password password) text = (NormalizeError, ¬ IsNormal password) �
 secret_tests (Keys keys) text = (OtherKeys, NamesOther keys text) ∷ []
 secret_tests (Both password keys) text = (NormalizeError, NamesOther keys text × ¬ IsNormal password) ∷ []
 
--- all tests of the client, in their order
-abbrev pub server_first_tests : Client → List ℕ → List (ScramErrorKind × Type 0)
-server_first_tests client text = nonce_tests client.nonce text
-    ++ (salt_tests text ++ (count_tests client.limits text ++ secret_tests client.secret text))
+-- all tests of the client, in their order: of the nonce, the salt and the iteration count (RFC 5802, section 5.1), and
+-- of its secret
+abbrev pub server_first_tests : List ℕ → Secret → IterationLimits → List ℕ → List (ScramErrorKind × Type 0)
+server_first_tests client_nonce secret limits text = nonce_tests client_nonce text ++
+    ((SaltNotFound, (rest : List ℕ) → ¬ Part text 1 (codes "s=" ++ rest))
+    ∷ (Base64DecodeError, (salt : List ℕ) → ¬ HasBase64 text 1 (codes "s=") salt)
+    ∷ (IterationCountNotFound, (rest : List ℕ) → ¬ Part text 2 (codes "i=" ++ rest))
+    ∷ (IterationCountParseError, (count : ℕ) → ¬ HasCount text count)
+    ∷ (IterationCountTooSmall, (count : ℕ) × HasCount text count × (count < limits.least))
+    ∷ (IterationCountTooLarge, (count : ℕ) × HasCount text count × (limits.most < count))
+    ∷ secret_tests secret text)
 
 -- the client comes to the salt, for which it asks for memory: the nonce has passed its tests, and the second part is a
 -- salt (RFC 5802, section 5.1)
@@ -100,8 +86,10 @@ ReachesSalt client_nonce text =
 
 -- what the client reads (RFC 5802, section 5.1): the first refusal that holds, or the values that are named; parts
 -- after the third say nothing
-unfoldable pub ReadsServerFirst : Client → List ℕ → Result ServerFirst ScramErrorKind → Type 0
-ReadsServerFirst client text answer = Reads (server_first_tests client text) (NamesServerFirst text) answer
+unfoldable pub ReadsServerFirst : List ℕ → Secret → IterationLimits → List ℕ → Result ServerFirst ScramErrorKind
+    → Type 0
+ReadsServerFirst client_nonce secret limits text answer =
+    Reads (server_first_tests client_nonce secret limits text) (NamesServerFirst text) answer
 
 -- server-first-message (RFC 5802, section 7): the nonce of both sides, and the salt and the count of the record, in
 -- decimal without leading zeros

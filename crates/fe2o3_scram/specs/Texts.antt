@@ -47,6 +47,10 @@ base64_text bytes = encode alphabet 61 true bytes
 abbrev pub IsBase64 : List ℕ → List ℕ → Type 0
 IsBase64 text bytes = IsBytes bytes × (text ≡ base64_text bytes)
 
+-- the text has, at place k, this label and these bytes in base64 (RFC 5802, section 5.1)
+abbrev pub HasBase64 : List ℕ → ℕ → List ℕ → List ℕ → Type 0
+HasBase64 text k label bytes = IsBytes bytes × Part text k (label ++ base64_text bytes)
+
 -- the text is one or more decimal digits, behind a plus or not, whose value is this count, from 1 to 4294967295
 -- (RFC 5802, section 7, `posit-number`)
 abbrev pub IsCount : List ℕ → ℕ → Type 0

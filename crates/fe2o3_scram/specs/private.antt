@@ -5,3 +5,4 @@ pub mod Hashers
 pub mod MadeUp
 pub mod Pieces
 pub mod Serving
+pub mod Tests

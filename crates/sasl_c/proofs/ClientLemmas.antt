@@ -77,7 +77,8 @@ short_answer version key auth nonce text fits =
       short_text proof (short_proof version key auth),
     )
 
-named : (client : Client) (text : List ℕ) (first : ServerFirst) → ReadsServerFirst client text (Ok first)
+named : (client : Client) (text : List ℕ) (first : ServerFirst)
+    → ReadsServerFirst client.nonce client.secret client.limits text (Ok first)
     → NamesServerFirst text first
 unfolding ReadsServerFirst
 named client text first held = held.1

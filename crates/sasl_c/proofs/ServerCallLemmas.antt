@@ -16,13 +16,13 @@ use Rattle.fe2o3_scram.specs.ScramServer.{ChallengesFrom, ServerState, Initial, 
 use Rattle.fe2o3_scram.specs.ServerFirst.{ServerChallenge}
 use Rattle.fe2o3_sasl_runs.specs.declared.one_of.Part.{Part}
 use Rattle.fe2o3_sasl_runs.specs.declared.one_of.Part.TheVariants.{First, Second}
-use Rattle.fe2o3_sasl_runs.specs.Bodies.{carried as sent_or_not}
+use Rattle.fe2o3_sasl_runs.specs.Bodies.{carried as sent_or_not, server_says}
 use Rattle.fe2o3_sasl_runs.specs.Events.{Given, ServerSays, Challenged, Concluded, Failed}
 use Rattle.fe2o3_sasl_runs.specs.ExternalAcceptor.{External, external_machine}
 use Rattle.fe2o3_sasl_runs.specs.OffersOnly.{OfferingReplies, is_passed_on}
 use Rattle.fe2o3_sasl_runs.specs.OneOf.{PartReplies, part_for}
 use Rattle.fe2o3_sasl_runs.specs.PlainAuthenticator.{PlainServer, plain_machine}
-use Rattle.fe2o3_sasl_runs.specs.Runs.{AcceptorGives, server_says}
+use Rattle.fe2o3_sasl_runs.specs.Runs.{AcceptorGives}
 use Rattle.fe2o3_sasl_runs.specs.SaslAcceptor.{Acceptor, ScramAcceptor, AnonymousAcceptor, acceptor_machine, acceptor_names, ends_with, server_frame}
 use Rattle.fe2o3_sasl_negotiation.specs.declared.server.ServerNegotiation.{ServerNegotiation}
 use Rattle.fe2o3_sasl_negotiation.specs.declared.set_down.SetDown.{SetDown}

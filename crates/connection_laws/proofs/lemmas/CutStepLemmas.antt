@@ -5,12 +5,12 @@ use Rattle.fe2o3_sasl_wire.specs.declared.sasl_frames.error.Error.{Error}
 use Rattle.fe2o3_sasl_wire.specs.declared.sasl_frames.error.Error.TheVariants as faults
 use Rattle.fe2o3_sasl_wire.specs.SaslFrames.{SaslFrame, canonical}
 use Rattle.fe2o3_sasl_wire.specs.SaslFrames as frames
-use Rattle.fe2o3_sasl_runs.specs.Bodies.{carried}
+use Rattle.fe2o3_sasl_runs.specs.Bodies.{carried, server_says}
 use Rattle.fe2o3_sasl_runs.specs.Events.{Given, ServerSays, Challenged, Concluded, Failed, ClientSays, Started, Answered, Reported, Refused as ClientRefused, ClientFault, NotImplemented, Scram, OtherKeys, Frame as FrameFault, OutOfMemory}
 use Rattle.fe2o3_sasl_runs.specs.OneOfLaws.{Machine}
 use Rattle.fe2o3_sasl_runs.specs.Profiles.{Profile}
 use Rattle.fe2o3_sasl_runs.specs.ProfileFaults.{client_fault}
-use Rattle.fe2o3_sasl_runs.specs.Runs.{AcceptorAnswers, AcceptorGives, AcceptorSteps, ProfileGives, ProfileReplies, ProfileSteps, Replies, server_says}
+use Rattle.fe2o3_sasl_runs.specs.Runs.{AcceptorAnswers, AcceptorGives, AcceptorSteps, ProfileGives, ProfileReplies, ProfileSteps, Replies}
 use Rattle.fe2o3_sasl_runs.specs.SaslAcceptor.{acceptor_machine}
 use Rattle.fe2o3_sasl_runs.specs.declared.sasl_profile.error.ProfileError.{ProfileError}
 use Rattle.fe2o3_sasl_runs.specs.declared.sasl_profile.error.ProfileError.TheVariants as kinds

@@ -5,12 +5,12 @@ use Rattle.fe2o3_sasl_wire.specs.declared.sasl_frames.error.Error.TheVariants as
 use Rattle.fe2o3_sasl_wire.specs.SaslFrames as frames
 use Rattle.fe2o3_sasl_wire.specs.SaslFrames.{SaslFrame, canonical}
 use Rattle.fe2o3_scram.specs.Credentials.{Store}
-use Rattle.fe2o3_sasl_runs.specs.Bodies.{SpellsBody, carried}
+use Rattle.fe2o3_sasl_runs.specs.Bodies.{SpellsBody, carried, server_says}
 use Rattle.fe2o3_sasl_runs.specs.Events.{Given, ServerSays, Concluded, Failed}
 use Rattle.fe2o3_sasl_runs.specs.ExternalAcceptor.{External, IsInitOf, external_machine, external_user}
 use Rattle.fe2o3_sasl_runs.specs.OneOfLaws.{Machine}
 use Rattle.fe2o3_sasl_runs.specs.PlainAuthenticator.{PlainServer, PlainLogsIn, plain_machine}
-use Rattle.fe2o3_sasl_runs.specs.Runs.{Runs, AcceptorSteps, SendsCanonical, server_says}
+use Rattle.fe2o3_sasl_runs.specs.Runs.{Runs, AcceptorSteps, SendsCanonical}
 use Rattle.fe2o3_sasl_runs.specs.SaslAcceptor.{ends_with}
 use Rattle.fe2o3_sasl_runs.proofs.lemmas.frames.SpellingLemmas.{one_spelled_frame}
 use Rattle.fe2o3_sasl.proofs.lemmas.steps.StepLawLemmas.{plain_oks_log_in}

@@ -5,11 +5,11 @@ use Rattle.fe2o3_sasl_wire.specs.declared.sasl_frames.error.Error.{Error}
 use Rattle.fe2o3_sasl_wire.specs.declared.sasl_frames.error.Error.TheVariants as faults
 use Rattle.fe2o3_sasl_wire.specs.SaslFrames as frames
 use Rattle.fe2o3_sasl_wire.specs.SaslFrames.{SaslFrame, canonical}
-use Rattle.fe2o3_sasl_runs.specs.Bodies.{SpellsBody, carried}
+use Rattle.fe2o3_sasl_runs.specs.Bodies.{SpellsBody, carried, server_says}
 use Rattle.fe2o3_sasl_runs.specs.Events.{Given, ServerSays, Challenged, Concluded, Failed}
 use Rattle.fe2o3_sasl_runs.specs.OneOf.{BothStates, PartReplies, part_for, part_with, one_of_machine}
 use Rattle.fe2o3_sasl_runs.specs.OneOfLaws.{IsRefusal}
-use Rattle.fe2o3_sasl_runs.specs.Runs.{Runs, AcceptorSteps, AcceptorAnswers, server_says}
+use Rattle.fe2o3_sasl_runs.specs.Runs.{Runs, AcceptorSteps, AcceptorAnswers}
 use Rattle.fe2o3_sasl_runs.specs.SaslAcceptor.{ends_with}
 use Rattle.fe2o3_sasl_runs.specs.declared.one_of.Part.{Part}
 use Rattle.fe2o3_sasl_runs.specs.declared.one_of.Part.TheVariants.{First, Second}

@@ -2,10 +2,10 @@
 
 ghost use Rattle.std.specs.Prelude.{◌≡◌, ◌≤◌, ◌+◌, ◌<◌, ◌^◌, ◌&&◌, nat_eq, MatchResult};
 ghost use Rattle.std.specs.Cmp.Lexicographic.{pointwise};
-ghost use Rattle.fe2o3_scram.specs.ClientKeys.{AreSized, ClientKeys, MakesKeys, keys_of_salted, keys_with};
+ghost use Rattle.fe2o3_scram.specs.ClientKeys.{AreSized, ClientKeys, MakesKeys, keys_with};
 ghost use Rattle.fe2o3_scram.specs.Credentials.{MakingCosts, making_tests};
 ghost use Rattle.fe2o3_scram.specs.Hmac.{digest_bytes};
-ghost use Rattle.fe2o3_scram.specs.Keys.{client_proof};
+ghost use Rattle.fe2o3_scram.specs.Keys.{client_key, client_proof, server_key};
 ghost use Rattle.fe2o3_scram.specs.Passwords.{Typed, Prepared};
 ghost use Rattle.fe2o3_scram.specs.Readings.{Gives, NoneHolds};
 ghost use Rattle.fe2o3_scram.specs.private.Pieces.{whole};
@@ -124,7 +124,8 @@ impl ScramClientKeys {
         meter: &mut Meter,
     ) -> Self
         requires { meter.old + 2 < 2 ^ 64 }
-        ensures keys { result ≡ keys_of_salted scram_version salt.items iterations salted_password.now }
+        ensures keys { result ≡ keys_with scram_version salt.items iterations
+            (client_key scram_version salted_password.now) (server_key scram_version salted_password.now) }
         ensures counted { meter.new ≡ meter.old + 2 }
     {
         let (client_key, server_key) = scram_version.client_and_server_key(salted_password, meter);

@@ -1,10 +1,11 @@
 //! The client-final message, as the server reads it, up to the test of its proof.
 
 ghost use Rattle.std.specs.Prelude.{◌≡◌, ◌≢◌, ◌++◌, ℕ, List, IfOk, IfErr, OnOk, codes};
+ghost use Rattle.fe2o3_scram.specs.private.Tests.{binding_tests, final_nonce_tests, spelling_tests};
 ghost use Rattle.fe2o3_scram.specs.Readings.{Gives, IsFirst, NoneHolds};
-ghost use Rattle.fe2o3_scram.specs.ClientFinal.{HasBinding, HasProof, ReachesBase64, ReachesBinding, ReadsFinalText, client_final_values, binding_tests, final_nonce_tests, spelling_tests};
+ghost use Rattle.fe2o3_scram.specs.ClientFinal.{HasProof, ReachesBase64, ReachesBinding, ReadsFinalText, client_final_values};
 ghost use Rattle.fe2o3_scram.specs.ClientFirst.{header_text};
-ghost use Rattle.fe2o3_scram.specs.Texts.{Part, LastPart};
+ghost use Rattle.fe2o3_scram.specs.Texts.{Part, LastPart, HasBase64};
 
 use crate::scram_messages::attributes::{CHANNEL_BINDING_KEY, NONCE_KEY, PROOF_KEY};
 use crate::scram_messages::error::ServerScramErrorKind;
@@ -72,7 +73,7 @@ fn test_binding(
     client_final: &str,
 ) -> Result<(), ServerScramErrorKind>
     ensures tested { OnOk result (NoneHolds (binding_tests header client_final.now)) }
-    ensures bound { OnOk result (HasBinding client_final.now (header_text header)) }
+    ensures bound { OnOk result (HasBase64 client_final.now 0 (codes "c=") (header_text header)) }
     ensures memory { IfErr result (λ kind. kind ≡ ServerScramErrorKind.OutOfMemory
         → ReachesBinding header client_final.now) }
     ensures err { IfErr result (λ kind. kind ≢ ServerScramErrorKind.OutOfMemory

@@ -1,12 +1,13 @@
 //! The server-first message, as the client reads it.
 
 ghost use Rattle.std.specs.Prelude.{◌≡◌, ◌≢◌, ◌≤◌, ◌++◌, ℕ, List, IfOk, IfErr, MatchResult, codes};
+ghost use Rattle.fe2o3_scram.specs.private.Tests.{salt_tests, count_tests};
 ghost use Rattle.fe2o3_scram.specs.Readings.{Gives, IsFirst, NoneHolds};
-ghost use Rattle.fe2o3_scram.specs.ServerFirst.{ReachesSalt, ReadsServerFirst, client_of, server_first_values, HasSalt, HasCount, nonce_tests, salt_tests, count_tests};
+ghost use Rattle.fe2o3_scram.specs.ServerFirst.{ReachesSalt, ReadsServerFirst, server_first_values, HasCount, nonce_tests};
 ghost use Rattle.fe2o3_scram.specs.ClientSecret.{Password, secret_of, up_to};
 ghost use Rattle.fe2o3_scram.specs.Passwords.{Typed};
 ghost use Rattle.fe2o3_scram.specs.SaslprepAscii.{IsPrintable};
-ghost use Rattle.fe2o3_scram.specs.Texts.{Part};
+ghost use Rattle.fe2o3_scram.specs.Texts.{Part, HasBase64};
 ghost use Rattle.fe2o3_scram.specs.private.Serving.{Serves, ServesNot};
 
 use crate::client_secret::{ClientSecret, IterationLimits};
@@ -48,7 +49,7 @@ impl<'a> ServerFirst<'a> {
     ) -> Result<Self, ScramErrorKind>
         ensures reads { Gives ScramErrorKind.OutOfMemory (ReachesSalt client_nonce.now text.now)
             server_first_values result
-            (ReadsServerFirst (client_of client_nonce.now (Password (Typed password.now)) (up_to limit)) text.now) }
+            (ReadsServerFirst client_nonce.now (Password (Typed password.now)) (up_to limit) text.now) }
         ensures count { IfOk result (λ first. (1 ≤ first.iterations) × (first.iterations ≤ limit)) }
     {
         let limits = IterationLimits::up_to(limit);
@@ -78,7 +79,7 @@ impl<'a> ServerFirst<'a> {
     ) -> Result<Self, ScramErrorKind>
         ensures reads { Gives ScramErrorKind.OutOfMemory (ReachesSalt client_nonce.now text.now)
             server_first_values result
-            (ReadsServerFirst (client_of client_nonce.now (secret_of secret.entry) limits) text.now) }
+            (ReadsServerFirst client_nonce.now (secret_of secret.entry) limits text.now) }
         ensures count { IfOk result (λ first. (1 ≤ first.iterations) × (first.iterations ≤ limits.most)) }
         ensures serves { IfOk result (λ first. Serves (secret_of secret.entry) (server_first_values first)) }
     {
@@ -121,7 +122,7 @@ fn read_nonce<'a>(client_nonce: &str, server_first: &'a str) -> Result<&'a str, 
 #[tactic(auto, using(crate::proofs::lemmas::messages::ServerFirstLemmas::salts))]
 fn read_salt(alloc: Global, server_first: &str) -> Result<Vec<u8>, ScramErrorKind>
     ensures tested { IfOk result (λ _. NoneHolds (salt_tests server_first.now)) }
-    ensures named { IfOk result (λ salt. HasSalt server_first.now salt.items) }
+    ensures named { IfOk result (λ salt. HasBase64 server_first.now 1 (codes "s=") salt.items) }
     ensures memory { IfErr result (λ kind. kind ≡ ScramErrorKind.OutOfMemory
         → (rest : List ℕ) × Part server_first.now 1 (codes "s=" ++ rest)) }
     ensures err { IfErr result (λ kind. kind ≢ ScramErrorKind.OutOfMemory

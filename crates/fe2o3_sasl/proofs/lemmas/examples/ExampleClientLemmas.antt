@@ -8,13 +8,13 @@ use Rattle.base64.specs.GeneralPurpose.{IsBytes}
 use Rattle.fe2o3_sasl_wire.specs.SaslFrames.{canonical, canonical_field, content, shortest}
 use Rattle.fe2o3_sasl_wire.specs.SaslFrames as frames
 use Rattle.fe2o3_scram.specs.ClientFinal.{Answer}
-use Rattle.fe2o3_scram.specs.ServerFirst.{ReadsServerFirst}
+use Rattle.fe2o3_scram.specs.ServerFirst.{ReadsServerFirst, client_of}
 use Rattle.fe2o3_scram.specs.ServerFinal.{ReadsServerFinal}
 use Rattle.fe2o3_scram.specs.Texts.{joined}
 use Rattle.fe2o3_scram.specs.declared.scram_messages.error.ScramErrorKind.{ScramErrorKind}
 use Rattle.fe2o3_scram.specs.declared.scram_messages.error.ScramErrorKind.TheVariants.{IterationCountTooSmall, OtherKeys as NamesOtherKeys}
 use Rattle.fe2o3_sasl_runs.specs.Bodies.{SpellsBody, carried}
-use Rattle.fe2o3_sasl_runs.specs.ClientHistory.{AnswersAt, IsDue, NonceAt, ReadsChallenge, answer_at, client_at, ends_answer, is_answer, is_start, says_answer, says_start}
+use Rattle.fe2o3_sasl_runs.specs.ClientHistory.{AnswersAt, IsDue, NonceAt, ReadsChallenge, answer_at, ends_answer, is_answer, is_start, says_answer, says_start}
 use Rattle.fe2o3_sasl_runs.specs.Events.{Answered, ClientSays, Frame, Given, Login, OtherKeys, Refused, Reported, Started, scram_fault}
 use Rattle.fe2o3_sasl_runs.specs.Positions.{test_at}
 use Rattle.fe2o3_sasl_runs.specs.TwoSides.{client_message, proof_at}
@@ -41,7 +41,7 @@ challenge_spelled bytes long = spells_body (frames.Challenge (joined (salted byt
 -- a refusal of it, where it is due
 refuses : (some : Login) (events : List Given) (replies : List ClientSays) (k : ℕ) (bytes : List ℕ)
     (kind : ScramErrorKind) → length bytes ≡ 32 → IsDue events replies k client_nonce
-    → ReadsServerFirst (client_at some client_nonce) (joined (salted bytes both)) (Err kind)
+    → ReadsServerFirst client_nonce some.secret some.limits (joined (salted bytes both)) (Err kind)
     → SaysAt some events replies k (asks bytes) (Refused (scram_fault kind))
 refuses some events replies k bytes kind long due reads =
     let utf8 = utf8_joined (salted bytes both) (plain_salted bytes both plain_both) in (
@@ -53,7 +53,7 @@ refuses some events replies k bytes kind long due reads =
 -- ---- a client that answers as that of the first examples does
 
 module _ (some : Login) (one : answer_at some made ≡ answer_at login made)
-    (reads : ReadsServerFirst (client_at some client_nonce) made.text (Ok made.first)) where
+    (reads : ReadsServerFirst client_nonce some.secret some.limits made.text (Ok made.first)) where
   -- its reading of the challenge, where that is due
   challenge_read : (events : List Given) (replies : List ClientSays) (k : ℕ) → IsDue events replies k client_nonce
       → ReadsChallenge some (IsDue events replies k) made.text (Ok made)
@@ -116,7 +116,7 @@ host_said =
     (Some (codes "n,," ++ joined (names name))) (Some (codes "vhost"))))) user_text in
     sym (named ∙ ap says host_sent)
 
-host_reads : ReadsServerFirst (client_at with_hostname client_nonce) made.text (Ok made.first)
+host_reads : ReadsServerFirst client_nonce with_hostname.secret with_hostname.limits made.text (Ok made.first)
 host_reads = reads_values both server_nonce [] refl plain_both tt
 
 pub hostnames_are_sent : HostnamesAreSent
@@ -135,10 +135,10 @@ hostnames_are_sent =
 
 -- ---- keys in place of the password
 
-keys_read : ReadsServerFirst (client_at with_keys client_nonce) made.text (Ok made.first)
+keys_read : ReadsServerFirst client_nonce with_keys.secret with_keys.limits made.text (Ok made.first)
 keys_read =
     let named = names_salted salt salt_bytes both server_nonce [] refl plain_both tt in
-    values_read (client_at with_keys client_nonce) made.text made.first
+    values_read (client_of client_nonce with_keys.secret with_keys.limits) made.text made.first
     (nonce_passes salt salt_bytes both server_nonce [] refl plain_both tt)
     (salt_passes salt salt_bytes both server_nonce [] refl plain_both tt)
     (count_passes salt salt_bytes both server_nonce [] refl plain_both tt with_keys.limits (omega arith) (omega arith))
@@ -168,13 +168,13 @@ keys_log_in =
 other_bytes : IsBytes other_salt
 other_bytes = IsBytes-replicate 32 4 (omega arith)
 
-others_refused : ReadsServerFirst (client_at with_keys client_nonce) (joined (salted other_salt both))
+others_refused : ReadsServerFirst client_nonce with_keys.secret with_keys.limits (joined (salted other_salt both))
     (Err NamesOtherKeys)
 others_refused =
     let text = joined (salted other_salt both) in
     let named = names_salted other_salt other_bytes both server_nonce [] refl plain_both tt in
     let apart : ¬ (other_salt ≡ salt) = λ same. absurd (cc) in
-    secret_refused (client_at with_keys client_nonce) text NamesOtherKeys
+    secret_refused (client_of client_nonce with_keys.secret with_keys.limits) text NamesOtherKeys
     (nonce_passes other_salt other_bytes both server_nonce [] refl plain_both tt)
     (salt_passes other_salt other_bytes both server_nonce [] refl plain_both tt)
     (count_passes other_salt other_bytes both server_nonce [] refl plain_both tt with_keys.limits (omega arith)
@@ -202,8 +202,9 @@ other_keys_log_in_later =
 
 -- ---- a floor
 
-floor_refused : ReadsServerFirst (client_at with_floor client_nonce) made.text (Err IterationCountTooSmall)
-floor_refused = count_refused (client_at with_floor client_nonce) made.text IterationCountTooSmall
+floor_refused : ReadsServerFirst client_nonce with_floor.secret with_floor.limits made.text (Err IterationCountTooSmall)
+floor_refused = count_refused (client_of client_nonce with_floor.secret with_floor.limits) made.text
+    IterationCountTooSmall
     (nonce_passes salt salt_bytes both server_nonce [] refl plain_both tt)
     (salt_passes salt salt_bytes both server_nonce [] refl plain_both tt)
     (count_small salt salt_bytes both server_nonce [] refl plain_both tt with_floor.limits (omega arith))

@@ -1,17 +1,18 @@
 -- The three worked examples.
 use Rattle.std.proofs.Common.{◌≡◌, ◌≢◌, ◌≤◌, ℕ, zero, suc, List, [], ◌∷◌, ◌++◌, length, Err, Ok, refl, sym, ◌∙◌, ap, arith, codes, inl, inr, ◌⊎◌}
-use Rattle.std.specs.Prelude.{Some, slice_get}
+use Rattle.std.specs.Prelude.{Some, None, slice_get}
 use Rattle.std.proofs.lemmas.List.{length-append}
 use Rattle.std.proofs.lemmas.Option.{none-some}
 use Rattle.fe2o3_sasl_wire.specs.declared.amqp_types.SaslCode.TheVariants as outcomes
 use Rattle.fe2o3_sasl_wire.specs.declared.sasl_frames.error.Error.{Error}
 use Rattle.fe2o3_sasl_wire.specs.declared.sasl_frames.error.Error.TheVariants as faults
+use Rattle.fe2o3_sasl_wire.specs.SaslFrames as frames
 use Rattle.fe2o3_sasl_wire.specs.SaslFrames.{fault_of, Begins, SaslFrame}
 use Rattle.fe2o3_scram.specs.Texts.{joined, Parts}
 use Rattle.fe2o3_sasl_runs.specs.ClientHistory.{ClientHistory}
 use Rattle.fe2o3_sasl_runs.specs.Events.{Concluded, ClientFault, Failed, Frame, OutOfMemory, Refused}
-use Rattle.fe2o3_sasl_runs.specs.Bodies.{SpellsBody, carried}
-use Rattle.fe2o3_sasl_runs.specs.ServerHistory.{ServerHistory, says_auth}
+use Rattle.fe2o3_sasl_runs.specs.Bodies.{SpellsBody, carried, says_frame}
+use Rattle.fe2o3_sasl_runs.specs.ServerHistory.{ServerHistory}
 use Rattle.fe2o3_sasl_runs.specs.TwoSides.{Agree, IsPlainInit, NoneMisplacedIn}
 use Rattle.fe2o3_sasl_runs.specs.UnalteredRuns.{UnalteredRun, HoldsLogin, Suffices}
 use Rattle.fe2o3_sasl.specs.examples.Examples.{client_bytes, server_bytes, client_nonce, server_nonce, both, salt, login, names, values, binds, sends_init, sends_auth, body_of, told, challenge_text, init_text, answer_to, accepted_with, sides_with, unaltered, PremisesCanBeMet, shifted, ShiftedTextsPass, refused_sides, RefusalsAreUnaltered}
@@ -219,7 +220,7 @@ empty_spells_none frame (suc n) begins = let e = ap length begins.spelled.whole 
 empty_spelled : SpellsBody [] (Err (fault_of []))
 empty_spelled = (refl, empty_spells_none)
 
-auth_said : Concluded outcomes.Auth (body_of sends_auth) ≡ says_auth
+auth_said : Concluded outcomes.Auth (body_of sends_auth) ≡ says_frame (frames.Outcome outcomes.Auth None)
 auth_said = sym (ap (carried (Failed faults.TooLarge) (λ body. Concluded outcomes.Auth body)) auth_bodied)
 
 refusing : ServerHistory refused_sides.provider refused_sides.server_events refused_sides.server_replies

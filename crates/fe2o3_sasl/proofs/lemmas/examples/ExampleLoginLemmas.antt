@@ -15,8 +15,8 @@ use Rattle.fe2o3_scram.specs.Hmac.{hmac_of}
 use Rattle.fe2o3_scram.specs.Texts.{base64_text, joined, Part}
 use Rattle.fe2o3_sasl_runs.specs.ClientHistory.{Answering, AnswersAt, IsDue, OpenAnswer, ReadsChallenge, ClientHistory, says_start, says_answer, is_start, is_answer, ends_answer}
 use Rattle.fe2o3_sasl_runs.specs.Events.{Given, Login, ServerSays, Challenged, Concluded, Failed, ClientSays, Started, Answered, Refused, Frame}
-use Rattle.fe2o3_sasl_runs.specs.Bodies.{SpellsBody, carried}
-use Rattle.fe2o3_sasl_runs.specs.ServerHistory.{Accepted, FitsAsInit, FitsAsResponse, Open, ServerHistory, is_challenge, is_ok, says_challenge, says_ok, server_at}
+use Rattle.fe2o3_sasl_runs.specs.Bodies.{SpellsBody, carried, says_frame}
+use Rattle.fe2o3_sasl_runs.specs.ServerHistory.{Accepted, FitsAsInit, FitsAsResponse, Open, ServerHistory, is_challenge, is_ok, says_ok, server_at, first_message}
 use Rattle.fe2o3_sasl_runs.specs.TwoSides.{Histories, OkAt, Shows, Takes, client_message, proof_at, server_message}
 use Rattle.fe2o3_sasl.specs.examples.Examples.{Added, client_bytes, server_bytes, both, login, stored, provider, names, values, binds, offers, sends_init, sends_response, sends_ok, verifier, body_of, event_of, told, init_text, challenge_text, response_text, answer_to, accepted_with, sides_with}
 use Rattle.fe2o3_scram.proofs.lemmas.messages.OneValueLemmas.{names_server_final}
@@ -133,7 +133,8 @@ module _ (added : Added) (is : PassesUnseen added) where
   init_fits : FitsAsInit provider (event_of server_bytes init) init accepted.challenge
   init_fits = (refl, reads_names (codes "user") added.init user_text plain_user is.init, refl, refl)
 
-  challenge_said : Challenged (body_of (frames.Challenge (joined (values both)))) ≡ says_challenge accepted.challenge
+  challenge_said : Challenged (body_of (frames.Challenge (joined (values both))))
+      ≡ says_frame (frames.Challenge (first_message accepted.challenge))
   challenge_said =
       sym (ap (λ (message : List ℕ). carried (Failed faults.TooLarge) (λ body. Challenged body)
       (canonical (frames.Challenge message))) (first_joined (init_text added))

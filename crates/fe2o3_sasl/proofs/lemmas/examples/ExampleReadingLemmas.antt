@@ -7,13 +7,13 @@ use Rattle.std.proofs.lemmas.Option.{none-some}
 use Rattle.std.proofs.lemmas.Str.{IsUtf8-append}
 use Rattle.base64.specs.GeneralPurpose.{IsBytes}
 use Rattle.fe2o3_scram.specs.declared.hmac.ScramVersion.TheVariants.{Sha256}
-use Rattle.fe2o3_scram.specs.Texts.{base64_text, IsCount, Parts, Part, joined}
-use Rattle.fe2o3_scram.specs.ClientFinal.{HasBinding, HasProof, Meets, ReadsClientFinal, Server, without_proof}
+use Rattle.fe2o3_scram.specs.Texts.{base64_text, IsCount, Parts, Part, joined, HasBase64}
+use Rattle.fe2o3_scram.specs.ClientFinal.{HasProof, Meets, ReadsClientFinal, Server, without_proof}
 use Rattle.fe2o3_scram.specs.ClientFirst as client_first
 use Rattle.fe2o3_scram.specs.declared.scram_messages.gs2_header.Gs2Header.{Gs2Header}
 use Rattle.fe2o3_scram.specs.declared.scram_messages.gs2_header.Gs2Header.TheVariants.{Unsupported}
 use Rattle.fe2o3_scram.specs.ClientFirst.{ReadsClientFirst}
-use Rattle.fe2o3_sasl_runs.specs.ClientHistory.{client_at, answer_at}
+use Rattle.fe2o3_sasl_runs.specs.ClientHistory.{answer_at}
 use Rattle.fe2o3_scram.specs.Escape.{escaped}
 use Rattle.fe2o3_sasl_runs.specs.Events.{IsLogin, IsRecord}
 use Rattle.fe2o3_sasl.specs.examples.Examples.{client_bytes, server_bytes, client_nonce, server_nonce, both, salt, login, stored, names, salted, values, binds, answering, challenging}
@@ -22,7 +22,7 @@ use Rattle.fe2o3_scram.specs.Keys.{auth_message}
 use Rattle.fe2o3_scram.specs.SaslprepAscii.{IsPrintable}
 use Rattle.fe2o3_scram.specs.ServerFinal.{ReadsServerFinal}
 use Rattle.fe2o3_scram.specs.Readings.{IsFirst, NoneHolds}
-use Rattle.fe2o3_scram.specs.ServerFirst.{NamesServerFirst, ReadsServerFirst, count_tests, nonce_tests, salt_tests}
+use Rattle.fe2o3_scram.specs.ServerFirst.{NamesServerFirst, ReadsServerFirst, nonce_tests, client_of}
 use Rattle.fe2o3_scram.specs.declared.client_secret.IterationLimits.{IterationLimits}
 use Rattle.fe2o3_scram.specs.declared.scram_messages.error.ScramErrorKind.TheVariants.{IterationCountTooSmall}
 use Rattle.fe2o3_sasl_runs.specs.ServerHistory.{first_message}
@@ -34,6 +34,7 @@ use Rattle.fe2o3_sasl.proofs.lemmas.examples.ExampleTextLemmas.{Plain, plain-lit
 use Rattle.fe2o3_scram.proofs.lemmas.messages.ExchangeLemmas.{IsBytes-literal, IsBytes-exclusive_or, length-exclusive_or, exclusive_or-back, IsCount-decimal, not_extended, final_read, reads_signature}
 use Rattle.fe2o3_scram.proofs.lemmas.messages.ServerFirstLemmas.{values_read, same_nonce, not_too_small, not_too_large}
 use Rattle.fe2o3_sasl_runs.proofs.lemmas.lists.EachLemmas.{each_append}
+use Rattle.fe2o3_scram.specs.private.Tests.{salt_tests, count_tests}
 
 -- ---- login and record
 
@@ -181,10 +182,10 @@ module _ (bytes : List ℕ) (is : IsBytes bytes) (nonce rest : List ℕ) (more :
 
 pub reads_values : (nonce rest : List ℕ) (more : List (List ℕ)) → nonce ≡ client_nonce ++ rest → Plain nonce
     → AllByRecursion Plain more
-    → ReadsServerFirst (client_at login client_nonce) (joined (values nonce ++ more))
+    → ReadsServerFirst client_nonce login.secret login.limits (joined (values nonce ++ more))
     (Ok (answering (joined (values nonce ++ more)) nonce).first)
 reads_values nonce rest more begins plain too =
-    values_read (client_at login client_nonce) (joined (values nonce ++ more)) _
+    values_read (client_of client_nonce login.secret login.limits) (joined (values nonce ++ more)) _
     (nonce_passes salt salt_bytes nonce rest more begins plain too)
     (salt_passes salt salt_bytes nonce rest more begins plain too)
     (count_passes salt salt_bytes nonce rest more begins plain too login.limits (omega arith) (omega arith))
@@ -309,7 +310,7 @@ module _ (more : List (List ℕ)) (too : AllByRecursion Plain more) (proof : Lis
       let nonce : Part text 1 (codes "r=" ++ both) = (parts, final_parts, refl) in
       final_read server text (record { without = joined (binds both ++ more); proof = proof }) utf8_final
       (record {
-        binding = subst (λ (own : Gs2Header). HasBinding text (client_first.header_text own)) header (
+        binding = subst (λ (own : Gs2Header). HasBase64 text 0 (codes "c=") (client_first.header_text own)) header (
           IsBytes-literal (codes "n,,") refl,
           subst
               (λ (spelling : List ℕ). Part text 0 (codes "c=" ++ spelling)) (sym header_text) binding,

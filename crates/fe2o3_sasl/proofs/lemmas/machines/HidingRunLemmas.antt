@@ -20,11 +20,11 @@ use Rattle.fe2o3_scram.specs.Nobody.{Nobody, nobody_record, with_nobody}
 use Rattle.fe2o3_scram.specs.ScramServer.{ServerState, Initial, ServerFirstSent, ServerFinalSent, ChallengesFrom, ConcludesFrom}
 use Rattle.fe2o3_scram.specs.ServerFirst.{ServerChallenge}
 use Rattle.fe2o3_scram.proofs.lemmas.providers.HidingLemmas.{record_at-behind}
-use Rattle.fe2o3_sasl_runs.specs.Bodies.{SpellsBody}
+use Rattle.fe2o3_sasl_runs.specs.Bodies.{SpellsBody, server_says}
 use Rattle.fe2o3_sasl_runs.specs.Events.{Given, ServerSays, Failed}
 use Rattle.fe2o3_sasl_runs.specs.HidingAcceptor.{NamedAt, hiding_machine}
 use Rattle.fe2o3_sasl_runs.specs.HidingLaws.{HoldsName, HiddenRunsAreRuns, HiddenRunsAreHistories, NobodyIsMet, hiding}
-use Rattle.fe2o3_sasl_runs.specs.Runs.{Runs, AcceptorAnswers, AcceptorGives, AcceptorSteps, SendsCanonical, server_says}
+use Rattle.fe2o3_sasl_runs.specs.Runs.{Runs, AcceptorAnswers, AcceptorGives, AcceptorSteps, SendsCanonical}
 use Rattle.fe2o3_sasl_runs.specs.SaslAcceptor.{Acceptor, ScramAcceptor, acceptor_machine}
 use Rattle.fe2o3_sasl_runs.specs.ServerHistory.{Accepted, Challenging, FitsAsInit, FitsAsResponse, server_at}
 use Rattle.fe2o3_sasl_runs.proofs.lemmas.machines.ServerMachineLemmas.{acceptor_runs_are_histories}

@@ -10,8 +10,9 @@ use Rattle.fe2o3_sasl_wire.specs.SaslFrames.{canonical, SaslFrame}
 use Rattle.fe2o3_sasl_wire.specs.SaslFrames as frames
 use Rattle.fe2o3_sasl_runs.specs.Events.{Given, ServerSays, Concluded, Failed}
 use Rattle.fe2o3_sasl_runs.specs.MechanismLaws.{SaysOk, PlainRunsNameUsers}
-use Rattle.fe2o3_sasl_runs.specs.Runs.{Runs, AcceptorGives, AcceptorSteps, SendsCanonical, server_says}
+use Rattle.fe2o3_sasl_runs.specs.Runs.{Runs, AcceptorGives, AcceptorSteps, SendsCanonical}
 use Rattle.fe2o3_sasl_runs.specs.SaslAcceptor.{Acceptor, PlainAcceptor, acceptor_machine, acceptor_user, ends_with}
+use Rattle.fe2o3_sasl_runs.specs.Bodies.{server_says}
 
 -- ---- one step
 

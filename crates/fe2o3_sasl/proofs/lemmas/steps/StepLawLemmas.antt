@@ -14,13 +14,13 @@ use Rattle.fe2o3_scram.specs.ScramClient.{ClientSide, BelievesIn}
 use Rattle.fe2o3_scram.specs.ScramServer.{ServerState, ServerFinalSent, ConcludesFrom}
 use Rattle.fe2o3_scram.specs.Logins.{IsSigned}
 use Rattle.fe2o3_scram.proofs.lemmas.messages.LoginLemmas.{accepted_texts_log_in, hidden_text_logs_in, believed_texts_are_signed}
-use Rattle.fe2o3_sasl_runs.specs.Bodies.{SpellsBody, carried}
+use Rattle.fe2o3_sasl_runs.specs.Bodies.{SpellsBody, carried, server_says}
 use Rattle.fe2o3_sasl_runs.specs.Events.{Given, ServerSays, Concluded, Failed, ClientSays, Reported, Refused, ClientFault, Frame}
 use Rattle.fe2o3_sasl_runs.specs.HidingAcceptor.{with_name}
 use Rattle.fe2o3_sasl_runs.specs.HidingLaws.{HiddenBodyLogsIn, HiddenOksLogIn}
 use Rattle.fe2o3_sasl_runs.specs.PlainAuthenticator.{PlainLogsIn, PlainServer, plain_machine}
 use Rattle.fe2o3_sasl_runs.specs.Profiles.{Profile, ScramProfile, client_frame, profile_machine}
-use Rattle.fe2o3_sasl_runs.specs.Runs.{Replies, SendsCanonical, server_says}
+use Rattle.fe2o3_sasl_runs.specs.Runs.{Replies, SendsCanonical}
 use Rattle.fe2o3_sasl_runs.specs.SaslAcceptor.{Acceptor, AnonymousAcceptor, ScramAcceptor, acceptor_machine, ends_with, server_frame}
 use Rattle.fe2o3_sasl_runs.specs.StepLaws.{BodyLogsIn, OksLogIn, PlainOksLogIn, ReportedOksAreSigned}
 

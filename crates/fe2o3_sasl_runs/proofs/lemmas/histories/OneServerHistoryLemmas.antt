@@ -11,8 +11,8 @@ use Rattle.fe2o3_scram.specs.Credentials.{Record, Provider, record_at}
 use Rattle.fe2o3_sasl_runs.specs.Events.{Given, ServerSays, Failed}
 use Rattle.fe2o3_sasl_runs.specs.Laws.{OneServerHistory}
 use Rattle.fe2o3_scram.specs.ClientFinal.{ClientFinal, ReadsClientFinal}
-use Rattle.fe2o3_sasl_runs.specs.Bodies.{SpellsBody}
-use Rattle.fe2o3_sasl_runs.specs.ServerHistory.{Challenging, Accepted, FitsAsInit, FitsAsResponse, FitsAt, AcceptsAt, Open, ServerAnswers, ServerAllocates, ServerHistory, is_challenge, is_ok, says_challenge, says_ok, server_at}
+use Rattle.fe2o3_sasl_runs.specs.Bodies.{SpellsBody, says_frame}
+use Rattle.fe2o3_sasl_runs.specs.ServerHistory.{Challenging, Accepted, FitsAsInit, FitsAsResponse, FitsAt, AcceptsAt, Open, ServerAnswers, ServerAllocates, ServerHistory, is_challenge, is_ok, says_ok, server_at, first_message}
 use Rattle.fe2o3_sasl_runs.specs.Complete.{ServerComplete}
 use Rattle.fe2o3_scram.proofs.lemmas.messages.OneValueLemmas.{one_client_first_value, one_client_final_value}
 use Rattle.fe2o3_sasl_runs.proofs.lemmas.positions.PositionLemmas.{one_open, open_agree, some_at, same_list, below_or_at}
@@ -67,7 +67,8 @@ one_server_answer provider IsOpen Other to from one event (Ok (frames.Challenge 
 one_server_answer provider IsOpen Other to from one event (Ok (frames.Outcome code more)) says other h k = h ∙ sym k
 one_server_answer provider IsOpen Other to from one event (Ok (frames.Init mechanism response hostname)) says other
     (inl h) (inl k) =
-    h.2 ∙ (ap says_challenge (one_fits provider event (frames.Init mechanism response hostname) h.0 k.0 h.1 k.1)
+    h.2 ∙ (ap (λ (c : Challenging). says_frame (frames.Challenge (first_message c)))
+    (one_fits provider event (frames.Init mechanism response hostname) h.0 k.0 h.1 k.1)
     ∙ sym k.2)
 one_server_answer provider IsOpen Other to from one event (Ok (frames.Init mechanism response hostname)) says other
     (inl h) (inr k) =

@@ -1,18 +1,17 @@
 -- What a reply of a client says of the position where it stands.
 use Rattle.std.proofs.Common.{◌≡◌, ℕ, Option, Some, None, List, refl, sym, ap, subst, arith, ⊎_elim, inl, inr, Result, Ok, Err}
-use Rattle.std.specs.Prelude.{slice_get}
+use Rattle.std.specs.Prelude.{slice_get, codes}
 use Rattle.std.proofs.lemmas.Option.{same_Some, slice_get_within}
 use Rattle.fe2o3_sasl_wire.specs.declared.amqp_types.SaslCode.TheVariants as outcomes
 use Rattle.fe2o3_sasl_wire.specs.declared.sasl_frames.error.Error.{Error}
 use Rattle.fe2o3_sasl_wire.specs.declared.sasl_frames.error.Error.TheVariants as faults
 use Rattle.fe2o3_sasl_wire.specs.SaslFrames.{canonical, SaslFrame}
 use Rattle.fe2o3_sasl_wire.specs.SaslFrames as frames
-use Rattle.fe2o3_scram.specs.Texts.{base64_text}
+use Rattle.fe2o3_scram.specs.Texts.{base64_text, HasBase64}
 use Rattle.fe2o3_scram.specs.ClientFirst.{client_first}
 use Rattle.fe2o3_sasl_runs.specs.ClientHistory.{Answering, OpenAnswer, IsDue, ClientHistory, ClientAnswers, ClientAllocates, ReadsOutcome, answer_at}
 use Rattle.fe2o3_sasl_runs.specs.Events.{Given, Login, ClientSays, Started, Answered, Reported, Refused, Frame, OutOfMemory}
 use Rattle.fe2o3_scram.specs.Hmac.{mechanism_name}
-use Rattle.fe2o3_scram.specs.ServerFinal.{HasSignature}
 use Rattle.fe2o3_scram.proofs.lemmas.messages.OneValueLemmas.{names_server_final}
 use Rattle.fe2o3_sasl_runs.proofs.lemmas.positions.PositionLemmas.{some_at}
 use Rattle.fe2o3_sasl_runs.proofs.lemmas.frames.SpellingLemmas.{carried_not}
@@ -20,7 +19,7 @@ use Rattle.fe2o3_sasl_runs.proofs.lemmas.frames.SpellingLemmas.{carried_not}
 module _ (login : Login) (Due : List ℕ → Type 0) (IsOpen : Answering → Type 0) where
   reads_ok : (more : Option (List ℕ)) → ReadsOutcome login IsOpen more (Ok tt)
       → (text : List ℕ) × (more ≡ Some text) × ((answer : Answering) × IsOpen answer
-      × HasSignature text (answer_at login answer).signature)
+      × HasBase64 text 0 (codes "v=") (answer_at login answer).signature)
   reads_ok None reads = absurd reads
   reads_ok (Some text) reads = (
     text,
@@ -65,7 +64,7 @@ module _ (login : Login) (Due : List ℕ → Type 0) (IsOpen : Answering → Typ
 pub signature_of_ok : (login : Login) (events : List Given) (replies : List ClientSays) (m : ℕ) (text : List ℕ)
     → ClientHistory login events replies → slice_get replies m ≡ Some (Reported outcomes.Ok (Some text))
     → (answer : Answering) × OpenAnswer login events replies m answer
-    × HasSignature text (answer_at login answer).signature
+    × HasBase64 text 0 (codes "v=") (answer_at login answer).signature
 signature_of_ok login events replies m text history at =
     let event = some_at events m (omega (
       arith,
@@ -80,6 +79,10 @@ signature_of_ok login events replies m text history at =
     let reads = reads_ok login (IsDue events replies m) (OpenAnswer login events replies m) (Some text)
     (reported login (IsDue events replies m) (OpenAnswer login events replies m) event.0 row.0 (Some text) says).1
     in
-    let same : reads.0 ≡ text = same_Some reads.0 text (sym reads.1) in
-    (reads.2.0, reads.2.1, subst (λ (z : List ℕ). HasSignature z (answer_at login reads.2.0).signature) same reads.2.2))
+    let same : reads.0 ≡ text = same_Some reads.0 text (sym reads.1) in (
+      reads.2.0,
+      reads.2.1,
+      subst (λ (z : List ℕ). HasBase64 z 0 (codes "v=") (answer_at login reads.2.0).signature) same
+          reads.2.2,
+    ))
     row.2

@@ -12,8 +12,8 @@ use Rattle.fe2o3_scram.specs.Credentials.{Provider}
 use Rattle.fe2o3_sasl_runs.specs.Events.{Given, ServerSays, Challenged, Concluded, Failed}
 use Rattle.fe2o3_sasl_runs.specs.Laws.{OksWithinChallenges, RepeatedResponsesAreRefused, OneResponseOneNonce, RefusalsLeaveOpen}
 use Rattle.fe2o3_sasl_runs.specs.Positions.{test_at, IsLastOpen}
-use Rattle.fe2o3_sasl_runs.specs.Bodies.{SpellsBody}
-use Rattle.fe2o3_sasl_runs.specs.ServerHistory.{Challenging, Accepted, FitsAsResponse, AcceptsAt, Open, ServerAnswers, ServerAllocates, ServerHistory, is_challenge, is_ok, full_nonce, first_message, says_auth, server_at}
+use Rattle.fe2o3_sasl_runs.specs.Bodies.{SpellsBody, says_frame}
+use Rattle.fe2o3_sasl_runs.specs.ServerHistory.{Challenging, Accepted, FitsAsResponse, AcceptsAt, Open, ServerAnswers, ServerAllocates, ServerHistory, is_challenge, is_ok, full_nonce, first_message, server_at}
 use Rattle.fe2o3_scram.specs.Texts.{Part}
 use Rattle.fe2o3_scram.proofs.lemmas.messages.ClientFinalLemmas.{NamesAcceptedFinal, names_client_final}
 use Rattle.fe2o3_scram.proofs.lemmas.texts.PartsLemmas.{one_part}
@@ -172,7 +172,8 @@ oks_within_challenges P es rs k h = (counted P es rs h k).within
 
 unfit_response : (provider : Provider) (IsOpen : Challenging → Type 0) (event : Given) (text : List ℕ)
     (says : ServerSays) → ((challenge : Challenging) → ¬ IsOpen challenge)
-    → ServerAnswers provider IsOpen event (Ok (frames.Response text)) says → says ≡ says_auth
+    → ServerAnswers provider IsOpen event (Ok (frames.Response text)) says
+    → says ≡ says_frame (frames.Outcome outcomes.Auth None)
 unfit_response provider IsOpen event text says none (inl x) = absurd (none x.0.challenge x.1.0)
 unfit_response provider IsOpen event text says none (inr x) = x.1
 

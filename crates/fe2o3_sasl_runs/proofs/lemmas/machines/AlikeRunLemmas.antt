@@ -7,9 +7,10 @@ use Rattle.fe2o3_sasl_wire.specs.SaslFrames.{SaslFrame, canonical}
 use Rattle.fe2o3_sasl_runs.specs.Events.{Given, ServerSays, Failed}
 use Rattle.fe2o3_sasl_runs.specs.OneOf.{BothStates, PartReplies, one_of_machine, part_for, part_with}
 use Rattle.fe2o3_sasl_runs.specs.OneOfLaws.{Machine}
-use Rattle.fe2o3_sasl_runs.specs.Runs.{Runs, AcceptorSteps, AcceptorAnswers, AcceptorGives, SendsCanonical, server_says}
+use Rattle.fe2o3_sasl_runs.specs.Runs.{Runs, AcceptorSteps, AcceptorAnswers, AcceptorGives, SendsCanonical}
 use Rattle.fe2o3_sasl_runs.specs.declared.one_of.Part.{Part}
 use Rattle.fe2o3_sasl_runs.specs.declared.one_of.Part.TheVariants.{First, Second}
+use Rattle.fe2o3_sasl_runs.specs.Bodies.{server_says}
 
 -- a state of the one machine for each index, and one of the other: a move of the one between two is a move of the other
 -- between those of the same indices

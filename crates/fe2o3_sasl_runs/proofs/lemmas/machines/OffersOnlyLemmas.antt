@@ -5,11 +5,11 @@ use Rattle.fe2o3_sasl_wire.specs.declared.sasl_frames.error.Error.{Error}
 use Rattle.fe2o3_sasl_wire.specs.declared.sasl_frames.error.Error.TheVariants as faults
 use Rattle.fe2o3_sasl_wire.specs.SaslFrames as frames
 use Rattle.fe2o3_sasl_wire.specs.SaslFrames.{SaslFrame, canonical}
-use Rattle.fe2o3_sasl_runs.specs.Bodies.{SpellsBody, carried}
+use Rattle.fe2o3_sasl_runs.specs.Bodies.{SpellsBody, carried, server_says}
 use Rattle.fe2o3_sasl_runs.specs.Events.{Given, ServerSays, Failed}
 use Rattle.fe2o3_sasl_runs.specs.OffersOnly.{Offering, OfferingReplies, is_passed_on, offering_machine}
 use Rattle.fe2o3_sasl_runs.specs.OneOfLaws.{Machine, mark_of, MarkedSteps, those, IsRefusal, PassesOn, OfferingRunsPassOn}
-use Rattle.fe2o3_sasl_runs.specs.Runs.{Runs, AcceptorSteps, AcceptorAnswers, AcceptorGives, server_says}
+use Rattle.fe2o3_sasl_runs.specs.Runs.{Runs, AcceptorSteps, AcceptorAnswers, AcceptorGives}
 use Rattle.fe2o3_sasl_runs.specs.SaslAcceptor.{ends_with}
 use Rattle.fe2o3_sasl_runs.proofs.lemmas.machines.OneOfLemmas.{auth_is_refusal, marked_more, unmoved}
 

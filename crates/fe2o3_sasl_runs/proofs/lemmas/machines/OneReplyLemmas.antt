@@ -201,7 +201,7 @@ answer_turn side bare text (Err fault) = (Err fault, side)
 
 answer_made : (nonce bare : List ℕ) (side : ClientSide) (text : List ℕ) (answer : Result (List ℕ) ScramErrorKind)
     (next : ClientSide) → AnswersIn (client_states.ClientFirstSent nonce bare) side text answer next
-    → MadeOf (ReadsServerFirst (holding side nonce) text) (answer_turn side bare text) (answer, next)
+    → MadeOf (ReadsServerFirst nonce side.secret side.limits text) (answer_turn side bare text) (answer, next)
 answer_made nonce bare side text (Ok message) next is =
     let first = is.1 in
     let sent = is.2 ∙ ap (λ (x : Answer). x.message) first.2 in
@@ -213,8 +213,8 @@ one_answer : (state : ClientState) (side : ClientSide) (text : List ℕ) (answer
     (next last : ClientSide) → AnswersIn state side text answer next → AnswersIn state side text other last
     → ◌≡◌ {A = ClientTurn (List ℕ)} (answer, next) (other, last)
 one_answer (client_states.ClientFirstSent nonce bare) side text answer other next last is too =
-    one_made (ReadsServerFirst (holding side nonce) text) (answer_turn side bare text) (answer, next) (other, last)
-    (one_server_first (holding side nonce) text) (answer_made nonce bare side text answer next is)
+    one_made (ReadsServerFirst nonce side.secret side.limits text) (answer_turn side bare text) (answer, next)
+    (other, last) (one_server_first (holding side nonce) text) (answer_made nonce bare side text answer next is)
     (answer_made nonce bare side text other last too)
 one_answer client_states.ClientInitial side text (Ok message) other next last is too = absurd is
 one_answer client_states.ClientInitial side text (Err fault) (Ok message) next last is too = absurd too

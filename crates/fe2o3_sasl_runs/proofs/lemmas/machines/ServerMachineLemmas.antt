@@ -18,11 +18,11 @@ use Rattle.fe2o3_scram.specs.Credentials.{Record, Provider, record_at}
 use Rattle.fe2o3_sasl_runs.specs.Events.{Given, ServerSays, Challenged, Concluded, Failed}
 use Rattle.fe2o3_sasl_runs.specs.Laws.{AcceptorRunsAreHistories, AcceptorRunsNameUsers}
 use Rattle.fe2o3_scram.specs.Hmac.{mechanism_name}
-use Rattle.fe2o3_sasl_runs.specs.Runs.{AcceptorGives, AcceptorSteps, SendsCanonical, server_says, Runs}
+use Rattle.fe2o3_sasl_runs.specs.Runs.{AcceptorGives, AcceptorSteps, SendsCanonical, Runs}
 use Rattle.fe2o3_sasl_runs.specs.SaslAcceptor.{acceptor_machine, acceptor_user, Acceptor, ScramAcceptor, ends_with, server_frame}
 use Rattle.fe2o3_scram.specs.ClientFinal.{ReadsClientFinal, server_of}
-use Rattle.fe2o3_sasl_runs.specs.Bodies.{SpellsBody, carried}
-use Rattle.fe2o3_sasl_runs.specs.ServerHistory.{Challenging, Accepted, FitsAsInit, FitsAsResponse, FitsAt, AcceptsUser, Open, ServerAnswers, ServerAllocates, ServerHistory, is_challenge, is_ok, first_message, full_nonce, final_message, server_at, says_auth}
+use Rattle.fe2o3_sasl_runs.specs.Bodies.{SpellsBody, carried, server_says, says_frame}
+use Rattle.fe2o3_sasl_runs.specs.ServerHistory.{Challenging, Accepted, FitsAsInit, FitsAsResponse, FitsAt, AcceptsUser, Open, ServerAnswers, ServerAllocates, ServerHistory, is_challenge, is_ok, first_message, full_nonce, final_message, server_at}
 use Rattle.fe2o3_scram.specs.ScramServer.{ServerState, Initial, ServerFirstSent, ServerFinalSent, logged_in, ChallengesFrom, ConcludesFrom}
 use Rattle.fe2o3_scram.proofs.lemmas.messages.ClientFinalLemmas.{one_client_final}
 use Rattle.fe2o3_scram.proofs.lemmas.messages.ClientFirstLemmas.{one_client_first}
@@ -99,8 +99,8 @@ auth_init : (provider : Provider) (held : Option Challenging) (event : Given) (m
 auth_init provider held event mechanism response hostname says state moved next reply shown unfit r m h =
     let g = subst (λ (f : SaslFrame). SendsCanonical (Failed faults.TooLarge) (server_says f)
     (canonical f) state moved says next) r h in
-    let e : says ≡ says_auth = (sent (Failed faults.TooLarge) (λ b. Concluded outcomes.Auth b)
-    (canonical (frames.Outcome outcomes.Auth None)) state moved says next g).0 in
+    let e : says ≡ says_frame (frames.Outcome outcomes.Auth None) = (sent (Failed faults.TooLarge)
+    (λ b. Concluded outcomes.Auth b) (canonical (frames.Outcome outcomes.Auth None)) state moved says next g).0 in
     let i = auth_idle (canonical (frames.Outcome outcomes.Auth None)) says e in
     idle provider held event (Ok (frames.Init mechanism response hostname)) says state next i.0 i.1
     (stays (Failed faults.TooLarge) (λ b. Concluded outcomes.Auth b)
@@ -116,8 +116,8 @@ auth_response : (provider : Provider) (held : Option Challenging) (event : Given
 auth_response provider held event text says state moved next reply shown unfit r m h =
     let g = subst (λ (f : SaslFrame). SendsCanonical (Failed faults.TooLarge) (server_says f)
     (canonical f) state moved says next) r h in
-    let e : says ≡ says_auth = (sent (Failed faults.TooLarge) (λ b. Concluded outcomes.Auth b)
-    (canonical (frames.Outcome outcomes.Auth None)) state moved says next g).0 in
+    let e : says ≡ says_frame (frames.Outcome outcomes.Auth None) = (sent (Failed faults.TooLarge)
+    (λ b. Concluded outcomes.Auth b) (canonical (frames.Outcome outcomes.Auth None)) state moved says next g).0 in
     let i = auth_idle (canonical (frames.Outcome outcomes.Auth None)) says e in
     idle provider held event (Ok (frames.Response text)) says state next i.0 i.1
     (stays (Failed faults.TooLarge) (λ b. Concluded outcomes.Auth b)

@@ -28,11 +28,11 @@ use Rattle.fe2o3_scram.proofs.lemmas.messages.SomeReadingLemmas.{some_client_fir
 use Rattle.fe2o3_scram.proofs.lemmas.texts.DecisionLemmas.{Decided, same_or, utf8_or}
 use Rattle.fe2o3_sasl_runs.specs.Events.{Given, ServerSays, Failed, ClientSays, Started, Answered, Reported, Refused, ClientFault, NotImplemented, Scram, Frame, OutOfMemory}
 use Rattle.fe2o3_sasl_runs.specs.Laws.{BodiesAreBytes, SomeServerHistory, SomeClientHistory}
-use Rattle.fe2o3_sasl_runs.specs.Runs.{Runs, AcceptorGives, AcceptorSteps, ProfileGives, ProfileSteps, Replies, SendsCanonical, server_says}
+use Rattle.fe2o3_sasl_runs.specs.Runs.{Runs, AcceptorGives, AcceptorSteps, ProfileGives, ProfileSteps, Replies, SendsCanonical}
 use Rattle.fe2o3_sasl_runs.specs.SaslAcceptor.{ScramAcceptor, acceptor_machine, ends_with, server_frame}
 use Rattle.fe2o3_sasl_runs.specs.Profiles.{ScramProfile, profile_machine, client_frame, initial_response}
 use Rattle.fe2o3_sasl_runs.specs.Complete.{ServerComplete, ClientComplete}
-use Rattle.fe2o3_sasl_runs.specs.Bodies.{SpellsBody}
+use Rattle.fe2o3_sasl_runs.specs.Bodies.{SpellsBody, server_says}
 use Rattle.fe2o3_sasl_runs.proofs.lemmas.machines.ClientMachineLemmas.{profile_runs_are_histories}
 use Rattle.fe2o3_sasl_runs.proofs.lemmas.machines.MemoryLemmas.{no_want, scram_tells}
 use Rattle.fe2o3_sasl_runs.proofs.lemmas.machines.ServerMachineLemmas.{acceptor_runs_are_histories}
@@ -227,7 +227,7 @@ some_answer (client_states.Complete keys) side text = (Err IllegalClientState, s
 some_answer (client_states.ClientFirstSent nonce bare) side text =
     let read = some_server_first (holding side nonce) text in go read.0 read.1
   where
-    go : (read : Result ServerFirst ScramErrorKind) → ReadsServerFirst (holding side nonce) text read
+    go : (read : Result ServerFirst ScramErrorKind) → ReadsServerFirst nonce side.secret side.limits text read
         → (answer : Result (List ℕ) ScramErrorKind) × (after : ClientSide)
         × AnswersIn (client_states.ClientFirstSent nonce bare) side text answer after
     go (Ok first) reads = let answer = answer_of side.version side.secret bare text first in (

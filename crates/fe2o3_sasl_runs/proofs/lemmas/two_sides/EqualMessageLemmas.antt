@@ -4,10 +4,10 @@ use Rattle.fe2o3_sasl_wire.specs.SaslFrames as frames
 use Rattle.fe2o3_sasl_wire.specs.SaslFrames.{SaslFrame}
 use Rattle.fe2o3_scram.specs.Texts.{base64_text, NoComma}
 use Rattle.fe2o3_scram.specs.ClientFirst.{NamesClientFirst}
-use Rattle.fe2o3_sasl_runs.specs.ClientHistory.{Answering, AnswersAt, client_at}
+use Rattle.fe2o3_sasl_runs.specs.ClientHistory.{Answering, AnswersAt}
 use Rattle.fe2o3_scram.specs.Credentials.{Provider, record_at}
 use Rattle.fe2o3_sasl_runs.specs.Events.{Given, Login, IsRecord, ServerSays, ClientSays}
-use Rattle.fe2o3_scram.specs.ServerFirst.{NamesServerFirst}
+use Rattle.fe2o3_scram.specs.ServerFirst.{NamesServerFirst, client_of}
 use Rattle.fe2o3_sasl_runs.specs.ServerHistory.{Challenging, Accepted, FitsAsInit, FitsAsResponse, Open, AcceptsAt, server_at}
 use Rattle.fe2o3_sasl_runs.specs.TwoSides.{Sides, client_message, server_message}
 use Rattle.fe2o3_scram.proofs.lemmas.messages.AgreementLemmas.{ClientHas, SameLogin, ServerHas, same_login}
@@ -24,7 +24,7 @@ is_answering login events replies k answer is =
       plain = subst NoComma (sym due.2.2) (no_comma-base64_text due.2.0.nonce);
       names =
           subst (λ (text : List ℕ). NamesServerFirst text answer.first) (sym is.4.1)
-          (names_server_first (client_at login answer.nonce) is.1 answer.first is.4.3);
+          (names_server_first (client_of answer.nonce login.secret login.limits) is.1 answer.first is.4.3);
     }
 
 -- a challenge as the server makes it

@@ -16,7 +16,7 @@ use Rattle.fe2o3_sasl_runs.specs.Laws.{EveryServer, EveryClient}
 use Rattle.fe2o3_sasl_runs.specs.Positions.{test_at}
 use Rattle.fe2o3_sasl_runs.specs.Bodies.{SpellsBody}
 use Rattle.fe2o3_sasl_runs.specs.ServerHistory.{Challenging, Accepted, FitsAsResponse, AcceptsAt, Open, ServerAnswers, ServerAllocates, ServerHistory, says_ok, is_ok}
-use Rattle.fe2o3_sasl_runs.specs.TwoSides.{Sides, sides_of, Histories, Takes}
+use Rattle.fe2o3_sasl_runs.specs.TwoSides.{Sides, Histories, Takes}
 use Rattle.fe2o3_sasl_runs.proofs.lemmas.histories.OneClientHistoryLemmas.{one_open_answer, one_reading_of_outcome}
 use Rattle.fe2o3_sasl_runs.proofs.lemmas.histories.ReportedOkLemmas.{reported}
 use Rattle.fe2o3_sasl_runs.proofs.lemmas.two_sides.MeetingSidesLemmas.{agree, met_taken, taken_signature}

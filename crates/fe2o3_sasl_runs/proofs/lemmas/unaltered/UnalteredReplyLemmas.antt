@@ -10,14 +10,14 @@ use Rattle.fe2o3_sasl_wire.specs.SaslFrames as frames
 use Rattle.fe2o3_scram.specs.declared.scram_messages.error.ScramErrorKind.{ScramErrorKind}
 use Rattle.fe2o3_scram.specs.Texts.{base64_text}
 use Rattle.fe2o3_scram.specs.ClientFirst.{client_first}
-use Rattle.fe2o3_sasl_runs.specs.ClientHistory.{Answering, answer_at, client_at, ReadsChallenge, ClientAnswers, ClientAllocates, ClientHistory, IsDue, OpenAnswer}
+use Rattle.fe2o3_sasl_runs.specs.ClientHistory.{Answering, answer_at, ReadsChallenge, ClientAnswers, ClientAllocates, ClientHistory, IsDue, OpenAnswer}
 use Rattle.fe2o3_scram.specs.Credentials.{Provider}
 use Rattle.fe2o3_sasl_runs.specs.Events.{Given, Login, ServerSays, Challenged, Concluded, Failed, ClientSays, Started, Answered, Reported, Refused, Frame, OutOfMemory}
 use Rattle.fe2o3_scram.specs.Hmac.{mechanism_name}
 use Rattle.fe2o3_sasl_runs.specs.Positions.{IsLastOpen, OpenBy}
 use Rattle.fe2o3_scram.specs.ClientFinal.{ClientFinal, ReadsClientFinal}
 use Rattle.fe2o3_scram.specs.ServerFinal.{ReadsServerFinal}
-use Rattle.fe2o3_scram.specs.ServerFirst.{ServerFirst, ReadsServerFirst}
+use Rattle.fe2o3_scram.specs.ServerFirst.{ServerFirst, ReadsServerFirst, client_of}
 use Rattle.fe2o3_sasl_runs.specs.Bodies.{SpellsBody, carried}
 use Rattle.fe2o3_sasl_runs.specs.ServerHistory.{Challenging, Accepted, FitsAsInit, FitsAsResponse, Open, ServerAnswers, ServerAllocates, ServerHistory, first_message, final_message, server_at}
 use Rattle.fe2o3_sasl_runs.specs.UnalteredRuns.{client_body, server_body, Arrives}
@@ -183,8 +183,8 @@ pub one_answering : (login : Login) (Due : List ℕ → Type 0) (text : List ℕ
     → ReadsChallenge login Due text (Ok other) → other ≡ answer
 one_answering login Due text answer other one is too =
     let nonce = one other.nonce too.2 in
-    let first = one_server_first_value (client_at login answer.nonce) text other.first answer.first
-    (subst (λ (n : List ℕ). ReadsServerFirst (client_at login n) text (Ok other.first)) nonce too.3) is.3 in
+    let first = one_server_first_value (client_of answer.nonce login.secret login.limits) text other.first answer.first
+    (subst (λ (n : List ℕ). ReadsServerFirst n login.secret login.limits text (Ok other.first)) nonce too.3) is.3 in
     let same : other.text ≡ answer.text = too.1 ∙ sym is.1 in
     λ i. answering (nonce i) (same i) (first i)
 
@@ -195,8 +195,9 @@ read_not_refused : (login : Login) (Due : List ℕ → Type 0) (text : List ℕ)
 read_not_refused login Due text answer kind one reads (inl x) = x.0 reads.0
 read_not_refused login Due text answer kind one reads (inr (inl x)) = x.1 answer.nonce reads.2
 read_not_refused login Due text answer kind one reads (inr (inr x)) =
-    differ answer.first (one_server_first (client_at login answer.nonce) text (Ok answer.first) (Err kind) reads.3
-    (subst (λ (n : List ℕ). ReadsServerFirst (client_at login n) text (Err kind)) (one x.1.0 x.1.1) x.1.2))
+    differ answer.first (one_server_first (client_of answer.nonce login.secret login.limits) text (Ok answer.first)
+    (Err kind) reads.3
+    (subst (λ (n : List ℕ). ReadsServerFirst n login.secret login.limits text (Err kind)) (one x.1.0 x.1.1) x.1.2))
   where
     differ : (first : ServerFirst) → ◌≡◌ {A = Result ServerFirst ScramErrorKind} (Ok first) (Err kind) → ⊥
     differ first e = absurd (cc)

@@ -18,9 +18,9 @@ use Rattle.fe2o3_scram.specs.Keys.{auth_message}
 use Rattle.fe2o3_scram.specs.Laws.{HoldsBytes}
 use Rattle.fe2o3_scram.specs.ScramClient.{ClientSide, ClientFinalSent, BelievesIn, holding, with_state}
 use Rattle.fe2o3_scram.specs.ScramServer.{ServerState, ServerFirstSent, ConcludesFrom, server_against}
-use Rattle.fe2o3_scram.specs.ServerFinal.{AnswersClientFinal, HasSignature}
+use Rattle.fe2o3_scram.specs.ServerFinal.{AnswersClientFinal}
 use Rattle.fe2o3_scram.specs.ServerFirst.{ServerChallenge, NamesServerFirst, ServerFirst, challenge_of}
-use Rattle.fe2o3_scram.specs.Texts.{IsCount, NoComma, Part, Parts, base64_text, joined}
+use Rattle.fe2o3_scram.specs.Texts.{IsCount, NoComma, Part, Parts, base64_text, joined, HasBase64}
 use Rattle.fe2o3_scram.proofs.lemmas.hashes.DigestLemmas.{length-hmac_of, IsBytes-hmac_of}
 use Rattle.fe2o3_scram.proofs.lemmas.messages.ClientFinalLemmas.{NamesAcceptedFinal, names_client_final}
 use Rattle.fe2o3_scram.proofs.lemmas.messages.ExchangeLemmas.{IsBytes-literal, no_comma-decimal, part_of, only_part}
@@ -339,7 +339,7 @@ sized_version Sha512 Sha512 same = refl
 
 -- where one text shows both signatures, version and HMAC value are one
 pub one_signature : (version other : ScramVersion) (key its_key auth its_auth last : List ℕ)
-    → HasSignature last (hmac_of version key auth)
+    → HasBase64 last 0 (codes "v=") (hmac_of version key auth)
     → Part last 0 (codes "v=" ++ base64_text (hmac_of other its_key its_auth))
     → (version ≡ other) × (hmac_of version key auth ≡ hmac_of other its_key its_auth)
 one_signature version other key its_key auth its_auth last has part =
@@ -400,10 +400,10 @@ agree side provider own text its init response client server holds version same 
 -- what a client believed shows the signature of its answer
 shown : (side waiting done : ClientSide) (answer own : Answer) (last : List ℕ) → answer ≡ own
     → waiting ≡ with_state side (ClientFinalSent answer.signature (Some answer.keys))
-    → BelievesIn waiting.state waiting last (Ok tt) done → HasSignature last own.signature
+    → BelievesIn waiting.state waiting last (Ok tt) done → HasBase64 last 0 (codes "v=") own.signature
 shown side waiting done answer own last same is believes =
     let reads = subst (λ (at : ClientSide). BelievesIn at.state at last (Ok tt) done) is believes in
-    subst (λ (made : Answer). HasSignature last made.signature) same
+    subst (λ (made : Answer). HasBase64 last 0 (codes "v=") made.signature) same
     (names_server_final answer.signature last tt reads.0)
 
 -- what a server accepted it read against its challenge

@@ -8,10 +8,10 @@ use Rattle.fe2o3_scram.specs.declared.scram_messages.error.ServerScramErrorKind.
 use Rattle.fe2o3_scram.specs.declared.scram_messages.gs2_header.Gs2Header.{Gs2Header}
 use Rattle.fe2o3_scram.specs.declared.scram_messages.gs2_header.Gs2Header.TheVariants.{Unsupported, Unoffered}
 use Rattle.fe2o3_scram.specs.ClientFirst.{header_text}
-use Rattle.fe2o3_scram.specs.Texts.{base64_text, IsBase64, Part, LastPart, StartsWith}
+use Rattle.fe2o3_scram.specs.Texts.{base64_text, IsBase64, Part, LastPart, StartsWith, HasBase64}
 use Rattle.fe2o3_scram.specs.Hmac.{digest_len}
 use Rattle.fe2o3_scram.specs.Readings.{IsFirst, NoneHolds, Gives}
-use Rattle.fe2o3_scram.specs.ClientFinal.{Server, ClientFinal, HasBinding, HasProof, Meets, NamesClientFinal, ReachesBase64, ReadsFinalText, ReadsClientFinal, binding_tests, final_nonce_tests, spelling_tests, final_text_tests, proof_tests}
+use Rattle.fe2o3_scram.specs.ClientFinal.{Server, ClientFinal, HasProof, Meets, NamesClientFinal, ReachesBase64, ReadsFinalText, ReadsClientFinal, final_text_tests, proof_tests}
 use Rattle.fe2o3_scram.specs.ServerFinal.{AnswersClientFinal, FinalCosts}
 use Rattle.fe2o3_scram.specs.private.Answers.{AnswersProof, IsMet, ProofCosts}
 use Rattle.fe2o3_scram.proofs.lemmas.hashes.DigestLemmas.{IsBytes-nil, IsBytes-cons}
@@ -20,21 +20,22 @@ use Rattle.fe2o3_scram.proofs.lemmas.texts.DecisionLemmas.{held, utf8_or}
 use Rattle.fe2o3_scram.proofs.lemmas.texts.CutLemmas.{one_last_cut}
 use Rattle.fe2o3_scram.proofs.lemmas.texts.PartsLemmas.{one_behind}
 use Rattle.fe2o3_scram.proofs.lemmas.messages.TestListLemmas.{NoneHolds-append, IsFirst-front, IsFirst-back, one_reading, one_first, first_or_none, not_first}
+use Rattle.fe2o3_scram.specs.private.Tests.{binding_tests, final_nonce_tests, spelling_tests}
 
 -- the channel binding
 
-binding_spelled : (text spelling binding : List ℕ) → Part text 0 (codes "c=" ++ spelling) → HasBinding text binding
-    → IsBase64 spelling binding
+binding_spelled : (text spelling binding : List ℕ) → Part text 0 (codes "c=" ++ spelling)
+    → HasBase64 text 0 (codes "c=") binding → IsBase64 spelling binding
 binding_spelled text spelling binding is has =
     (has.0, one_behind text 0 (codes "c=") spelling (base64_text binding) is has.1)
 
 pub has_binding : (text spelling binding : List ℕ) → Part text 0 (codes "c=" ++ spelling) → IsBase64 spelling binding
-    → HasBinding text binding
+    → HasBase64 text 0 (codes "c=") binding
 has_binding text spelling binding is spells =
     (spells.0, subst (λ (spelt : List ℕ). Part text 0 (codes "c=" ++ spelt)) spells.1 is)
 
 pub no_binding : (text spelling : List ℕ) → Part text 0 (codes "c=" ++ spelling)
-    → ((binding : List ℕ) → ¬ IsBase64 spelling binding) → (binding : List ℕ) → ¬ HasBinding text binding
+    → ((binding : List ℕ) → ¬ IsBase64 spelling binding) → (binding : List ℕ) → ¬ HasBase64 text 0 (codes "c=") binding
 no_binding text spelling is none binding has = none binding (binding_spelled text spelling binding is has)
 
 -- a header holds bytes
@@ -45,12 +46,12 @@ header_bytes Unoffered = IsBytes-cons 121 (44 ∷ 44 ∷ []) (omega arith)
     (IsBytes-cons 44 (44 ∷ []) (omega arith) (IsBytes-cons 44 [] (omega arith) IsBytes-nil))
 
 pub this_header : (header : Gs2Header) (text spelling : List ℕ) → Part text 0 (codes "c=" ++ spelling)
-    → spelling ≡ base64_text (header_text header) → HasBinding text (header_text header)
+    → spelling ≡ base64_text (header_text header) → HasBase64 text 0 (codes "c=") (header_text header)
 this_header header text spelling is same =
     has_binding text spelling (header_text header) is (header_bytes header, same)
 
 pub other_header : (header : Gs2Header) (text spelling : List ℕ) → Part text 0 (codes "c=" ++ spelling)
-    → spelling ≢ base64_text (header_text header) → ¬ HasBinding text (header_text header)
+    → spelling ≢ base64_text (header_text header) → ¬ HasBase64 text 0 (codes "c=") (header_text header)
 other_header header text spelling is other has = other (binding_spelled text spelling (header_text header) is has).1
 
 -- the nonce
@@ -151,7 +152,7 @@ module _ (header : Gs2Header) (nonce text : List ℕ) (utf8 : IsUtf8 text) where
 
   -- what is read of the proof is what is read of the text, where the tests before it have passed
   pub text_answered : {A : Type 0} (view : A → ClientFinal) (result : Result A ServerScramErrorKind)
-      → NoneHolds (binding_tests header text) → NoneHolds (final_nonce_tests nonce text) → HasBinding text
+      → NoneHolds (binding_tests header text) → NoneHolds (final_nonce_tests nonce text) → HasBase64 text 0 (codes "c=")
       (header_text header)
       → Part text 1 (codes "r=" ++ nonce) → IfOk result (λ _. NoneHolds (spelling_tests text))
       → IfOk result (λ final. HasProof text (view final))
@@ -162,7 +163,17 @@ module _ (header : Gs2Header) (nonce text : List ℕ) (utf8 : IsUtf8 text) where
   text_answered view (Ok final) binding tested bound same spelling has reaches refused =
       text_read (view final) binding tested spelling (record { binding = bound; nonce = same; proof = has })
   text_answered view (Err fault) binding tested bound same spelling has reaches refused = (
-    λ memory. (utf8, inr (binding, tested, reaches memory)),
+    λ memory. (
+      utf8,
+      inr (
+        (
+          λ fails. fails utf8,
+          NoneHolds-append (binding_tests header text) (final_nonce_tests nonce text)
+              binding tested,
+        ),
+        reaches memory,
+      ),
+    ),
     λ other. spelling_refused fault binding tested (refused other),
   )
 
@@ -191,8 +202,7 @@ proof_reached header nonce text final reads =
     let tested = binding.1.1.1 in (
       held (utf8_or text) reads.0.0,
       inr (
-        (binding.0, (binding.1.0, (binding.1.1.0, tt))),
-        (tested.0, (tested.1.0, tt)),
+        (reads.0.0, (binding.0, (binding.1.0, (binding.1.1.0, (tested.0, (tested.1.0, tt)))))),
         (final.without, base64_text final.proof, reads.1.proof.1),
       ),
     )
@@ -230,7 +240,7 @@ text_costs_nothing A server text fault count refused = refl
 
 -- what a message names that is accepted
 pub record NamesAcceptedFinal (server : Server) (text : List ℕ) (final : ClientFinal) : Type 0 where
-  pub binding : HasBinding text (header_text server.header)
+  pub binding : HasBase64 text 0 (codes "c=") (header_text server.header)
   pub nonce : Part text 1 (codes "r=" ++ server.nonce)
   pub proof : HasProof text final
   pub sized : length final.proof ≡ digest_len server.version

@@ -10,7 +10,7 @@ use Rattle.std.proofs.lemmas.Fmt.{decimal_is_IsNumeral}
 use Rattle.std.proofs.lemmas.Nat.{xor_of_8}
 use Rattle.std.proofs.lemmas.Str.{IsUtf8-append}
 use Rattle.base64.specs.GeneralPurpose.{IsBytes}
-use Rattle.fe2o3_scram.specs.Texts.{base64_text, IsCount, NoComma, Parts, Part, joined}
+use Rattle.fe2o3_scram.specs.Texts.{base64_text, IsCount, NoComma, Parts, Part, joined, HasBase64}
 use Rattle.fe2o3_scram.specs.ClientFinal.{Answer, answer_by, fit, keys_for, client_final_of, Server, ClientFinal, Meets, ReadsClientFinal}
 use Rattle.fe2o3_scram.specs.declared.scram_messages.gs2_header.Gs2Header.{Gs2Header}
 use Rattle.fe2o3_scram.specs.declared.scram_messages.gs2_header.Gs2Header.TheVariants.{Unsupported, Unoffered}
@@ -27,7 +27,7 @@ use Rattle.fe2o3_scram.specs.ClientSecret.{Secret, Password, Keys, Both}
 use Rattle.fe2o3_scram.specs.Passwords.{IsNormal, password_bytes}
 use Rattle.fe2o3_scram.specs.private.Serving.{Serves}
 use Rattle.fe2o3_scram.proofs.lemmas.messages.FittingKeyLemmas.{fit_is, is_fit}
-use Rattle.fe2o3_scram.specs.ServerFirst.{ServerFirst, client_of, HasSalt, HasCount, NamesServerFirst, ReadsServerFirst}
+use Rattle.fe2o3_scram.specs.ServerFirst.{ServerFirst, client_of, HasCount, NamesServerFirst, ReadsServerFirst}
 use Rattle.fe2o3_scram.proofs.lemmas.texts.AsciiLemmas.{IsUtf8-base64_text, IsUtf8-literal, IsUtf8-escaped}
 use Rattle.fe2o3_scram.proofs.lemmas.texts.Base64Lemmas.{no_comma-append, no_comma-test, no_comma-base64_text}
 use Rattle.fe2o3_scram.proofs.lemmas.texts.EachByteLemmas.{without-digits}
@@ -195,7 +195,7 @@ answered x sound =
     (opened x.version x.secret x.password x.salt x.count (nonce_in x) sound.opens).0
 
 reads_server_first : (x : Exchange) → IsSound x
-    → ReadsServerFirst (client_of x.client_nonce x.secret x.limits) (first_in x) (Ok (named_in x))
+    → ReadsServerFirst x.client_nonce x.secret x.limits (first_in x) (Ok (named_in x))
 reads_server_first x sound =
     let wide : x.count < 2 ^ 64 = omega (arith, sound.within, sound.limit) in
     let small : x.count < 2 ^ 32 = omega (arith, sound.within, sound.limit) in
@@ -205,7 +205,7 @@ reads_server_first x sound =
     (part_of (codes "s=") (base64_text x.salt) refl (no_comma-base64_text x.salt))
     (part_of (codes "i=") (decimal x.count) refl (no_comma-decimal x.count wide)) in
     let nonce : Part (first_in x) 0 (codes "r=" ++ nonce_in x) = (_, parts, refl) in
-    let salt : HasSalt (first_in x) x.salt = (sound.salt, (_, parts, refl)) in
+    let salt : HasBase64 (first_in x) 1 (codes "s=") x.salt = (sound.salt, (_, parts, refl)) in
     let digits : Part (first_in x) 2 (codes "i=" ++ decimal x.count) = (_, parts, refl) in
     let count : HasCount (first_in x) x.count = (decimal x.count, digits, IsCount-decimal x.count sound.some small) in
     let names : NamesServerFirst (first_in x) (named_in x) = record { nonce = nonce; salt = salt; count = count } in

@@ -10,11 +10,12 @@ use Rattle.fe2o3_scram.specs.ClientSecret.{Password, Keys, Both}
 use Rattle.fe2o3_scram.specs.Laws.{AreKeysOf}
 use Rattle.fe2o3_scram.specs.Readings.{IsFirst, NoneHolds, Reads}
 use Rattle.fe2o3_scram.specs.Passwords.{PasswordText, IsNormal, password_bytes}
-use Rattle.fe2o3_scram.specs.ServerFirst.{ServerFirst, NamesOther, NamesServerFirst, ReadsServerFirst, client_of, nonce_tests, salt_tests, count_tests}
+use Rattle.fe2o3_scram.specs.ServerFirst.{ServerFirst, NamesOther, NamesServerFirst, ReadsServerFirst, client_of, nonce_tests}
 use Rattle.fe2o3_scram.specs.ServerFirstAnswers.{AnswersServerFirst}
 use Rattle.fe2o3_scram.proofs.lemmas.messages.FittingKeyLemmas.{fit_is}
 use Rattle.fe2o3_scram.proofs.lemmas.messages.ServerFirstLemmas.{fitting_named}
 use Rattle.fe2o3_scram.proofs.lemmas.messages.SomeReadingLemmas.{names_values_or, none-split}
+use Rattle.fe2o3_scram.specs.private.Tests.{salt_tests, count_tests}
 
 -- a list of tests with one more behind it
 
@@ -57,7 +58,7 @@ goes_over nonce text limits fault other A B (Err kind) passes fails reads =
 
 -- keys that read a message fit it
 fitting : (keys : ClientKeys) (nonce text : List ℕ) (limits : IterationLimits) (first : ServerFirst)
-    → ReadsServerFirst (client_of nonce (Keys keys) limits) text (Ok first) → T (fit keys first)
+    → ReadsServerFirst nonce (Keys keys) limits text (Ok first) → T (fit keys first)
 unfolding ReadsServerFirst
 fitting keys nonce text limits first reads = elim (names_values_or keys text) [
   | inl has ↦ fitting_named keys text first reads.1 has
@@ -68,8 +69,8 @@ fitting keys nonce text limits first reads = elim (names_values_or keys text) [
 -- a message that keys do not refuse is read by a password in normal form as by them
 by_password : (keys : ClientKeys) (password : PasswordText) (nonce text : List ℕ) (limits : IterationLimits)
     (answer : Result ServerFirst ScramErrorKind) → IsNormal password → answer ≢ Err OtherKeys
-    → ReadsServerFirst (client_of nonce (Keys keys) limits) text answer
-    → ReadsServerFirst (client_of nonce (Password password) limits) text answer
+    → ReadsServerFirst nonce (Keys keys) limits text answer
+    → ReadsServerFirst nonce (Password password) limits text answer
 unfolding ReadsServerFirst
 by_password keys password nonce text limits answer printable other =
     goes_over nonce text limits _ _ _ _ answer (λ _ un. un printable) (λ _. other)
@@ -108,9 +109,9 @@ keys_stand keys password nonce bare text limits (Err fault) printable are other 
 -- the keys read what the password reads, or they are of another salt or another count
 by_keys : (keys : ClientKeys) (password : PasswordText) (nonce text : List ℕ) (limits : IterationLimits)
     (answer : Result ServerFirst ScramErrorKind) → IsNormal password
-    → ReadsServerFirst (client_of nonce (Password password) limits) text answer
-    → ReadsServerFirst (client_of nonce (Keys keys) limits) text answer
-    ⊎ ReadsServerFirst (client_of nonce (Keys keys) limits) text (Err OtherKeys)
+    → ReadsServerFirst nonce (Password password) limits text answer
+    → ReadsServerFirst nonce (Keys keys) limits text answer
+    ⊎ ReadsServerFirst nonce (Keys keys) limits text (Err OtherKeys)
 unfolding ReadsServerFirst
 by_keys keys password nonce text limits (Err fault) printable reads =
     inl (goes_over nonce text limits _ _ _ _ (Err fault) (λ wrong. absurd (cc)) (λ un. absurd (un printable)) reads)
@@ -141,8 +142,8 @@ keys_answer keys password nonce bare text limits (Err fault) printable are reads
 -- a client with both reads what a password in normal form reads
 read_by_both : (keys : ClientKeys) (password : PasswordText) (nonce text : List ℕ) (limits : IterationLimits)
     (answer : Result ServerFirst ScramErrorKind) → IsNormal password
-    → ReadsServerFirst (client_of nonce (Both password keys) limits) text answer
-    ↔ ReadsServerFirst (client_of nonce (Password password) limits) text answer
+    → ReadsServerFirst nonce (Both password keys) limits text answer
+    ↔ ReadsServerFirst nonce (Password password) limits text answer
 unfolding ReadsServerFirst
 read_by_both keys password nonce text limits answer printable = (
   goes_over nonce text limits _ _ _ _ answer (λ _ un. un printable) (λ both. absurd (both.1 printable)),

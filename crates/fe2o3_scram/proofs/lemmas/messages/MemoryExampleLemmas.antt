@@ -3,7 +3,7 @@ use Rattle.std.proofs.Common.{◌≡◌, Bool, ◌≢◌, ◌⊎◌, ℕ, List, 
 use Rattle.std.proofs.lemmas.List.{append_cancel_left}
 use Rattle.fe2o3_scram.specs.declared.hmac.ScramVersion.{ScramVersion}
 use Rattle.fe2o3_scram.specs.declared.hmac.ScramVersion.TheVariants.{Sha1, Sha256, Sha512}
-use Rattle.fe2o3_scram.specs.ClientFinal.{HasBinding, ReachesBinding, ReachesProof, client_final_of, without_proof}
+use Rattle.fe2o3_scram.specs.ClientFinal.{ReachesBinding, ReachesProof, client_final_of, without_proof}
 use Rattle.fe2o3_scram.specs.declared.scram_messages.gs2_header.Gs2Header.TheVariants.{Unsupported}
 use Rattle.fe2o3_scram.specs.ClientFirst.{HasEscapes}
 use Rattle.fe2o3_scram.specs.Escape.{escaped, NoEquals}
@@ -11,7 +11,7 @@ use Rattle.fe2o3_scram.specs.Hmac.{mechanism_name}
 use Rattle.fe2o3_scram.specs.MemoryExamples.{AnsweredClientsTakeNone, CommasTakeNone, ErrorsTakeNone, OtherNoncesTakeNone, UnboundTextsTakeNone, UnknownMechanismsTakeNone, UnknownUsersTakeNone}
 use Rattle.fe2o3_scram.specs.RecordLines.{ReachesName}
 use Rattle.fe2o3_scram.specs.RecordText.{Fields, HasFields, Plain}
-use Rattle.fe2o3_scram.specs.Texts.{NoComma, Part, Parts, base64_text}
+use Rattle.fe2o3_scram.specs.Texts.{NoComma, Part, Parts, base64_text, HasBase64}
 use Rattle.fe2o3_scram.proofs.lemmas.messages.ClientFirstLemmas.{one_header}
 use Rattle.fe2o3_scram.proofs.lemmas.messages.ExchangeLemmas.{IsBytes-literal, only_part, part_of}
 use Rattle.fe2o3_scram.proofs.lemmas.messages.RecordTextLemmas.{one_fields}
@@ -72,7 +72,7 @@ unbound_texts_take_none provider user bare first has = go has.1.1
     go : ReachesBinding Unsupported (codes "r=abc,p=AA==")
         ⊎ ReachesProof Unsupported (codes "abc") (codes "r=abc,p=AA==") → ⊥
     go (inl reaches) = unbound reaches.0.0 reaches.0.1
-    go (inr reaches) = reaches.0.0 unbound
+    go (inr reaches) = reaches.0.1.0 unbound
 
 -- the client-final message with the nonce abd
 abbrev other_text : List ℕ
@@ -98,12 +98,12 @@ other_nonce has =
 pub other_nonces_take_none : OtherNoncesTakeNone
 other_nonces_take_none provider user bare first has = go has.1.1
   where
-    bound : HasBinding other_text (codes "n,,")
+    bound : HasBase64 other_text 0 (codes "c=") (codes "n,,")
     bound = (IsBytes-literal (codes "n,,") refl, (_, other_parts, refl))
 
     go : ReachesBinding Unsupported other_text ⊎ ReachesProof Unsupported (codes "abc") other_text → ⊥
     go (inl reaches) = reaches.1 bound
-    go (inr reaches) = reaches.1.1.0 other_nonce
+    go (inr reaches) = reaches.0.1.1.1.1.1.0 other_nonce
 
 -- ---- records and lines
 

@@ -1,13 +1,14 @@
 -- What the four messages name, where they are read.
-use Rattle.std.proofs.Common.{◌≡◌, Bool, ℕ, List, Result, Ok}
+use Rattle.std.proofs.Common.{◌≡◌, Bool, ℕ, List, Result, Ok, codes}
 use Rattle.fe2o3_scram.specs.ClientFirst.{ClientFirst, ReadsClientFirst, NamesClientFirst}
 use Rattle.fe2o3_scram.specs.ClientFinal.{Server, ClientFinal, ReadsClientFinal}
-use Rattle.fe2o3_scram.specs.ServerFinal.{ReadsServerFinal, HasSignature}
+use Rattle.fe2o3_scram.specs.ServerFinal.{ReadsServerFinal}
 use Rattle.fe2o3_scram.specs.ServerFirst.{Client, ServerFirst, ReadsServerFirst, NamesServerFirst}
 use Rattle.fe2o3_scram.proofs.lemmas.messages.ClientFinalLemmas.{one_client_final}
 use Rattle.fe2o3_scram.proofs.lemmas.messages.ClientFirstLemmas.{one_client_first}
 use Rattle.fe2o3_scram.proofs.lemmas.messages.ServerFirstLemmas.{one_server_first}
 use Rattle.fe2o3_scram.proofs.lemmas.messages.ServerFinalLemmas.{names_signature}
+use Rattle.fe2o3_scram.specs.Texts.{HasBase64}
 
 pub names_client_first : (unbound : Bool) (text : List ℕ) (first : ClientFirst)
     → ReadsClientFirst unbound text (Ok first) → NamesClientFirst unbound text first
@@ -15,12 +16,12 @@ unfolding ReadsClientFirst
 names_client_first unbound text first reads = reads.1
 
 pub names_server_first : (client : Client) (text : List ℕ) (first : ServerFirst)
-    → ReadsServerFirst client text (Ok first) → NamesServerFirst text first
+    → ReadsServerFirst client.nonce client.secret client.limits text (Ok first) → NamesServerFirst text first
 unfolding ReadsServerFirst
 names_server_first client text first reads = reads.1
 
 pub names_server_final : (signature text : List ℕ) (believed : Unit {0}) → ReadsServerFinal signature text (Ok believed)
-    → HasSignature text signature
+    → HasBase64 text 0 (codes "v=") signature
 unfolding ReadsServerFinal
 names_server_final signature text believed reads = names_signature text signature reads
 
@@ -40,6 +41,7 @@ one_client_final_value server text final other reads too =
     same_value final other (one_client_final server text (Ok final) (Ok other) reads too)
 
 pub one_server_first_value : (client : Client) (text : List ℕ) (first other : ServerFirst)
-    → ReadsServerFirst client text (Ok first) → ReadsServerFirst client text (Ok other) → first ≡ other
+    → ReadsServerFirst client.nonce client.secret client.limits text (Ok first)
+    → ReadsServerFirst client.nonce client.secret client.limits text (Ok other) → first ≡ other
 one_server_first_value client text first other reads too =
     same_value first other (one_server_first client text (Ok first) (Ok other) reads too)

@@ -9,7 +9,7 @@ use Rattle.fe2o3_scram.specs.Laws.{OneAnswerOfPassword, OneRecordOfPassword}
 use Rattle.fe2o3_scram.specs.Passwords.{Typed, Prepared}
 use Rattle.fe2o3_scram.specs.Readings.{NoneHolds, Reads}
 use Rattle.fe2o3_scram.specs.SaslprepAscii.{IsPrintable}
-use Rattle.fe2o3_scram.specs.ServerFirst.{ServerFirst, ReadsServerFirst, client_of}
+use Rattle.fe2o3_scram.specs.ServerFirst.{ServerFirst, ReadsServerFirst}
 use Rattle.fe2o3_scram.proofs.lemmas.messages.KeptKeyLemmas.{goes_over}
 
 -- what is made of a password
@@ -39,8 +39,8 @@ one_record_of_password version text salt count answer printable =
 -- what a client answers
 
 read_alike : (password nonce text : List ℕ) (limits : IterationLimits) (answer : Result ServerFirst ScramErrorKind)
-    → IsPrintable password → ReadsServerFirst (client_of nonce (Password (Prepared password)) limits) text answer
-    ↔ ReadsServerFirst (client_of nonce (Password (Typed password)) limits) text answer
+    → IsPrintable password → ReadsServerFirst nonce (Password (Prepared password)) limits text answer
+    ↔ ReadsServerFirst nonce (Password (Typed password)) limits text answer
 unfolding ReadsServerFirst
 read_alike password nonce text limits answer printable = (
   goes_over nonce text limits _ _ _ _ answer (λ _ un. un printable) (λ un. absurd (un tt)),

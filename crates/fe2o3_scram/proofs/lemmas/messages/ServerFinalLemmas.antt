@@ -3,20 +3,21 @@ use Rattle.std.proofs.Common.{◌≡◌, ◌≢◌, ℕ, List, ◌++◌, Result,
 use Rattle.std.specs.Str.{IsUtf8}
 use Rattle.fe2o3_scram.specs.declared.scram_messages.error.ScramErrorKind.{ScramErrorKind}
 use Rattle.fe2o3_scram.specs.declared.scram_messages.error.ScramErrorKind.TheVariants.{Utf8Error, Base64DecodeError, ServerSignatureMismatch}
-use Rattle.fe2o3_scram.specs.Texts.{base64_text, IsBase64, Part}
-use Rattle.fe2o3_scram.specs.ServerFinal.{HasSignature, ReadsSignature, ReadsServerFinal, server_final_tests}
+use Rattle.fe2o3_scram.specs.Texts.{base64_text, IsBase64, Part, HasBase64}
+use Rattle.fe2o3_scram.specs.ServerFinal.{ReadsSignature, ReadsServerFinal, server_final_tests}
 use Rattle.fe2o3_scram.proofs.lemmas.texts.Base64Lemmas.{one_spelled}
 use Rattle.fe2o3_scram.proofs.lemmas.texts.PartsLemmas.{one_behind}
 use Rattle.fe2o3_scram.proofs.lemmas.messages.TestListLemmas.{one_reading}
 
 -- the signature that the first part spells
-spelled : (text spelling bytes other : List ℕ) → Part text 0 (codes "v=" ++ spelling) → HasSignature text other
+spelled : (text spelling bytes other : List ℕ) → Part text 0 (codes "v=" ++ spelling)
+    → HasBase64 text 0 (codes "v=") other
     → IsBase64 spelling other
 spelled text spelling bytes other is has =
     (has.0, one_behind text 0 (codes "v=") spelling (base64_text other) is has.1)
 
 has_signature : (text spelling bytes : List ℕ) → Part text 0 (codes "v=" ++ spelling) → IsBase64 spelling bytes
-    → HasSignature text bytes
+    → HasBase64 text 0 (codes "v=") bytes
 has_signature text spelling bytes is spells =
     (spells.0, subst (λ (spelt : List ℕ). Part text 0 (codes "v=" ++ spelt)) spells.1 is)
 
@@ -71,7 +72,8 @@ text_refused signature text fault refused = inl refused
 
 -- a message has one signature, and one reading
 
-one_named : (text signature other : List ℕ) → HasSignature text signature → HasSignature text other
+one_named : (text signature other : List ℕ) → HasBase64 text 0 (codes "v=") signature
+    → HasBase64 text 0 (codes "v=") other
     → signature ≡ other
 one_named text signature other has too =
     one_spelled (base64_text signature) signature other (has.0, refl)
@@ -81,9 +83,10 @@ pub one_signature : (text : List ℕ) (answer other : Result (List ℕ) ScramErr
     → ReadsSignature text other → answer ≡ other
 unfolding ReadsSignature
 one_signature text answer other reads too =
-    one_reading (server_final_tests text) (HasSignature text) (one_named text) answer other reads too
+    one_reading (server_final_tests text) (HasBase64 text 0 (codes "v=")) (one_named text) answer other reads too
 
-pub names_signature : (text signature : List ℕ) → ReadsSignature text (Ok signature) → HasSignature text signature
+pub names_signature : (text signature : List ℕ) → ReadsSignature text (Ok signature)
+    → HasBase64 text 0 (codes "v=") signature
 unfolding ReadsSignature
 names_signature text signature reads = reads.1
 

@@ -9,13 +9,14 @@ use Rattle.fe2o3_scram.specs.private.Serving.{Serves, ServesNot}
 use Rattle.fe2o3_scram.proofs.lemmas.messages.FittingKeyLemmas.{fit_is, is_fit}
 use Rattle.fe2o3_scram.specs.declared.scram_messages.error.ScramErrorKind.{ScramErrorKind}
 use Rattle.fe2o3_scram.specs.declared.scram_messages.error.ScramErrorKind.TheVariants.{OutOfMemory}
-use Rattle.fe2o3_scram.specs.Texts.{base64_text, IsBase64, IsCount, Part, StartsWith}
+use Rattle.fe2o3_scram.specs.Texts.{base64_text, IsBase64, IsCount, Part, StartsWith, HasBase64}
 use Rattle.fe2o3_scram.specs.Readings.{IsFirst, NoneHolds}
-use Rattle.fe2o3_scram.specs.ServerFirst.{Client, ServerFirst, HasSalt, HasCount, NamesServerFirst, ReachesSalt, ReadsServerFirst, nonce_tests, salt_tests, count_tests, secret_tests, NamesOther}
+use Rattle.fe2o3_scram.specs.ServerFirst.{Client, ServerFirst, HasCount, NamesServerFirst, ReachesSalt, ReadsServerFirst, nonce_tests, secret_tests, NamesOther}
 use Rattle.fe2o3_scram.proofs.lemmas.texts.Base64Lemmas.{one_spelled}
 use Rattle.fe2o3_scram.proofs.lemmas.texts.CountLemmas.{one_count}
 use Rattle.fe2o3_scram.proofs.lemmas.texts.PartsLemmas.{one_behind}
 use Rattle.fe2o3_scram.proofs.lemmas.messages.TestListLemmas.{NoneHolds-append, IsFirst-front, IsFirst-back, one_reading, not_first}
+use Rattle.fe2o3_scram.specs.private.Tests.{salt_tests, count_tests}
 
 -- no test of the nonce or of the count has the fault for refused memory
 
@@ -51,12 +52,12 @@ same_nonce text client_nonce nonce rest is goes_on none =
 pub ruleset nonces = (other_nonce, same_nonce)
 
 pub no_salt : (text spelling : List ℕ) → Part text 1 (codes "s=" ++ spelling)
-    → ((bytes : List ℕ) → ¬ IsBase64 spelling bytes) → (salt : List ℕ) → ¬ HasSalt text salt
+    → ((bytes : List ℕ) → ¬ IsBase64 spelling bytes) → (salt : List ℕ) → ¬ HasBase64 text 1 (codes "s=") salt
 no_salt text spelling is none salt has =
     none salt (has.0, one_behind text 1 (codes "s=") spelling (base64_text salt) is has.1)
 
 pub has_salt : (text spelling salt : List ℕ) → Part text 1 (codes "s=" ++ spelling) → IsBase64 spelling salt
-    → HasSalt text salt
+    → HasBase64 text 1 (codes "s=") salt
 has_salt text spelling salt is spells =
     (spells.0, subst (λ (spelt : List ℕ). Part text 1 (codes "s=" ++ spelt)) spells.1 is)
 
@@ -88,14 +89,15 @@ pub ruleset counts = (no_count, not_too_small, not_too_large)
 -- the parts of the reading make the whole
 
 pub nonce_refused : (client : Client) (text : List ℕ) (fault : ScramErrorKind)
-    → IsFirst (nonce_tests client.nonce text) fault → ReadsServerFirst client text (Err fault)
+    → IsFirst (nonce_tests client.nonce text) fault
+    → ReadsServerFirst client.nonce client.secret client.limits text (Err fault)
 unfolding ReadsServerFirst
 nonce_refused client text fault first = IsFirst-front (nonce_tests client.nonce text)
     (salt_tests text ++ (count_tests client.limits text ++ secret_tests client.secret text)) fault first
 
 pub salt_refused : (client : Client) (text : List ℕ) (fault : ScramErrorKind)
     → NoneHolds (nonce_tests client.nonce text) → IsFirst (salt_tests text) fault
-    → ReadsServerFirst client text (Err fault)
+    → ReadsServerFirst client.nonce client.secret client.limits text (Err fault)
 unfolding ReadsServerFirst
 salt_refused client text fault nonce first =
     let rest = count_tests client.limits text ++ secret_tests client.secret text in
@@ -104,7 +106,8 @@ salt_refused client text fault nonce first =
 
 pub count_refused : (client : Client) (text : List ℕ) (fault : ScramErrorKind)
     → NoneHolds (nonce_tests client.nonce text) → NoneHolds (salt_tests text)
-    → IsFirst (count_tests client.limits text) fault → ReadsServerFirst client text (Err fault)
+    → IsFirst (count_tests client.limits text) fault
+    → ReadsServerFirst client.nonce client.secret client.limits text (Err fault)
 unfolding ReadsServerFirst
 count_refused client text fault nonce salt first =
     let rest = count_tests client.limits text ++ secret_tests client.secret text in
@@ -113,7 +116,8 @@ count_refused client text fault nonce salt first =
     (secret_tests client.secret text) fault first))
 
 -- a message has one salt
-pub one_has_salt : (text salt other : List ℕ) → HasSalt text salt → HasSalt text other → salt ≡ other
+pub one_has_salt : (text salt other : List ℕ) → HasBase64 text 1 (codes "s=") salt
+    → HasBase64 text 1 (codes "s=") other → salt ≡ other
 one_has_salt text salt other has too =
     let spelling = one_behind text 1 (codes "s=") (base64_text salt) (base64_text other) has.1 too.1 in
     one_spelled (base64_text salt) salt other (has.0, refl) (too.0, spelling)
@@ -122,13 +126,14 @@ one_has_salt text salt other has too =
 abbrev pub made : List ℕ → List ℕ → ℕ → ServerFirst
 made nonce salt count = record { nonce = nonce; salt = salt; count = count }
 
-pub names_made : (text nonce salt : List ℕ) (count : ℕ) → Part text 0 (codes "r=" ++ nonce) → HasSalt text salt
+pub names_made : (text nonce salt : List ℕ) (count : ℕ) → Part text 0 (codes "r=" ++ nonce)
+    → HasBase64 text 1 (codes "s=") salt
     → HasCount text count → NamesServerFirst text (made nonce salt count)
 names_made text nonce salt count first second third = record { nonce = first; salt = second; count = third }
 
 -- keys of no other salt and count than are named fit what is named
 pub fitting_named : (keys : ClientKeys) (text : List ℕ) (first : ServerFirst) → NamesServerFirst text first
-    → HasSalt text keys.salt × HasCount text keys.count → T (fit keys first)
+    → HasBase64 text 1 (codes "s=") keys.salt × HasCount text keys.count → T (fit keys first)
 fitting_named keys text first names has =
     is_fit keys first (one_has_salt text first.salt keys.salt names.salt has.0)
     (one_has_count text first.count keys.count names.count has.1)
@@ -163,7 +168,7 @@ secret_first (Both password keys) text first fault names (unfit, unprintable, is
 pub secret_refused : (client : Client) (text : List ℕ) (fault : ScramErrorKind)
     → NoneHolds (nonce_tests client.nonce text) → NoneHolds (salt_tests text)
     → NoneHolds (count_tests client.limits text) → IsFirst (secret_tests client.secret text) fault
-    → ReadsServerFirst client text (Err fault)
+    → ReadsServerFirst client.nonce client.secret client.limits text (Err fault)
 unfolding ReadsServerFirst
 secret_refused client text fault nonce salt count first =
     let rest = count_tests client.limits text ++ secret_tests client.secret text in
@@ -174,7 +179,7 @@ secret_refused client text fault nonce salt count first =
 pub values_read : (client : Client) (text : List ℕ) (first : ServerFirst) → NoneHolds (nonce_tests client.nonce text)
     → NoneHolds (salt_tests text) → NoneHolds (count_tests client.limits text)
     → NoneHolds (secret_tests client.secret text) → NamesServerFirst text first
-    → ReadsServerFirst client text (Ok first)
+    → ReadsServerFirst client.nonce client.secret client.limits text (Ok first)
 unfolding ReadsServerFirst
 values_read client text first nonce salt count secret names =
     let rest = count_tests client.limits text ++ secret_tests client.secret text in (
@@ -195,7 +200,8 @@ one_values text first other names too =
     λ i. made (nonce i) (salt i) (count i)
 
 pub one_server_first : (client : Client) (text : List ℕ) (answer other : Result ServerFirst ScramErrorKind)
-    → ReadsServerFirst client text answer → ReadsServerFirst client text other → answer ≡ other
+    → ReadsServerFirst client.nonce client.secret client.limits text answer
+    → ReadsServerFirst client.nonce client.secret client.limits text other → answer ≡ other
 unfolding ReadsServerFirst
 one_server_first client text answer other reads too =
     one_reading (nonce_tests client.nonce text ++ (salt_tests text
@@ -203,8 +209,8 @@ one_server_first client text answer other reads too =
     (one_values text) answer other reads too
 
 -- who reads a message came to its salt
-pub salt_reached : (client : Client) (text : List ℕ) (first : ServerFirst) → ReadsServerFirst client text (Ok first)
-    → ReachesSalt client.nonce text
+pub salt_reached : (client : Client) (text : List ℕ) (first : ServerFirst)
+    → ReadsServerFirst client.nonce client.secret client.limits text (Ok first) → ReachesSalt client.nonce text
 unfolding ReadsServerFirst
 salt_reached client text first reads =
     let none = reads.0 in (

@@ -4,21 +4,20 @@ use Rattle.fe2o3_scram.specs.declared.scram_messages.error.ScramErrorKind.{Scram
 use Rattle.fe2o3_scram.specs.declared.scram_messages.error.ScramErrorKind.TheVariants.{ServerSignatureMismatch}
 use Rattle.fe2o3_scram.specs.declared.scram_messages.error.ServerScramErrorKind.{ServerScramErrorKind}
 use Rattle.fe2o3_scram.specs.declared.scram_messages.error.ServerScramErrorKind.TheVariants.{XorLengthMismatch, AuthenticationFailed}
-use Rattle.fe2o3_scram.specs.ClientFinal as client_final
-use Rattle.fe2o3_scram.specs.ClientFinal.{Server, ClientFinal, HasBinding, HasProof, recovered_key, NamesClientFinal, ReadsFinalText, ReadsClientFinal, final_text_tests, binding_tests, spelling_tests}
+use Rattle.fe2o3_scram.specs.ClientFinal.{Server, ClientFinal, HasProof, recovered_key, NamesClientFinal, ReadsFinalText, ReadsClientFinal, final_text_tests}
 use Rattle.fe2o3_scram.specs.declared.scram_messages.gs2_header.Gs2Header.{Gs2Header}
 use Rattle.fe2o3_scram.specs.declared.scram_messages.gs2_header.Gs2Header.TheVariants.{Unsupported, Unoffered}
 use Rattle.fe2o3_scram.specs.ClientFirst.{ClientFirst, BarePart, NamesClientFirst, ReadsClientFirst, TakesHeader, client_first_tests, header_text}
 use Rattle.fe2o3_scram.specs.Escape.{escaped}
 use Rattle.fe2o3_scram.specs.Hmac.{digest, digest_len}
 use Rattle.fe2o3_scram.specs.Readings.{IsFirst, NoneHolds, Reads}
-use Rattle.fe2o3_scram.specs.ServerFinal.{HasSignature, ReadsSignature, ReadsServerFinal, server_final_tests}
+use Rattle.fe2o3_scram.specs.ServerFinal.{ReadsSignature, ReadsServerFinal, server_final_tests}
 use Rattle.fe2o3_scram.specs.ServerFirst as server_first
-use Rattle.fe2o3_scram.specs.ServerFirst.{Client, ServerFirst, HasSalt, HasCount, NamesServerFirst, ReadsServerFirst, server_first_tests, salt_tests, count_tests, secret_tests}
+use Rattle.fe2o3_scram.specs.ServerFirst.{Client, ServerFirst, HasCount, NamesServerFirst, ReadsServerFirst, server_first_tests, secret_tests}
 use Rattle.fe2o3_scram.specs.declared.client_secret.IterationLimits.{IterationLimits}
 use Rattle.fe2o3_scram.specs.ClientKeys.{ClientKeys}
 use Rattle.fe2o3_scram.specs.ClientSecret.{Secret, Password, Keys, Both}
-use Rattle.fe2o3_scram.specs.Texts.{base64_text, StartsWith, Part, LastPart}
+use Rattle.fe2o3_scram.specs.Texts.{base64_text, StartsWith, Part, LastPart, HasBase64}
 use Rattle.fe2o3_scram.specs.Passwords.{PasswordText, Typed, Prepared, IsNormal}
 use Rattle.base64.specs.GeneralPurpose.{IsBytes}
 use Rattle.fe2o3_scram.proofs.lemmas.messages.ClientFirstLemmas.{one_header}
@@ -26,6 +25,7 @@ use Rattle.fe2o3_scram.proofs.lemmas.messages.ClientFinalLemmas.{no_proof, has_p
 use Rattle.fe2o3_scram.proofs.lemmas.messages.ServerFirstLemmas.{one_has_count, no_count}
 use Rattle.fe2o3_scram.proofs.lemmas.texts.CutLemmas.{last_part_or}
 use Rattle.fe2o3_scram.proofs.lemmas.texts.DecisionLemmas.{Decided, Found, held, found_one, not_or, none_or, some_or, both_or, found_with, less_or, same_number_or, same_or, bytes_or, utf8_or, printable_or, rest_or, part_or, part_is_or, attribute_or, attribute_text_or, base64_or, count_or, name_or}
+use Rattle.fe2o3_scram.specs.private.Tests.{salt_tests, count_tests, binding_tests, final_nonce_tests, spelling_tests}
 
 -- ---- lists of tests
 
@@ -148,7 +148,7 @@ some_client_first unbound text =
 
 -- ---- the server-first message
 
-salt_or : (text : List ℕ) → Found (HasSalt text)
+salt_or : (text : List ℕ) → Found (HasBase64 text 1 (codes "s="))
 salt_or text = attribute_or IsBytes base64_text text 1 (codes "s=") base64_or
 
 has_count_or : (text : List ℕ) → Found (HasCount text)
@@ -175,7 +175,8 @@ this_count_or text count = elim (some_count_or text (λ other. other ≡ count) 
   | inr none ↦ inr (λ has. none (count, has, refl))
 ]
 
-pub names_values_or : (keys : ClientKeys) (text : List ℕ) → Decided (HasSalt text keys.salt × HasCount text keys.count)
+pub names_values_or : (keys : ClientKeys) (text : List ℕ)
+    → Decided (HasBase64 text 1 (codes "s=") keys.salt × HasCount text keys.count)
 names_values_or keys text = both_or
     (both_or (bytes_or keys.salt) (part_is_or text 1 (codes "s=" ++ base64_text keys.salt)))
     (this_count_or text keys.count)
@@ -218,13 +219,14 @@ count_decided limits text = (
 )
 
 pub some_server_first : (client : Client) (text : List ℕ)
-    → (answer : Result ServerFirst ScramErrorKind) × ReadsServerFirst client text answer
+    → (answer : Result ServerFirst ScramErrorKind)
+    × ReadsServerFirst client.nonce client.secret client.limits text answer
 unfolding ReadsServerFirst
 some_server_first client text =
     let secret = secret_tests client.secret text in
     let count = count_tests client.limits text ++ secret in
     let salt = salt_tests text ++ count in
-    some_reading (server_first_tests client text) (NamesServerFirst text)
+    some_reading (server_first_tests client.nonce client.secret client.limits text) (NamesServerFirst text)
     (decided-append (server_first.nonce_tests client.nonce text) salt (nonce_decided client.nonce text)
     (decided-append (salt_tests text) count (salt_decided text)
     (decided-append (count_tests client.limits text) secret (count_decided client.limits text)
@@ -242,10 +244,10 @@ some_server_first client text =
 
 -- ---- the client-final message
 
-binding_or : (text : List ℕ) → Found (HasBinding text)
+binding_or : (text : List ℕ) → Found (HasBase64 text 0 (codes "c="))
 binding_or text = attribute_or IsBytes base64_text text 0 (codes "c=") base64_or
 
-this_binding_or : (text binding : List ℕ) → Decided (HasBinding text binding)
+this_binding_or : (text binding : List ℕ) → Decided (HasBase64 text 0 (codes "c=") binding)
 this_binding_or text binding = both_or (bytes_or binding) (part_is_or text 0 (codes "c=" ++ base64_text binding))
 
 proof_part_or : (text : List ℕ) → Decided ((before rest : List ℕ) → ¬ LastPart text before (codes "p=" ++ rest))
@@ -277,7 +279,7 @@ binding_decided header text = (
   (none_or (binding_or text), (not_or (this_binding_or text (header_text header)), tt)),
 )
 
-final_nonce_decided : (nonce text : List ℕ) → AllDecided (client_final.final_nonce_tests nonce text)
+final_nonce_decided : (nonce text : List ℕ) → AllDecided (final_nonce_tests nonce text)
 final_nonce_decided nonce text = (
   none_or (attribute_text_or text 1 (codes "r=")),
   (not_or (part_is_or text 1 (codes "r=" ++ nonce)), tt),
@@ -291,16 +293,16 @@ some_final_text : (header : Gs2Header) (nonce text : List ℕ)
     → (answer : Result ClientFinal ServerScramErrorKind) × ReadsFinalText header nonce text answer
 unfolding ReadsFinalText
 some_final_text header nonce text =
-    let after_binding = client_final.final_nonce_tests nonce text ++ spelling_tests text in
+    let after_binding = final_nonce_tests nonce text ++ spelling_tests text in
     some_reading (final_text_tests header nonce text) (NamesClientFinal header nonce text) (
       not_or (utf8_or text),
       decided-append (binding_tests header text) after_binding (binding_decided header text)
-          (decided-append (client_final.final_nonce_tests nonce text) (spelling_tests text) (final_nonce_decided nonce text)
+          (decided-append (final_nonce_tests nonce text) (spelling_tests text) (final_nonce_decided nonce text)
           (spelling_decided text)),
     )
     (λ none.
     let binding_parts = none-split (binding_tests header text) after_binding none.1 in
-    let nonce_parts = none-split (client_final.final_nonce_tests nonce text) (spelling_tests text) binding_parts.1 in
+    let nonce_parts = none-split (final_nonce_tests nonce text) (spelling_tests text) binding_parts.1 in
     let final = found_one (proof_or text) nonce_parts.1.1.0 in (
       final.0,
       record {
@@ -329,12 +331,12 @@ some_client_final server text = go (some_final_text server.header server.nonce t
 
 -- ---- the server-final message
 
-signature_or : (text : List ℕ) → Found (HasSignature text)
+signature_or : (text : List ℕ) → Found (HasBase64 text 0 (codes "v="))
 signature_or text = attribute_or IsBytes base64_text text 0 (codes "v=") base64_or
 
 some_signature : (text : List ℕ) → (answer : Result (List ℕ) ScramErrorKind) × ReadsSignature text answer
 unfolding ReadsSignature
-some_signature text = some_reading (server_final_tests text) (HasSignature text)
+some_signature text = some_reading (server_final_tests text) (HasBase64 text 0 (codes "v="))
     (not_or (utf8_or text), (none_or (attribute_text_or text 0 (codes "v=")), (none_or (signature_or text), tt)))
     (λ none. found_one (signature_or text) none.1.1.0)
 
