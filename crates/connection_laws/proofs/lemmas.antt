@@ -10,6 +10,7 @@ pub mod CutLemmas
 pub mod CutStepLemmas
 pub mod CutConnectionLemmas
 pub mod CutCallLemmas
+pub mod FunctionLemmas
 pub mod HostileLemmas
 pub mod SmallReplyLemmas
 pub mod ExactSideLemmas

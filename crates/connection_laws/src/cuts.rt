@@ -1,6 +1,11 @@
 //! What two divisions of one stream of bytes into calls have in common.
 
+ghost use Rattle.fe2o3_sasl_runs.specs.ExternalAcceptor.{external_machine};
+ghost use Rattle.fe2o3_sasl_runs.specs.HidingAcceptor.{hiding_machine};
+ghost use Rattle.fe2o3_sasl_runs.specs.PlainAuthenticator.{plain_machine};
 ghost use Rattle.fe2o3_sasl_runs.specs.SaslAcceptor.{acceptor_names, acceptor_machine};
+ghost use Rattle.connection_laws.specs.Cuts.{IsFunction};
+ghost use Rattle.connection_laws.specs.Functions.{OneOfIsFunction, OfferingIsFunction};
 ghost use Rattle.connection_laws.specs.Cuts.{FunctionCallsEndEqually, ServerCallsEndEqually, ClientCallsEndEqually};
 ghost use Rattle.connection_laws.specs.Cuts.{FunctionsEndEqually, ServersEndEqually, ClientsEndEqually};
 ghost use Rattle.connection_laws.specs.Cuts.{FunctionsNegotiateEqually, ServersNegotiateEqually, ClientsNegotiateEqually};
@@ -32,4 +37,17 @@ pub fn one_negotiation<A: HasMechanism>()
     ensures functions { FunctionsNegotiateEqually A.machine }
     ensures acceptors { ServersNegotiateEqually acceptor_machine }
     ensures clients { ClientsNegotiateEqually }
+{}
+
+/// States which acceptors have at most one reply to each frame and one state after it, as [`one_result`] asks. Those of
+/// SCRAM, PLAIN and ANONYMOUS do, with mock authentication too, and so do EXTERNAL and PLAIN over records. A server of
+/// two acceptors does where both do, and one that offers only some mechanisms where its acceptor does. Every server that
+/// is built of these gives one result for every division of a stream.
+pub fn functions<A: HasMechanism, B: HasMechanism>()
+    ensures acceptors { IsFunction acceptor_machine }
+    ensures mock { IsFunction hiding_machine }
+    ensures external { IsFunction external_machine }
+    ensures plain { IsFunction plain_machine }
+    ensures one_of { OneOfIsFunction A.names B.names A.machine B.machine }
+    ensures offers_only { OfferingIsFunction A.names A.machine }
 {}
