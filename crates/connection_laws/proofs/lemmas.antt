@@ -9,6 +9,7 @@ pub mod UnalteredPairLemmas
 pub mod CutLemmas
 pub mod CutStepLemmas
 pub mod CutConnectionLemmas
+pub mod RestLemmas
 pub mod CutCallLemmas
 pub mod FunctionLemmas
 pub mod HostileLemmas
