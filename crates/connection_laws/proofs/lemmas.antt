@@ -9,7 +9,10 @@ pub mod UnalteredPairLemmas
 pub mod CutLemmas
 pub mod CutStepLemmas
 pub mod CutConnectionLemmas
+pub mod RestLemmas
 pub mod CutCallLemmas
+pub mod FunctionLemmas
+pub mod HostileLemmas
 pub mod SmallReplyLemmas
 pub mod ExactSideLemmas
 pub mod ReplyListLemmas

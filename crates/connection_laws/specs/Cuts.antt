@@ -1,6 +1,6 @@
 -- What two divisions of one stream of bytes into calls have in common (AMQP 1.0, part 5, section 5.3.2). Each law is the
 -- contract of a clause in `cuts`.
-use Rattle.std.specs.Prelude.{◌≡◌, ℕ, ◌+◌, ◌<◌, ◌^◌, Option, List, [], ◌∷◌, ◌++◌, length, take, drop, flat_map}
+use Rattle.std.specs.Prelude.{◌≡◌, ◌≢◌, ◌⊎◌, ℕ, ◌+◌, ◌<◌, ◌^◌, Option, List, [], ◌∷◌, ◌++◌, length, take, drop, flat_map}
 use Rattle.fe2o3_sasl_wire.specs.SaslFrames.{SaslFrame, IsBytes}
 use Rattle.fe2o3_sasl_runs.specs.OneOfLaws.{Machine}
 use Rattle.fe2o3_sasl_runs.specs.Profiles.{Profile}
@@ -111,14 +111,30 @@ abbrev pub pieces_of : {S : Type 0} (Answers : Due → S → List ℕ → List �
 pieces_of Answers side stream over =
     taken_pieces Answers side over.calls stream over.sent over.last over.rest over.made
 
--- calls over one stream of bytes that leave the same rest of it end equally, where the calls in which the last byte of a
--- frame arrives have one nonce
+-- calls that were made until the side ended or the stream did
+abbrev pub HaveFinished : {S : Type 0} {Answers : Due → S → List ℕ → List ℕ → SideOutput → S → Type 0} {side : Side S}
+    {stream : List ℕ} → CallsOver Answers side stream → Type 0
+HaveFinished over = (over.last.standing ≢ Wanting) ⊎ (over.rest ≡ [])
+
+-- what two lists of calls over one stream of bytes have in common, where the calls in which the last byte of a frame
+-- arrives have one nonce
+pub record HaveOneResult {S : Type 0} {Answers : Due → S → List ℕ → List ℕ → SideOutput → S → Type 0} {side : Side S}
+    {stream : List ℕ} (first second : CallsOver Answers side stream) : Type 0 where
+  -- where both have finished, they leave the same rest of the stream and end equally
+  pub finished : HaveFinished first → HaveFinished second
+      → (first.rest ≡ second.rest) × EndEqually first.sent second.sent first.last second.last
+  -- where they leave the same rest, they end equally, also while both wait for more
+  pub same_rest : first.rest ≡ second.rest → EndEqually first.sent second.sent first.last second.last
+  -- where one list leaves more than the other, its side waits for more
+  pub waits : length second.rest < length first.rest → first.last.standing ≡ Wanting
+
+-- any two lists of calls over one stream of bytes, in any two divisions
 abbrev pub CallsEndEqually : {S : Type 0} → (Due → S → List ℕ → List ℕ → SideOutput → S → Type 0) → S → Type 0
 CallsEndEqually {S} Answers state = (limit : ℕ) (stream : List ℕ) → limit < 2 ^ 32 → IsBytes stream
-    → (first second : CallsOver Answers (fresh limit state) stream) → first.rest ≡ second.rest
+    → (first second : CallsOver Answers (fresh limit state) stream)
     → HaveOneNonceEach (pieces_of Answers (fresh limit state) stream first)
     (pieces_of Answers (fresh limit state) stream second) stream
-    → EndEqually first.sent second.sent first.last second.last
+    → HaveOneResult first second
 
 -- those of a server, from each state
 abbrev pub ServerCallsEndEqually : {S : Type 0} → (S → List (List ℕ)) → Machine S → Type 0

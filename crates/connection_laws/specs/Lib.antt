@@ -2,3 +2,5 @@ pub mod Servers
 pub mod Pairs
 pub mod Cuts
 pub mod Unaltered
+pub mod Functions
+pub mod Hostile

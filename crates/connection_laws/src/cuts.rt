@@ -1,6 +1,11 @@
 //! What two divisions of one stream of bytes into calls have in common.
 
+ghost use Rattle.fe2o3_sasl_runs.specs.ExternalAcceptor.{external_machine};
+ghost use Rattle.fe2o3_sasl_runs.specs.HidingAcceptor.{hiding_names, hiding_machine};
+ghost use Rattle.fe2o3_sasl_runs.specs.PlainAuthenticator.{plain_machine};
 ghost use Rattle.fe2o3_sasl_runs.specs.SaslAcceptor.{acceptor_names, acceptor_machine};
+ghost use Rattle.connection_laws.specs.Cuts.{IsFunction};
+ghost use Rattle.connection_laws.specs.Functions.{OneOfIsFunction, OfferingIsFunction};
 ghost use Rattle.connection_laws.specs.Cuts.{FunctionCallsEndEqually, ServerCallsEndEqually, ClientCallsEndEqually};
 ghost use Rattle.connection_laws.specs.Cuts.{FunctionsEndEqually, ServersEndEqually, ClientsEndEqually};
 ghost use Rattle.connection_laws.specs.Cuts.{FunctionsNegotiateEqually, ServersNegotiateEqually, ClientsNegotiateEqually};
@@ -8,13 +13,18 @@ ghost use Rattle.connection_laws.specs.Cuts.{FunctionsNegotiateEqually, ServersN
 use fe2o3_sasl_runs::one_of::HasMechanism;
 
 /// States that the division of a stream into calls does not change the result. Two lists of calls pass one stream of
-/// bytes to one fresh side, in any two divisions, and leave the same rest of it. The calls that complete a frame have one
-/// nonce in both. Both lists then send the same bytes, and both sides end in the same way with the same state of their
-/// machine; a side that waits holds the same part of a frame. This holds of every client, and of every server whose
-/// acceptor has at most one reply to each frame, as those of SCRAM, PLAIN and ANONYMOUS do.
+/// bytes to one fresh side, in any two divisions. The calls that complete a frame have one nonce in both. Then:
+/// - where both lists go on until the side ends or the stream does, they leave the same rest of the stream;
+/// - where they leave the same rest, they send the same bytes, and both sides end in the same way with the same state of
+///   their machine; a side that waits holds the same part of a frame;
+/// - where one list leaves more than the other, its side waits for more.
+///
+/// This holds of every client, and of every server whose acceptor has at most one reply to each frame. [`functions`] says
+/// which acceptors do.
 pub fn one_result<A: HasMechanism>()
     ensures functions { FunctionCallsEndEqually A.names A.machine }
     ensures acceptors { ServerCallsEndEqually acceptor_names acceptor_machine }
+    ensures mock { ServerCallsEndEqually hiding_names hiding_machine }
     ensures clients { ClientCallsEndEqually }
 {}
 
@@ -32,4 +42,17 @@ pub fn one_negotiation<A: HasMechanism>()
     ensures functions { FunctionsNegotiateEqually A.machine }
     ensures acceptors { ServersNegotiateEqually acceptor_machine }
     ensures clients { ClientsNegotiateEqually }
+{}
+
+/// States which acceptors have at most one reply to each frame and one state after it, as [`one_result`] asks. Those of
+/// SCRAM, PLAIN and ANONYMOUS do, with mock authentication too, and so do EXTERNAL and PLAIN over records. A server of
+/// two acceptors does where both do, and one that offers only some mechanisms where its acceptor does. Every server that
+/// is built of these gives one result for every division of a stream.
+pub fn functions<A: HasMechanism, B: HasMechanism>()
+    ensures acceptors { IsFunction acceptor_machine }
+    ensures mock { IsFunction hiding_machine }
+    ensures external { IsFunction external_machine }
+    ensures plain { IsFunction plain_machine }
+    ensures one_of { OneOfIsFunction A.names B.names A.machine B.machine }
+    ensures offers_only { OfferingIsFunction A.names A.machine }
 {}

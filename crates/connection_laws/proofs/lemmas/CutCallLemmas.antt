@@ -1,9 +1,9 @@
 -- Calls over one stream, and the connections that they make.
-use Rattle.std.proofs.Common.{◌≡◌, ℕ, ◌+◌, ◌-◌, ◌<◌, ◌≤◌, List, [], ◌∷◌, ◌++◌, length, take, drop, refl, sym, ap, ◌∙◌, subst, inl, inr, append_assoc, arith}
+use Rattle.std.proofs.Common.{◌≡◌, ◌⊎◌, ℕ, ◌+◌, ◌<◌, ◌≤◌, List, [], ◌∷◌, ◌++◌, length, take, drop, refl, sym, ap, ◌∙◌, subst, inl, inr, append_assoc, arith}
 use Rattle.std.specs.Prelude.{flat_map}
-use Rattle.std.proofs.lemmas.Grind.{flat_map-append}
+use Rattle.std.proofs.lemmas.Bool.{cases_lt}
 use Rattle.std.proofs.lemmas.List.{append-nil, length-append, length-take, length-take-le, take-take, take-append-drop}
-use Rattle.std.proofs.Math.Seq.{take-append-add}
+use Rattle.std.proofs.Math.Seq.{take-append-add, take-append_seam}
 use Rattle.fe2o3_sasl_wire.specs.SaslFrames.{IsBytes}
 use Rattle.fe2o3_sasl_wire.proofs.lemmas.reading.StepLemmas.{IsBytes-take}
 use Rattle.fe2o3_sasl_runs.specs.OneOfLaws.{Machine}
@@ -11,43 +11,22 @@ use Rattle.fe2o3_sasl_runs.specs.Runs.{ProfileSteps}
 use Rattle.fe2o3_sasl_runs.specs.SaslAcceptor.{acceptor_names, acceptor_machine}
 use Rattle.fe2o3_sasl_runs.proofs.lemmas.machines.OneReplyLemmas.{one_acceptor_reply}
 use Rattle.fe2o3_sasl_negotiation.specs.declared.standing.Due.{Due}
-use Rattle.fe2o3_sasl_negotiation.specs.declared.standing.Standing.{Standing}
-use Rattle.fe2o3_sasl_negotiation.specs.declared.standing.Standing.TheVariants.{Wanting, LoggedIn, Closed}
+use Rattle.fe2o3_sasl_negotiation.specs.declared.standing.Standing.TheVariants.{Wanting}
 use Rattle.fe2o3_sasl_negotiation.specs.ClientNegotiation.{ClientSideAnswers}
 use Rattle.fe2o3_sasl_negotiation.specs.Connections.{Piece, bytes_of, PieceNonceAt, ServerConnection, ClientConnection, fresh}
 use Rattle.fe2o3_sasl_negotiation.specs.Framing.{sasl_header, framed}
 use Rattle.fe2o3_sasl_negotiation.specs.Laws.{Call, Calls}
-use Rattle.fe2o3_sasl_negotiation.specs.Negotiations.{Side, SideOutput, Receives, ReceivesAt}
+use Rattle.fe2o3_sasl_negotiation.specs.Negotiations.{Side, SideOutput, Receives}
 use Rattle.fe2o3_sasl_negotiation.specs.ServerNegotiation.{ServerSideAnswers}
 use Rattle.fe2o3_sasl_negotiation.proofs.lemmas.ClientConnectionLemmas.{client_call, client_fresh}
-use Rattle.fe2o3_sasl_negotiation.proofs.lemmas.CutLemmas.{refused_long, whole_long}
 use Rattle.fe2o3_sasl_negotiation.proofs.lemmas.PieceLemmas.{nonce_of_piece}
 use Rattle.fe2o3_sasl_negotiation.proofs.lemmas.ServerConnectionLemmas.{server_call, server_fresh}
-use Rattle.connection_laws.specs.Cuts.{HaveOneNonceEach, EndsFrame, EndEqually, CallsOver, taken_pieces, pieces_of, FunctionCallsEndEqually, ServerCallsEndEqually, ClientCallsEndEqually}
+use Rattle.connection_laws.specs.Cuts.{HaveOneNonceEach, EndsFrame, EndEqually, CallsOver, taken_pieces, pieces_of, HaveFinished, HaveOneResult, FunctionCallsEndEqually, ServerCallsEndEqually, ClientCallsEndEqually}
 use Rattle.connection_laws.proofs.lemmas.CutConnectionLemmas.{functions_end_equally, clients_end_equally}
 use Rattle.connection_laws.proofs.lemmas.PairLemmas.{one_split}
-
-bytes_of-more : (pieces : List Piece) (piece : Piece) → bytes_of (pieces ++ piece ∷ []) ≡ bytes_of pieces ++ piece.bytes
-bytes_of-more pieces piece =
-    flat_map-append (λ (p : Piece). p.bytes) pieces (piece ∷ []) ∙ ap (λ l. bytes_of pieces ++ l) (append-nil piece.bytes)
+use Rattle.connection_laws.proofs.lemmas.RestLemmas.{bytes_of-more, taken_within, waited}
 
 module _ {S : Type 0} (Answers : Due → S → List ℕ → List ℕ → SideOutput → S → Type 0) where
-  -- a call takes no more than it received
-  taken_within : (side next : Side S) (bytes nonce first : List ℕ) (k : ℕ) (standing : Standing)
-      → ReceivesAt standing Answers side bytes nonce k first next → k ≤ length bytes
-  taken_within side next bytes nonce first k Wanting (inl waits) =
-      let all : k ≡ length bytes = waits.1.0 in omega (arith, all)
-  taken_within side next bytes nonce first k Wanting (inr (inl refused)) =
-      let four = refused_long side.due side.limit (side.held ++ bytes) refused.0 in
-      let is : k ≡ 4 - length side.held = refused.1.0 in
-      omega (arith, four, is, length-append side.held bytes)
-  taken_within side next bytes nonce first k Wanting (inr (inr whole)) =
-      let long = whole_long side.due side.limit (side.held ++ bytes) whole.2 in
-      let is = whole.4.0 in
-      omega (arith, long, is, length-append side.held bytes)
-  taken_within side next bytes nonce first k LoggedIn rests = let none : k ≡ 0 = rests.0 in omega (arith, none)
-  taken_within side next bytes nonce first k (Closed why) rests = let none : k ≡ 0 = rests.0 in omega (arith, none)
-
   -- the pieces are the front of the stream
   covers : (side : Side S) (calls : List Call) (stream sent : List ℕ) (last : Side S) (rest : List ℕ)
       (made : Calls (Receives Answers) side calls stream sent last rest)
@@ -55,7 +34,7 @@ module _ {S : Type 0} (Answers : Due → S → List ℕ → List ℕ → SideOut
   covers side [] stream sent last rest (nothing, same, left) = sym left
   covers side (call ∷ calls) stream sent last rest (k, first, next, later, receives, made, all) =
       let handed = take call.handed stream in
-      let within : k ≤ length handed = taken_within side next handed call.nonce first k side.standing receives in
+      let within : k ≤ length handed = taken_within Answers side next handed call.nonce first k side.standing receives in
       let few : k ≤ call.handed = omega (arith, within, length-take call.handed stream) in
       let front : take k handed ≡ take k stream = take-take k call.handed stream few in
       let pieces = taken_pieces Answers next calls (drop k stream) later last rest made in
@@ -78,7 +57,7 @@ module _ {S : Type 0} (Answers : Due → S → List ℕ → List ℕ → SideOut
     in_calls (call ∷ calls) done side last stream before sent rest (k, first, next, later, receives, made, sum) whole is
         are_bytes =
         let handed = take call.handed stream in
-        let within : k ≤ length handed = taken_within side next handed call.nonce first k side.standing receives in
+        let within : k ≤ length handed = taken_within Answers side next handed call.nonce first k side.standing receives in
         let few : k ≤ call.handed = omega (arith, within, length-take call.handed stream) in
         let piece : Piece = record { bytes = take k handed; nonce = call.nonce } in
         let front : take k handed ≡ take k stream = take-take k call.handed stream few in
@@ -146,10 +125,10 @@ module _ {S : Type 0} (Answers : Due → S → List ℕ → List ℕ → SideOut
       in_calls Answers (pieces over) (Is (pieces over)) (one_more (pieces over)) over.calls [] (fresh limit state) over.last
       stream [] over.sent over.rest over.made refl (begins (pieces over)) are_bytes
 
-  calls_end_equally : IsBytes stream → (first second : CallsOver Answers (fresh limit state) stream)
+  calls_have_same_rests : IsBytes stream → (first second : CallsOver Answers (fresh limit state) stream)
       → first.rest ≡ second.rest → HaveOneNonceEach (pieces first) (pieces second) stream
       → EndEqually first.sent second.sent first.last second.last
-  calls_end_equally are_bytes first second same nonces =
+  calls_have_same_rests are_bytes first second same nonces =
       let taken = same_taken (bytes_of (pieces first)) first.rest (bytes_of (pieces second)) second.rest stream
       (front first) (front second) same in
       ends_equally (pieces first) (pieces second) (bytes_of (pieces first)) first.sent second.sent first.last second.last
@@ -158,9 +137,60 @@ module _ {S : Type 0} (Answers : Due → S → List ℕ → List ℕ → SideOut
       (λ n nonce other ends. nonces n nonce other
       (ends_in_stream (bytes_of (pieces first)) first.rest stream n (front first) ends))
 
+  -- calls that leave more bytes than others wait for them
+  longer_rests_wait : IsBytes stream → (first second : CallsOver Answers (fresh limit state) stream)
+      → HaveOneNonceEach (pieces first) (pieces second) stream → length second.rest < length first.rest
+      → first.last.standing ≡ Wanting
+  longer_rests_wait are_bytes first second nonces longer =
+      let size = ap length (front first) ∙ length-append (bytes_of (pieces first)) first.rest in
+      let whole = ap length (front second) ∙ length-append (bytes_of (pieces second)) second.rest in
+      let (out, mid, is, waits) = waited Answers (pieces second) (Is (pieces second)) (one_more (pieces second))
+      second.calls [] (fresh limit state) second.last stream [] second.sent second.rest second.made refl
+      (begins (pieces second)) are_bytes (length (bytes_of (pieces first))) (omega (arith, longer, size, whole)) in
+      let n = length (bytes_of (pieces first)) in
+      let all : 0 + n ≡ n = omega arith in
+      let taken : take (0 + n) stream ≡ bytes_of (pieces first) =
+      ap (λ (m : ℕ). take m stream) all
+      ∙ (ap (take n) (front first) ∙ take-append_seam (bytes_of (pieces first)) first.rest) in
+      let equal = ends_equally (pieces first) (pieces second) (bytes_of (pieces first)) first.sent out first.last mid
+      (connection first are_bytes) (subst (λ (l : List ℕ). Is (pieces second) l out mid) taken is)
+      (λ n nonce other ends. nonces n nonce other
+      (ends_in_stream (bytes_of (pieces first)) first.rest stream n (front first) ends)) in
+      equal.standing ∙ waits
+
+  -- calls that have finished leave no more than others
+  none_longer : (first second : CallsOver Answers (fresh limit state) stream) → HaveFinished first
+      → (length second.rest < length first.rest → first.last.standing ≡ Wanting)
+      → ¬ (length second.rest < length first.rest)
+  none_longer first second (inl ended) waits longer = ended (waits longer)
+  none_longer first second (inr nothing) waits longer = omega (arith, longer, ap length nothing)
+
+  calls_end_equally : IsBytes stream → (first second : CallsOver Answers (fresh limit state) stream)
+      → HaveOneNonceEach (pieces first) (pieces second) stream → HaveOneResult first second
+  calls_end_equally are_bytes first second nonces = record {
+    same_rest = λ same. calls_have_same_rests are_bytes first second same nonces;
+    finished = λ done over. (rests done over, calls_have_same_rests are_bytes first second (rests done over) nonces);
+    waits = longer_rests_wait are_bytes first second nonces;
+  }
+    where
+      rests : HaveFinished first → HaveFinished second → first.rest ≡ second.rest
+      rests done over = go (cases_lt (length second.rest) (length first.rest))
+          (cases_lt (length first.rest) (length second.rest))
+        where
+          go : (length second.rest < length first.rest) ⊎ (length first.rest ≤ length second.rest)
+              → (length first.rest < length second.rest) ⊎ (length second.rest ≤ length first.rest)
+              → first.rest ≡ second.rest
+          go (inl longer) other = absurd (none_longer first second done
+              (longer_rests_wait are_bytes first second nonces) longer)
+          go (inr most) (inl longer) = absurd (none_longer second first over
+              (longer_rests_wait are_bytes second first
+              (λ n nonce other ends one two. sym (nonces n other nonce ends two one))) longer)
+          go (inr most) (inr least) = (one_split (bytes_of (pieces first)) first.rest (bytes_of (pieces second))
+              second.rest (sym (front first) ∙ front second) (omega (arith, most, least))).1
+
 pub function_calls_end_equally : {S : Type 0} (names : S → List (List ℕ)) (machine : Machine S)
     → FunctionCallsEndEqually names machine
-function_calls_end_equally names machine function state limit stream small are_bytes first second same nonces =
+function_calls_end_equally names machine function state limit stream small are_bytes first second nonces =
     calls_end_equally (ServerSideAnswers names machine) limit state stream
     (λ pieces taken out side. ServerConnection names machine limit state pieces taken out side)
     (λ pieces taken out side next bytes nonce more k is fine known receives.
@@ -168,13 +198,13 @@ function_calls_end_equally names machine function state limit stream small are_b
     (λ pieces. server_fresh names machine limit state pieces)
     (λ pieces others taken sent out last end one two known.
     functions_end_equally names machine function limit state pieces others taken sent out last end small one two known)
-    are_bytes first second same nonces
+    are_bytes first second nonces
 
 pub server_calls_end_equally : ServerCallsEndEqually acceptor_names acceptor_machine
 server_calls_end_equally = function_calls_end_equally acceptor_names acceptor_machine one_acceptor_reply
 
 pub client_calls_end_equally : ClientCallsEndEqually
-client_calls_end_equally hostname profile limit stream small are_bytes first second same nonces =
+client_calls_end_equally hostname profile limit stream small are_bytes first second nonces =
     calls_end_equally (ClientSideAnswers hostname) limit profile stream
     (λ pieces taken out side. ClientConnection (ProfileSteps hostname) limit profile pieces taken out side)
     (λ pieces taken out side next bytes nonce more k is fine known receives.
@@ -182,4 +212,4 @@ client_calls_end_equally hostname profile limit stream small are_bytes first sec
     (λ pieces. client_fresh hostname limit profile pieces)
     (λ pieces others taken sent out last end one two known.
     clients_end_equally hostname limit profile pieces others taken sent out last end small one two known)
-    are_bytes first second same nonces
+    are_bytes first second nonces

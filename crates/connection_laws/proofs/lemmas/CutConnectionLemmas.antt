@@ -38,7 +38,7 @@ module _ {S : Type 0} where
   }
 
   -- a part of a header is no whole one
-  part_is_short : (limit : ℕ) (state : S) (taken sent rest : List ℕ) (last : Side S)
+  pub part_is_short : (limit : ℕ) (state : S) (taken sent rest : List ℕ) (last : Side S)
       → IsHeaderPart limit state taken sent last → taken ≢ sasl_header ++ rest
   part_is_short limit state taken sent rest last (few, nothing, is) same =
       let long : length taken ≡ 8 + length rest = ap length same ∙ length-append sasl_header rest in
@@ -50,7 +50,7 @@ module _ {S : Type 0} where
       omega (arith, few, eight)
 
   -- another header is not that of SASL
-  other_is_not : (state : S) (taken rest : List ℕ) (last : Side S) → IsOtherHeader state taken last
+  pub other_is_not : (state : S) (taken rest : List ℕ) (last : Side S) → IsOtherHeader state taken last
       → taken ≢ sasl_header ++ rest
   other_is_not state taken [] last (eight, other, closed, kept) same = other (same ∙ append-nil sasl_header)
   other_is_not state taken (x ∷ rest) last (eight, other, closed, kept) same =

@@ -35,7 +35,7 @@ PairNonces (event ∷ events) (other ∷ others) = (event.nonce ≡ other.nonce)
 -- ---- what is left over
 
 module _ (limit : ℕ) (small : limit < 2 ^ 32) where
-  fits_small : (n : ℕ) → Fits limit n → n < 2 ^ 32
+  pub fits_small : (n : ℕ) → Fits limit n → n < 2 ^ 32
   fits_small n fits = let most : n ≤ limit = fits.1 in let s = small in omega (arith, most, s)
 
   -- a whole frame is no part of one
@@ -123,7 +123,7 @@ module _ (limit : ℕ) (small : limit < 2 ^ 32) where
       ⊎ ((answer.standing ≢ Wanting) × (standing ≡ answer.standing) × (tail ≡ []))
 
   -- where a frame is due, none is left over
-  no_frame_after : (turn : Turn) (answer : SideOutput) (tail body more : List ℕ) (standing : Standing)
+  pub no_frame_after : (turn : Turn) (answer : SideOutput) (tail body more : List ℕ) (standing : Standing)
       → answer.standing ≡ Wanting → answer.due ≡ Frame turn → EndsIn answer tail standing
       → tail ≡ framed body ++ more → Fits limit (length body + 4) → ¬ SpellsTurn turn body
   no_frame_after turn answer tail body more standing waits due (inl (other, wants, is, left)) same fits spells =

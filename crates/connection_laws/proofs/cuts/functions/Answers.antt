@@ -1,0 +1,22 @@
+use Rattle.fe2o3_sasl_runs.proofs.lemmas.machines.OneReplyLemmas.{one_acceptor_reply}
+use Rattle.connection_laws.proofs.lemmas.FunctionLemmas as lemma
+use Rattle.connection_laws.proofs.cuts.functions.Goals as goal
+
+pub returns-clause-acceptors : goal.returns-clause-acceptors
+returns-clause-acceptors g c = one_acceptor_reply
+
+pub returns-clause-mock : goal.returns-clause-mock
+returns-clause-mock g c = lemma.mock_is_function
+
+pub returns-clause-external : goal.returns-clause-external
+returns-clause-external g c = lemma.external_is_function
+
+pub returns-clause-plain : goal.returns-clause-plain
+returns-clause-plain g c = lemma.plain_is_function
+
+pub returns-clause-one_of : goal.returns-clause-one_of
+returns-clause-one_of g c = lemma.one_of_is_function g.A.SaslAcceptor.names g.B.SaslAcceptor.names
+    g.A.SaslAcceptor.machine g.B.SaslAcceptor.machine
+
+pub returns-clause-offers_only : goal.returns-clause-offers_only
+returns-clause-offers_only g c = lemma.offering_is_function g.A.SaslAcceptor.names g.A.SaslAcceptor.machine

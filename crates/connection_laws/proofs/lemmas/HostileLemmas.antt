@@ -1,0 +1,230 @@
+-- What no connection of a server does.
+use Rattle.std.proofs.Common.{◌≡◌, ◌≢◌, ℕ, ◌+◌, ◌<◌, ◌≤◌, Bool, true, false, Option, Some, None, List, [], ◌∷◌, ◌++◌, length, refl, sym, ap, ◌∙◌, subst, inl, inr, append_assoc, arith, Result, Ok}
+use Rattle.std.specs.Prelude.{zip, if◌then◌else◌}
+use Rattle.std.specs.List.{AllByRecursion}
+use Rattle.std.proofs.lemmas.List.{append-nil, length-append}
+use Rattle.std.proofs.lemmas.Option.{same_Some}
+use Rattle.fe2o3_sasl_wire.specs.declared.amqp_types.SaslCode.{SaslCode}
+use Rattle.fe2o3_sasl_wire.specs.declared.amqp_types.SaslCode.TheVariants as outcomes
+use Rattle.fe2o3_sasl_wire.specs.declared.sasl_frames.error.Error.{Error}
+use Rattle.fe2o3_sasl_wire.specs.SaslFrames as frames
+use Rattle.fe2o3_sasl_wire.specs.SaslFrames.{SaslFrame}
+use Rattle.fe2o3_sasl_runs.specs.declared.one_of.Part.{Part}
+use Rattle.fe2o3_sasl_runs.specs.Bodies.{SpellsBody}
+use Rattle.fe2o3_sasl_runs.specs.Events.{Given, ServerSays, Concluded}
+use Rattle.fe2o3_sasl_runs.specs.OneOf.{BothStates, has_name, part_for, one_of_machine}
+use Rattle.fe2o3_sasl_runs.specs.OneOfLaws.{Machine, MarkedSteps, mark_of}
+use Rattle.fe2o3_sasl_runs.specs.Runs.{Runs, AcceptorSteps}
+use Rattle.fe2o3_sasl_runs.specs.declared.one_of.Part.TheVariants.{First, Second}
+use Rattle.fe2o3_sasl_runs.proofs.lemmas.frames.SpellingLemmas.{one_spelling}
+use Rattle.fe2o3_sasl_runs.proofs.lemmas.machines.NameLemmas.{has_name-both}
+use Rattle.fe2o3_sasl_negotiation.specs.declared.standing.Due.{Due}
+use Rattle.fe2o3_sasl_negotiation.specs.declared.standing.Due.TheVariants.{Frame}
+use Rattle.fe2o3_sasl_negotiation.specs.declared.standing.Standing.{Standing}
+use Rattle.fe2o3_sasl_negotiation.specs.declared.standing.Standing.TheVariants.{Wanting}
+use Rattle.fe2o3_sasl_negotiation.specs.declared.standing.Turn.{Turn}
+use Rattle.fe2o3_sasl_negotiation.specs.declared.standing.Turn.TheVariants as turns
+use Rattle.fe2o3_sasl_negotiation.specs.Connections.{Piece, frames_of, AreFrames, Replied, ServerConnection, ServerNegotiated}
+use Rattle.fe2o3_sasl_negotiation.specs.Framing.{sasl_header, framed}
+use Rattle.fe2o3_sasl_negotiation.specs.Negotiations.{Side, SideOutput, Sends}
+use Rattle.fe2o3_sasl_negotiation.specs.ServerNegotiation.{ServerOutputs}
+use Rattle.fe2o3_sasl_negotiation.proofs.lemmas.UnitLemmas.{length-framed}
+use Rattle.connection_laws.specs.Hostile.{IgnoresInit, AnswersOther, AnswersHeader, HasShortFrame, MarksNothing, HasTwoNonces, ReusesNonce, HidesOffer, SendsBeyondOffer, SendsOtherOutcome, SendsOtherReplies}
+use Rattle.connection_laws.proofs.lemmas.CutConnectionLemmas.{part_is_short, other_is_not}
+use Rattle.connection_laws.proofs.lemmas.CutLemmas.{fits_small, no_frame_after}
+use Rattle.connection_laws.proofs.lemmas.NegotiatedLemmas.{without_header}
+use Rattle.connection_laws.proofs.lemmas.ShapeLemmas.{one_frame}
+
+-- the turns of a client's frames
+abbrev two_turns : List Turn
+two_turns = turns.Init ∷ turns.Response ∷ []
+
+-- ---- which frames are answered
+
+module _ {S : Type 0} (machine : Machine S) where
+  -- a server that has answered nothing waits for an init
+  waits_for_init : (state last : S) (events : List Given) (replies : List ServerSays) (answer : SideOutput)
+      → events ≡ [] → Runs (AcceptorSteps machine) state events replies last
+      → Replied ServerOutputs two_turns replies answer
+      → answer ≡ record { sent = []; standing = Wanting; due = Frame turns.Init }
+  waits_for_init state last events replies answer none run replied =
+      subst (λ (l : List ServerSays). Replied ServerOutputs two_turns l answer)
+      (subst (λ (l : List Given). Runs (AcceptorSteps machine) state l replies last) none run).0 replied
+
+  pub no_init_is_ignored : ¬ IgnoresInit machine
+  no_init_is_ignored (body, more, served, fits, spells, none) =
+      let n = served.negotiated in
+      let waits = waits_for_init served.state served.last.state n.events n.replies n.answer none n.run n.replied in
+      let tail : n.tail ≡ framed body ++ more =
+      ap (λ (l : List Given). frames_of l ++ n.tail) (sym none)
+      ∙ sym (without_header (framed body ++ more) (frames_of n.events ++ n.tail) n.carried) in
+      no_frame_after served.limit served.small turns.Init n.answer n.tail body more served.last.standing
+      (ap (λ (a : SideOutput). a.standing) waits) (ap (λ (a : SideOutput). a.due) waits) n.ends tail fits spells
+
+  pub none_answers_other : ¬ AnswersOther machine
+  none_answers_other (body, more, event, events, served, fits, are, other) =
+      let n = served.negotiated in
+      let frames = subst (λ (l : List Given). AreFrames served.pieces served.limit 8 two_turns l) are n.frames in
+      let carried : framed body ++ more ≡ framed event.body ++ (frames_of events ++ n.tail) =
+      without_header (framed body ++ more) (frames_of n.events ++ n.tail) n.carried
+      ∙ (ap (λ (l : List Given). frames_of l ++ n.tail) are
+      ∙ append_assoc (framed event.body) (frames_of events) n.tail) in
+      other (sym (one_frame body more event.body (frames_of events ++ n.tail)
+      (fits_small served.limit served.small (length body + 4) fits)
+      (fits_small served.limit served.small (length event.body + 4) frames.0) carried).0)
+
+  no_frames : (events : List Given) (tail : List ℕ) → sasl_header ++ [] ≡ sasl_header ++ (frames_of events ++ tail)
+      → events ≡ []
+  no_frames [] tail carried = refl
+  no_frames (event ∷ events) tail carried =
+      let nothing : [] ≡ (framed event.body ++ frames_of events) ++ tail =
+      without_header [] ((framed event.body ++ frames_of events) ++ tail) carried in
+      absurd (omega (
+        arith,
+        ap length nothing,
+        length-append (framed event.body ++ frames_of events) tail,
+        length-append (framed event.body) (frames_of events),
+        length-framed event.body,
+      ))
+
+  pub none_answers_header : ¬ AnswersHeader machine
+  none_answers_header (served, some) =
+      some (no_frames served.negotiated.events served.negotiated.tail served.negotiated.carried)
+
+pub no_frame_is_short : ¬ HasShortFrame
+no_frame_is_short (pieces, limit, at, [], event, events, frames, short) = frames
+no_frame_is_short (pieces, limit, at, due ∷ others, event, events, frames, short) =
+    let least : 8 ≤ length event.body + 4 = frames.0.0 in omega (arith, least, short)
+
+-- ---- where frames go
+
+-- a mechanism that is offered has a part
+has_part : (first second : Bool) → (if first then true else second) ≡ true
+    → (if first then Some First else if second then Some Second else None) ≢ None
+has_part true second has none = cc
+has_part false true has none = cc
+has_part false false has none = cc
+
+module _ {S T : Type 0} (names : S → List (List ℕ)) (others : T → List (List ℕ)) (machine : Machine S)
+    (other : Machine T) where
+  abbrev BothSteps : BothStates S T → Given → Option Part × ServerSays → BothStates S T → Type 0
+  BothSteps = MarkedSteps (one_of_machine names others machine other) None (part_for names others)
+
+  first_mark : (parts last : BothStates S T) (event : Given) (events : List Given) (replies : List ServerSays)
+      (marks : List (Option Part)) (frame : SaslFrame) → Runs BothSteps parts (event ∷ events) (zip marks replies) last
+      → SpellsBody event.body (Ok frame) → AllByRecursion (λ mark. mark ≡ None) marks
+      → None ≡ mark_of None (part_for names others) parts (Ok frame)
+  first_mark parts last event events replies [] frame (says, next, more, step, is, run) spells none = absurd (cc)
+  first_mark parts last event events [] (mark ∷ marks) frame (says, next, more, step, is, run) spells none =
+      absurd (cc)
+  first_mark parts last event events (reply ∷ replies) (mark ∷ marks) frame
+      (says, next, more, (spelled, read, gives, marked), is, run) spells none =
+      let same : (mark, reply) ≡ says = cc in
+      sym none.0 ∙ (ap (λ (m : Option Part × ServerSays). m.0) same ∙ (marked
+      ∙ ap (λ (r : Result SaslFrame Error). mark_of None (part_for names others) parts r)
+      (one_spelling event.body spelled (Ok frame) read spells)))
+
+  pub none_marks_nothing : ¬ MarksNothing names others machine other
+  none_marks_nothing (parts, last, event, events, replies, marks, mechanism, response, hostname, splits, spells, has, none) =
+      has_part (has_name (names parts.first) mechanism) (has_name (others parts.second) mechanism)
+      (sym (has_name-both (names parts.first) (others parts.second) mechanism) ∙ has)
+      (sym (first_mark parts last event events replies marks (frames.Init mechanism response hostname)
+      splits.marked.steps spells none))
+
+-- ---- which nonces are used
+
+pub no_byte_has_two_nonces : ¬ HasTwoNonces
+no_byte_has_two_nonces (pieces, n, nonce, other, is, too, apart) = apart (same_Some nonce other (sym is ∙ too))
+
+pub none_reuses_a_nonce : {S : Type 0} (machine : Machine S) → ¬ ReusesNonce machine
+none_reuses_a_nonce machine (bytes, served, first, second, nonce, other, are, is, too, apart, one) =
+    let frames = subst (λ (l : List Given). AreFrames served.pieces served.limit 8 two_turns l) are
+    served.negotiated.frames in
+    apart (same_Some nonce first.nonce (sym is ∙ frames.2)
+    ∙ (one ∙ same_Some second.nonce other (sym frames.3.2 ∙ too)))
+
+-- ---- what is sent
+
+module _ {S : Type 0} (names : S → List (List ℕ)) (machine : Machine S) where
+  pub none_hides_its_offer : ¬ HidesOffer names machine
+  none_hides_its_offer (limit, state, pieces, bytes, sent, last, offer, connection, is, fits, hides) = go connection
+    where
+      go : ¬ ServerConnection names machine limit state pieces (sasl_header ++ bytes) sent last
+      go (inl part) = part_is_short limit state (sasl_header ++ bytes) sent bytes last part refl
+      go (inr (inl closed)) = other_is_not state (sasl_header ++ bytes) bytes last closed.0 refl
+      go (inr (inr (inl (all, none, sends, closed, kept)))) = let long : 512 < length offer + 4 = none offer is in
+          omega (arith, long, fits)
+      go (inr (inr (inr (again, out, too, also, sends, negotiated)))) =
+          hides out (sends ∙ ap (λ (l : List ℕ). sasl_header ++ (framed l ++ out))
+          (same_Some again offer (sym too ∙ is)))
+
+  -- over the header only, nothing is sent after the list of mechanisms
+  nothing_out : (limit : ℕ) (state : S) (pieces : List Piece) (out : List ℕ) (last : Side S)
+      → ServerNegotiated machine limit state pieces sasl_header out last → out ≡ []
+  nothing_out limit state pieces out last n =
+      let none = no_frames machine n.events n.tail (append-nil sasl_header ∙ n.carried) in
+      n.sends ∙ ap (λ (a : SideOutput). a.sent)
+      (waits_for_init machine state last.state n.events n.replies n.answer none n.run n.replied)
+
+  pub none_sends_beyond_its_offer : ¬ SendsBeyondOffer names machine
+  none_sends_beyond_its_offer (limit, state, pieces, sent, last, offer, more, connection, is, beyond, some) =
+      go connection
+    where
+      no_header : (out : List ℕ) → sent ≡ sasl_header → more ≡ []
+      no_header out short =
+          let same : framed offer ++ more ≡ [] =
+          without_header (framed offer ++ more) [] (sym beyond ∙ (short ∙ sym (append-nil sasl_header))) in
+          absurd (omega (arith, ap length same, length-append (framed offer) more, length-framed offer))
+
+      go : ¬ ServerConnection names machine limit state pieces sasl_header sent last
+      go (inl part) = part_is_short limit state sasl_header sent [] last part (sym (append-nil sasl_header))
+      go (inr (inl closed)) = some (no_header [] closed.1)
+      go (inr (inr (inl closed))) = some (no_header [] closed.2)
+      go (inr (inr (inr (again, out, too, also, sends, negotiated)))) =
+          let offers : again ≡ offer = same_Some again offer (sym too ∙ is) in
+          let nothing : out ≡ [] = nothing_out limit state pieces out last negotiated in
+          let same : framed offer ++ more ≡ framed offer ++ [] =
+          without_header (framed offer ++ more) (framed offer ++ [])
+          (sym beyond ∙ (sends ∙ (λ i. sasl_header ++ (framed (offers i) ++ nothing i)))) in
+          let ends : length more ≡ 0 = omega (
+            arith,
+            ap length same,
+            length-append (framed offer) more,
+            length-append (framed offer) [],
+          ) in
+          some (none_of more ends)
+        where
+          none_of : (l : List ℕ) → length l ≡ 0 → l ≡ []
+          none_of [] zero = refl
+          none_of (x ∷ l) zero = absurd (omega (arith, zero))
+
+-- a body that fits is sent
+sends_body : (body : List ℕ) (standing : Standing) (due : Due) (answer : SideOutput) → length body + 4 ≤ 512
+    → Sends body standing due answer → answer.sent ≡ framed body
+sends_body body standing due answer fits (inl sends) = ap (λ (a : SideOutput). a.sent) sends.1
+sends_body body standing due answer fits (inr closes) = let long : 512 < length body + 4 = closes.0 in
+    absurd (omega (arith, fits, long))
+
+sends_outcome : (code : SaslCode) (body : List ℕ) (turn : Turn) (answer : SideOutput) → length body + 4 ≤ 512
+    → ServerOutputs (Concluded code body) turn answer → answer.sent ≡ framed body
+sends_outcome outcomes.Ok body turn answer fits says = sends_body body _ _ answer fits says
+sends_outcome outcomes.Auth body turn answer fits says = sends_body body _ _ answer fits says
+sends_outcome outcomes.Sys body turn answer fits says = sends_body body _ _ answer fits says
+sends_outcome outcomes.SysPerm body turn answer fits says = sends_body body _ _ answer fits says
+sends_outcome outcomes.SysTemp body turn answer fits says = sends_body body _ _ answer fits says
+
+module _ {S : Type 0} (machine : Machine S) where
+  pub none_sends_another_outcome : ¬ SendsOtherOutcome machine
+  none_sends_another_outcome (bytes, served, code, body, are, fits, other) =
+      let n = served.negotiated in
+      other (n.sends ∙ sends_outcome code body turns.Init n.answer fits
+      (subst (λ (l : List ServerSays). Replied ServerOutputs two_turns l n.answer) are n.replied))
+
+  pub none_sends_other_replies : ¬ SendsOtherReplies machine
+  none_sends_other_replies (bytes, served, challenge, code, body, are, fits, also, other) =
+      let n = served.negotiated in
+      let (first, rest, says, waits, last, sum) =
+      subst (λ (l : List ServerSays). Replied ServerOutputs two_turns l n.answer) are n.replied in
+      let one : first.sent ≡ framed challenge = sends_body challenge _ _ first fits says in
+      let two : rest.sent ≡ framed body = sends_outcome code body turns.Response rest also last in
+      other (n.sends ∙ (ap (λ (a : SideOutput). a.sent) sum ∙ (λ i. one i ++ two i)))

@@ -1,0 +1,111 @@
+-- Connections that there are not. Each definition is what a wrong implementation would do, or what a weak reading of the
+-- laws of connections would allow (AMQP 1.0, part 5, section 5.3.2). `hostile::none` states that nothing is so.
+use Rattle.std.specs.Prelude.{◌≡◌, ◌≢◌, ℕ, ◌+◌, ◌<◌, ◌≤◌, ◌^◌, true, Option, Some, None, List, [], ◌∷◌, ◌++◌, length, Ok}
+use Rattle.std.specs.List.{AllByRecursion}
+use Rattle.fe2o3_sasl_wire.specs.declared.amqp_types.SaslCode.{SaslCode}
+use Rattle.fe2o3_sasl_wire.specs.SaslFrames as frames
+use Rattle.fe2o3_sasl_runs.specs.declared.one_of.Part.{Part}
+use Rattle.fe2o3_sasl_runs.specs.Bodies.{SpellsBody}
+use Rattle.fe2o3_sasl_runs.specs.Events.{Given, ServerSays, Challenged, Concluded}
+use Rattle.fe2o3_sasl_runs.specs.OneOf.{BothStates, both_names, has_name}
+use Rattle.fe2o3_sasl_runs.specs.OneOfLaws.{Machine, Splits}
+use Rattle.fe2o3_sasl_negotiation.specs.declared.standing.Turn.{Turn}
+use Rattle.fe2o3_sasl_negotiation.specs.declared.standing.Turn.TheVariants as turns
+use Rattle.fe2o3_sasl_negotiation.specs.Connections.{Piece, PieceNonceAt, SpellsTurn, AreFrames, ServerNegotiated, ServerConnection}
+use Rattle.fe2o3_sasl_negotiation.specs.Framing.{sasl_header, framed, Fits}
+use Rattle.fe2o3_sasl_negotiation.specs.Negotiations.{Side}
+use Rattle.fe2o3_sasl_negotiation.specs.ServerNegotiation.{offer_body}
+
+-- a negotiation of a server over the client's header and these bytes, in any pieces. The size of a frame has 32 bits (part
+-- 2, section 2.3.1)
+pub record ServedOver {S : Type 0} (machine : Machine S) (bytes : List ℕ) : Type 0 where
+  pub limit : ℕ
+  pub state : S
+  pub pieces : List Piece
+  pub sent : List ℕ
+  pub last : Side S
+  pub small : limit < 2 ^ 32
+  pub negotiated : ServerNegotiated machine limit state pieces (sasl_header ++ bytes) sent last
+
+-- ---- which frames are answered
+
+-- a whole init in turn and of an allowed size arrives, and no frame is answered: a server that ignores what it receives
+abbrev pub IgnoresInit : {S : Type 0} → Machine S → Type 0
+IgnoresInit machine = (body : List ℕ) × (more : List ℕ) × (served : ServedOver machine (framed body ++ more))
+    × Fits served.limit (length body + 4) × SpellsTurn turns.Init body × (served.negotiated.events ≡ [])
+
+-- a frame arrives first, and the first answered body is another: a server that answers what nobody sent
+abbrev pub AnswersOther : {S : Type 0} → Machine S → Type 0
+AnswersOther machine = (body : List ℕ) × (more : List ℕ) × (event : Given) × (events : List Given)
+    × (served : ServedOver machine (framed body ++ more)) × Fits served.limit (length body + 4)
+    × (served.negotiated.events ≡ event ∷ events) × (event.body ≢ body)
+
+-- only the header arrives, and a frame is answered: a server that answers before it was asked
+abbrev pub AnswersHeader : {S : Type 0} → Machine S → Type 0
+AnswersHeader machine = (served : ServedOver machine []) × (served.negotiated.events ≢ [])
+
+-- an answered frame has a body of less than 4 bytes: a reading in which an empty body is a frame
+abbrev pub HasShortFrame : Type 0
+HasShortFrame = (pieces : List Piece) × (limit : ℕ) × (at : ℕ) × (due : List Turn) × (event : Given)
+    × (events : List Given) × AreFrames pieces limit at due (event ∷ events) × (length event.body < 4)
+
+-- ---- where frames go
+
+-- the first frame is an init of a mechanism that a server of two acceptors offers, and no frame went to either acceptor: a
+-- reading in which the server rejects everything
+abbrev pub MarksNothing : {S T : Type 0} → (S → List (List ℕ)) → (T → List (List ℕ)) → Machine S → Machine T → Type 0
+MarksNothing {S} {T} names others machine other = (parts : BothStates S T) × (last : BothStates S T) × (event : Given)
+    × (events : List Given) × (replies : List ServerSays) × (marks : List (Option Part)) × (mechanism : List ℕ)
+    × (response : Option (List ℕ)) × (hostname : Option (List ℕ))
+    × Splits names others machine other parts (event ∷ events) replies last marks
+    × SpellsBody event.body (Ok (frames.Init mechanism response hostname))
+    × (has_name (both_names (names parts.first) (others parts.second)) mechanism ≡ true)
+    × AllByRecursion (λ mark. mark ≡ None) marks
+
+-- ---- which nonces are used
+
+-- one byte of a stream has two nonces: a reading in which any nonce of the connection serves
+abbrev pub HasTwoNonces : Type 0
+HasTwoNonces = (pieces : List Piece) × (n : ℕ) × (nonce : List ℕ) × (other : List ℕ) × PieceNonceAt pieces n nonce
+    × PieceNonceAt pieces n other × (nonce ≢ other)
+
+-- the last bytes of an init and of a response arrive with two nonces, and both frames are answered with one: a server that
+-- keeps the nonce of its first call
+abbrev pub ReusesNonce : {S : Type 0} → Machine S → Type 0
+ReusesNonce machine = (bytes : List ℕ) × (served : ServedOver machine bytes) × (first : Given) × (second : Given)
+    × (nonce : List ℕ) × (other : List ℕ) × (served.negotiated.events ≡ first ∷ second ∷ [])
+    × PieceNonceAt served.pieces (8 + (length first.body + 3)) nonce
+    × PieceNonceAt served.pieces (8 + (length first.body + 4) + (length second.body + 3)) other × (nonce ≢ other)
+    × (first.nonce ≡ second.nonce)
+
+-- ---- what is sent
+
+-- a whole header arrives, the list of mechanisms fits in a frame, and what is sent does not begin with the server's header
+-- and that list: a server that is silent, or offers nothing
+abbrev pub HidesOffer : {S : Type 0} → (S → List (List ℕ)) → Machine S → Type 0
+HidesOffer {S} names machine = (limit : ℕ) × (state : S) × (pieces : List Piece) × (bytes : List ℕ) × (sent : List ℕ)
+    × (last : Side S) × (offer : List ℕ)
+    × ServerConnection names machine limit state pieces (sasl_header ++ bytes) sent last
+    × (offer_body (names state) ≡ Some offer) × (length offer + 4 ≤ 512)
+    × ((more : List ℕ) → sent ≢ sasl_header ++ (framed offer ++ more))
+
+-- only the header arrives, and more than the server's header and its list of mechanisms is sent: a server that challenges
+-- a client before its init
+abbrev pub SendsBeyondOffer : {S : Type 0} → (S → List (List ℕ)) → Machine S → Type 0
+SendsBeyondOffer {S} names machine = (limit : ℕ) × (state : S) × (pieces : List Piece) × (sent : List ℕ)
+    × (last : Side S) × (offer : List ℕ) × (more : List ℕ)
+    × ServerConnection names machine limit state pieces sasl_header sent last
+    × (offer_body (names state) ≡ Some offer) × (sent ≡ sasl_header ++ (framed offer ++ more)) × (more ≢ [])
+
+-- the only reply is an outcome that fits in a frame, and other bytes than its frame are sent: a server that sends its
+-- outcome twice, or not at all
+abbrev pub SendsOtherOutcome : {S : Type 0} → Machine S → Type 0
+SendsOtherOutcome machine = (bytes : List ℕ) × (served : ServedOver machine bytes) × (code : SaslCode) × (body : List ℕ)
+    × (served.negotiated.replies ≡ Concluded code body ∷ []) × (length body + 4 ≤ 512) × (served.sent ≢ framed body)
+
+-- likewise of a challenge and an outcome
+abbrev pub SendsOtherReplies : {S : Type 0} → Machine S → Type 0
+SendsOtherReplies machine = (bytes : List ℕ) × (served : ServedOver machine bytes) × (challenge : List ℕ)
+    × (code : SaslCode) × (body : List ℕ)
+    × (served.negotiated.replies ≡ Challenged challenge ∷ Concluded code body ∷ []) × (length challenge + 4 ≤ 512)
+    × (length body + 4 ≤ 512) × (served.sent ≢ framed challenge ++ framed body)
