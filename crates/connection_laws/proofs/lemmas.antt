@@ -16,3 +16,5 @@ pub mod UnalteredLemmas
 pub mod NegotiatedLemmas
 pub mod OneLoginLemmas
 pub mod NegotiationAgreeLemmas
+pub mod CompletingCallLemmas
+pub mod JoinedExistLemmas

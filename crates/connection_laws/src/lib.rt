@@ -3,6 +3,7 @@
 #![tactic(auto)]
 
 pub mod cuts;
+pub mod joined;
 pub mod pairs;
 pub mod servers;
 pub mod unaltered;
