@@ -23,3 +23,5 @@ pub mod UnalteredLemmas
 pub mod NegotiatedLemmas
 pub mod OneLoginLemmas
 pub mod NegotiationAgreeLemmas
+pub mod CompletingCallLemmas
+pub mod JoinedExistLemmas

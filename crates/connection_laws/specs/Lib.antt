@@ -4,3 +4,4 @@ pub mod Cuts
 pub mod Unaltered
 pub mod Functions
 pub mod Hostile
+pub mod JoinedSides

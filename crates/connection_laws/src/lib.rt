@@ -4,6 +4,7 @@
 
 pub mod cuts;
 pub mod hostile;
+pub mod joined;
 pub mod pairs;
 pub mod servers;
 pub mod unaltered;
