@@ -49,8 +49,8 @@ impl ExternalAcceptor {
         })
     }
 
-    /// Returns this acceptor after a login, from which on it names its user. The caller vouches that the
-    /// user with the name from the transport has logged in: no message is checked.
+    /// Returns this acceptor as a login of its user leaves it: it names that user. The caller vouches that
+    /// the user with the name from the transport has logged in, since no message is checked.
     pub fn restore_logged_in(self) -> Self
         ensures { external_of result ≡ record { user = (external_of self).user; accepted = true } }
     {

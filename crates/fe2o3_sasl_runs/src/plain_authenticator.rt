@@ -62,9 +62,9 @@ impl<C: ScramCredentialProvider> PlainAuthenticator<C> {
         &self.credentials
     }
 
-    /// Returns this acceptor after a login of this user, which it then names. The caller vouches for the
-    /// name: no message is checked. Pass the name that `user` returned when the server was saved. No
-    /// password and no record is needed beside it.
+    /// Returns this acceptor as a login of this user leaves it: it names that user. The caller vouches for
+    /// the name, since no message is checked. Pass the name that `user` returned when the server was
+    /// saved. No password and no record is needed beside it.
     ///
     /// `OutOfMemory` is the only error.
     pub fn restore_logged_in(self, alloc: Global, username: &str) -> Result<Self, OutOfMemory>

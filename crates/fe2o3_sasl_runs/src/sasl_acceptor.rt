@@ -213,8 +213,9 @@ impl SaslPlainMechanism {
         }
     }
 
-    /// Returns this acceptor after a login, from which on it names its user. The caller vouches that this
-    /// user has logged in: no message is checked. The password is the acceptor's own, and is not saved.
+    /// Returns this acceptor as a login of its user leaves it: it names that user. The caller vouches that
+    /// the user has logged in, since no message is checked. The password is the acceptor's own, and is not
+    /// saved.
     pub fn restore_logged_in(self) -> Self
         ensures { plain_acceptor result ≡ PlainAcceptor (string_bytes self.username) (string_bytes self.password) true }
     {

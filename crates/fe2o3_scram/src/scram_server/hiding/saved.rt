@@ -1,6 +1,6 @@
 //! Saves a server with mock authentication between two messages as plain texts, and restores it.
 
-ghost use Rattle.std.specs.Prelude.{◌≡◌, IfOk, option_map};
+ghost use Rattle.std.specs.Prelude.{◌≡◌, ◌≤◌, ◌+◌, ◌^◌, IfOk, option_map};
 ghost use Rattle.fe2o3_scram.specs.ScramServer.{ServerFinalSent, ServerFirstSent, challenge_kept, open_challenge};
 
 use crate::OutOfMemory;
@@ -22,8 +22,8 @@ impl<C: ScramCredentialProvider> HidingAuthenticator<C> {
     }
 
     /// Returns this server with this open challenge, as `open_challenge` returned it. The mock record of
-    /// the challenge's user is computed from the secret again, by three HMAC values, for a known user
-    /// too. Texts that no server has sent are a challenge like any other, and a client has to prove its
+    /// the challenge's user is computed from the secret again, for a known user too. The meter, of at
+    /// most 2^63, counts three HMAC values. Texts that no server has sent are a challenge like any other, and a client has to prove its
     /// password for it. The caller vouches for the texts: they name the user.
     ///
     /// `OutOfMemory` is the only error.
@@ -31,11 +31,14 @@ impl<C: ScramCredentialProvider> HidingAuthenticator<C> {
         self,
         alloc: Global,
         challenge: &OpenChallenge<'_>,
+        meter: &mut Meter,
     ) -> Result<Self, OutOfMemory>
+        requires { meter.old ≤ 2 ^ 63 }
         ensures provider { IfOk result (λ hiding. hiding.credentials ≡ self.credentials) }
         ensures unbound { IfOk result (λ hiding. hiding.unbound ≡ self.unbound) }
         ensures nobody { IfOk result (λ hiding. hiding.nobody ≡ self.nobody) }
         ensures state { IfOk result (λ hiding. hiding.state ≡ ServerFirstSent (challenge_kept challenge.now)) }
+        ensures cost { meter.new ≡ meter.old + 3 }
     {
         let made_up = mock_of(
             alloc,
@@ -44,7 +47,7 @@ impl<C: ScramCredentialProvider> HidingAuthenticator<C> {
             CowStr::Borrowed(challenge.username),
             self.salt_len,
             self.iterations,
-            &mut Meter::new(),
+            meter,
         )?;
         let mut authenticator = self.authenticator.waiting_for(alloc, challenge)?;
         authenticator.credentials.made_up = Some(made_up);
@@ -57,9 +60,9 @@ impl<C: ScramCredentialProvider> HidingAuthenticator<C> {
         })
     }
 
-    /// Returns this server after a login of this user, which it then names. The caller vouches for the
-    /// name: no message is checked. Pass the name that `user` returned when the server was saved. No
-    /// password, key or record is needed beside it.
+    /// Returns this server as a login of this user leaves it: it names that user. The caller vouches for
+    /// the name, since no message is checked. Pass the name that `user` returned when the server was
+    /// saved. No password, key or record is needed beside it.
     ///
     /// `OutOfMemory` is the only error.
     pub fn restore_logged_in(self, alloc: Global, username: &str) -> Result<Self, OutOfMemory>
