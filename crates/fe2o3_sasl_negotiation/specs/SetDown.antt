@@ -1,5 +1,6 @@
 -- A side of a connection that is saved as plain values, and restored.
-use Rattle.std.specs.Prelude.{◌≡◌, ◌≢◌, ◌≤◌, Bool, true, false, [], IsTrue}
+use Rattle.std.specs.Prelude.{◌≡◌, ◌≢◌, ◌≤◌, ℕ, Bool, true, false, Option, None, List, [], IsTrue}
+use Rattle.fe2o3_sasl_wire.specs.FrameView.{shown}
 use Rattle.fe2o3_sasl_wire.specs.declared.amqp_types.SaslCode.TheVariants as outcomes
 use Rattle.fe2o3_sasl_wire.specs.declared.sasl_frames.error.Error.TheVariants as faults
 use Rattle.fe2o3_sasl_runs.specs.declared.sasl_profile.error.ProfileError.TheVariants as profile_faults
@@ -78,12 +79,21 @@ client_fits (Closed (Refused code)) due = outcome_due due
 client_fits (Closed (ProfileRefused profile_faults.OutOfMemory)) due = false
 client_fits (Closed why) due = client_awaits due
 
--- a server can have these values, and a client
+-- only a side that has logged in has a user
+abbrev pub NamesAfterLogin : SetDown → Type 0
+NamesAfterLogin kept = kept.standing ≢ LoggedIn → shown kept.user ≡ None
+
+-- a server can have these values, and a client, which has no user
 abbrev pub IsServerKept : SetDown → Type 0
-IsServerKept kept = IsKept kept × IsTrue (server_fits kept.standing kept.due) × EndsEmpty kept
+IsServerKept kept = IsKept kept × IsTrue (server_fits kept.standing kept.due) × EndsEmpty kept × NamesAfterLogin kept
 
 abbrev pub IsClientKept : SetDown → Type 0
-IsClientKept kept = IsKept kept × IsTrue (client_fits kept.standing kept.due) × EndsEmpty kept
+IsClientKept kept = IsKept kept × IsTrue (client_fits kept.standing kept.due) × EndsEmpty kept × (shown kept.user ≡ None)
+
+-- a server of these values can be over an acceptor that names this user: where it has logged in, the two users are one.
+-- A mechanism that names nobody has none (RFC 4505, section 2)
+abbrev pub NamesKeptUser : SetDown → Option (List ℕ) → Type 0
+NamesKeptUser kept named = kept.standing ≡ LoggedIn → named ≡ shown kept.user
 
 -- the side of these values, whose machine is in this state
 abbrev pub side_of : {S : Type 0} → SetDown → S → Side S

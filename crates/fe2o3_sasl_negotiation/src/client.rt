@@ -232,7 +232,7 @@ impl ClientNegotiation {
         &self.profile
     }
 
-    /// Saves what the side has beside its profile and its hostname, for `take_up`. It holds no password or key.
+    /// Saves what the side has beside its profile and its hostname, for `take_up`. It holds no password, key or user.
     pub fn set_down(&self) -> SetDown<'_>
         ensures side { side_of result (client_side self.now).state ≡ client_side self.now }
         ensures kept { IsClientKept result }
@@ -242,6 +242,7 @@ impl ClientNegotiation {
             due: self.due,
             limit: self.limit,
             held: &self.held,
+            user: None,
         }
     }
 
@@ -258,7 +259,8 @@ impl ClientNegotiation {
         ensures ok { IfOk result (λ side. IsClientKept kept.now
             × (client_side side ≡ side_of kept.now (profile_of profile))
             × (hostname_in side ≡ option_map string_bytes hostname)) }
-        ensures refused { IfErr result (λ error. error ≢ TakeUpError.OutOfMemory → ¬ IsClientKept kept.now) }
+        ensures refused { IfErr result (λ error. error ≡ TakeUpError.NotKept → ¬ IsClientKept kept.now) }
+        ensures other_user { IfErr result (λ error. error ≢ TakeUpError.OtherUser) }
         ensures memory { IfErr result (λ error. error ≡ TakeUpError.OutOfMemory → IsClientKept kept.now) }
     {
         if !kept.is_client() {

@@ -10,6 +10,7 @@ pub mod frame_sizes;
 mod framing;
 pub mod laws;
 mod pieces;
+mod restored;
 pub mod retries;
 mod server;
 mod set_down;
@@ -19,6 +20,7 @@ pub use client::ClientNegotiation;
 pub use pieces::{
     Negotiated, Piece, client_connection, scram_server_connection, server_connection,
 };
+pub use restored::{restored_client, restored_server};
 pub use server::ServerNegotiation;
 pub use set_down::{SetDown, TakeUpError};
 pub use standing::{ClosedBecause, Due, Received, Standing, Turn};

@@ -7,14 +7,15 @@ ghost use Rattle.fe2o3_sasl_runs.specs.Costs.{AcceptorStepCosts};
 ghost use Rattle.fe2o3_sasl_negotiation.specs.Framing.{IsPart, IsPart-prop};
 ghost use Rattle.fe2o3_sasl_negotiation.specs.Negotiations.{Completes, SideOutput, Receives};
 ghost use Rattle.fe2o3_sasl_negotiation.specs.ServerNegotiation.{offer_body as offer_of, ServerOpens, ServerOutputs, ServerReplies, ServerReplyCosts, ServerUnitCosts, ServerSideAnswers, ServerReceives, ServerCosts};
-ghost use Rattle.fe2o3_sasl_negotiation.specs.SetDown.{IsServerKept, server_fits, side_of};
+ghost use Rattle.fe2o3_sasl_negotiation.specs.SetDown.{IsServerKept, NamesKeptUser, server_fits, side_of};
 ghost use Rattle.fe2o3_sasl_negotiation.specs.private.Units.{Appends, Screens, ServerUnitAsks};
+ghost use Rattle.fe2o3_sasl_wire.specs.FrameView.{shown};
 ghost use Rattle.fe2o3_sasl_wire.specs.declared.sasl_frames.error.Error.TheVariants.{OutOfMemory as WireOutOfMemory};
 ghost use Rattle.fe2o3_sasl_negotiation.specs.declared.standing.Due.TheVariants.{Header, Frame as FrameDue};
 ghost use Rattle.fe2o3_sasl_negotiation.specs.declared.standing.Standing.TheVariants.{Wanting, LoggedIn};
 
 use crate::framing::{Arrived, MAX_FRAME, Step, end_unit, is_sasl, screen, send, take_unit};
-use crate::set_down::{SetDown, TakeUpError};
+use crate::set_down::{SetDown, TakeUpError, is_user};
 use crate::standing::{ClosedBecause, Due, Received, Standing, Turn};
 use bytes::BytesMut;
 use fe2o3_sasl_runs::{
@@ -236,33 +237,43 @@ impl<A: NamesUser> ServerNegotiation<A> {
         }
     }
 
-    /// Saves what the side has beside its acceptor, for `take_up`. It holds no password, key or record.
+    /// Saves what the side has beside its acceptor, for `take_up`. It holds no password, key or record. The user is
+    /// the one of `user`.
     pub fn set_down(&self) -> SetDown<'_>
         ensures side { side_of result (A.state (acceptor_in self.now)) ≡ server_side A.state self.now }
         ensures kept { IsServerKept result }
+        ensures user { NamesKeptUser result (A.named (acceptor_in self.now)) }
     {
         SetDown {
             standing: self.standing,
             due: self.due,
             limit: self.limit,
             held: &self.held,
+            user: self.user(),
         }
     }
 
-    /// Restores the server's side that `set_down` saved, over an acceptor in the state in which that side's was. The
-    /// user of a side that has logged in is the one that this acceptor names.
+    /// Restores the server's side that `set_down` saved, over an acceptor in the state in which that side's was. After
+    /// a login that is an acceptor that names the saved user, such as `restore_logged_in` returns.
     ///
-    /// Errors, in this order: `NotKept` where no server can have such values, and `OutOfMemory`.
+    /// Errors, in this order: `NotKept` where no server can have such values, `OtherUser` where a server that has
+    /// logged in has another user than the acceptor, and `OutOfMemory`.
     pub fn take_up(alloc: Global, acceptor: A, kept: &SetDown<'_>) -> Result<Self, TakeUpError>
     where
         A: Drop,
-        ensures ok { IfOk result (λ side. IsServerKept kept.now
+        ensures ok { IfOk result (λ side. IsServerKept kept.now × NamesKeptUser kept.now (A.named acceptor)
             × (server_side A.state side ≡ side_of kept.now (A.state acceptor)) × (acceptor_in side ≡ acceptor)) }
-        ensures refused { IfErr result (λ error. error ≢ TakeUpError.OutOfMemory → ¬ IsServerKept kept.now) }
-        ensures memory { IfErr result (λ error. error ≡ TakeUpError.OutOfMemory → IsServerKept kept.now) }
+        ensures refused { IfErr result (λ error. error ≡ TakeUpError.NotKept → ¬ IsServerKept kept.now) }
+        ensures other_user { IfErr result (λ error. error ≡ TakeUpError.OtherUser
+            → IsServerKept kept.now × (kept.now.standing ≡ LoggedIn) × (A.named acceptor ≢ shown kept.now.user)) }
+        ensures memory { IfErr result (λ error. error ≡ TakeUpError.OutOfMemory
+            → IsServerKept kept.now × NamesKeptUser kept.now (A.named acceptor)) }
     {
         if !kept.is_server() {
             return Err(TakeUpError::NotKept);
+        }
+        if matches!(kept.standing, Standing::LoggedIn) && !is_user(acceptor.user(), kept.user) {
+            return Err(TakeUpError::OtherUser);
         }
         let held = kept.held.to_vec(alloc)?;
         Ok(Self {

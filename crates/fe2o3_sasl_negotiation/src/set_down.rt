@@ -1,11 +1,12 @@
 //! Saves a side of a connection as plain values between two calls.
 
-ghost use Rattle.std.specs.Prelude.{◌≡◌, ◌≢◌, ◌↔◌, ℕ, List, IsTrue, IfOk, IfErr, MatchOption};
+ghost use Rattle.std.specs.Prelude.{◌≡◌, ◌≢◌, ◌↔◌, ℕ, List, IsTrue, IfOk, IfErr, MatchOption, None};
+ghost use Rattle.fe2o3_sasl_wire.specs.FrameView.{shown};
 ghost use Rattle.fe2o3_sasl_negotiation.specs.Framing.{IsPart};
 ghost use Rattle.fe2o3_sasl_negotiation.specs.Negotiations.{Completes};
-ghost use Rattle.fe2o3_sasl_negotiation.specs.SetDown.{IsKept, IsServerKept, IsClientKept, EndsEmpty, server_awaits, server_due, server_fits, client_awaits, client_due, outcome_due, client_fits, side_kept};
+ghost use Rattle.fe2o3_sasl_negotiation.specs.SetDown.{IsKept, IsServerKept, IsClientKept, EndsEmpty, NamesAfterLogin, server_awaits, server_due, server_fits, client_awaits, client_due, outcome_due, client_fits, side_kept};
 ghost use Rattle.fe2o3_sasl_negotiation.specs.declared.standing.Due.TheVariants.{Header};
-ghost use Rattle.fe2o3_sasl_negotiation.specs.declared.standing.Standing.TheVariants.{Wanting};
+ghost use Rattle.fe2o3_sasl_negotiation.specs.declared.standing.Standing.TheVariants.{LoggedIn, Wanting};
 ghost use Rattle.fe2o3_sasl_negotiation.specs.declared.standing.Turn.{Turn as TurnKind};
 ghost use Rattle.fe2o3_sasl_negotiation.specs.declared.set_down.TakeUpError.TheVariants.{OutOfMemory as TakeUpOutOfMemory};
 
@@ -16,7 +17,8 @@ use fe2o3_sasl_wire::{Error as FrameError, SaslCode};
 use std::alloc::{AllocError, Global};
 use thiserror::Error;
 
-/// A side between two calls as plain values, without its acceptor or its profile.
+/// A side between two calls as plain values, without its acceptor or its profile. It holds no password, no
+/// key and no store.
 #[derive(Drop)]
 pub struct SetDown<'a> {
     /// The standing.
@@ -30,16 +32,24 @@ pub struct SetDown<'a> {
 
     /// The bytes that have arrived of the header or frame that is due.
     pub held: &'a [u8],
+
+    /// The user of a server that has logged in. `None` before that, for a mechanism that names nobody, and for
+    /// a client.
+    pub user: Option<&'a str>,
 }
 
 /// Why a side is not restored.
 #[derive(Clone, Copy, Debug, PartialEq, Eq, Error)]
 pub enum TakeUpError {
     /// No side has these values: the limit is above 512; all of what is due has arrived, or a size that no frame may
-    /// have; a side that has ended holds bytes; or what is due does not fit the standing, or is never due to that
-    /// side.
+    /// have; a side that has ended holds bytes; what is due does not fit the standing, or is never due to that
+    /// side; or a side that has not logged in has a user, or a client.
     #[error("No side keeps these values")]
     NotKept,
+
+    /// The server has logged in another user than the acceptor names, or one of the two has no user.
+    #[error("The acceptor names another user")]
+    OtherUser,
 
     /// A request for memory was refused.
     #[error("Out of memory")]
@@ -60,14 +70,15 @@ impl SetDown<'_> {
     /// saved.
     ///
     /// Errors, in this order: `NotKept` where no side has such values, and `OutOfMemory`, only of a side that waits for
-    /// a frame.
+    /// a frame. The user is not read.
     #[tactic(auto, using(crate::proofs::lemmas::CompletedLemmas::completed))]
     pub fn completed(&self, alloc: Global, bytes: &[u8]) -> Result<Option<Vec<u8>>, TakeUpError>
         ensures kept { IfOk result (λ _. IsKept self.now) }
         ensures body { IfOk result (λ body. MatchOption body
             ((turn : TurnKind) (body : List ℕ) → ¬ Completes (side_kept self.now) bytes.now turn body)
             (λ body. (turn : TurnKind) × Completes (side_kept self.now) bytes.now turn body.items)) }
-        ensures refused { IfErr result (λ error. error ≢ TakeUpError.OutOfMemory → ¬ IsKept self.now) }
+        ensures refused { IfErr result (λ error. error ≡ TakeUpError.NotKept → ¬ IsKept self.now) }
+        ensures other_user { IfErr result (λ error. error ≢ TakeUpError.OtherUser) }
         ensures memory { IfErr result (λ error. error ≡ TakeUpError.OutOfMemory
             → IsKept self.now × (self.now.standing ≡ Wanting) × (self.now.due ≢ Header)) }
     {
@@ -104,18 +115,42 @@ impl SetDown<'_> {
         matches!(self.standing, Standing::Wanting) || self.held.is_empty()
     }
 
+    /// Whether only a side that has logged in has a user.
+    fn names_after_login(&self) -> bool
+        ensures { IsTrue result ↔ NamesAfterLogin self.now }
+    {
+        matches!(self.standing, Standing::LoggedIn) || self.user.is_none()
+    }
+
     /// Whether a server can have these values.
     pub(crate) fn is_server(&self) -> bool
         ensures { IsTrue result ↔ IsServerKept self.now }
     {
-        self.is_kept() && is_server_at(self.standing, self.due) && self.ends_empty()
+        self.is_kept()
+            && is_server_at(self.standing, self.due)
+            && self.ends_empty()
+            && self.names_after_login()
     }
 
     /// Whether a client can have these values.
     pub(crate) fn is_client(&self) -> bool
         ensures { IsTrue result ↔ IsClientKept self.now }
     {
-        self.is_kept() && is_client_at(self.standing, self.due) && self.ends_empty()
+        self.is_kept()
+            && is_client_at(self.standing, self.due)
+            && self.ends_empty()
+            && self.user.is_none()
+    }
+}
+
+/// Whether an acceptor names the user of a saved side, or both have none.
+pub(crate) fn is_user(named: Option<&str>, kept: Option<&str>) -> bool
+    ensures { IsTrue result ↔ shown named.entry ≡ shown kept.entry }
+{
+    match (named, kept) {
+        (Some(named), Some(kept)) => named == kept,
+        (None, None) => true,
+        _ => false,
     }
 }
 

@@ -49,6 +49,17 @@ impl ExternalAcceptor {
         })
     }
 
+    /// Returns this acceptor as a login of its user leaves it: it names that user. The caller vouches that
+    /// the user with the name from the transport has logged in, since no message is checked.
+    pub fn restore_logged_in(self) -> Self
+        ensures { external_of result ≡ record { user = (external_of self).user; accepted = true } }
+    {
+        Self {
+            username: self.username,
+            accepted: true,
+        }
+    }
+
     /// Whether the initial response asks for the name.
     fn is_asked_for(&self, identity: &Option<Binary>) -> bool
         ensures { result ≡ true

@@ -87,8 +87,8 @@ impl<A: HasMechanism, B: HasMechanism> OneOf<A, B> {
         }
     }
 
-    /// A server of both, of which the last init went to this one, as `asked` told it of a server that was set down
-    /// between two calls.
+    /// Restores a server of both, of which the last init went to this one, as `asked` returned it when the server was
+    /// saved between two calls. Pass each acceptor in the state in which it was.
     pub fn with_asked(first: A, second: B, asked: Option<Part>) -> Self
         ensures { both_states A.state B.state result
             ≡ record { first = A.state first; second = B.state second; asked = asked } }

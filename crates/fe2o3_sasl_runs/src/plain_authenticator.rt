@@ -1,6 +1,6 @@
 //! The server's side of PLAIN over the records that SCRAM keeps (RFC 4616).
 
-ghost use Rattle.std.specs.Prelude.{◌≡◌, ◌≤◌, ◌+◌, ◌^◌, ◌↔◌, ℕ, List, [], ◌∷◌, None, IsTrue, IfOk, IfErr, MatchOption, OnErr, OnOk, codes, option_map, string_bytes};
+ghost use Rattle.std.specs.Prelude.{◌≡◌, ◌≤◌, ◌+◌, ◌^◌, ◌↔◌, ℕ, List, [], ◌∷◌, None, Some, IsTrue, IfOk, IfErr, MatchOption, OnErr, OnOk, codes, option_map, string_bytes};
 ghost use Rattle.std.proofs.Common.{ap};
 ghost use Rattle.fe2o3_sasl_wire.specs.AmqpTypes.{init_frame, response_frame};
 ghost use Rattle.fe2o3_scram.specs.Credentials.{CheckingCosts, record_at};
@@ -60,6 +60,22 @@ impl<C: ScramCredentialProvider> PlainAuthenticator<C> {
         ensures { C.meaning result.now ≡ (plain_server C.meaning self.now).provider }
     {
         &self.credentials
+    }
+
+    /// Returns this acceptor as a login of this user leaves it: it names that user. The caller vouches for
+    /// the name, since no message is checked. Pass the name that `user` returned when the server was
+    /// saved. No password and no record is needed beside it.
+    ///
+    /// `OutOfMemory` is the only error.
+    pub fn restore_logged_in(self, alloc: Global, username: &str) -> Result<Self, OutOfMemory>
+        ensures { IfOk result (λ plain. plain_server C.meaning plain
+            ≡ record (plain_server C.meaning self) { user = Some username.now }) }
+    {
+        Ok(Self {
+            credentials: self.credentials,
+            iterations: self.iterations,
+            user: Some(username.to_string(alloc)?),
+        })
     }
 
     /// The user whom the init logs in. The meter counts the HMAC values.

@@ -213,6 +213,19 @@ impl SaslPlainMechanism {
         }
     }
 
+    /// Returns this acceptor as a login of its user leaves it: it names that user. The caller vouches that
+    /// the user has logged in, since no message is checked. The password is the acceptor's own, and is not
+    /// saved.
+    pub fn restore_logged_in(self) -> Self
+        ensures { plain_acceptor result ≡ PlainAcceptor (string_bytes self.username) (string_bytes self.password) true }
+    {
+        Self {
+            username: self.username,
+            password: self.password,
+            accepted: true,
+        }
+    }
+
     /// The user's name, once an init was answered Ok.
     pub fn user(&self) -> Option<&str>
         ensures { option_map (λ user. user.now) result ≡ acceptor_user (plain_acceptor self.now) }

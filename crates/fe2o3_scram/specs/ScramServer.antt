@@ -29,6 +29,11 @@ abbrev pub open_challenge : ServerState → Option ServerChallenge
 open_challenge (ServerFirstSent challenge) = Some challenge
 open_challenge state = None
 
+-- a server's open challenge and who has logged in are all of its state
+abbrev pub StatesAreReported : Type 0
+StatesAreReported = (state other : ServerState) → open_challenge state ≡ open_challenge other
+    → logged_in state ≡ logged_in other → state ≡ other
+
 -- what a server answers to a client-first message in whatever state (RFC 5802, section 5), and its state after it: a
 -- challenge takes the place of an earlier one, an unknown user and a refusal change nothing
 abbrev pub ChallengesFrom : ServerState → Provider → List ℕ → List ℕ → Result (Option (List ℕ)) ServerScramErrorKind

@@ -5,6 +5,7 @@ ghost use Rattle.std.specs.Prelude.{◌≡◌};
 ghost use Rattle.fe2o3_scram.specs.Agreement.{BelievedTextsAgree};
 ghost use Rattle.fe2o3_scram.specs.Logins.{AcceptedTextsLogIn, HiddenTextsLogIn, BelievedTextsAreSigned};
 ghost use Rattle.fe2o3_scram.specs.Laws.{OneVersion, OneFinalText, OneSignature, DigestsAreSized, MacsAreSized, OneBytesOfBase64, Base64IsReadAgain, NoCommaInBase64, PartsExist, OneListOfParts, OneEscapedName, NoCommaInEscapedNames, OneClientFirst, OneServerFirst, OneClientFinal, OneServerFinal, SomeClientFirst, SomeServerFirst, SomeClientFinal, SomeServerFinal, UnalteredExchangesSucceed, MadeRecordsAreReadable, OneRecord, OneSpelling, RecordsAreReadAgain, SomeRecord, OneUsersAnswer, SomeUsersAnswer, UsersAreReadAgain, OneMixedAnswer, SomeMixedAnswer, MixedAreReadAgain, MixedAreWrittenBack, NoMismatch, KeysStandForPassword, KeysAnswerAsPassword, BothAnswerAsPassword, OneRecordOfPassword, OneAnswerOfPassword};
+ghost use Rattle.fe2o3_scram.specs.ScramServer.{StatesAreReported};
 ghost use Rattle.fe2o3_scram.specs.MemoryExamples.{AnsweredClientsTakeNone, CommasTakeNone, ErrorsTakeNone, OtherNoncesTakeNone, UnboundTextsTakeNone, UnknownMechanismsTakeNone, UnknownUsersTakeNone};
 
 use crate::hmac::ScramVersion;
@@ -142,4 +143,10 @@ pub fn texts_without_memory()
     ensures unbound { UnboundTextsTakeNone }
     ensures unknown_mechanisms { UnknownMechanismsTakeNone }
     ensures commas { CommasTakeNone }
+{}
+
+/// States that what a server reports of its state is all of it. Two servers with one open challenge and one
+/// user who has logged in are in one state, so `open_challenge` and `user` are enough to save a server.
+pub fn saved_servers()
+    ensures { StatesAreReported }
 {}

@@ -22,6 +22,8 @@ use std::marker::Model;
 use std::{fmt, mem};
 use thiserror::Error;
 
+mod saved;
+
 /// The longest mock salt, in bytes: a digest of SHA-512.
 const MAX_SALT_LEN: usize = 64;
 

@@ -1,7 +1,7 @@
-//! A server that is set down behind its challenge, as plain texts, and taken up.
+//! Saves a server between two messages as plain texts, and restores it.
 
 ghost use Rattle.std.specs.Prelude.{◌≡◌, IfOk, option_map};
-ghost use Rattle.fe2o3_scram.specs.ScramServer.{ServerFirstSent, challenge_kept, open_challenge, provider_in, state_in, unbound_in};
+ghost use Rattle.fe2o3_scram.specs.ScramServer.{ServerFinalSent, ServerFirstSent, challenge_kept, open_challenge, provider_in, state_in, unbound_in};
 
 use crate::OutOfMemory;
 use crate::provider::ScramCredentialProvider;
@@ -10,7 +10,8 @@ use crate::scram_server::{ScramAuthenticator, ScramAuthenticatorState};
 use bytes::Bytes;
 use std::alloc::Global;
 
-/// What a server keeps between its two messages, each text as it was sent or came.
+/// An open challenge: what a server keeps between its two messages, each text as it was sent or received.
+/// It holds no key and no record, and of the user only the name.
 #[derive(Drop)]
 pub struct OpenChallenge<'a> {
     /// The user's name, plain, and not escaped.
@@ -30,8 +31,8 @@ pub struct OpenChallenge<'a> {
 }
 
 impl<C: ScramCredentialProvider> ScramAuthenticator<C> {
-    /// The challenge that is open, where the server-first message is what the server sent last. A server
-    /// that is set down here is taken up by `waiting_for`.
+    /// Returns the open challenge, or `None` if the server-first message is not what the server sent
+    /// last. `waiting_for` restores a server from it.
     pub fn open_challenge(&self) -> Option<OpenChallenge<'_>>
         ensures { option_map challenge_kept result ≡ open_challenge (state_in self.now) }
     {
@@ -53,10 +54,11 @@ impl<C: ScramCredentialProvider> ScramAuthenticator<C> {
         }
     }
 
-    /// The same server, where this is its open challenge. Of texts that no server has sent it is a challenge
-    /// as any other, and a proof has to meet it.
+    /// Returns this server with this open challenge, as `open_challenge` returned it. Texts that no
+    /// server has sent are a challenge like any other, and a client has to prove its password for it.
+    /// The caller vouches for the texts: they name the user.
     ///
-    /// `OutOfMemory` is the only refusal.
+    /// `OutOfMemory` is the only error.
     pub fn waiting_for(
         self,
         alloc: Global,
@@ -81,6 +83,25 @@ impl<C: ScramCredentialProvider> ScramAuthenticator<C> {
                     alloc,
                     challenge.server_first_message,
                 )?,
+            },
+        })
+    }
+
+    /// Returns this server as a login of this user leaves it: it names that user. The caller vouches for
+    /// the name, since no message is checked. Pass the name that `user` returned when the server was
+    /// saved. No password, key or record is needed beside it.
+    ///
+    /// `OutOfMemory` is the only error.
+    pub fn restore_logged_in(self, alloc: Global, username: &str) -> Result<Self, OutOfMemory>
+        ensures provider { IfOk result (λ server. provider_in server ≡ provider_in self) }
+        ensures unbound { IfOk result (λ server. unbound_in server ≡ unbound_in self) }
+        ensures state { IfOk result (λ server. state_in server ≡ ServerFinalSent username.now) }
+    {
+        Ok(Self {
+            credentials: self.credentials,
+            accepts_unbound: self.accepts_unbound,
+            state: ScramAuthenticatorState::ServerFinalSent {
+                username: username.to_string(alloc)?,
             },
         })
     }
