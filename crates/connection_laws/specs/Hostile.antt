@@ -34,6 +34,14 @@ abbrev pub IgnoresInit : {S : Type 0} → Machine S → Type 0
 IgnoresInit machine = (body : List ℕ) × (more : List ℕ) × (served : ServedOver machine (framed body ++ more))
     × Fits served.limit (length body + 4) × SpellsTurn turns.Init body × (served.negotiated.events ≡ [])
 
+-- an init is answered by a challenge, a whole response in turn and of an allowed size arrives after it, and only the init
+-- is answered: a server that ignores what it receives
+abbrev pub IgnoresResponse : {S : Type 0} → Machine S → Type 0
+IgnoresResponse machine = (init : List ℕ) × (body : List ℕ) × (more : List ℕ) × (challenge : List ℕ) × (event : Given)
+    × (served : ServedOver machine (framed init ++ (framed body ++ more))) × Fits served.limit (length init + 4)
+    × Fits served.limit (length body + 4) × SpellsTurn turns.Response body × (served.negotiated.events ≡ event ∷ [])
+    × (served.negotiated.replies ≡ Challenged challenge ∷ []) × (length challenge + 4 ≤ 512)
+
 -- a frame arrives first, and the first answered body is another: a server that answers what nobody sent
 abbrev pub AnswersOther : {S : Type 0} → Machine S → Type 0
 AnswersOther machine = (body : List ℕ) × (more : List ℕ) × (event : Given) × (events : List Given)

@@ -11,7 +11,7 @@ use Rattle.fe2o3_sasl_wire.specs.SaslFrames as frames
 use Rattle.fe2o3_sasl_wire.specs.SaslFrames.{SaslFrame}
 use Rattle.fe2o3_sasl_runs.specs.declared.one_of.Part.{Part}
 use Rattle.fe2o3_sasl_runs.specs.Bodies.{SpellsBody}
-use Rattle.fe2o3_sasl_runs.specs.Events.{Given, ServerSays, Concluded}
+use Rattle.fe2o3_sasl_runs.specs.Events.{Given, ServerSays, Challenged, Concluded}
 use Rattle.fe2o3_sasl_runs.specs.OneOf.{BothStates, has_name, part_for, one_of_machine}
 use Rattle.fe2o3_sasl_runs.specs.OneOfLaws.{Machine, MarkedSteps, mark_of}
 use Rattle.fe2o3_sasl_runs.specs.Runs.{Runs, AcceptorSteps}
@@ -29,7 +29,7 @@ use Rattle.fe2o3_sasl_negotiation.specs.Framing.{sasl_header, framed}
 use Rattle.fe2o3_sasl_negotiation.specs.Negotiations.{Side, SideOutput, Sends}
 use Rattle.fe2o3_sasl_negotiation.specs.ServerNegotiation.{ServerOutputs}
 use Rattle.fe2o3_sasl_negotiation.proofs.lemmas.UnitLemmas.{length-framed}
-use Rattle.connection_laws.specs.Hostile.{IgnoresInit, AnswersOther, AnswersHeader, HasShortFrame, MarksNothing, HasTwoNonces, ReusesNonce, HidesOffer, SendsBeyondOffer, SendsOtherOutcome, SendsOtherReplies}
+use Rattle.connection_laws.specs.Hostile.{IgnoresInit, IgnoresResponse, AnswersOther, AnswersHeader, HasShortFrame, MarksNothing, HasTwoNonces, ReusesNonce, HidesOffer, SendsBeyondOffer, SendsOtherOutcome, SendsOtherReplies}
 use Rattle.connection_laws.proofs.lemmas.CutConnectionLemmas.{part_is_short, other_is_not}
 use Rattle.connection_laws.proofs.lemmas.CutLemmas.{fits_small, no_frame_after}
 use Rattle.connection_laws.proofs.lemmas.NegotiatedLemmas.{without_header}
@@ -60,6 +60,34 @@ module _ {S : Type 0} (machine : Machine S) where
       ∙ sym (without_header (framed body ++ more) (frames_of n.events ++ n.tail) n.carried) in
       no_frame_after served.limit served.small turns.Init n.answer n.tail body more served.last.standing
       (ap (λ (a : SideOutput). a.standing) waits) (ap (λ (a : SideOutput). a.due) waits) n.ends tail fits spells
+
+  -- a challenge that is sent leaves a response due
+  challenged : (challenge : List ℕ) (replies : List ServerSays) (answer : SideOutput)
+      → replies ≡ Challenged challenge ∷ [] → length challenge + 4 ≤ 512 → Replied ServerOutputs two_turns replies answer
+      → answer ≡ record { sent = framed challenge; standing = Wanting; due = Frame turns.Response }
+  challenged challenge replies answer are fits replied =
+      go (subst (λ (l : List ServerSays). Replied ServerOutputs two_turns l answer) are replied)
+    where
+      go : Sends challenge Wanting (Frame turns.Response) answer
+          → answer ≡ record { sent = framed challenge; standing = Wanting; due = Frame turns.Response }
+      go (inl sends) = sends.1
+      go (inr closes) = let long : 512 < length challenge + 4 = closes.0 in absurd (omega (arith, fits, long))
+
+  pub no_response_is_ignored : ¬ IgnoresResponse machine
+  no_response_is_ignored
+      (init, body, more, challenge, event, served, fits, also, spells, are, replies_are, small) =
+      let n = served.negotiated in
+      let frames = subst (λ (l : List Given). AreFrames served.pieces served.limit 8 two_turns l) are n.frames in
+      let waits = challenged challenge n.replies n.answer replies_are small n.replied in
+      let carried : framed init ++ (framed body ++ more) ≡ framed event.body ++ n.tail =
+      without_header (framed init ++ (framed body ++ more)) (frames_of n.events ++ n.tail) n.carried
+      ∙ (ap (λ (l : List Given). frames_of l ++ n.tail) are
+      ∙ ap (λ (l : List ℕ). l ++ n.tail) (append-nil (framed event.body))) in
+      let tail = (one_frame init (framed body ++ more) event.body n.tail
+      (fits_small served.limit served.small (length init + 4) fits)
+      (fits_small served.limit served.small (length event.body + 4) frames.0) carried).1 in
+      no_frame_after served.limit served.small turns.Response n.answer n.tail body more served.last.standing
+      (ap (λ (a : SideOutput). a.standing) waits) (ap (λ (a : SideOutput). a.due) waits) n.ends (sym tail) also spells
 
   pub none_answers_other : ¬ AnswersOther machine
   none_answers_other (body, more, event, events, served, fits, are, other) =

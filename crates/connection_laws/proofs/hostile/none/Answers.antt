@@ -4,6 +4,9 @@ use Rattle.connection_laws.proofs.hostile.none.Goals as goal
 pub returns-clause-ignores_init : goal.returns-clause-ignores_init
 returns-clause-ignores_init g c = lemma.no_init_is_ignored g.A.SaslAcceptor.machine
 
+pub returns-clause-ignores_response : goal.returns-clause-ignores_response
+returns-clause-ignores_response g c = lemma.no_response_is_ignored g.A.SaslAcceptor.machine
+
 pub returns-clause-answers_other : goal.returns-clause-answers_other
 returns-clause-answers_other g c = lemma.none_answers_other g.A.SaslAcceptor.machine
 
