@@ -15,6 +15,10 @@ pub mod FunctionLemmas
 pub mod HostileLemmas
 pub mod SmallReplyLemmas
 pub mod ExactSideLemmas
+pub mod ReplyListLemmas
+pub mod UnalteredSideLemmas
+pub mod UnalteredBodyLemmas
+pub mod UnalteredEndLemmas
 pub mod UnalteredLemmas
 pub mod NegotiatedLemmas
 pub mod OneLoginLemmas
