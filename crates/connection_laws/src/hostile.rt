@@ -1,6 +1,6 @@
 //! Connections that there are not: what wrong servers would do, and what weak readings of the laws would allow.
 
-ghost use Rattle.connection_laws.specs.Hostile.{IgnoresInit, IgnoresResponse, AnswersOther, AnswersHeader, HasShortFrame, MarksNothing, HasTwoNonces, ReusesNonce, HidesOffer, SendsBeyondOffer, SendsOtherOutcome, SendsOtherReplies};
+ghost use Rattle.connection_laws.specs.Hostile.{IgnoresInit, IgnoresResponse, AnswersOther, AnswersHeader, HasShortFrame, MarksNothing, HasTwoNonces, ReusesNonce, HidesOffer, SendsBeyondOffer, SendsOther};
 
 use fe2o3_sasl_runs::one_of::HasMechanism;
 
@@ -24,6 +24,5 @@ pub fn none<A: HasMechanism, B: HasMechanism>()
     ensures reuses_nonce { ¬ ReusesNonce A.machine }
     ensures hides_offer { ¬ HidesOffer A.names A.machine }
     ensures sends_beyond_offer { ¬ SendsBeyondOffer A.names A.machine }
-    ensures sends_other_outcome { ¬ SendsOtherOutcome A.machine }
-    ensures sends_other_replies { ¬ SendsOtherReplies A.machine }
+    ensures sends_other { ¬ SendsOther A.machine }
 {}
