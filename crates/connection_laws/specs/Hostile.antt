@@ -1,12 +1,11 @@
 -- Connections that there are not. Each definition is what a wrong implementation would do, or what a weak reading of the
 -- laws of connections would allow (AMQP 1.0, part 5, section 5.3.2). `hostile::none` states that nothing is so.
-use Rattle.std.specs.Prelude.{◌≡◌, ◌≢◌, ℕ, ◌+◌, ◌<◌, ◌≤◌, ◌^◌, true, Option, Some, None, List, [], ◌∷◌, ◌++◌, length, Ok}
+use Rattle.std.specs.Prelude.{◌≡◌, ◌≢◌, ℕ, ◌+◌, ◌<◌, ◌≤◌, ◌^◌, true, Option, Some, None, List, [], ◌∷◌, ◌++◌, length, flat_map, slice_get, Ok}
 use Rattle.std.specs.List.{AllByRecursion}
-use Rattle.fe2o3_sasl_wire.specs.declared.amqp_types.SaslCode.{SaslCode}
 use Rattle.fe2o3_sasl_wire.specs.SaslFrames as frames
 use Rattle.fe2o3_sasl_runs.specs.declared.one_of.Part.{Part}
 use Rattle.fe2o3_sasl_runs.specs.Bodies.{SpellsBody}
-use Rattle.fe2o3_sasl_runs.specs.Events.{Given, ServerSays, Challenged, Concluded}
+use Rattle.fe2o3_sasl_runs.specs.Events.{Given, ServerSays, Challenged, Concluded, Failed}
 use Rattle.fe2o3_sasl_runs.specs.OneOf.{BothStates, both_names, has_name}
 use Rattle.fe2o3_sasl_runs.specs.OneOfLaws.{Machine, Splits}
 use Rattle.fe2o3_sasl_negotiation.specs.declared.standing.Turn.{Turn}
@@ -16,8 +15,7 @@ use Rattle.fe2o3_sasl_negotiation.specs.Framing.{sasl_header, framed, Fits}
 use Rattle.fe2o3_sasl_negotiation.specs.Negotiations.{Side}
 use Rattle.fe2o3_sasl_negotiation.specs.ServerNegotiation.{offer_body}
 
--- a negotiation of a server over the client's header and these bytes, in any pieces. The size of a frame has 32 bits (part
--- 2, section 2.3.1)
+-- a server's negotiation over the client's header and these bytes. A frame's size has 32 bits (part 2, section 2.3.1)
 pub record ServedOver {S : Type 0} (machine : Machine S) (bytes : List ℕ) : Type 0 where
   pub limit : ℕ
   pub state : S
@@ -33,6 +31,14 @@ pub record ServedOver {S : Type 0} (machine : Machine S) (bytes : List ℕ) : Ty
 abbrev pub IgnoresInit : {S : Type 0} → Machine S → Type 0
 IgnoresInit machine = (body : List ℕ) × (more : List ℕ) × (served : ServedOver machine (framed body ++ more))
     × Fits served.limit (length body + 4) × SpellsTurn turns.Init body × (served.negotiated.events ≡ [])
+
+-- an init is answered by a challenge, a whole response in turn and of an allowed size arrives after it, and only the init
+-- is answered: a server that ignores what it receives
+abbrev pub IgnoresResponse : {S : Type 0} → Machine S → Type 0
+IgnoresResponse machine = (init : List ℕ) × (body : List ℕ) × (more : List ℕ) × (challenge : List ℕ) × (event : Given)
+    × (served : ServedOver machine (framed init ++ (framed body ++ more))) × Fits served.limit (length init + 4)
+    × Fits served.limit (length body + 4) × SpellsTurn turns.Response body × (served.negotiated.events ≡ event ∷ [])
+    × (served.negotiated.replies ≡ Challenged challenge ∷ []) × (length challenge + 4 ≤ 512)
 
 -- a frame arrives first, and the first answered body is another: a server that answers what nobody sent
 abbrev pub AnswersOther : {S : Type 0} → Machine S → Type 0
@@ -97,15 +103,17 @@ SendsBeyondOffer {S} names machine = (limit : ℕ) × (state : S) × (pieces : L
     × ServerConnection names machine limit state pieces sasl_header sent last
     × (offer_body (names state) ≡ Some offer) × (sent ≡ sasl_header ++ (framed offer ++ more)) × (more ≢ [])
 
--- the only reply is an outcome that fits in a frame, and other bytes than its frame are sent: a server that sends its
--- outcome twice, or not at all
-abbrev pub SendsOtherOutcome : {S : Type 0} → Machine S → Type 0
-SendsOtherOutcome machine = (bytes : List ℕ) × (served : ServedOver machine bytes) × (code : SaslCode) × (body : List ℕ)
-    × (served.negotiated.replies ≡ Concluded code body ∷ []) × (length body + 4 ≤ 512) × (served.sent ≢ framed body)
+-- the bodies of a server's replies, in order. A fault has none
+abbrev pub said : List ServerSays → List (List ℕ)
+said [] = []
+said (Challenged body ∷ replies) = body ∷ said replies
+said (Concluded code body ∷ replies) = body ∷ said replies
+said (Failed fault ∷ replies) = said replies
 
--- likewise of a challenge and an outcome
-abbrev pub SendsOtherReplies : {S : Type 0} → Machine S → Type 0
-SendsOtherReplies machine = (bytes : List ℕ) × (served : ServedOver machine bytes) × (challenge : List ℕ)
-    × (code : SaslCode) × (body : List ℕ)
-    × (served.negotiated.replies ≡ Challenged challenge ∷ Concluded code body ∷ []) × (length challenge + 4 ≤ 512)
-    × (length body + 4 ≤ 512) × (served.sent ≢ framed challenge ++ framed body)
+-- each reply fits in a frame, the second is no challenge, which would be out of turn, and what is sent is not exactly the
+-- frames of the replies: a server that sends a reply twice, not at all, or what it never said
+abbrev pub SendsOther : {S : Type 0} → Machine S → Type 0
+SendsOther machine = (bytes : List ℕ) × (served : ServedOver machine bytes)
+    × AllByRecursion (λ body. length body + 4 ≤ 512) (said served.negotiated.replies)
+    × ((body : List ℕ) → slice_get served.negotiated.replies 1 ≢ Some (Challenged body))
+    × (served.sent ≢ flat_map framed (said served.negotiated.replies))

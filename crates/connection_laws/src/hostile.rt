@@ -1,12 +1,12 @@
 //! Connections that there are not: what wrong servers would do, and what weak readings of the laws would allow.
 
-ghost use Rattle.connection_laws.specs.Hostile.{IgnoresInit, AnswersOther, AnswersHeader, HasShortFrame, MarksNothing, HasTwoNonces, ReusesNonce, HidesOffer, SendsBeyondOffer, SendsOtherOutcome, SendsOtherReplies};
+ghost use Rattle.connection_laws.specs.Hostile.{IgnoresInit, IgnoresResponse, AnswersOther, AnswersHeader, HasShortFrame, MarksNothing, HasTwoNonces, ReusesNonce, HidesOffer, SendsBeyondOffer, SendsOther};
 
 use fe2o3_sasl_runs::one_of::HasMechanism;
 
 /// States what no connection of a server does, whatever its acceptor is:
-/// - it ignores a whole init in turn, answers another body than the one that arrived, or answers a frame where only the
-///   header arrived;
+/// - it ignores a whole init in turn, or a whole response to its challenge, answers another body than the one that
+///   arrived, or answers a frame where only the header arrived;
 /// - an answered frame has a body of less than 4 bytes;
 /// - a server of two acceptors passes an init of a mechanism that it offers to neither;
 /// - one byte of a stream has two nonces, or two frames that arrive with two nonces are answered with one;
@@ -15,6 +15,7 @@ use fe2o3_sasl_runs::one_of::HasMechanism;
 /// Each clause rejects one wrong server or one weak reading of the other laws. Its definition says which.
 pub fn none<A: HasMechanism, B: HasMechanism>()
     ensures ignores_init { ¬ IgnoresInit A.machine }
+    ensures ignores_response { ¬ IgnoresResponse A.machine }
     ensures answers_other { ¬ AnswersOther A.machine }
     ensures answers_header { ¬ AnswersHeader A.machine }
     ensures has_short_frame { ¬ HasShortFrame }
@@ -23,6 +24,5 @@ pub fn none<A: HasMechanism, B: HasMechanism>()
     ensures reuses_nonce { ¬ ReusesNonce A.machine }
     ensures hides_offer { ¬ HidesOffer A.names A.machine }
     ensures sends_beyond_offer { ¬ SendsBeyondOffer A.names A.machine }
-    ensures sends_other_outcome { ¬ SendsOtherOutcome A.machine }
-    ensures sends_other_replies { ¬ SendsOtherReplies A.machine }
+    ensures sends_other { ¬ SendsOther A.machine }
 {}

@@ -1,17 +1,18 @@
 -- What no connection of a server does.
 use Rattle.std.proofs.Common.{◌≡◌, ◌≢◌, ℕ, ◌+◌, ◌<◌, ◌≤◌, Bool, true, false, Option, Some, None, List, [], ◌∷◌, ◌++◌, length, refl, sym, ap, ◌∙◌, subst, inl, inr, append_assoc, arith, Result, Ok}
-use Rattle.std.specs.Prelude.{zip, if◌then◌else◌}
+use Rattle.std.specs.Prelude.{zip, flat_map, slice_get, if◌then◌else◌}
 use Rattle.std.specs.List.{AllByRecursion}
+use Rattle.std.proofs.lemmas.Grind.{flat_map-append}
 use Rattle.std.proofs.lemmas.List.{append-nil, length-append}
 use Rattle.std.proofs.lemmas.Option.{same_Some}
-use Rattle.fe2o3_sasl_wire.specs.declared.amqp_types.SaslCode.{SaslCode}
 use Rattle.fe2o3_sasl_wire.specs.declared.amqp_types.SaslCode.TheVariants as outcomes
 use Rattle.fe2o3_sasl_wire.specs.declared.sasl_frames.error.Error.{Error}
+use Rattle.fe2o3_sasl_wire.specs.declared.sasl_frames.error.Error.TheVariants as faults
 use Rattle.fe2o3_sasl_wire.specs.SaslFrames as frames
 use Rattle.fe2o3_sasl_wire.specs.SaslFrames.{SaslFrame}
 use Rattle.fe2o3_sasl_runs.specs.declared.one_of.Part.{Part}
 use Rattle.fe2o3_sasl_runs.specs.Bodies.{SpellsBody}
-use Rattle.fe2o3_sasl_runs.specs.Events.{Given, ServerSays, Concluded}
+use Rattle.fe2o3_sasl_runs.specs.Events.{Given, ServerSays, Challenged, Concluded, Failed}
 use Rattle.fe2o3_sasl_runs.specs.OneOf.{BothStates, has_name, part_for, one_of_machine}
 use Rattle.fe2o3_sasl_runs.specs.OneOfLaws.{Machine, MarkedSteps, mark_of}
 use Rattle.fe2o3_sasl_runs.specs.Runs.{Runs, AcceptorSteps}
@@ -29,7 +30,7 @@ use Rattle.fe2o3_sasl_negotiation.specs.Framing.{sasl_header, framed}
 use Rattle.fe2o3_sasl_negotiation.specs.Negotiations.{Side, SideOutput, Sends}
 use Rattle.fe2o3_sasl_negotiation.specs.ServerNegotiation.{ServerOutputs}
 use Rattle.fe2o3_sasl_negotiation.proofs.lemmas.UnitLemmas.{length-framed}
-use Rattle.connection_laws.specs.Hostile.{IgnoresInit, AnswersOther, AnswersHeader, HasShortFrame, MarksNothing, HasTwoNonces, ReusesNonce, HidesOffer, SendsBeyondOffer, SendsOtherOutcome, SendsOtherReplies}
+use Rattle.connection_laws.specs.Hostile.{IgnoresInit, IgnoresResponse, AnswersOther, AnswersHeader, HasShortFrame, MarksNothing, HasTwoNonces, ReusesNonce, HidesOffer, SendsBeyondOffer, SendsOther, said}
 use Rattle.connection_laws.proofs.lemmas.CutConnectionLemmas.{part_is_short, other_is_not}
 use Rattle.connection_laws.proofs.lemmas.CutLemmas.{fits_small, no_frame_after}
 use Rattle.connection_laws.proofs.lemmas.NegotiatedLemmas.{without_header}
@@ -60,6 +61,34 @@ module _ {S : Type 0} (machine : Machine S) where
       ∙ sym (without_header (framed body ++ more) (frames_of n.events ++ n.tail) n.carried) in
       no_frame_after served.limit served.small turns.Init n.answer n.tail body more served.last.standing
       (ap (λ (a : SideOutput). a.standing) waits) (ap (λ (a : SideOutput). a.due) waits) n.ends tail fits spells
+
+  -- a challenge that is sent leaves a response due
+  challenged : (challenge : List ℕ) (replies : List ServerSays) (answer : SideOutput)
+      → replies ≡ Challenged challenge ∷ [] → length challenge + 4 ≤ 512 → Replied ServerOutputs two_turns replies answer
+      → answer ≡ record { sent = framed challenge; standing = Wanting; due = Frame turns.Response }
+  challenged challenge replies answer are fits replied =
+      go (subst (λ (l : List ServerSays). Replied ServerOutputs two_turns l answer) are replied)
+    where
+      go : Sends challenge Wanting (Frame turns.Response) answer
+          → answer ≡ record { sent = framed challenge; standing = Wanting; due = Frame turns.Response }
+      go (inl sends) = sends.1
+      go (inr closes) = let long : 512 < length challenge + 4 = closes.0 in absurd (omega (arith, fits, long))
+
+  pub no_response_is_ignored : ¬ IgnoresResponse machine
+  no_response_is_ignored
+      (init, body, more, challenge, event, served, fits, also, spells, are, replies_are, small) =
+      let n = served.negotiated in
+      let frames = subst (λ (l : List Given). AreFrames served.pieces served.limit 8 two_turns l) are n.frames in
+      let waits = challenged challenge n.replies n.answer replies_are small n.replied in
+      let carried : framed init ++ (framed body ++ more) ≡ framed event.body ++ n.tail =
+      without_header (framed init ++ (framed body ++ more)) (frames_of n.events ++ n.tail) n.carried
+      ∙ (ap (λ (l : List Given). frames_of l ++ n.tail) are
+      ∙ ap (λ (l : List ℕ). l ++ n.tail) (append-nil (framed event.body))) in
+      let tail = (one_frame init (framed body ++ more) event.body n.tail
+      (fits_small served.limit served.small (length init + 4) fits)
+      (fits_small served.limit served.small (length event.body + 4) frames.0) carried).1 in
+      no_frame_after served.limit served.small turns.Response n.answer n.tail body more served.last.standing
+      (ap (λ (a : SideOutput). a.standing) waits) (ap (λ (a : SideOutput). a.due) waits) n.ends (sym tail) also spells
 
   pub none_answers_other : ¬ AnswersOther machine
   none_answers_other (body, more, event, events, served, fits, are, other) =
@@ -200,31 +229,64 @@ module _ {S : Type 0} (names : S → List (List ℕ)) (machine : Machine S) wher
 
 -- a body that fits is sent
 sends_body : (body : List ℕ) (standing : Standing) (due : Due) (answer : SideOutput) → length body + 4 ≤ 512
-    → Sends body standing due answer → answer.sent ≡ framed body
-sends_body body standing due answer fits (inl sends) = ap (λ (a : SideOutput). a.sent) sends.1
+    → Sends body standing due answer → answer.sent ≡ framed body ++ []
+sends_body body standing due answer fits (inl sends) =
+    ap (λ (a : SideOutput). a.sent) sends.1 ∙ sym (append-nil (framed body))
 sends_body body standing due answer fits (inr closes) = let long : 512 < length body + 4 = closes.0 in
     absurd (omega (arith, fits, long))
 
-sends_outcome : (code : SaslCode) (body : List ℕ) (turn : Turn) (answer : SideOutput) → length body + 4 ≤ 512
-    → ServerOutputs (Concluded code body) turn answer → answer.sent ≡ framed body
-sends_outcome outcomes.Ok body turn answer fits says = sends_body body _ _ answer fits says
-sends_outcome outcomes.Auth body turn answer fits says = sends_body body _ _ answer fits says
-sends_outcome outcomes.Sys body turn answer fits says = sends_body body _ _ answer fits says
-sends_outcome outcomes.SysPerm body turn answer fits says = sends_body body _ _ answer fits says
-sends_outcome outcomes.SysTemp body turn answer fits says = sends_body body _ _ answer fits says
+-- the replies fit in frames
+abbrev AllFit : List ServerSays → Type 0
+AllFit replies = AllByRecursion (λ (body : List ℕ). length body + 4 ≤ 512) (said replies)
 
-module _ {S : Type 0} (machine : Machine S) where
-  pub none_sends_another_outcome : ¬ SendsOtherOutcome machine
-  none_sends_another_outcome (bytes, served, code, body, are, fits, other) =
-      let n = served.negotiated in
-      other (n.sends ∙ sends_outcome code body turns.Init n.answer fits
-      (subst (λ (l : List ServerSays). Replied ServerOutputs two_turns l n.answer) are n.replied))
+-- an outcome and a fault are sent as they are said
+sends_end : (says : ServerSays) (turn : Turn) (answer : SideOutput) → ((body : List ℕ) → says ≢ Challenged body)
+    → AllFit (says ∷ []) → ServerOutputs says turn answer → answer.sent ≡ flat_map framed (said (says ∷ []))
+sends_end (Challenged body) turn answer none fit says = absurd (none body refl)
+sends_end (Concluded outcomes.Ok body) turn answer none fit says = sends_body body _ _ answer fit.0 says
+sends_end (Concluded outcomes.Auth body) turn answer none fit says = sends_body body _ _ answer fit.0 says
+sends_end (Concluded outcomes.Sys body) turn answer none fit says = sends_body body _ _ answer fit.0 says
+sends_end (Concluded outcomes.SysPerm body) turn answer none fit says = sends_body body _ _ answer fit.0 says
+sends_end (Concluded outcomes.SysTemp body) turn answer none fit says = sends_body body _ _ answer fit.0 says
+sends_end (Failed faults.OutOfMemory) turn answer none fit says = absurd says
+sends_end (Failed faults.DecodeError) turn answer none fit says = ap (λ (a : SideOutput). a.sent) says
+sends_end (Failed faults.NotImplemented) turn answer none fit says = ap (λ (a : SideOutput). a.sent) says
+sends_end (Failed faults.TooLarge) turn answer none fit says = ap (λ (a : SideOutput). a.sent) says
 
-  pub none_sends_other_replies : ¬ SendsOtherReplies machine
-  none_sends_other_replies (bytes, served, challenge, code, body, are, fits, also, other) =
-      let n = served.negotiated in
-      let (first, rest, says, waits, last, sum) =
-      subst (λ (l : List ServerSays). Replied ServerOutputs two_turns l n.answer) are n.replied in
-      let one : first.sent ≡ framed challenge = sends_body challenge _ _ first fits says in
-      let two : rest.sent ≡ framed body = sends_outcome code body turns.Response rest also last in
-      other (n.sends ∙ (ap (λ (a : SideOutput). a.sent) sum ∙ (λ i. one i ++ two i)))
+-- and so is the first reply
+sends_first : (says : ServerSays) (answer : SideOutput) → AllFit (says ∷ []) → ServerOutputs says turns.Init answer
+    → answer.sent ≡ flat_map framed (said (says ∷ []))
+sends_first (Challenged body) answer fit says = sends_body body _ _ answer fit.0 says
+sends_first (Concluded code body) answer fit says =
+    sends_end (Concluded code body) turns.Init answer (λ text same. cc) fit says
+sends_first (Failed fault) answer fit says = sends_end (Failed fault) turns.Init answer (λ text same. cc) fit says
+
+-- the bodies of two replies, one after the other
+said_more : (says : ServerSays) (replies : List ServerSays) → said (says ∷ replies) ≡ said (says ∷ []) ++ said replies
+said_more (Challenged body) replies = refl
+said_more (Concluded code body) replies = refl
+said_more (Failed fault) replies = refl
+
+all_fit : (says : ServerSays) (replies : List ServerSays) → AllFit (says ∷ replies)
+    → AllFit (says ∷ []) × AllFit replies
+all_fit (Challenged body) replies fit = ((fit.0, tt), fit.1)
+all_fit (Concluded code body) replies fit = ((fit.0, tt), fit.1)
+all_fit (Failed fault) replies fit = (tt, fit)
+
+all_sent : (replies : List ServerSays) (answer : SideOutput) → AllFit replies
+    → ((body : List ℕ) → slice_get replies 1 ≢ Some (Challenged body)) → Replied ServerOutputs two_turns replies answer
+    → answer.sent ≡ flat_map framed (said replies)
+all_sent [] answer fit none replied = ap (λ (a : SideOutput). a.sent) replied
+all_sent (says ∷ []) answer fit none replied = sends_first says answer fit replied
+all_sent (says ∷ next ∷ []) answer fit none (first, rest, one, waits, two, sum) =
+    let (fits, more) = all_fit says (next ∷ []) fit in
+    let start = sends_first says first fits one in
+    let end = sends_end next turns.Response rest (λ body same. none body (ap Some same)) more two in
+    ap (λ (a : SideOutput). a.sent) sum ∙ ((λ i. start i ++ end i)
+    ∙ (sym (flat_map-append framed (said (says ∷ [])) (said (next ∷ [])))
+    ∙ ap (flat_map framed) (sym (said_more says (next ∷ [])))))
+all_sent (says ∷ next ∷ third ∷ replies) answer fit none (first, rest, one, waits, two, sum) = absurd two.4
+
+pub none_sends_other : {S : Type 0} (machine : Machine S) → ¬ SendsOther machine
+none_sends_other machine (bytes, served, fit, none, other) =
+    let n = served.negotiated in other (n.sends ∙ all_sent n.replies n.answer fit none n.replied)

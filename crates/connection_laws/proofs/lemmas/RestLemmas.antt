@@ -125,7 +125,7 @@ module _ {S : Type 0} (Answers : Due → S → List ℕ → List ℕ → SideOut
 
     -- before the last byte that calls take, their side waits
     pub waited : (calls : List Call) (done : List Piece) (side last : Side S) (stream before sent rest : List ℕ)
-        (made : Calls Answers side calls stream sent last rest)
+        (made : Calls (Receives Answers) side calls stream sent last rest)
         → all ≡ done ++ taken_pieces Answers side calls stream sent last rest made → Is (bytes_of done) before side
         → IsBytes (bytes_of done ++ stream) → (n : ℕ)
         → n < length (bytes_of (taken_pieces Answers side calls stream sent last rest made))

@@ -4,6 +4,9 @@ use Rattle.connection_laws.proofs.hostile.none.Goals as goal
 pub returns-clause-ignores_init : goal.returns-clause-ignores_init
 returns-clause-ignores_init g c = lemma.no_init_is_ignored g.A.SaslAcceptor.machine
 
+pub returns-clause-ignores_response : goal.returns-clause-ignores_response
+returns-clause-ignores_response g c = lemma.no_response_is_ignored g.A.SaslAcceptor.machine
+
 pub returns-clause-answers_other : goal.returns-clause-answers_other
 returns-clause-answers_other g c = lemma.none_answers_other g.A.SaslAcceptor.machine
 
@@ -30,8 +33,5 @@ pub returns-clause-sends_beyond_offer : goal.returns-clause-sends_beyond_offer
 returns-clause-sends_beyond_offer g c = lemma.none_sends_beyond_its_offer g.A.SaslAcceptor.names
     g.A.SaslAcceptor.machine
 
-pub returns-clause-sends_other_outcome : goal.returns-clause-sends_other_outcome
-returns-clause-sends_other_outcome g c = lemma.none_sends_another_outcome g.A.SaslAcceptor.machine
-
-pub returns-clause-sends_other_replies : goal.returns-clause-sends_other_replies
-returns-clause-sends_other_replies g c = lemma.none_sends_other_replies g.A.SaslAcceptor.machine
+pub returns-clause-sends_other : goal.returns-clause-sends_other
+returns-clause-sends_other g c = lemma.none_sends_other g.A.SaslAcceptor.machine
