@@ -123,9 +123,10 @@ pub fn hidden_users()
 
 /// Unknown users as a law of pairs. A server with mock authentication that has no record of a name gives the same
 /// replies to the same events as one that has the mock record of that name, in every state, with as many HMAC
-/// values for each. A server of two mechanisms, each over its own store, gives the same replies too. What a stranger can tell of a name is thus no more than whether its
-/// record is the mock record: a salt and two keys that are HMAC values under the server's secret, and the mock
-/// count. The salts of two mechanisms, or of two names, are HMAC values of two different texts.
+/// values for each. A server of two mechanisms, each over its own store, gives the same replies too. What a
+/// stranger can tell of a name is thus no more than whether its record is the mock record: a salt and two keys
+/// that are HMAC values under the server's secret, and the mock count. The salts of two mechanisms, or of two
+/// names, are HMAC values of two different texts.
 pub fn unknown_users()
     ensures one { UnknownIsMock }
     ensures cost { UnknownCostsAsMock }
