@@ -4,6 +4,7 @@ use Rattle.std.specs.Prelude.{Option, Some, None, false, IfSome, MatchOption, Re
 use Rattle.std.proofs.lemmas.Bool.{cases_lt}
 use Rattle.fe2o3_sasl_wire.specs.declared.amqp_types.SaslCode.TheVariants as outcomes
 use Rattle.fe2o3_sasl_wire.specs.declared.sasl_frames.error.Error.{Error}
+use Rattle.fe2o3_sasl_wire.specs.FrameView.{shown}
 use Rattle.fe2o3_sasl_wire.specs.SaslFrames as frames
 use Rattle.fe2o3_sasl_wire.specs.SaslFrames.{SaslFrame, canonical}
 use Rattle.fe2o3_scram.specs.declared.scram_messages.error.ScramErrorKind.{ScramErrorKind}
@@ -399,8 +400,8 @@ one_due due other same = sym (named_back due) ∙ (ap due_named same ∙ named_b
 
 keeps_no_part : (client : Struct) (kept : SetDown)
     → Keeps client.connection kept.standing kept.due kept.held.now → kept.standing ≡ Wanting → kept.limit ≡ 512
-    → ¬ IsClientKept kept → KeepsNoPartOf client_due client.connection
-keeps_no_part client kept keeps wanting limit wrong = λ due held other unit part.
+    → shown kept.user ≡ None → ¬ IsClientKept kept → KeepsNoPartOf client_due client.connection
+keeps_no_part client kept keeps wanting limit nobody wrong = λ due held other unit part.
     let one = one_due due kept.due (other.due ∙ sym keeps.due) in
     let same : held ≡ kept.held.now = other.held ∙ sym keeps.held in
     let less : IsPart kept.due 512 held = carried (λ d. IsPart d 512 held) due kept.due one part in
@@ -410,7 +411,8 @@ keeps_no_part client kept keeps wanting limit wrong = λ due held other unit par
       (omega (arith, limit), carried (λ n. IsPart kept.due n kept.held.now) 512 kept.limit (sym limit) come),
       carried (λ (s : Standing). IsTrue (client_fits s kept.due)) Wanting kept.standing (sym wanting)
           (carried (λ (d : Due). IsTrue (client_due d)) due kept.due one unit),
-      λ ended. absurd (ended wanting),
+      (λ ended. absurd (ended wanting)),
+      nobody,
     )
 
 -- none of the tests of the struct holds
@@ -452,11 +454,11 @@ no_profile login client kept status keeps wanting named wrong =
 
 pub is_not_kept : (login : Login) (client : Struct) (kept : SetDown) (profile : Profile)
     → Keeps client.connection kept.standing kept.due kept.held.now → kept.standing ≡ Wanting → kept.limit ≡ 512
-    → ¬ HasNoHostname login → IsProfile login client.scram profile → ¬ IsClientKept kept
+    → shown kept.user ≡ None → ¬ HasNoHostname login → IsProfile login client.scram profile → ¬ IsClientKept kept
     → IsNoClient login client statuses.NotKept
-is_not_kept login client kept profile keeps wanting limit named is wrong = inr (
+is_not_kept login client kept profile keeps wanting limit nobody named is wrong = inr (
   none_holds client kept keeps wanting,
-  inr (named, inr (refl, keeps_no_part client kept keeps wanting limit wrong, (profile, is))),
+  inr (named, inr (refl, keeps_no_part client kept keeps wanting limit nobody wrong, (profile, is))),
 )
 
 -- why a login has no profile

@@ -6,6 +6,7 @@ use Rattle.fe2o3_sasl_wire.specs.declared.amqp_types.SaslCode.{SaslCode}
 use Rattle.fe2o3_sasl_wire.specs.declared.amqp_types.SaslCode.TheVariants as outcomes
 use Rattle.fe2o3_sasl_wire.specs.declared.sasl_frames.error.Error.{Error}
 use Rattle.fe2o3_sasl_wire.specs.declared.sasl_frames.error.Error.TheVariants as faults
+use Rattle.fe2o3_sasl_wire.specs.FrameView.{shown}
 use Rattle.fe2o3_sasl_wire.specs.SaslFrames as frames
 use Rattle.fe2o3_sasl_wire.specs.SaslFrames.{SaslFrame, canonical}
 use Rattle.fe2o3_scram.specs.declared.hmac.ScramVersion.{ScramVersion}
@@ -477,15 +478,16 @@ keeps_no_part connection kept keeps limit wrong = λ due held other part.
 -- no server keeps what the struct does, where no server has these values
 pub keeps_no_server : (connection : Connection) (kept : SetDown)
     → Keeps connection kept.standing kept.due kept.held.now → kept.standing ≡ Wanting → kept.limit ≡ 512
-    → ¬ IsServerKept kept → KeepsNoPartOf server_due connection
-keeps_no_server connection kept keeps wants limit wrong = λ due held other unit part.
+    → shown kept.user ≡ None → ¬ IsServerKept kept → KeepsNoPartOf server_due connection
+keeps_no_server connection kept keeps wants limit nobody wrong = λ due held other unit part.
     let one = one_due due kept.due (other.due ∙ sym keeps.due) in
     keeps_no_part connection kept keeps limit
     (λ holds. wrong (
       holds,
       carried (λ (s : Standing). IsTrue (server_fits s kept.due)) Wanting kept.standing (sym wants)
           (carried (λ (d : Due). IsTrue (server_due d)) due kept.due one unit),
-      λ ended. absurd (ended wants),
+      (λ ended. absurd (ended wants)),
+      λ _. nobody,
     )) due held other part
 
 pub no_connection : (host : Host) (bytes nonce : List ℕ) (before : Struct) (status : Status)
@@ -502,12 +504,12 @@ no_host host bytes nonce before kept status keeps wants wrong =
 
 pub not_kept : (host : Host) (bytes nonce : List ℕ) (before : Struct) (kept : SetDown) (state : State)
     (status : Status) → Keeps before.connection kept.standing kept.due kept.held.now → kept.standing ≡ Wanting
-    → kept.limit ≡ 512 → ServerIsReached host Wanting state → (status ≡ statuses.NotKept) × ¬ IsServerKept kept
-    → NotReceived host bytes nonce before status
+    → kept.limit ≡ 512 → shown kept.user ≡ None → ServerIsReached host Wanting state
+    → (status ≡ statuses.NotKept) × ¬ IsServerKept kept → NotReceived host bytes nonce before status
 unfolding NotReceived IsNoServer
-not_kept host bytes nonce before kept state status keeps wants limit comes (is, wrong) = inl (inr (
+not_kept host bytes nonce before kept state status keeps wants limit nobody comes (is, wrong) = inl (inr (
   none_holds before.connection kept keeps wants,
-  inr (is, keeps_no_server before.connection kept keeps wants limit wrong, host_has comes),
+  inr (is, keeps_no_server before.connection kept keeps wants limit nobody wrong, host_has comes),
 ))
   where
     host_has : ServerIsReached host Wanting state → (at : ServerState) × (asked : Option Part) × (server : State)
@@ -546,11 +548,12 @@ module _ (host : Host) (bytes nonce : List ℕ) (before : Struct) (kept : SetDow
   short_answer after taken sent (next, held, shows, written) =
       behind_short host before taken_side (side_in next) bytes nonce taken sent is wants held
 
-  pub unanswered : (status : Status) → ((status ≡ statuses.NotKept) × ¬ IsServerKept kept)
+  pub unanswered : (status : Status) → shown kept.user ≡ None → ((status ≡ statuses.NotKept) × ¬ IsServerKept kept)
       ⊎ ((status ≡ statuses.TooLong) × ((next : ServerNegotiation Code) × (taken : ℕ) × (sent : List ℕ)
       × Follows taken sent next × HasNone value_state Shown next)) → NotReceived host bytes nonce before status
-  unanswered status (inl wrong) = not_kept host bytes nonce before kept state status keeps wants limit known.0 wrong
-  unanswered status (inr (same, (next, taken, sent, held, none))) =
+  unanswered status nobody (inl wrong) =
+      not_kept host bytes nonce before kept state status keeps wants limit nobody known.0 wrong
+  unanswered status nobody (inr (same, (next, taken, sent, held, none))) =
       carried (NotReceived host bytes nonce before) statuses.TooLong status (sym same)
       (too_long host bytes nonce before taken_side (side_in next) taken sent is wants held
       (no_server host (side_in next) (shows_nothing next none)

@@ -1,6 +1,7 @@
 //! A side of a connection, which stands in a struct between its calls (AMQP 1.0, part 5, section 5.3.2).
 
-ghost use Rattle.std.specs.Prelude.{◌≡◌, ◌≢◌, ◌<◌, length, IfOk, IfErr, IfSome, MatchOption};
+ghost use Rattle.std.specs.Prelude.{◌≡◌, ◌≢◌, ◌<◌, length, IfOk, IfErr, IfSome, MatchOption, None};
+ghost use Rattle.fe2o3_sasl_wire.specs.FrameView.{shown};
 ghost use Rattle.fe2o3_sasl_negotiation.specs.declared.standing.Due.{Due as DueUnit};
 ghost use Rattle.fe2o3_sasl_negotiation.specs.declared.standing.Standing.TheVariants.{Wanting};
 ghost use Rattle.sasl_c.specs.declared.status.Status.TheVariants.{RoomTooSmall};
@@ -148,6 +149,7 @@ impl Connection {
     pub fn read(&self) -> Result<SetDown<'_>, Status>
         ensures kept { IfOk result (λ kept. Keeps self.now kept.standing kept.due kept.held.now) }
         ensures wanting { IfOk result (λ kept. (kept.standing ≡ Wanting) × (kept.limit ≡ 512)) }
+        ensures nobody { IfOk result (λ kept. shown kept.user ≡ None) }
         ensures err { IfErr result (λ status. IsFirst (side_tests self.now) status) }
         ensures room { IfErr result (λ status. status ≢ RoomTooSmall) }
     {
@@ -161,6 +163,7 @@ impl Connection {
             due,
             limit: 512,
             held,
+            user: None,
         })
     }
 }

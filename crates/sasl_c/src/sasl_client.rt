@@ -144,6 +144,7 @@ impl SaslClient {
         match ClientNegotiation::take_up(alloc, profile, hostname, &kept) {
             Ok(side) => Ok(side),
             Err(TakeUpError::NotKept) => Err(Status::NotKept),
+            Err(TakeUpError::OtherUser) => Err(Status::NotKept),
             Err(TakeUpError::OutOfMemory) => Err(Status::OutOfMemory),
         }
     }

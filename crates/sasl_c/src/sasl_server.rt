@@ -310,7 +310,7 @@ struct TakenUp<A> {
     side: ServerNegotiation<A>,
 }
 
-/// Takes up a side, which takes bytes.
+/// Restores a side that waits, which takes bytes.
 fn take_up<A: NamesUser + Drop>(
     alloc: Global,
     acceptor: A,
@@ -319,7 +319,8 @@ fn take_up<A: NamesUser + Drop>(
     nonce: &[u8; 32],
     meter: &mut Meter,
 ) -> Result<TakenUp<A>, Status>
-    requires { meter.old ≤ 2 ^ 63 }
+    requires meter { meter.old ≤ 2 ^ 63 }
+    requires wanting { kept.now.standing ≡ Wanting }
     ensures ok { IfOk result (λ call. IsServerKept kept.now
         × ServerReceives A.names A.machine (side_of kept.now (A.state acceptor)) bytes.now nonce.now call.taken
         call.sent.items (server_side A.state call.side)) }
@@ -329,6 +330,7 @@ fn take_up<A: NamesUser + Drop>(
     let mut side = match ServerNegotiation::take_up(alloc, acceptor, kept) {
         Ok(side) => side,
         Err(TakeUpError::NotKept) => return Err(Status::NotKept),
+        Err(TakeUpError::OtherUser) => return Err(Status::NotKept),
         Err(TakeUpError::OutOfMemory) => return Err(Status::OutOfMemory),
     };
     let mut sent = BytesMut::new(alloc);
@@ -425,7 +427,7 @@ struct Made {
     next: SaslServer,
 }
 
-/// Takes up a side, which takes bytes, and sets it down.
+/// Restores a side that waits, which takes bytes, and saves it.
 fn taken<A: Shows + Drop>(
     alloc: Global,
     acceptor: A,
@@ -434,7 +436,8 @@ fn taken<A: Shows + Drop>(
     nonce: &[u8; 32],
     meter: &mut Meter,
 ) -> Result<Made, Status>
-    requires { meter.old ≤ 2 ^ 63 }
+    requires meter { meter.old ≤ 2 ^ 63 }
+    requires wanting { kept.now.standing ≡ Wanting }
     ensures ok { IfOk result (λ made. (next : ServerNegotiation A) × ServerReceives A.names A.machine
         (side_of kept.now (A.state acceptor)) bytes.now nonce.now made.taken made.sent.items (server_side A.state next)
         × ShowsBy A.state A.shows made.next next × (made.next ≡ struct_by A.state A.written_for next)) }

@@ -140,6 +140,7 @@ fn named(alloc: Global, server: &SaslServer, bytes: &[u8]) -> Result<Vec<u8>, St
         Ok(Some(body)) => body,
         Ok(None) => return Err(Status::NamesNobody),
         Err(TakeUpError::NotKept) => return Err(Status::NotKept),
+        Err(TakeUpError::OtherUser) => return Err(Status::NotKept),
         Err(TakeUpError::OutOfMemory) => return Err(Status::OutOfMemory),
     };
     let Due::Frame(turn) = kept.due else {

@@ -12,4 +12,5 @@ returns-in-Err-NotKept-clause-err c = λ _.
     let is = c.in-Err-NotKept.field-0-is in
     is_not_kept c.args.login.now c.args.self.now c.in_ok-kept.kept (profile_of c.in-Ok.profile)
     c.in_ok-kept.ensures.kept c.in_ok-kept.ensures.wanting.0 c.in_ok-kept.ensures.wanting.1
-    c.in_ok-hostname.ensures.utf8 c.in-Ok.ensures.ok (c.in-Err-NotKept.ensures.refused (λ same. absurd (cc)))
+    c.in_ok-kept.ensures.nobody c.in_ok-hostname.ensures.utf8 c.in-Ok.ensures.ok
+    (c.in-Err-NotKept.ensures.refused refl)
