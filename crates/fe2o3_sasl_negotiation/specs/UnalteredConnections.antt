@@ -4,8 +4,7 @@ use Rattle.std.specs.Prelude.{◌≡◌, ℕ, Some, List, [], ◌++◌}
 use Rattle.fe2o3_sasl_wire.specs.declared.sasl_frames.error.Error.TheVariants as faults
 use Rattle.fe2o3_scram.specs.Credentials.{Provider}
 use Rattle.fe2o3_scram.specs.ScramServer.{Initial}
-use Rattle.fe2o3_sasl_runs.specs.Events.{Login, IsLogin, Frame as FrameFault}
-use Rattle.fe2o3_sasl_runs.specs.ProfileFaults.{client_fault}
+use Rattle.fe2o3_sasl_runs.specs.Events.{Login, IsLogin}
 use Rattle.fe2o3_sasl_runs.specs.Profiles.{Profile, scram_profile}
 use Rattle.fe2o3_sasl_runs.specs.SaslAcceptor.{Acceptor, ScramAcceptor, acceptor_names, acceptor_machine, acceptor_user}
 use Rattle.fe2o3_sasl_runs.specs.TwoSides.{sides_of}
@@ -19,6 +18,7 @@ use Rattle.fe2o3_sasl_negotiation.specs.Framing.{sasl_header}
 use Rattle.fe2o3_sasl_negotiation.specs.Laws.{Call, Calls}
 use Rattle.fe2o3_sasl_negotiation.specs.Negotiations.{Side}
 use Rattle.fe2o3_sasl_negotiation.specs.ServerNegotiation.{ServerSideAnswers}
+use Rattle.fe2o3_sasl_runs.specs.declared.sasl_profile.error.ProfileError.TheVariants.{Frame as FrameFault}
 
 -- a SCRAM client and a SCRAM server that are joined: each is handed what the other sends, the server behind the
 -- client's header, in whatever calls, and in the end each has taken all of it
@@ -40,7 +40,7 @@ abbrev pub ClosedForSize : Standing → Type 0
 ClosedForSize (Closed FrameSize) = Unit {0}
 ClosedForSize (Closed ReplyTooLarge) = Unit {0}
 ClosedForSize (Closed (Unread faults.TooLarge)) = Unit {0}
-ClosedForSize (Closed (ProfileRefused fault)) = client_fault fault ≡ FrameFault faults.TooLarge
+ClosedForSize (Closed (ProfileRefused fault)) = fault ≡ FrameFault faults.TooLarge
 ClosedForSize standing = ⊥
 
 -- where the server holds a record that the client's secret opens, both log in, whatever the nonces and however the

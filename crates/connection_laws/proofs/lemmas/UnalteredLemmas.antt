@@ -25,7 +25,7 @@ use Rattle.fe2o3_scram.proofs.lemmas.messages.ExchangeLemmas.{succeeds, nonce_te
 use Rattle.fe2o3_scram.proofs.lemmas.texts.AsciiLemmas.{IsUtf8-base64_text, IsUtf8-literal}
 use Rattle.fe2o3_sasl_runs.specs.Bodies.{SpellsBody}
 use Rattle.fe2o3_sasl_runs.specs.ClientHistory.{ReadsChallenge, IsDue, NonceAt, is_start, is_answer}
-use Rattle.fe2o3_sasl_runs.specs.Events.{Given, Login, IsLogin, ServerSays, Challenged, Concluded, Failed, ClientSays, Started, Answered, Reported, Refused, Frame as FrameFault, OutOfMemory}
+use Rattle.fe2o3_sasl_runs.specs.Events.{Given, Login, IsLogin, ServerSays, Challenged, Concluded, Failed, ClientSays, Started, Answered, Reported, Refused}
 use Rattle.fe2o3_sasl_runs.specs.Positions.{IsLastOpen, test_at}
 use Rattle.fe2o3_sasl_runs.specs.Profiles.{Profile, scram_profile}
 use Rattle.fe2o3_sasl_runs.specs.Runs.{AcceptorSteps, ProfileSteps, Runs}
@@ -62,6 +62,7 @@ use Rattle.connection_laws.specs.Unaltered.{FitsFrames, TakesFrames, BothLogIn, 
 use Rattle.connection_laws.proofs.lemmas.ExactSideLemmas.{Exact, exact_calls, ClientMakes, ServerMakes, client_header, ServerOffers, server_header, Takes, takes, goes_on_with}
 use Rattle.connection_laws.proofs.lemmas.OneLoginLemmas.{one_login}
 use Rattle.connection_laws.proofs.lemmas.SmallReplyLemmas.{nonce_length, first_length, proof_length, response_length, fits_as, long_enough, start_is_small, answer_is_small, report_is_small, challenge_is_small, ok_is_small, ok_fits}
+use Rattle.fe2o3_sasl_runs.specs.declared.sasl_profile.error.ProfileError.TheVariants.{Frame as FrameFault, OutOfMemory}
 
 -- ---- what is said is neither that memory ran out nor too large
 

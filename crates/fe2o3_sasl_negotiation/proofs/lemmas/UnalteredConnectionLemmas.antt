@@ -14,7 +14,7 @@ use Rattle.fe2o3_scram.specs.Hmac.{mechanism_name}
 use Rattle.fe2o3_scram.specs.ScramServer.{Initial}
 use Rattle.fe2o3_scram.specs.Texts.{base64_text}
 use Rattle.fe2o3_sasl_runs.specs.Bodies.{SpellsBody}
-use Rattle.fe2o3_sasl_runs.specs.Events.{Given, Login, IsLogin, ServerSays, Challenged, Concluded, Failed, ClientSays, Started, Answered, Reported, Refused, Frame as FrameFault, OutOfMemory}
+use Rattle.fe2o3_sasl_runs.specs.Events.{Given, Login, IsLogin, ServerSays, Challenged, Concluded, Failed, ClientSays, Started, Answered, Reported, Refused}
 use Rattle.fe2o3_sasl_runs.specs.Profiles.{Profile, scram_profile}
 use Rattle.fe2o3_sasl_runs.specs.Runs.{AcceptorSteps, ProfileSteps, Runs}
 use Rattle.fe2o3_sasl_runs.specs.SaslAcceptor.{Acceptor, ScramAcceptor, acceptor_names, acceptor_machine, acceptor_user}
@@ -44,6 +44,7 @@ use Rattle.fe2o3_sasl_negotiation.specs.UnalteredConnections.{ClosedForSize, Joi
 use Rattle.fe2o3_sasl_negotiation.proofs.lemmas.CutLemmas.{nothing_is_part, ended_stays, cuts_do_not_matter}
 use Rattle.fe2o3_sasl_negotiation.proofs.lemmas.UnitLemmas.{behind_answer}
 use Rattle.fe2o3_sasl_negotiation.proofs.lemmas.JoinedSideLemmas.{NoneIs, none_at, arriving, closed_for_size, taken_whole, ClientMakes, ServerMakes, client_header, ServerOffers, server_header, TakesFrame, takes_frame, goes_on_with}
+use Rattle.fe2o3_sasl_runs.specs.declared.sasl_profile.error.ProfileError.TheVariants.{Frame as FrameFault, OutOfMemory}
 
 -- ---- what is said is neither want of memory nor too large
 
@@ -57,9 +58,9 @@ client_fine : (says : ClientSays) (turn : Turn) (answer : SideOutput) → ¬ Clo
     → of_client.ClientOutputs says turn answer → ClientFine says
 client_fine says turn answer passes said = (
   λ same. subst (λ (s : ClientSays). of_client.ClientOutputs s turn answer) same said,
-  λ same. let (fault, is, closed) = subst (λ (s : ClientSays). of_client.ClientOutputs s turn answer) same said in
-      passes (closed_for_size answer.standing (Closed (ProfileRefused fault))
-      (ap (λ (a : SideOutput). a.standing) closed) is),
+  λ same. let closed = subst (λ (s : ClientSays). of_client.ClientOutputs s turn answer) same said in
+      passes (closed_for_size answer.standing (Closed (ProfileRefused (FrameFault faults.TooLarge)))
+      (ap (λ (a : SideOutput). a.standing) closed) refl),
 )
 
 server_fine : (says : ServerSays) (turn : Turn) (answer : SideOutput) → ¬ ClosedForSize answer.standing
