@@ -5,9 +5,8 @@ use Rattle.fe2o3_sasl_wire.specs.declared.sasl_frames.error.Error.{Error}
 use Rattle.fe2o3_sasl_wire.specs.SaslFrames.{SaslFrame}
 use Rattle.fe2o3_sasl_runs.specs.Bodies.{SpellsBody}
 use Rattle.fe2o3_sasl_runs.specs.Costs.{ProfileStepCosts}
-use Rattle.fe2o3_sasl_runs.specs.Events.{Given, ClientSays, Started, Answered, Reported, Refused as ClientRefused, OutOfMemory}
+use Rattle.fe2o3_sasl_runs.specs.Events.{Given, ClientSays, Started, Answered, Reported, Refused as ClientRefused}
 use Rattle.fe2o3_sasl_runs.specs.Profiles.{Profile}
-use Rattle.fe2o3_sasl_runs.specs.ProfileFaults.{client_fault}
 use Rattle.fe2o3_sasl_runs.specs.Runs.{ProfileSteps}
 use Rattle.fe2o3_sasl_runs.specs.declared.events.ClientReply.{ClientReply}
 use Rattle.fe2o3_sasl_runs.specs.declared.sasl_profile.error.ProfileError.{ProfileError}
@@ -19,6 +18,7 @@ use Rattle.fe2o3_sasl_negotiation.specs.declared.standing.Turn.TheVariants as tu
 use Rattle.fe2o3_sasl_negotiation.specs.declared.standing.Standing.TheVariants.{Wanting, LoggedIn}
 use Rattle.fe2o3_sasl_negotiation.specs.Framing.{sasl_header}
 use Rattle.fe2o3_sasl_negotiation.specs.Negotiations.{Side, SideOutput, closes, Sends, IsInTurn, AnswersTo, Receiving, Receives, Completes}
+use Rattle.fe2o3_sasl_runs.specs.declared.sasl_profile.error.ProfileError.TheVariants.{OutOfMemory}
 
 -- what it answers to a header: the one of SASL it waits for, another closes
 abbrev pub ClientOpens : List ℕ → SideOutput → Type 0
@@ -36,8 +36,7 @@ ClientOutputs (Answered body) turn answer = answer ≡ closes OutOfTurn (Frame t
 ClientOutputs (Reported outcomes.Ok more) turn answer = answer ≡ record { sent = []; standing = LoggedIn; due = Frame turn }
 ClientOutputs (Reported code more) turn answer = answer ≡ closes (Refused code) (Frame turn)
 ClientOutputs (ClientRefused OutOfMemory) turn answer = ⊥
-ClientOutputs (ClientRefused fault) turn answer = (kind : ProfileError) × (client_fault kind ≡ fault)
-    × (answer ≡ closes (ProfileRefused kind) (Frame turn))
+ClientOutputs (ClientRefused fault) turn answer = answer ≡ closes (ProfileRefused fault) (Frame turn)
 
 -- it asks its profile, by a step over the body
 abbrev pub AsksProfile : Option (List ℕ) → Turn → Profile → Given → SideOutput → Profile → Type 0

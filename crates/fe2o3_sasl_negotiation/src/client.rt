@@ -9,7 +9,6 @@ ghost use Rattle.fe2o3_sasl_negotiation.specs.ClientNegotiation.{ClientOpens, Cl
 ghost use Rattle.fe2o3_sasl_negotiation.specs.SetDown.{IsClientKept, client_fits, side_of};
 ghost use Rattle.fe2o3_sasl_negotiation.specs.private.Units.{Appends, Screens, ClientUnitAsks};
 ghost use Rattle.fe2o3_sasl_runs.specs.Events.{Reported, Refused};
-ghost use Rattle.fe2o3_sasl_runs.specs.ProfileFaults.{client_fault};
 ghost use Rattle.fe2o3_sasl_runs.specs.declared.sasl_profile.error.ProfileError.TheVariants.{OutOfMemory as ProfileWantsMemory};
 ghost use Rattle.fe2o3_sasl_wire.specs.FrameView.{shown};
 ghost use Rattle.fe2o3_sasl_negotiation.specs.declared.standing.Due.TheVariants.{Header};
@@ -88,7 +87,7 @@ fn concluded(turn: Turn, code: SaslCode) -> Step
 /// What the profile refuses closes, but for want of memory.
 fn refuse(turn: Turn, fault: ProfileError) -> Result<Step, OutOfMemory>
     ensures ok { IfOk result (λ step. (out : List ℕ)
-        → Appends (ClientOutputs (Refused (client_fault fault)) turn) out out step) }
+        → Appends (ClientOutputs (Refused fault) turn) out out step) }
     ensures err { OnErr result (fault ≡ ProfileWantsMemory) }
 {
     match fault {

@@ -13,12 +13,13 @@ use Rattle.fe2o3_scram.specs.declared.scram_messages.error.ScramErrorKind.TheVar
 use Rattle.fe2o3_scram.specs.Texts.{base64_text}
 use Rattle.fe2o3_scram.specs.ClientFinal.{Answer, answer_of}
 use Rattle.fe2o3_scram.specs.ClientFirst.{client_first, client_first_bare}
-use Rattle.fe2o3_sasl_runs.specs.Events.{Given, Login, ClientSays, Started, Answered, Reported, Refused, NotImplemented, Frame, OutOfMemory, scram_fault}
+use Rattle.fe2o3_sasl_runs.specs.Events.{Given, Login, ClientSays, Started, Answered, Reported, Refused, scram_fault}
 use Rattle.fe2o3_scram.specs.Hmac.{mechanism_name}
 use Rattle.fe2o3_sasl_runs.specs.Positions.{OpenBy}
 use Rattle.fe2o3_scram.specs.ServerFinal.{ReadsServerFinal}
 use Rattle.fe2o3_scram.specs.ServerFirst.{ServerFirst, ReadsServerFirst}
 use Rattle.fe2o3_sasl_runs.specs.Bodies.{carried, SpellsBody}
+use Rattle.fe2o3_sasl_runs.specs.declared.sasl_profile.error.ProfileError.TheVariants.{NotImplemented, Frame, OutOfMemory}
 
 -- an answer: the client's nonce, the server-first message, and what that names
 pub record Answering : Type 0 where

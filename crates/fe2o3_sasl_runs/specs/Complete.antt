@@ -1,7 +1,8 @@
 -- Histories in which memory was never wanting.
 use Rattle.std.specs.Prelude.{◌≢◌, ℕ, Some, List, slice_get}
 use Rattle.fe2o3_sasl_wire.specs.declared.sasl_frames.error.Error.TheVariants as faults
-use Rattle.fe2o3_sasl_runs.specs.Events.{ServerSays, Failed, ClientSays, Refused, OutOfMemory}
+use Rattle.fe2o3_sasl_runs.specs.Events.{ServerSays, Failed, ClientSays, Refused}
+use Rattle.fe2o3_sasl_runs.specs.declared.sasl_profile.error.ProfileError.TheVariants.{OutOfMemory}
 
 -- no reply is want of memory
 abbrev pub ServerComplete : List ServerSays → Type 0

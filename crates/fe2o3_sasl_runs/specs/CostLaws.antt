@@ -8,10 +8,11 @@ use Rattle.fe2o3_scram.specs.ScramClient.{ClientSide}
 use Rattle.fe2o3_scram.specs.ScramServer.{ServerState}
 use Rattle.fe2o3_sasl_runs.specs.Bodies.{SpellsBody}
 use Rattle.fe2o3_sasl_runs.specs.Costs.{acceptor_hmacs, AcceptorStepCosts, ProfileStepCosts}
-use Rattle.fe2o3_sasl_runs.specs.Events.{Given, ServerSays, ClientSays, Refused, ClientFault}
+use Rattle.fe2o3_sasl_runs.specs.Events.{Given, ServerSays, ClientSays, Refused}
 use Rattle.fe2o3_sasl_runs.specs.Profiles.{Profile, ScramProfile}
 use Rattle.fe2o3_sasl_runs.specs.Runs.{Runs, AcceptorSteps, ProfileSteps}
 use Rattle.fe2o3_sasl_runs.specs.SaslAcceptor.{Acceptor, ScramAcceptor, acceptor_machine}
+use Rattle.fe2o3_sasl_runs.specs.declared.sasl_profile.error.ProfileError.{ProfileError}
 
 -- a step of an acceptor, with what a meter shows before and after it
 abbrev pub MeteredAcceptorSteps : Acceptor × ℕ → Given → ServerSays → Acceptor × ℕ → Type 0
@@ -19,7 +20,7 @@ MeteredAcceptorSteps at event says next = AcceptorSteps acceptor_machine at.0 ev
     × AcceptorStepCosts acceptor_hmacs at.0 event at.1 next.1
 
 -- whether a client's reply is an answer, as its cost asks
-abbrev pub reply_of : ClientSays → Result (Unit {0}) ClientFault
+abbrev pub reply_of : ClientSays → Result (Unit {0}) ProfileError
 reply_of (Refused fault) = Err fault
 reply_of says = Ok tt
 

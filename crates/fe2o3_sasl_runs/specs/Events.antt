@@ -9,6 +9,8 @@ use Rattle.fe2o3_scram.specs.declared.hmac.ScramVersion.{ScramVersion}
 use Rattle.fe2o3_scram.specs.declared.scram_messages.error.ScramErrorKind.{ScramErrorKind}
 use Rattle.fe2o3_scram.specs.declared.scram_messages.error.ScramErrorKind.TheVariants as kinds
 use Rattle.fe2o3_scram.specs.declared.client_secret.IterationLimits.{IterationLimits}
+use Rattle.fe2o3_sasl_runs.specs.declared.sasl_profile.error.ProfileError.{ProfileError}
+use Rattle.fe2o3_sasl_runs.specs.declared.sasl_profile.error.ProfileError.TheVariants.{Scram, OtherKeys}
 use Rattle.fe2o3_scram.specs.ClientKeys.{AreSized}
 use Rattle.fe2o3_scram.specs.ClientSecret.{Secret, Password, Keys, Both}
 use Rattle.fe2o3_scram.specs.Credentials.{Record}
@@ -33,26 +35,19 @@ pub data ServerSays : Type 0 where
   Concluded : (code : SaslCode) → (body : List ℕ) → ServerSays
   Failed : (fault : Error) → ServerSays
 
--- a fault of a client: a frame that it does not expect, a refusal of SCRAM, kept keys that are of another salt or
--- another count, a body that is not read or not written, no memory
-pub data ClientFault : Type 0 where
-  NotImplemented : ClientFault
-  Scram : (kind : ScramErrorKind) → ClientFault
-  OtherKeys : ClientFault
-  Frame : (fault : Error) → ClientFault
-  OutOfMemory : ClientFault
-
 -- the fault for a refusal of a SCRAM client
-abbrev pub scram_fault : ScramErrorKind → ClientFault
+abbrev pub scram_fault : ScramErrorKind → ProfileError
 scram_fault kinds.OtherKeys = OtherKeys
 scram_fault kind = Scram kind
 
--- a reply of a client: the body of an init, the body of a response, an outcome that it reports, or a fault
+-- a reply of a client: the body of an init, the body of a response, an outcome that it reports, or a fault: a frame that
+-- it does not expect, a refusal of SCRAM, kept keys that are of another salt or another count, a body that is not read
+-- or not written, no memory
 pub data ClientSays : Type 0 where
   Started : (body : List ℕ) → ClientSays
   Answered : (body : List ℕ) → ClientSays
   Reported : (code : SaslCode) → (more : Option (List ℕ)) → ClientSays
-  Refused : (fault : ClientFault) → ClientSays
+  Refused : (fault : ProfileError) → ClientSays
 
 -- what the code holds of an event: bytes, and a nonce of 32
 pub record IsGiven (event : Given) : Type 0 where

@@ -6,12 +6,13 @@ use Rattle.fe2o3_sasl_wire.specs.declared.sasl_frames.error.Error.TheVariants as
 use Rattle.fe2o3_sasl_wire.specs.SaslFrames as frames
 use Rattle.fe2o3_sasl_runs.specs.ClientHistory.{Answering, answer_at, OpenAnswer}
 use Rattle.fe2o3_scram.specs.Credentials.{Provider}
-use Rattle.fe2o3_sasl_runs.specs.Events.{Given, Login, IsRecord, ServerSays, Concluded, Failed, ClientSays, Reported, Refused, OutOfMemory}
+use Rattle.fe2o3_sasl_runs.specs.Events.{Given, Login, IsRecord, ServerSays, Concluded, Failed, ClientSays, Reported, Refused}
 use Rattle.fe2o3_sasl_runs.specs.Positions.{IsLastOpen}
 use Rattle.fe2o3_scram.specs.ServerFinal.{ReadsServerFinal}
 use Rattle.fe2o3_sasl_runs.specs.Bodies.{SpellsBody}
 use Rattle.fe2o3_sasl_runs.specs.ServerHistory.{Accepted, AcceptsAt, ServerHistory, is_challenge, is_ok, says_ok}
 use Rattle.fe2o3_sasl_runs.specs.TwoSides.{Sides, Takes, Agree, MessagesCollide, client_message, server_message, keys_at}
+use Rattle.fe2o3_sasl_runs.specs.declared.sasl_profile.error.ProfileError.TheVariants.{OutOfMemory}
 
 -- what a server answers Ok to, exactly
 pub record AnswersOkExactly (provider : Provider) (events : List Given) (replies : List ServerSays) : Type 0 where

@@ -11,7 +11,7 @@ use Rattle.fe2o3_scram.specs.ClientSecret.{Password, Keys}
 use Rattle.fe2o3_scram.specs.Laws.{AreKeysOf}
 use Rattle.fe2o3_scram.specs.Passwords.{PasswordText, IsNormal, password_bytes}
 use Rattle.fe2o3_scram.specs.Credentials.{Provider, Record, record_at}
-use Rattle.fe2o3_sasl_runs.specs.Events.{Given, AreGiven, Login, IsLogin, IsRecord, IsSecret, ServerSays, Concluded, Failed, ClientSays, Refused, OtherKeys, OutOfMemory}
+use Rattle.fe2o3_sasl_runs.specs.Events.{Given, AreGiven, Login, IsLogin, IsRecord, IsSecret, ServerSays, Concluded, Failed, ClientSays, Refused}
 use Rattle.fe2o3_sasl_runs.specs.Runs.{Runs, AcceptorSteps, ProfileReplies, ProfileSteps}
 use Rattle.fe2o3_sasl_runs.specs.SaslAcceptor.{acceptor_machine, acceptor_user, Acceptor, ScramAcceptor}
 use Rattle.fe2o3_sasl_runs.specs.Profiles.{scram_profile, Profile, StepAllocates}
@@ -24,6 +24,7 @@ use Rattle.fe2o3_sasl_runs.specs.Headline.{VerifierAgrees}
 use Rattle.fe2o3_sasl_runs.specs.UnalteredRuns.{ClientLogsIn, ServerLogsIn}
 use Rattle.fe2o3_sasl_runs.specs.Verdicts.{Parameters, Verdict, Agreed, JudgesVerifier, JudgesProof, Finding, Audits, AuditsEvents}
 use Rattle.fe2o3_sasl_runs.specs.Complete.{ClientComplete, ServerComplete}
+use Rattle.fe2o3_sasl_runs.specs.declared.sasl_profile.error.ProfileError.TheVariants.{OtherKeys, OutOfMemory}
 
 -- every server history has this
 abbrev pub EveryServer : (Provider → List Given → List ServerSays → Type 0) → Type 0

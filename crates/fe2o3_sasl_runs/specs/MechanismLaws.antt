@@ -7,10 +7,11 @@ use Rattle.fe2o3_sasl_wire.specs.declared.amqp_types.SaslCode.TheVariants as out
 use Rattle.fe2o3_sasl_wire.specs.SaslFrames as frames
 use Rattle.fe2o3_sasl_wire.specs.SaslFrames.{SaslFrame}
 use Rattle.fe2o3_scram.specs.declared.hmac.ScramVersion.TheVariants.{Sha1, Sha256, Sha512}
-use Rattle.fe2o3_sasl_runs.specs.Events.{Given, Login, ServerSays, Concluded, ClientFault}
+use Rattle.fe2o3_sasl_runs.specs.Events.{Given, Login, ServerSays, Concluded}
 use Rattle.fe2o3_sasl_runs.specs.Runs.{Runs, AcceptorSteps}
 use Rattle.fe2o3_sasl_runs.specs.SaslAcceptor.{Acceptor, ScramAcceptor, PlainAcceptor, AnonymousAcceptor, acceptor_machine, acceptor_names, acceptor_user, offered, ends_with, NoZero}
 use Rattle.fe2o3_sasl_runs.specs.Profiles.{Profile, ScramProfile, PlainProfile, AnonymousProfile, ExternalProfile, profile_machine, profile_name, scram_profile}
+use Rattle.fe2o3_sasl_runs.specs.declared.sasl_profile.error.ProfileError.{ProfileError}
 
 -- an acceptor has one reply at most to each frame, and one acceptor after it
 abbrev pub OneAcceptorReply : Type 0
@@ -21,7 +22,7 @@ OneAcceptorReply = (acceptor : Acceptor) (nonce : List ℕ) (frame reply other :
 -- likewise a profile
 abbrev pub OneProfileReply : Type 0
 OneProfileReply = (profile : Profile) (hostname : Option (List ℕ)) (nonce : List ℕ) (frame : SaslFrame)
-    (reply other : Result SaslFrame ClientFault) (next last : Profile)
+    (reply other : Result SaslFrame ProfileError) (next last : Profile)
     → profile_machine profile hostname nonce frame reply next → profile_machine profile hostname nonce frame other last
     → (reply ≡ other) × (next ≡ last)
 
@@ -39,7 +40,7 @@ SomeAcceptorReply = (acceptor : Acceptor) (nonce : List ℕ) (frame : SaslFrame)
 -- a profile has one to every frame, also to those that only a server is sent
 abbrev pub SomeProfileReply : Type 0
 SomeProfileReply = (profile : Profile) (hostname : Option (List ℕ)) (nonce : List ℕ) (frame : SaslFrame)
-    → (reply : Result SaslFrame ClientFault) × (next : Profile)
+    → (reply : Result SaslFrame ProfileError) × (next : Profile)
     × profile_machine profile hostname nonce frame reply next
 
 -- some reply is an outcome Ok

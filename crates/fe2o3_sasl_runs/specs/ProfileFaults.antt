@@ -5,22 +5,13 @@ use Rattle.fe2o3_sasl_wire.specs.declared.sasl_frames.error.Error.TheVariants as
 use Rattle.fe2o3_sasl_wire.specs.SaslFrames.{SaslFrame}
 use Rattle.fe2o3_scram.specs.declared.scram_messages.error.ScramErrorKind.{ScramErrorKind}
 use Rattle.fe2o3_scram.specs.declared.scram_messages.error.ScramErrorKind.TheVariants as kinds
-use Rattle.fe2o3_sasl_runs.specs.Events.{ClientFault, NotImplemented, Scram, OtherKeys, Frame, OutOfMemory}
 use Rattle.fe2o3_sasl_runs.specs.declared.sasl_profile.error.ProfileError.{ProfileError}
 use Rattle.fe2o3_sasl_runs.specs.declared.sasl_profile.error.ProfileError.TheVariants as faults
 
--- the fault that a value is
-abbrev pub client_fault : ProfileError → ClientFault
-client_fault faults.NotImplemented = NotImplemented
-client_fault (faults.Scram kind) = Scram kind
-client_fault faults.OtherKeys = OtherKeys
-client_fault (faults.Frame fault) = Frame fault
-client_fault faults.OutOfMemory = OutOfMemory
-
 -- what a call answered, as a frame or a fault
-abbrev pub answered : {A : Type 0} → (A → SaslFrame) → Result A ProfileError → Result SaslFrame ClientFault
+abbrev pub answered : {A : Type 0} → (A → SaslFrame) → Result A ProfileError → Result SaslFrame ProfileError
 answered frame (Ok value) = Ok (frame value)
-answered frame (Err fault) = Err (client_fault fault)
+answered frame (Err fault) = Err fault
 
 -- the fault for a refusal of SCRAM: neither want of memory nor other keys are inside another fault
 abbrev pub fault_of_kind : ScramErrorKind → ProfileError

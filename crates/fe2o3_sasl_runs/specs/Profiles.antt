@@ -13,7 +13,9 @@ use Rattle.fe2o3_scram.specs.ClientKeys.{ClientKeys}
 use Rattle.fe2o3_scram.specs.ScramClient as client_states
 use Rattle.fe2o3_scram.specs.ScramClient.{ClientSide, ClientState, started, AnswersIn, BelievesIn, ReachesSaltIn, ReachesVerifierIn, with_state}
 use Rattle.fe2o3_scram.specs.Hmac.{mechanism_name}
-use Rattle.fe2o3_sasl_runs.specs.Events.{Login, ClientFault, NotImplemented, Scram, OutOfMemory, scram_fault}
+use Rattle.fe2o3_sasl_runs.specs.Events.{Login, scram_fault}
+use Rattle.fe2o3_sasl_runs.specs.declared.sasl_profile.error.ProfileError.{ProfileError}
+use Rattle.fe2o3_sasl_runs.specs.declared.sasl_profile.error.ProfileError.TheVariants.{NotImplemented, Scram, OutOfMemory}
 
 -- the profiles: SCRAM of the three versions, PLAIN, ANONYMOUS and EXTERNAL
 pub data Profile : Type 0 where
@@ -46,12 +48,12 @@ after_init (ScramProfile client) nonce = ScramProfile (started client nonce)
 after_init profile nonce = profile
 
 -- the frame of what a SCRAM client answers, or its refusal
-abbrev pub client_frame : {A : Type 0} → (A → SaslFrame) → Result A ScramErrorKind → Result SaslFrame ClientFault
+abbrev pub client_frame : {A : Type 0} → (A → SaslFrame) → Result A ScramErrorKind → Result SaslFrame ProfileError
 client_frame frame (Ok answer) = Ok (frame answer)
 client_frame frame (Err kind) = Err (scram_fault kind)
 
 -- the machine of a profile: from the profile, a hostname, a nonce and a frame to a reply and the profile after it
-abbrev pub profile_machine : Profile → Option (List ℕ) → List ℕ → SaslFrame → Result SaslFrame ClientFault → Profile
+abbrev pub profile_machine : Profile → Option (List ℕ) → List ℕ → SaslFrame → Result SaslFrame ProfileError → Profile
     → Type 0
 profile_machine profile hostname nonce (frames.Mechanisms names) reply next =
     (Contains names (profile_name profile)
@@ -130,7 +132,7 @@ in_state profile state = profile
 
 -- what a profile answers to a frame: what its machine replies, or want of memory, where the profile stays
 abbrev pub ProfileAnswers : (Profile → SaslFrame → Type 0) → Profile → Option (List ℕ) → List ℕ → SaslFrame
-    → Result SaslFrame ClientFault → Profile → Type 0
+    → Result SaslFrame ProfileError → Profile → Type 0
 ProfileAnswers Allocates profile hostname nonce frame (Err OutOfMemory) next =
     Allocates profile frame × (next ≡ profile)
 ProfileAnswers Allocates profile hostname nonce frame answer next =

@@ -8,10 +8,9 @@ use Rattle.fe2o3_sasl_wire.specs.SaslFrames as frames
 use Rattle.fe2o3_scram.specs.declared.hmac.ScramVersion.{ScramVersion}
 use Rattle.fe2o3_scram.specs.ClientSecret.{Password, up_to}
 use Rattle.fe2o3_scram.specs.Passwords.{Typed}
-use Rattle.fe2o3_sasl_runs.specs.Events.{Given, Login, ServerSays, Challenged, Concluded, Failed, ClientSays, Started, Answered, Reported, Refused, ClientFault, Frame, OutOfMemory}
+use Rattle.fe2o3_sasl_runs.specs.Events.{Given, Login, ServerSays, Challenged, Concluded, Failed, ClientSays, Started, Answered, Reported, Refused}
 use Rattle.fe2o3_sasl_runs.specs.Bodies.{SpellsBody, carried, server_says}
 use Rattle.fe2o3_sasl_runs.specs.Profiles.{Profile, profile_machine, scram_profile, StepAllocates}
-use Rattle.fe2o3_sasl_runs.specs.ProfileFaults.{client_fault}
 use Rattle.fe2o3_sasl_runs.specs.Hex.{SpellsHex}
 use Rattle.fe2o3_sasl_runs.specs.declared.events.ClientReply.{ClientReply}
 use Rattle.fe2o3_sasl_runs.specs.declared.events.ClientReply.TheVariants as client_replies
@@ -21,6 +20,7 @@ use Rattle.fe2o3_sasl_runs.specs.declared.events.EventError.TheVariants as event
 use Rattle.fe2o3_sasl_runs.specs.declared.events.ServerReply.{ServerReply}
 use Rattle.fe2o3_sasl_runs.specs.declared.events.ServerReply.TheVariants as server_replies
 use Rattle.fe2o3_sasl_runs.specs.declared.sasl_profile.error.ProfileError.{ProfileError}
+use Rattle.fe2o3_sasl_runs.specs.declared.sasl_profile.error.ProfileError.TheVariants.{Frame, OutOfMemory}
 
 -- a frame is sent in its canonical body, and only then the next state holds; a frame without one leaves the state
 abbrev pub SendsCanonical : {S A : Type 0} → A → (List ℕ → A) → Option (List ℕ) → S → S → A → S → Type 0
@@ -54,7 +54,7 @@ AcceptorSteps machine state event says next = (spelled : Result SaslFrame Error)
     × AcceptorGives machine state event spelled says next
 
 -- what a client says with a reply: an init and a response in their bodies
-abbrev pub Replies : Profile → Profile → Result SaslFrame ClientFault → ClientSays → Profile → Type 0
+abbrev pub Replies : Profile → Profile → Result SaslFrame ProfileError → ClientSays → Profile → Type 0
 Replies profile moved (Err fault) says next = (says ≡ Refused fault) × (next ≡ moved)
 Replies profile moved (Ok (frames.Init mechanism response hostname)) says next =
     SendsCanonical (Refused (Frame faults.TooLarge)) (λ body. Started body)
@@ -67,7 +67,7 @@ Replies profile moved (Ok frame) says next = SendsCanonical (Refused (Frame faul
 abbrev pub ProfileReplies : Option (List ℕ) → Profile → List ℕ → SaslFrame → ClientSays → Profile → Type 0
 ProfileReplies hostname profile nonce frame says next =
     (StepAllocates profile frame × (says ≡ Refused OutOfMemory) × (next ≡ profile))
-    ⊎ ((reply : Result SaslFrame ClientFault) × (moved : Profile)
+    ⊎ ((reply : Result SaslFrame ProfileError) × (moved : Profile)
     × profile_machine profile hostname nonce frame reply moved × Replies profile moved reply says next)
 
 -- what it does with a body that spells this
@@ -126,7 +126,7 @@ client_reply (client_replies.Outcome outcome) =
 -- and with what a step answered
 abbrev pub client_answer : Result ClientReply ProfileError → ClientSays
 client_answer (Ok reply) = client_reply reply
-client_answer (Err fault) = Refused (client_fault fault)
+client_answer (Err fault) = Refused fault
 
 -- the login of these words, the password as it is typed, without a hostname
 abbrev pub login_of : ScramVersion → List ℕ → List ℕ → ℕ → Login

@@ -7,13 +7,14 @@ use Rattle.fe2o3_sasl_wire.specs.SaslFrames as frames
 use Rattle.fe2o3_scram.specs.Texts.{base64_text}
 use Rattle.fe2o3_sasl_runs.specs.ClientHistory.{ClientHistory}
 use Rattle.fe2o3_scram.specs.Credentials.{Provider, record_at, record_of}
-use Rattle.fe2o3_sasl_runs.specs.Events.{Given, Login, IsLogin, ServerSays, Challenged, Concluded, Failed, ClientSays, Started, Answered, Reported, Refused, Frame}
+use Rattle.fe2o3_sasl_runs.specs.Events.{Given, Login, IsLogin, ServerSays, Challenged, Concluded, Failed, ClientSays, Started, Answered, Reported, Refused}
 use Rattle.fe2o3_scram.specs.Hmac.{mechanism_name}
 use Rattle.fe2o3_scram.specs.Exchanges.{OpensRecord}
 use Rattle.fe2o3_sasl_runs.specs.ServerHistory.{ServerHistory}
 use Rattle.fe2o3_sasl_runs.specs.TwoSides.{Sides, sides_of}
 use Rattle.fe2o3_sasl_runs.specs.Verdicts.{Verdict, Agreed, Finding, OfVerifier, OfProof, Audits}
 use Rattle.fe2o3_sasl_runs.specs.Complete.{ClientComplete, ServerComplete}
+use Rattle.fe2o3_sasl_runs.specs.declared.sasl_profile.error.ProfileError.TheVariants.{Frame}
 
 -- the body that a reply sends
 abbrev pub client_body : Option ClientSays → Option (List ℕ)

@@ -1,6 +1,7 @@
 //! The client's side of a negotiation: what it answers to the frames of a server (AMQP 1.0, part 5, section 5.3.2).
 
 ghost use Rattle.std.specs.Prelude.{◌≡◌, ◌≢◌, ◌↔◌, ◌≤◌, ◌^◌, ◌++◌, ◌∷◌, Option, Some, None, false, ℕ, List, IfOk, IfErr, OnOk, OnErr, MatchOption, IsTrue, IsAscii, option_map, string_bytes};
+ghost use Rattle.fe2o3_sasl_runs.specs.declared.sasl_profile.error.ProfileError.TheVariants.{Scram};
 ghost use Rattle.std.specs.List.{Contains};
 ghost use Rattle.fe2o3_sasl_wire.specs.AmqpTypes.{binary_bytes, init_frame, response_frame, outcome_frame};
 ghost use Rattle.fe2o3_sasl_wire.specs.FrameView.{shown, viewed_frame};
@@ -11,8 +12,7 @@ ghost use Rattle.fe2o3_scram.specs.ScramClient.{ClientInitial, ClientFirstSent, 
 ghost use Rattle.fe2o3_scram.specs.Texts.{base64_text};
 ghost use Rattle.fe2o3_sasl_runs.specs.Costs.{ProfileCosts};
 ghost use Rattle.fe2o3_sasl_runs.specs.Profiles.{ScramProfile, PlainProfile, scram_profile, profile_name, is_scram, profile_state, in_state, initial_response, after_init, FrameAllocates, ViewAllocates, StepAllocates, ProfileAnswers};
-ghost use Rattle.fe2o3_sasl_runs.specs.Events.{Scram};
-ghost use Rattle.fe2o3_sasl_runs.specs.ProfileFaults.{answered, client_fault};
+ghost use Rattle.fe2o3_sasl_runs.specs.ProfileFaults.{answered};
 ghost use Rattle.fe2o3_sasl_runs.specs.Runs.{login_of};
 ghost use Rattle.fe2o3_sasl_runs.specs.SaslProfile.{RefusesUrl, HasCredentials, negotiated_frame, profile_of, variant_version};
 ghost use Rattle.fe2o3_sasl_runs.specs.private.Writing.{AnswersAlways, RefusesAlways};
@@ -403,7 +403,7 @@ impl SaslProfile {
     /// is not UTF-8, or it is not due.
     pub(crate) fn refusal_unread(&self, challenge: &[u8]) -> Option<ProfileError>
         ensures { MatchOption result (StepAllocates (profile_of self.now) (Challenge challenge.now))
-            (λ fault. RefusesAlways (profile_of self.now) (Challenge challenge.now) (client_fault fault)) }
+            (λ fault. RefusesAlways (profile_of self.now) (Challenge challenge.now) fault) }
     {
         match self.scram_client() {
             Some(client) => refusal_unread(client, challenge),

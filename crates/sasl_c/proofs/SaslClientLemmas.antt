@@ -12,7 +12,7 @@ use Rattle.fe2o3_scram.specs.Readings.{IsFirst, NoneHolds}
 use Rattle.fe2o3_scram.specs.ScramClient as states
 use Rattle.fe2o3_scram.specs.ScramClient.{AnswersIn, BelievesIn, ClientSide, ClientState, started}
 use Rattle.fe2o3_sasl_runs.specs.Bodies.{carried as sent_or_not}
-use Rattle.fe2o3_sasl_runs.specs.Events.{Given, ClientSays, Started, Answered, Reported, Refused, ClientFault, NotImplemented, Scram, OtherKeys, Frame as FrameFault, OutOfMemory}
+use Rattle.fe2o3_sasl_runs.specs.Events.{Given, ClientSays, Started, Answered, Reported, Refused}
 use Rattle.fe2o3_sasl_runs.specs.Profiles.{Profile, ScramProfile, PlainProfile, AnonymousProfile, ExternalProfile, is_scram, profile_machine}
 use Rattle.fe2o3_sasl_runs.specs.Runs.{ProfileGives, Replies}
 use Rattle.fe2o3_sasl_negotiation.specs.declared.set_down.SetDown.{SetDown}
@@ -40,6 +40,8 @@ use Rattle.sasl_c.specs.SaslClient.{ProfileIsReached, HasNoHostname, HasNoClient
 use Rattle.sasl_c.proofs.ClientLemmas.{answer_fits, answering_login, believing_login, moved_login}
 use Rattle.sasl_c.proofs.StateLemmas.{reached}
 use Rattle.sasl_c.proofs.StatusLemmas.{carried}
+use Rattle.fe2o3_sasl_runs.specs.declared.sasl_profile.error.ProfileError.{ProfileError}
+use Rattle.fe2o3_sasl_runs.specs.declared.sasl_profile.error.ProfileError.TheVariants.{NotImplemented, Scram, OtherKeys, Frame as FrameFault, OutOfMemory}
 
 -- ---- a profile that a login comes to stays one
 
@@ -88,7 +90,7 @@ abbrev Moves : Words → Profile → Type 0
 Moves words next = (side : ClientSide) × (next ≡ ScramProfile side) × ClientIsReached words side
 
 scram_moves : (words : Words) (client : ClientSide) (hostname : Option (List ℕ)) (nonce : List ℕ) (frame : SaslFrame)
-    (reply : Result SaslFrame ClientFault) (moved : Profile)
+    (reply : Result SaslFrame ProfileError) (moved : Profile)
     → profile_machine (ScramProfile client) hostname nonce frame reply moved → ClientIsReached words client
     → Moves words moved
 scram_moves words client hostname nonce (frames.Mechanisms names) reply moved (inl is) stands =
@@ -108,7 +110,7 @@ scram_moves words client hostname nonce (frames.Response text) reply moved is st
 
 -- a profile that is not of SCRAM stays as it is
 plain_stays : (user password : List ℕ) (hostname : Option (List ℕ)) (nonce : List ℕ) (frame : SaslFrame)
-    (reply : Result SaslFrame ClientFault) (moved : Profile)
+    (reply : Result SaslFrame ProfileError) (moved : Profile)
     → profile_machine (PlainProfile user password) hostname nonce frame reply moved
     → moved ≡ PlainProfile user password
 plain_stays user password hostname nonce (frames.Mechanisms names) reply moved (inl is) = is.2
@@ -119,7 +121,7 @@ plain_stays user password hostname nonce (frames.Init mechanism response host) r
 plain_stays user password hostname nonce (frames.Response text) reply moved is = is.1
 
 anonymous_stays : (hostname : Option (List ℕ)) (nonce : List ℕ) (frame : SaslFrame)
-    (reply : Result SaslFrame ClientFault) (moved : Profile)
+    (reply : Result SaslFrame ProfileError) (moved : Profile)
     → profile_machine AnonymousProfile hostname nonce frame reply moved → moved ≡ AnonymousProfile
 anonymous_stays hostname nonce (frames.Mechanisms names) reply moved (inl is) = is.2
 anonymous_stays hostname nonce (frames.Mechanisms names) reply moved (inr is) = is.2
@@ -129,7 +131,7 @@ anonymous_stays hostname nonce (frames.Init mechanism response host) reply moved
 anonymous_stays hostname nonce (frames.Response text) reply moved is = is.1
 
 external_stays : (hostname : Option (List ℕ)) (nonce : List ℕ) (frame : SaslFrame)
-    (reply : Result SaslFrame ClientFault) (moved : Profile)
+    (reply : Result SaslFrame ProfileError) (moved : Profile)
     → profile_machine ExternalProfile hostname nonce frame reply moved → moved ≡ ExternalProfile
 external_stays hostname nonce (frames.Mechanisms names) reply moved (inl is) = is.2
 external_stays hostname nonce (frames.Mechanisms names) reply moved (inr is) = is.2
@@ -142,7 +144,7 @@ same_comes : (login : Login) (profile next : Profile) → next ≡ profile → P
 same_comes login profile next same comes = carried (ProfileIsReached login) profile next (sym same) comes
 
 machine_comes : (login : Login) (profile : Profile) (hostname : Option (List ℕ)) (nonce : List ℕ) (frame : SaslFrame)
-    (reply : Result SaslFrame ClientFault) (moved : Profile)
+    (reply : Result SaslFrame ProfileError) (moved : Profile)
     → profile_machine profile hostname nonce frame reply moved → ProfileIsReached login profile → ProfileIsReached login moved
 machine_comes login (ScramProfile client) hostname nonce frame reply moved is comes =
     let moves = scram_moves login.login client hostname nonce frame reply moved is comes.1 in
@@ -160,7 +162,7 @@ sent_comes : (login : Login) (profile : Profile) (body : Option (List ℕ)) (mov
 sent_comes login profile None moved next comes moves is = same_comes login profile next is comes
 sent_comes login profile (Some body) moved next comes moves is = same_comes login moved next is moves
 
-replied_comes : (login : Login) (profile moved next : Profile) (reply : Result SaslFrame ClientFault)
+replied_comes : (login : Login) (profile moved next : Profile) (reply : Result SaslFrame ProfileError)
     (says : ClientSays) → ProfileIsReached login profile → ProfileIsReached login moved → Replies profile moved reply says next
     → ProfileIsReached login next
 replied_comes login profile moved next (Err fault) says comes moves is = same_comes login moved next is.1 moves

@@ -6,7 +6,6 @@ use Rattle.fe2o3_sasl_wire.specs.declared.amqp_types.SaslCode.{SaslCode}
 use Rattle.fe2o3_sasl_wire.specs.declared.amqp_types.SaslCode.TheVariants as outcomes
 use Rattle.fe2o3_sasl_runs.specs.declared.sasl_profile.error.ProfileError.{ProfileError}
 use Rattle.fe2o3_sasl_runs.specs.Events.{Given, ClientSays, Started, Answered, Reported, Refused, ServerSays, Challenged, Concluded, Failed}
-use Rattle.fe2o3_sasl_runs.specs.ProfileFaults.{client_fault}
 use Rattle.fe2o3_sasl_runs.specs.Profiles.{Profile}
 use Rattle.fe2o3_sasl_runs.specs.Runs.{AcceptorSteps, ProfileSteps}
 use Rattle.fe2o3_sasl_negotiation.specs.declared.standing.Standing.{Standing}
@@ -101,8 +100,8 @@ client_not_stepped login event before hostname shown profile status can named is
     absurd (none login (client_comes login before shown profile next event says is steps))
 
 pub client_hides : (fault : ProfileError) (status : Status) → status ≡ profile_status fault
-    → ClientHides (Refused (client_fault fault)) status
-client_hides fault status same = (fault, refl, same)
+    → ClientHides (Refused fault) status
+client_hides fault status same = same
 
 -- ---- a server
 

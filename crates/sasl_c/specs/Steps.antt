@@ -6,7 +6,6 @@ use Rattle.fe2o3_sasl_wire.specs.declared.amqp_types.SaslCode.TheVariants as out
 use Rattle.fe2o3_sasl_wire.specs.SaslFrames.{SaslFrame}
 use Rattle.fe2o3_sasl_runs.specs.declared.sasl_profile.error.ProfileError.{ProfileError}
 use Rattle.fe2o3_sasl_runs.specs.Events.{Given, ClientSays, Started, Answered, Reported, Refused, ServerSays, Challenged, Concluded, Failed}
-use Rattle.fe2o3_sasl_runs.specs.ProfileFaults.{client_fault}
 use Rattle.fe2o3_sasl_runs.specs.Profiles.{Profile}
 use Rattle.fe2o3_sasl_runs.specs.Runs.{AcceptorSteps, ProfileSteps}
 use Rattle.fe2o3_sasl_negotiation.specs.declared.standing.ClosedBecause.TheVariants as closed
@@ -59,7 +58,7 @@ abbrev pub ClientHides : ClientSays → Status → Type 0
 ClientHides (Started body) status = IsUnsent body status
 ClientHides (Answered body) status = IsUnsent body status
 ClientHides (Reported code more) status = ⊥
-ClientHides (Refused fault) status = (why : ProfileError) × (fault ≡ client_fault why) × (status ≡ profile_status why)
+ClientHides (Refused fault) status = status ≡ profile_status fault
 
 -- a profile makes a step over a body, after which it is, for each login that comes to it, the one of the struct
 abbrev pub ProfileStepped : Option (List ℕ) → Profile → Given → ClientStruct → Standing → List ℕ → Type 0

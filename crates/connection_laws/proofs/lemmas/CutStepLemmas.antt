@@ -6,10 +6,9 @@ use Rattle.fe2o3_sasl_wire.specs.declared.sasl_frames.error.Error.TheVariants as
 use Rattle.fe2o3_sasl_wire.specs.SaslFrames.{SaslFrame, canonical}
 use Rattle.fe2o3_sasl_wire.specs.SaslFrames as frames
 use Rattle.fe2o3_sasl_runs.specs.Bodies.{carried, server_says}
-use Rattle.fe2o3_sasl_runs.specs.Events.{Given, ServerSays, Challenged, Concluded, Failed, ClientSays, Started, Answered, Reported, Refused as ClientRefused, ClientFault, NotImplemented, Scram, OtherKeys, Frame as FrameFault, OutOfMemory}
+use Rattle.fe2o3_sasl_runs.specs.Events.{Given, ServerSays, Challenged, Concluded, Failed, ClientSays, Started, Answered, Reported, Refused as ClientRefused}
 use Rattle.fe2o3_sasl_runs.specs.OneOfLaws.{Machine}
 use Rattle.fe2o3_sasl_runs.specs.Profiles.{Profile}
-use Rattle.fe2o3_sasl_runs.specs.ProfileFaults.{client_fault}
 use Rattle.fe2o3_sasl_runs.specs.Runs.{AcceptorAnswers, AcceptorGives, AcceptorSteps, ProfileGives, ProfileReplies, ProfileSteps, Replies}
 use Rattle.fe2o3_sasl_runs.specs.SaslAcceptor.{acceptor_machine}
 use Rattle.fe2o3_sasl_runs.specs.declared.sasl_profile.error.ProfileError.{ProfileError}
@@ -30,6 +29,7 @@ use Rattle.fe2o3_sasl_negotiation.proofs.lemmas.ConnectionLemmas.{closed_is_not_
 use Rattle.fe2o3_sasl_negotiation.proofs.lemmas.KindLemmas.{standing_of, closes_waits_not, sends_goes_on, sends_ends}
 use Rattle.connection_laws.specs.Cuts.{IsFunction, ServersNegotiateEqually, FunctionsNegotiateEqually, ClientsNegotiateEqually}
 use Rattle.connection_laws.proofs.lemmas.CutLemmas.{one_result}
+use Rattle.fe2o3_sasl_runs.specs.declared.sasl_profile.error.ProfileError.TheVariants.{NotImplemented, Scram, OtherKeys, Frame as FrameFault, OutOfMemory}
 
 -- a body is sent in one way
 one_sent : (body : List ℕ) (standing : Standing) (due : Due) (answer reply : SideOutput) → Sends body standing due answer
@@ -137,22 +137,6 @@ servers_negotiate_equally = functions_negotiate_equally acceptor_machine one_acc
 
 -- ---- a client
 
-one_kind : (kind other : ProfileError) → client_fault kind ≡ client_fault other → kind ≡ other
-one_kind kinds.NotImplemented kinds.NotImplemented same = refl
-one_kind (kinds.Scram kind) (kinds.Scram other) same = let e : kind ≡ other = cc in ap (λ k. kinds.Scram k) e
-one_kind kinds.OtherKeys kinds.OtherKeys same = refl
-one_kind (kinds.Frame fault) (kinds.Frame other) same = let e : fault ≡ other = cc in ap (λ k. kinds.Frame k) e
-one_kind kinds.OutOfMemory kinds.OutOfMemory same = refl
-one_kind _ _ same = cc
-
-one_refusal : (fault : ClientFault) (turn : Turn) (answer reply : SideOutput)
-    → (kind : ProfileError) × (client_fault kind ≡ fault) × (answer ≡ closes (ProfileRefused kind) (Frame turn))
-    → (kind : ProfileError) × (client_fault kind ≡ fault) × (reply ≡ closes (ProfileRefused kind) (Frame turn))
-    → answer ≡ reply
-one_refusal fault turn answer reply (kind, is, one) (other, also, two) =
-    one ∙ (ap (λ (k : ProfileError). closes (ProfileRefused k) (Frame turn)) (one_kind kind other (is ∙ sym also))
-    ∙ sym two)
-
 client_answer : (says : ClientSays) (turn : Turn) (answer reply : SideOutput) → of_client.ClientOutputs says turn answer
     → of_client.ClientOutputs says turn reply → answer ≡ reply
 client_answer (Started body) turns.Mechanisms answer reply is too = one_sent body _ _ answer reply is too
@@ -171,10 +155,10 @@ client_answer (Reported outcomes.Sys more) turn answer reply is too = is ∙ sym
 client_answer (Reported outcomes.SysPerm more) turn answer reply is too = is ∙ sym too
 client_answer (Reported outcomes.SysTemp more) turn answer reply is too = is ∙ sym too
 client_answer (ClientRefused OutOfMemory) turn answer reply is too = absurd is
-client_answer (ClientRefused NotImplemented) turn answer reply is too = one_refusal _ turn answer reply is too
-client_answer (ClientRefused (Scram fault)) turn answer reply is too = one_refusal _ turn answer reply is too
-client_answer (ClientRefused OtherKeys) turn answer reply is too = one_refusal _ turn answer reply is too
-client_answer (ClientRefused (FrameFault fault)) turn answer reply is too = one_refusal _ turn answer reply is too
+client_answer (ClientRefused NotImplemented) turn answer reply is too = is ∙ sym too
+client_answer (ClientRefused (Scram fault)) turn answer reply is too = is ∙ sym too
+client_answer (ClientRefused OtherKeys) turn answer reply is too = is ∙ sym too
+client_answer (ClientRefused (FrameFault fault)) turn answer reply is too = is ∙ sym too
 
 client_first_due : (says : ClientSays) (answer : SideOutput) → of_client.ClientOutputs says turns.Mechanisms answer
     → answer.standing ≡ Wanting → answer.due ≡ Frame turns.Challenge
@@ -188,12 +172,12 @@ client_first_due (Reported outcomes.SysPerm more) answer is waits = absurd (clos
 client_first_due (Reported outcomes.SysTemp more) answer is waits = absurd (closes_waits_not _ _ answer is waits)
 client_first_due (ClientRefused OutOfMemory) answer never waits = absurd never
 client_first_due (ClientRefused NotImplemented) answer closed waits =
-    absurd (closes_waits_not _ _ answer closed.2 waits)
+    absurd (closes_waits_not _ _ answer closed waits)
 client_first_due (ClientRefused (Scram fault)) answer closed waits =
-    absurd (closes_waits_not _ _ answer closed.2 waits)
-client_first_due (ClientRefused OtherKeys) answer closed waits = absurd (closes_waits_not _ _ answer closed.2 waits)
+    absurd (closes_waits_not _ _ answer closed waits)
+client_first_due (ClientRefused OtherKeys) answer closed waits = absurd (closes_waits_not _ _ answer closed waits)
 client_first_due (ClientRefused (FrameFault fault)) answer closed waits =
-    absurd (closes_waits_not _ _ answer closed.2 waits)
+    absurd (closes_waits_not _ _ answer closed waits)
 
 client_second_due : (says : ClientSays) (answer : SideOutput) → of_client.ClientOutputs says turns.Challenge answer
     → answer.standing ≡ Wanting → answer.due ≡ Frame turns.Outcome
@@ -207,12 +191,12 @@ client_second_due (Reported outcomes.SysPerm more) answer is waits = absurd (clo
 client_second_due (Reported outcomes.SysTemp more) answer is waits = absurd (closes_waits_not _ _ answer is waits)
 client_second_due (ClientRefused OutOfMemory) answer never waits = absurd never
 client_second_due (ClientRefused NotImplemented) answer closed waits =
-    absurd (closes_waits_not _ _ answer closed.2 waits)
+    absurd (closes_waits_not _ _ answer closed waits)
 client_second_due (ClientRefused (Scram fault)) answer closed waits =
-    absurd (closes_waits_not _ _ answer closed.2 waits)
-client_second_due (ClientRefused OtherKeys) answer closed waits = absurd (closes_waits_not _ _ answer closed.2 waits)
+    absurd (closes_waits_not _ _ answer closed waits)
+client_second_due (ClientRefused OtherKeys) answer closed waits = absurd (closes_waits_not _ _ answer closed waits)
 client_second_due (ClientRefused (FrameFault fault)) answer closed waits =
-    absurd (closes_waits_not _ _ answer closed.2 waits)
+    absurd (closes_waits_not _ _ answer closed waits)
 
 client_has_memory : (says : ClientSays) (turn : Turn) (answer : SideOutput) → of_client.ClientOutputs says turn answer
     → says ≢ ClientRefused OutOfMemory
@@ -220,7 +204,7 @@ client_has_memory says turn answer said is =
     subst (λ (s : ClientSays). of_client.ClientOutputs s turn answer) is said
 
 -- what is made of one reply
-client_says : (reply : Result SaslFrame ClientFault) (profile moved : Profile) (says other : ClientSays)
+client_says : (reply : Result SaslFrame ProfileError) (profile moved : Profile) (says other : ClientSays)
     (next end : Profile) → Replies profile moved reply says next → Replies profile moved reply other end
     → (says ≡ other) × (next ≡ end)
 client_says (Err fault) profile moved says other next end one two = (one.0 ∙ sym two.0, one.1 ∙ sym two.1)
@@ -246,7 +230,7 @@ client_replies hostname profile nonce frame says other next end memory too (inr 
     let (reply_is, moved_is) = one_profile_reply profile hostname nonce frame reply again moved went is also in
     client_says again profile went says other next end
     (subst (λ (p : Profile). Replies profile p again says next) moved_is
-    (subst (λ (r : Result SaslFrame ClientFault). Replies profile moved r says next) reply_is sends)) sent
+    (subst (λ (r : Result SaslFrame ProfileError). Replies profile moved r says next) reply_is sends)) sent
 
 client_gives : (spelled : Result SaslFrame Error) (hostname : Option (List ℕ)) (profile : Profile) (event : Given)
     (says other : ClientSays) (next end : Profile) → says ≢ ClientRefused OutOfMemory

@@ -29,7 +29,8 @@ use Rattle.fe2o3_scram.proofs.lemmas.messages.ExchangeLemmas.{succeeds, nonce_te
 use Rattle.fe2o3_scram.proofs.lemmas.texts.AsciiLemmas.{IsUtf8-base64_text, IsUtf8-literal}
 use Rattle.fe2o3_sasl.specs.examples.Examples.{login as user_login, provider as user_provider, salt as user_salt, client_bytes, server_bytes}
 use Rattle.fe2o3_sasl.proofs.lemmas.examples.ExampleLemmas.{premises_can_be_met}
-use Rattle.fe2o3_sasl_runs.specs.Events.{Login, IsLogin, Challenged, Concluded, Failed, Started, Answered, Reported, Refused, Frame as FrameFault}
+use Rattle.fe2o3_sasl_runs.specs.Events.{Login, IsLogin, Challenged, Concluded, Failed, Started, Answered, Reported, Refused}
+use Rattle.fe2o3_sasl_runs.specs.declared.sasl_profile.error.ProfileError.TheVariants.{Frame as FrameFault}
 use Rattle.fe2o3_sasl_runs.specs.Profiles.{Profile, ScramProfile, scram_profile}
 use Rattle.fe2o3_sasl_runs.specs.Runs.{AcceptorGives, ProfileReplies}
 use Rattle.fe2o3_sasl_runs.specs.SaslAcceptor.{Acceptor, ScramAcceptor, acceptor_names, acceptor_machine}

@@ -7,7 +7,7 @@ use Rattle.fe2o3_sasl_wire.specs.declared.sasl_frames.error.Error.TheVariants as
 use Rattle.fe2o3_sasl_wire.specs.SaslFrames.{SaslFrame, canonical}
 use Rattle.fe2o3_sasl_wire.specs.SaslFrames as frames
 use Rattle.fe2o3_scram.specs.Credentials.{Provider}
-use Rattle.fe2o3_sasl_runs.specs.Events.{Given, ServerSays, Challenged, Concluded, Failed, ClientSays, Started, Answered, Reported, Refused as ClientRefused, NotImplemented, Scram, OtherKeys, Frame as FrameFault, OutOfMemory}
+use Rattle.fe2o3_sasl_runs.specs.Events.{Given, ServerSays, Challenged, Concluded, Failed, ClientSays, Started, Answered, Reported, Refused as ClientRefused}
 use Rattle.fe2o3_sasl_runs.specs.ServerHistory.{ServerHistory}
 use Rattle.fe2o3_sasl_runs.proofs.lemmas.frames.SpellingLemmas.{carried_not}
 use Rattle.fe2o3_sasl_negotiation.specs.declared.standing.ClosedBecause.TheVariants.{FrameSize, Refused}
@@ -27,6 +27,7 @@ use Rattle.fe2o3_sasl_negotiation.proofs.lemmas.PieceLemmas.{length-frames_of}
 use Rattle.fe2o3_sasl_negotiation.proofs.lemmas.UnitLemmas.{size_of-framed, length-framed, body_of-framed}
 use Rattle.connection_laws.proofs.lemmas.ExactSideLemmas.{sends_small}
 use Rattle.connection_laws.proofs.lemmas.SmallReplyLemmas.{ServerRow, server_row}
+use Rattle.fe2o3_sasl_runs.specs.declared.sasl_profile.error.ProfileError.TheVariants.{NotImplemented, Scram, OtherKeys, Frame as FrameFault, OutOfMemory}
 
 -- ---- frames are read in one way
 
@@ -107,12 +108,12 @@ client_first_waits (Reported outcomes.SysPerm more) answer is waits = absurd (cl
 client_first_waits (Reported outcomes.SysTemp more) answer is waits = absurd (closes_waits_not _ _ answer is waits)
 client_first_waits (ClientRefused OutOfMemory) answer never waits = absurd never
 client_first_waits (ClientRefused NotImplemented) answer closed waits =
-    absurd (closes_waits_not _ _ answer closed.2 waits)
+    absurd (closes_waits_not _ _ answer closed waits)
 client_first_waits (ClientRefused (Scram fault)) answer closed waits =
-    absurd (closes_waits_not _ _ answer closed.2 waits)
-client_first_waits (ClientRefused OtherKeys) answer closed waits = absurd (closes_waits_not _ _ answer closed.2 waits)
+    absurd (closes_waits_not _ _ answer closed waits)
+client_first_waits (ClientRefused OtherKeys) answer closed waits = absurd (closes_waits_not _ _ answer closed waits)
 client_first_waits (ClientRefused (FrameFault fault)) answer closed waits =
-    absurd (closes_waits_not _ _ answer closed.2 waits)
+    absurd (closes_waits_not _ _ answer closed waits)
 
 client_next_waits : (says : ClientSays) (answer : SideOutput) → of_client.ClientOutputs says turns.Challenge answer
     → answer.standing ≡ Wanting → Body (λ (b : List ℕ). Answered b) says answer
@@ -127,11 +128,11 @@ client_next_waits (Reported outcomes.SysPerm more) answer is waits = absurd (clo
 client_next_waits (Reported outcomes.SysTemp more) answer is waits = absurd (closes_waits_not _ _ answer is waits)
 client_next_waits (ClientRefused OutOfMemory) answer never waits = absurd never
 client_next_waits (ClientRefused NotImplemented) answer closed waits =
-    absurd (closes_waits_not _ _ answer closed.2 waits)
-client_next_waits (ClientRefused (Scram fault)) answer closed waits = absurd (closes_waits_not _ _ answer closed.2 waits)
-client_next_waits (ClientRefused OtherKeys) answer closed waits = absurd (closes_waits_not _ _ answer closed.2 waits)
+    absurd (closes_waits_not _ _ answer closed waits)
+client_next_waits (ClientRefused (Scram fault)) answer closed waits = absurd (closes_waits_not _ _ answer closed waits)
+client_next_waits (ClientRefused OtherKeys) answer closed waits = absurd (closes_waits_not _ _ answer closed waits)
 client_next_waits (ClientRefused (FrameFault fault)) answer closed waits =
-    absurd (closes_waits_not _ _ answer closed.2 waits)
+    absurd (closes_waits_not _ _ answer closed waits)
 
 server_waits : (says : ServerSays) (answer : SideOutput) → of_server.ServerOutputs says turns.Init answer
     → answer.standing ≡ Wanting → Body (λ (b : List ℕ). Challenged b) says answer

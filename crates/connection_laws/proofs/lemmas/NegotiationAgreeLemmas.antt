@@ -11,7 +11,7 @@ use Rattle.fe2o3_scram.specs.Hmac.{mechanism_name}
 use Rattle.fe2o3_scram.specs.ScramServer.{Initial}
 use Rattle.fe2o3_sasl_runs.specs.ClientHistory.{ClientHistory}
 use Rattle.fe2o3_sasl_runs.specs.Complete.{ClientComplete, ServerComplete}
-use Rattle.fe2o3_sasl_runs.specs.Events.{Given, Login, IsLogin, ServerSays, Challenged, Concluded, Failed, ClientSays, Started, Answered, Reported, Refused, Frame as FrameFault, OutOfMemory}
+use Rattle.fe2o3_sasl_runs.specs.Events.{Given, Login, IsLogin, ServerSays, Challenged, Concluded, Failed, ClientSays, Started, Answered, Reported, Refused}
 use Rattle.fe2o3_sasl_runs.specs.Profiles.{Profile, scram_profile}
 use Rattle.fe2o3_sasl_runs.specs.Runs.{ProfileSteps}
 use Rattle.fe2o3_sasl_runs.specs.SaslAcceptor.{Acceptor, ScramAcceptor, acceptor_machine}
@@ -31,6 +31,7 @@ use Rattle.connection_laws.proofs.lemmas.NegotiatedLemmas.{SameBodies, same_fram
 use Rattle.connection_laws.proofs.lemmas.OneLoginLemmas.{one_login}
 use Rattle.connection_laws.proofs.lemmas.SmallReplyLemmas.{names_fit, fits_as}
 use Rattle.connection_laws.proofs.lemmas.UnalteredLemmas.{unaltered_sides_log_in}
+use Rattle.fe2o3_sasl_runs.specs.declared.sasl_profile.error.ProfileError.TheVariants.{Frame as FrameFault, OutOfMemory}
 
 abbrev plain : List ℕ → Given
 plain body = record { body = body; nonce = [] }

@@ -10,7 +10,7 @@ use Rattle.fe2o3_sasl_wire.specs.SaslFrames as frames
 use Rattle.fe2o3_scram.specs.declared.hmac.ScramVersion.{ScramVersion}
 use Rattle.fe2o3_scram.specs.Credentials.{Provider}
 use Rattle.fe2o3_scram.specs.Hmac.{mechanism_name}
-use Rattle.fe2o3_sasl_runs.specs.Events.{Login, ServerSays, Challenged, Concluded, Failed, ClientSays, Started, Answered, Reported, Refused, Frame as FrameFault, OutOfMemory}
+use Rattle.fe2o3_sasl_runs.specs.Events.{Login, ServerSays, Challenged, Concluded, Failed, ClientSays, Started, Answered, Reported, Refused}
 use Rattle.fe2o3_sasl_runs.specs.TwoSides.{Sides}
 use Rattle.fe2o3_sasl_runs.specs.UnalteredRuns.{Arrives, UnalteredRun, Suffices, agreed_verdict, client_body, server_body, agreed_findings}
 use Rattle.fe2o3_sasl_runs.specs.Verdicts.{Finding, OfVerifier, OfProof, IsVerifierFinding, IsProofFinding, Audits}
@@ -22,6 +22,7 @@ use Rattle.fe2o3_sasl_negotiation.proofs.lemmas.LoginLemmas.{scram_servers_serve
 use Rattle.fe2o3_sasl_negotiation.proofs.lemmas.UnitLemmas.{length-framed}
 use Rattle.connection_laws.specs.Pairs.{ClientOf, ServerOf, sides, Unaltered, TakesEqually, ShowsEqually, UnalteredConnectionsAgree}
 use Rattle.connection_laws.proofs.lemmas.ShapeLemmas.{one_frame, three, ServerShape, server_shape, ClientShape, client_shape}
+use Rattle.fe2o3_sasl_runs.specs.declared.sasl_profile.error.ProfileError.TheVariants.{Frame as FrameFault, OutOfMemory}
 
 -- ---- what arrives
 

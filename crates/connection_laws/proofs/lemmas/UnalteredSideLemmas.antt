@@ -18,7 +18,8 @@ use Rattle.fe2o3_scram.specs.Texts.{base64_text}
 use Rattle.fe2o3_scram.proofs.lemmas.messages.ExchangeLemmas.{nonce_text}
 use Rattle.fe2o3_scram.proofs.lemmas.texts.AsciiLemmas.{IsUtf8-base64_text, IsUtf8-literal}
 use Rattle.fe2o3_sasl_runs.specs.Bodies.{SpellsBody}
-use Rattle.fe2o3_sasl_runs.specs.Events.{Given, Login, IsLogin, ServerSays, Challenged, Concluded, Failed, ClientSays, Started, Answered, Refused, Frame as FrameFault, OutOfMemory}
+use Rattle.fe2o3_sasl_runs.specs.Events.{Given, Login, IsLogin, ServerSays, Challenged, Concluded, Failed, ClientSays, Started, Answered, Refused}
+use Rattle.fe2o3_sasl_runs.specs.declared.sasl_profile.error.ProfileError.TheVariants.{Frame as FrameFault, OutOfMemory}
 use Rattle.fe2o3_sasl_runs.specs.Profiles.{Profile, scram_profile}
 use Rattle.fe2o3_sasl_runs.specs.Runs.{AcceptorSteps, ProfileSteps, Runs}
 use Rattle.fe2o3_sasl_runs.specs.SaslAcceptor.{Acceptor, ScramAcceptor, acceptor_names, acceptor_machine}

@@ -11,9 +11,10 @@ use Rattle.fe2o3_scram.specs.ClientSecret.{Secret, Keys, no_limit}
 use Rattle.fe2o3_scram.specs.declared.client_secret.IterationLimits.{IterationLimits}
 use Rattle.fe2o3_scram.specs.Texts.{joined}
 use Rattle.fe2o3_sasl_runs.specs.ClientHistory.{Answering, ClientHistory}
-use Rattle.fe2o3_sasl_runs.specs.Events.{ClientSays, Given, Login, Answered, Reported, OtherKeys, Refused, Scram, Started}
+use Rattle.fe2o3_sasl_runs.specs.Events.{ClientSays, Given, Login, Answered, Reported, Refused, Started}
 use Rattle.fe2o3_sasl_runs.specs.TwoSides.{proof_at}
 use Rattle.fe2o3_sasl.specs.examples.Examples.{answer_to, binds, body_of, both, client_bytes, event_of, login, names, offers, salt, salted, sends_init, sends_ok, sends_response, unaltered, verifier}
+use Rattle.fe2o3_sasl_runs.specs.declared.sasl_profile.error.ProfileError.TheVariants.{OtherKeys, Scram}
 
 -- the client of the first examples with this secret, these limits and this hostname
 abbrev pub changed : Secret → IterationLimits → Option (List ℕ) → Login

@@ -11,12 +11,13 @@ use Rattle.fe2o3_scram.specs.declared.scram_messages.gs2_header.Gs2Header.TheVar
 use Rattle.fe2o3_scram.specs.Passwords.{Typed}
 use Rattle.fe2o3_scram.specs.Credentials.{Record, Provider, record_of}
 use Rattle.fe2o3_sasl_runs.specs.ClientHistory.{Answering, answer_at, OpenAnswer}
-use Rattle.fe2o3_sasl_runs.specs.Events.{Given, Login, IsLogin, IsRecord, Challenged, Concluded, Failed, Started, Answered, Reported, Refused, Frame}
+use Rattle.fe2o3_sasl_runs.specs.Events.{Given, Login, IsLogin, IsRecord, Challenged, Concluded, Failed, Started, Answered, Reported, Refused}
 use Rattle.fe2o3_sasl_runs.specs.Bodies.{carried}
 use Rattle.fe2o3_sasl_runs.specs.ServerHistory.{Challenging, Accepted, full_nonce}
 use Rattle.fe2o3_sasl_runs.specs.TwoSides.{Sides, Histories, Takes, Shows, HasParts, proof_at}
 use Rattle.fe2o3_sasl_runs.specs.Verdicts.{Agreed, JudgesVerifier, JudgesProof}
 use Rattle.fe2o3_sasl_runs.specs.UnalteredRuns.{UnalteredRun, Suffices, HoldsLogin}
+use Rattle.fe2o3_sasl_runs.specs.declared.sasl_profile.error.ProfileError.TheVariants.{Frame}
 
 -- ---- the client and the server
 

@@ -3,7 +3,7 @@ use Rattle.std.proofs.Common.{◌≡◌, ◌≢◌, ◌⊎◌, ℕ, ◌+◌, ◌
 use Rattle.std.proofs.lemmas.Bool.{cases_lt}
 use Rattle.fe2o3_sasl_wire.specs.declared.amqp_types.SaslCode.TheVariants as outcomes
 use Rattle.fe2o3_sasl_wire.specs.declared.sasl_frames.error.Error.TheVariants as faults
-use Rattle.fe2o3_sasl_runs.specs.Events.{ServerSays, Challenged, Concluded, Failed, ClientSays, Started, Answered, Reported, Refused, NotImplemented, Scram, OtherKeys, Frame as FrameFault, OutOfMemory}
+use Rattle.fe2o3_sasl_runs.specs.Events.{ServerSays, Challenged, Concluded, Failed, ClientSays, Started, Answered, Reported, Refused}
 use Rattle.fe2o3_sasl_runs.specs.Profiles.{Profile}
 use Rattle.fe2o3_sasl_runs.specs.SaslAcceptor.{Acceptor, acceptor_names, acceptor_machine}
 use Rattle.fe2o3_sasl_negotiation.specs.declared.standing.ClosedBecause.{ClosedBecause}
@@ -23,6 +23,7 @@ use Rattle.fe2o3_sasl_negotiation.specs.Laws.{Call, Calls, Negotiates}
 use Rattle.fe2o3_sasl_negotiation.specs.Negotiations.{Side, SideOutput, Receives, Sends, closes}
 use Rattle.fe2o3_sasl_negotiation.proofs.lemmas.CutLemmas.{nothing_is_part, EndsUnit, unit_of_call, cuts_do_not_matter}
 use Rattle.fe2o3_sasl_negotiation.proofs.lemmas.UnitLemmas.{length-framed}
+use Rattle.fe2o3_sasl_runs.specs.declared.sasl_profile.error.ProfileError.TheVariants.{NotImplemented, Scram, OtherKeys, Frame as FrameFault, OutOfMemory}
 
 -- an answer sends no more than is left to it, and leaves to what is due behind it what is left of that
 abbrev pub Keeps : (Due → ℕ) → ℕ → SideOutput → Type 0
@@ -288,10 +289,10 @@ client_says (Reported outcomes.Sys more) turn answer same = closes_keeps client_
 client_says (Reported outcomes.SysPerm more) turn answer same = closes_keeps client_budget _ answer same
 client_says (Reported outcomes.SysTemp more) turn answer same = closes_keeps client_budget _ answer same
 client_says (Refused OutOfMemory) turn answer never = absurd never
-client_says (Refused NotImplemented) turn answer refused = closes_keeps client_budget _ answer refused.2
-client_says (Refused (Scram kind)) turn answer refused = closes_keeps client_budget _ answer refused.2
-client_says (Refused OtherKeys) turn answer refused = closes_keeps client_budget _ answer refused.2
-client_says (Refused (FrameFault fault)) turn answer refused = closes_keeps client_budget _ answer refused.2
+client_says (Refused NotImplemented) turn answer refused = closes_keeps client_budget _ answer refused
+client_says (Refused (Scram kind)) turn answer refused = closes_keeps client_budget _ answer refused
+client_says (Refused OtherKeys) turn answer refused = closes_keeps client_budget _ answer refused
+client_says (Refused (FrameFault fault)) turn answer refused = closes_keeps client_budget _ answer refused
 
 client_keeps : (hostname : Option (List ℕ)) (due : Due) (profile next : Profile) (nonce unit : List ℕ) (answer : SideOutput)
     → of_client.ClientSideAnswers hostname due profile nonce unit answer next → ClientKeeps due answer

@@ -3,7 +3,6 @@ use Rattle.std.proofs.Common.{◌≡◌, ℕ, Option, Some, None, List, ◌++◌
 use Rattle.fe2o3_sasl_runs.specs.Costs.{ProfileStepCosts}
 use Rattle.fe2o3_sasl_runs.specs.Events.{Given, ClientSays, Refused}
 use Rattle.fe2o3_sasl_runs.specs.Profiles.{Profile}
-use Rattle.fe2o3_sasl_runs.specs.ProfileFaults.{client_fault}
 use Rattle.fe2o3_sasl_runs.specs.Runs.{ProfileSteps}
 use Rattle.fe2o3_sasl_runs.specs.declared.events.ClientReply.{ClientReply}
 use Rattle.fe2o3_sasl_runs.specs.declared.sasl_profile.error.ProfileError.{ProfileError}
@@ -39,11 +38,11 @@ asked hostname turn state next event says old new step (frame, spells, in_turn) 
 -- and what it refuses
 pub asked_in_vain : {E : Type 0} (hostname : Option (List ℕ)) (turn : Turn)
     (state next : Profile) (event : Given) (fault : ProfileError) (old : List ℕ) (result : Result Step E)
-    → Screens turn event.body None → ProfileSteps hostname state event (Refused (client_fault fault)) next
-    → IfOk result (λ step. (out : List ℕ) → Appends (ClientOutputs (Refused (client_fault fault)) turn) out out step)
+    → Screens turn event.body None → ProfileSteps hostname state event (Refused fault) next
+    → IfOk result (λ step. (out : List ℕ) → Appends (ClientOutputs (Refused fault) turn) out out step)
     → IfOk result (λ step. Appends (λ answer. ClientReplies hostname turn state event answer next) old old step)
 asked_in_vain hostname turn state next event fault old (Ok step) screens steps says =
-    asked hostname turn state next event (Refused (client_fault fault)) old old step screens steps (says old)
+    asked hostname turn state next event (Refused fault) old old step screens steps (says old)
 asked_in_vain hostname turn state next event fault old (Err failed) screens steps says = tt
 
 -- what the profile's step costs

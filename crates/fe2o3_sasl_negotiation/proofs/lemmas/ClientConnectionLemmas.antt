@@ -4,7 +4,7 @@ use Rattle.std.proofs.lemmas.List.{length-take-le, take_all}
 use Rattle.bytes.proofs.Ranges.{take-append_past}
 use Rattle.fe2o3_sasl_wire.specs.declared.amqp_types.SaslCode.TheVariants as outcomes
 use Rattle.fe2o3_sasl_wire.specs.SaslFrames.{IsBytes}
-use Rattle.fe2o3_sasl_runs.specs.Events.{ClientSays, Started, Answered, Reported, Refused as ClientRefused, NotImplemented, Scram, OtherKeys, Frame as FrameFault, OutOfMemory}
+use Rattle.fe2o3_sasl_runs.specs.Events.{ClientSays, Started, Answered, Reported, Refused as ClientRefused}
 use Rattle.fe2o3_sasl_runs.specs.Profiles.{Profile}
 use Rattle.fe2o3_sasl_runs.specs.Runs.{ProfileSteps}
 use Rattle.fe2o3_sasl_negotiation.specs.declared.standing.ClosedBecause.TheVariants.{OtherHeader}
@@ -19,6 +19,7 @@ use Rattle.fe2o3_sasl_negotiation.specs.Negotiations.{Side, SideOutput, Receives
 use Rattle.fe2o3_sasl_negotiation.specs.private.Pieces.{NextNonces}
 use Rattle.fe2o3_sasl_negotiation.proofs.lemmas.ConnectionLemmas.{closed_is_not_wanting, logged_in_is_not_wanting, opened, negotiated_call, negotiated_more, rests_there, connected}
 use Rattle.fe2o3_sasl_negotiation.proofs.lemmas.KindLemmas.{standing_of, closes_waits_not, sends_goes_on}
+use Rattle.fe2o3_sasl_runs.specs.declared.sasl_profile.error.ProfileError.TheVariants.{NotImplemented, Scram, OtherKeys, Frame as FrameFault, OutOfMemory}
 
 -- an init leaves a client waiting for a challenge, and a response for an outcome
 says_first : (says : ClientSays) (answer : SideOutput) → ClientOutputs says turns.Mechanisms answer → answer.standing ≡ Wanting
@@ -32,10 +33,10 @@ says_first (Reported outcomes.Sys more) answer is waits = absurd (closes_waits_n
 says_first (Reported outcomes.SysPerm more) answer is waits = absurd (closes_waits_not _ _ answer is waits)
 says_first (Reported outcomes.SysTemp more) answer is waits = absurd (closes_waits_not _ _ answer is waits)
 says_first (ClientRefused OutOfMemory) answer never waits = absurd never
-says_first (ClientRefused NotImplemented) answer closed waits = absurd (closes_waits_not _ _ answer closed.2 waits)
-says_first (ClientRefused (Scram fault)) answer closed waits = absurd (closes_waits_not _ _ answer closed.2 waits)
-says_first (ClientRefused OtherKeys) answer closed waits = absurd (closes_waits_not _ _ answer closed.2 waits)
-says_first (ClientRefused (FrameFault fault)) answer closed waits = absurd (closes_waits_not _ _ answer closed.2 waits)
+says_first (ClientRefused NotImplemented) answer closed waits = absurd (closes_waits_not _ _ answer closed waits)
+says_first (ClientRefused (Scram fault)) answer closed waits = absurd (closes_waits_not _ _ answer closed waits)
+says_first (ClientRefused OtherKeys) answer closed waits = absurd (closes_waits_not _ _ answer closed waits)
+says_first (ClientRefused (FrameFault fault)) answer closed waits = absurd (closes_waits_not _ _ answer closed waits)
 
 says_next : (says : ClientSays) (answer : SideOutput) → ClientOutputs says turns.Challenge answer → answer.standing ≡ Wanting
     → answer.due ≡ Frame turns.Outcome
@@ -48,10 +49,10 @@ says_next (Reported outcomes.Sys more) answer is waits = absurd (closes_waits_no
 says_next (Reported outcomes.SysPerm more) answer is waits = absurd (closes_waits_not _ _ answer is waits)
 says_next (Reported outcomes.SysTemp more) answer is waits = absurd (closes_waits_not _ _ answer is waits)
 says_next (ClientRefused OutOfMemory) answer never waits = absurd never
-says_next (ClientRefused NotImplemented) answer closed waits = absurd (closes_waits_not _ _ answer closed.2 waits)
-says_next (ClientRefused (Scram fault)) answer closed waits = absurd (closes_waits_not _ _ answer closed.2 waits)
-says_next (ClientRefused OtherKeys) answer closed waits = absurd (closes_waits_not _ _ answer closed.2 waits)
-says_next (ClientRefused (FrameFault fault)) answer closed waits = absurd (closes_waits_not _ _ answer closed.2 waits)
+says_next (ClientRefused NotImplemented) answer closed waits = absurd (closes_waits_not _ _ answer closed waits)
+says_next (ClientRefused (Scram fault)) answer closed waits = absurd (closes_waits_not _ _ answer closed waits)
+says_next (ClientRefused OtherKeys) answer closed waits = absurd (closes_waits_not _ _ answer closed waits)
+says_next (ClientRefused (FrameFault fault)) answer closed waits = absurd (closes_waits_not _ _ answer closed waits)
 
 says_last : (says : ClientSays) (answer : SideOutput) → ClientOutputs says turns.Outcome answer → answer.standing ≢ Wanting
 says_last (Started body) answer is waits = closes_waits_not _ _ answer is waits
@@ -63,10 +64,10 @@ says_last (Reported outcomes.Sys more) answer is waits = closes_waits_not _ _ an
 says_last (Reported outcomes.SysPerm more) answer is waits = closes_waits_not _ _ answer is waits
 says_last (Reported outcomes.SysTemp more) answer is waits = closes_waits_not _ _ answer is waits
 says_last (ClientRefused OutOfMemory) answer never waits = never
-says_last (ClientRefused NotImplemented) answer closed waits = closes_waits_not _ _ answer closed.2 waits
-says_last (ClientRefused (Scram fault)) answer closed waits = closes_waits_not _ _ answer closed.2 waits
-says_last (ClientRefused OtherKeys) answer closed waits = closes_waits_not _ _ answer closed.2 waits
-says_last (ClientRefused (FrameFault fault)) answer closed waits = closes_waits_not _ _ answer closed.2 waits
+says_last (ClientRefused NotImplemented) answer closed waits = closes_waits_not _ _ answer closed waits
+says_last (ClientRefused (Scram fault)) answer closed waits = closes_waits_not _ _ answer closed waits
+says_last (ClientRefused OtherKeys) answer closed waits = closes_waits_not _ _ answer closed waits
+says_last (ClientRefused (FrameFault fault)) answer closed waits = closes_waits_not _ _ answer closed waits
 
 module _ (hostname : Option (List ℕ)) (limit : ℕ) (profile : Profile) (pieces : List Piece) where
   abbrev Is : List ℕ → List ℕ → Side Profile → Type 0

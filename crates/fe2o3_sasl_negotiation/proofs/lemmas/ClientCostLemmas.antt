@@ -10,7 +10,7 @@ use Rattle.fe2o3_scram.specs.ScramClient.{ClientSide}
 use Rattle.fe2o3_scram.proofs.lemmas.texts.DecisionLemmas.{Decided, utf8_or}
 use Rattle.fe2o3_sasl_runs.specs.Bodies.{SpellsBody}
 use Rattle.fe2o3_sasl_runs.specs.Costs.{ProfileCosts, ProfileCostsOf, ProfileStepCosts}
-use Rattle.fe2o3_sasl_runs.specs.Events.{Given, ClientSays, Started, Answered, Reported, Refused as ClientRefused, NotImplemented, Scram, OtherKeys, Frame as FrameFault, OutOfMemory}
+use Rattle.fe2o3_sasl_runs.specs.Events.{Given, ClientSays, Started, Answered, Reported, Refused as ClientRefused}
 use Rattle.fe2o3_sasl_runs.specs.Profiles.{Profile, ScramProfile}
 use Rattle.fe2o3_sasl_runs.specs.Runs.{ProfileGives, ProfileSteps}
 use Rattle.fe2o3_sasl_runs.proofs.lemmas.frames.SpellingLemmas.{one_spelling}
@@ -31,6 +31,7 @@ use Rattle.fe2o3_sasl_negotiation.specs.Retries.{ClientsRetry}
 use Rattle.fe2o3_sasl_negotiation.proofs.lemmas.CostLemmas.{none, open_calls, rests, Left, leaves, answers_whole}
 use Rattle.fe2o3_sasl_negotiation.proofs.lemmas.RetryLemmas.{open_retried}
 use Rattle.fe2o3_sasl_negotiation.proofs.lemmas.KindLemmas.{standing_of, due_of}
+use Rattle.fe2o3_sasl_runs.specs.declared.sasl_profile.error.ProfileError.TheVariants.{NotImplemented, Scram, OtherKeys, Frame as FrameFault, OutOfMemory}
 
 -- before a challenge is answered the header, the list of mechanisms or a challenge is due
 abbrev pub IsEarly : Due → Type 0
@@ -81,10 +82,10 @@ said_later (Reported outcomes.Sys more) turn answer other same = ended answer sa
 said_later (Reported outcomes.SysPerm more) turn answer other same = ended answer same
 said_later (Reported outcomes.SysTemp more) turn answer other same = ended answer same
 said_later (ClientRefused OutOfMemory) turn answer other never = absurd never
-said_later (ClientRefused NotImplemented) turn answer other closed = ended answer closed.2
-said_later (ClientRefused (Scram fault)) turn answer other closed = ended answer closed.2
-said_later (ClientRefused OtherKeys) turn answer other closed = ended answer closed.2
-said_later (ClientRefused (FrameFault fault)) turn answer other closed = ended answer closed.2
+said_later (ClientRefused NotImplemented) turn answer other closed = ended answer closed
+said_later (ClientRefused (Scram fault)) turn answer other closed = ended answer closed
+said_later (ClientRefused OtherKeys) turn answer other closed = ended answer closed
+said_later (ClientRefused (FrameFault fault)) turn answer other closed = ended answer closed
 
 -- behind an answer to a list of mechanisms a challenge may be due, too
 said_by : (says : ClientSays) (answer : SideOutput) → ClientOutputs says turns.Mechanisms answer

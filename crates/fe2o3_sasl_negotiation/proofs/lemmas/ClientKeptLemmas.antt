@@ -7,8 +7,7 @@ use Rattle.fe2o3_sasl_wire.specs.declared.sasl_frames.error.Error.TheVariants as
 use Rattle.fe2o3_sasl_wire.specs.SaslFrames.{SaslFrame, canonical}
 use Rattle.fe2o3_sasl_wire.specs.SaslFrames as frames
 use Rattle.fe2o3_sasl_runs.specs.Bodies.{SpellsBody, carried}
-use Rattle.fe2o3_sasl_runs.specs.Events.{Given, ClientSays, Started, Answered, Reported, Refused as ClientRefused, ClientFault, NotImplemented, Scram, OtherKeys, Frame as FrameFault, OutOfMemory}
-use Rattle.fe2o3_sasl_runs.specs.ProfileFaults.{client_fault}
+use Rattle.fe2o3_sasl_runs.specs.Events.{Given, ClientSays, Started, Answered, Reported, Refused as ClientRefused}
 use Rattle.fe2o3_sasl_runs.specs.Profiles.{Profile}
 use Rattle.fe2o3_sasl_runs.specs.Runs.{ProfileSteps, ProfileGives, Replies as ProfileSays}
 use Rattle.fe2o3_sasl_runs.specs.declared.sasl_profile.error.ProfileError.{ProfileError}
@@ -27,6 +26,7 @@ use Rattle.fe2o3_sasl_negotiation.specs.ClientNegotiation.{ClientOutputs, Client
 use Rattle.fe2o3_sasl_negotiation.specs.SetDown.{client_due, outcome_due, client_fits}
 use Rattle.fe2o3_sasl_negotiation.specs.private.Units.{Appends}
 use Rattle.fe2o3_sasl_negotiation.proofs.lemmas.KeptLemmas.{unread_is_no_memory}
+use Rattle.fe2o3_sasl_runs.specs.declared.sasl_profile.error.ProfileError.TheVariants.{NotImplemented, Scram, OtherKeys, Frame as FrameFault, OutOfMemory}
 
 -- where an answer is this one
 at_client : (answer other : SideOutput) → answer ≡ other → IsTrue (client_fits other.standing other.due)
@@ -47,15 +47,6 @@ unread_at_client faults.NotImplemented turn other unit = unit
 unread_at_client faults.TooLarge turn other unit = unit
 unread_at_client faults.OutOfMemory turn other unit = absurd (other refl)
 
--- and for a fault of its profile
-profile_at_client : (kind : ProfileError) (turn : Turn) → client_fault kind ≢ OutOfMemory
-    → IsTrue (client_due (Frame turn)) → IsTrue (client_fits (Closed (ProfileRefused kind)) (Frame turn))
-profile_at_client profile_faults.NotImplemented turn other unit = unit
-profile_at_client (profile_faults.Scram kind) turn other unit = unit
-profile_at_client profile_faults.OtherKeys turn other unit = unit
-profile_at_client (profile_faults.Frame fault) turn other unit = unit
-profile_at_client profile_faults.OutOfMemory turn other unit = absurd (other refl)
-
 -- a profile reports no outcome of a list of mechanisms
 init_is_no_report : (code : SaslCode) (more : Option (List ℕ)) (body : Option (List ℕ))
     → Reported code more ≡ carried (ClientRefused (FrameFault faults.TooLarge)) (λ b. Started b) body → ⊥
@@ -73,10 +64,10 @@ no_report hostname profile next event names code more spells (spelled, other, gi
     go (inl (allocates, says, same)) = absurd (cc)
     go (inr (reply, moved, inl (offered, is, after), says)) =
         init_is_no_report code more _
-        (subst (λ (r : Result SaslFrame ClientFault). ProfileSays profile moved r (Reported code more) next) is says).0
+        (subst (λ (r : Result SaslFrame ProfileError). ProfileSays profile moved r (Reported code more) next) is says).0
     go (inr (reply, moved, inr (other, is, after), says)) =
-        let apart = (subst (λ (r : Result SaslFrame ClientFault). ProfileSays profile moved r (Reported code more) next)
-        is says).0 in absurd (cc)
+        let apart = (subst (λ (r : Result SaslFrame ProfileError). ProfileSays profile moved r (Reported code more)
+        next) is says).0 in absurd (cc)
 
 -- so an outcome comes after the mechanisms
 after_mechanisms : (hostname : Option (List ℕ)) (turn : Turn) (profile next : Profile) (event : Given)
@@ -98,21 +89,17 @@ after_mechanisms hostname turns.Mechanisms profile next event (frames.Response t
 after_mechanisms hostname turns.Mechanisms profile next event (frames.Outcome other extra) code more unit spells in_turn
     steps = absurd in_turn
 
-refused_at_client : (fault : ClientFault) (turn : Turn) (answer : SideOutput) → IsTrue (client_due (Frame turn))
+refused_at_client : (fault : ProfileError) (turn : Turn) (answer : SideOutput) → IsTrue (client_due (Frame turn))
     → ClientOutputs (ClientRefused fault) turn answer → IsTrue (client_fits answer.standing answer.due)
 refused_at_client OutOfMemory turn answer unit says = absurd says
-refused_at_client NotImplemented turn answer unit (kind, same, is) =
-    at_client answer (closes (ProfileRefused kind) (Frame turn)) is
-    (profile_at_client kind turn (λ wants. let apart = sym same ∙ wants in absurd (cc)) unit)
-refused_at_client (Scram why) turn answer unit (kind, same, is) =
-    at_client answer (closes (ProfileRefused kind) (Frame turn)) is
-    (profile_at_client kind turn (λ wants. let apart = sym same ∙ wants in absurd (cc)) unit)
-refused_at_client OtherKeys turn answer unit (kind, same, is) =
-    at_client answer (closes (ProfileRefused kind) (Frame turn)) is
-    (profile_at_client kind turn (λ wants. let apart = sym same ∙ wants in absurd (cc)) unit)
-refused_at_client (FrameFault fault) turn answer unit (kind, same, is) =
-    at_client answer (closes (ProfileRefused kind) (Frame turn)) is
-    (profile_at_client kind turn (λ wants. let apart = sym same ∙ wants in absurd (cc)) unit)
+refused_at_client NotImplemented turn answer unit is =
+    at_client answer (closes (ProfileRefused NotImplemented) (Frame turn)) is unit
+refused_at_client (Scram why) turn answer unit is =
+    at_client answer (closes (ProfileRefused (Scram why)) (Frame turn)) is unit
+refused_at_client OtherKeys turn answer unit is =
+    at_client answer (closes (ProfileRefused OtherKeys) (Frame turn)) is unit
+refused_at_client (FrameFault fault) turn answer unit is =
+    at_client answer (closes (ProfileRefused (FrameFault fault)) (Frame turn)) is unit
 
 says_at_client : (says : ClientSays) (turn : Turn) (answer : SideOutput) → IsTrue (client_due (Frame turn))
     → ((code : SaslCode) (more : Option (List ℕ)) → says ≡ Reported code more → IsTrue (outcome_due (Frame turn)))

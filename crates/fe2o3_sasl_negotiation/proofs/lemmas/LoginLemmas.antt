@@ -5,7 +5,7 @@ use Rattle.fe2o3_sasl_wire.specs.declared.sasl_frames.error.Error.{Error}
 use Rattle.fe2o3_sasl_wire.specs.declared.sasl_frames.error.Error.TheVariants as faults
 use Rattle.fe2o3_sasl_wire.specs.SaslFrames.{SaslFrame}
 use Rattle.fe2o3_scram.specs.ScramServer.{Initial}
-use Rattle.fe2o3_sasl_runs.specs.Events.{Given, ServerSays, Challenged, Concluded, Failed, ClientSays, Started, Answered, Reported, Refused as ClientRefused, ClientFault, NotImplemented, Scram, OtherKeys, Frame as FrameFault, OutOfMemory}
+use Rattle.fe2o3_sasl_runs.specs.Events.{Given, ServerSays, Challenged, Concluded, Failed, ClientSays, Started, Answered, Reported, Refused as ClientRefused}
 use Rattle.fe2o3_sasl_runs.specs.Profiles.{scram_profile}
 use Rattle.fe2o3_sasl_runs.specs.Runs.{AcceptorSteps, ProfileSteps}
 use Rattle.fe2o3_sasl_runs.specs.SaslAcceptor.{ScramAcceptor, acceptor_machine, acceptor_user}
@@ -27,6 +27,8 @@ use Rattle.fe2o3_sasl_negotiation.specs.ScramConnections.{ScramServersServe, Scr
 use Rattle.fe2o3_sasl_negotiation.specs.ServerNegotiation as of_server
 use Rattle.fe2o3_sasl_negotiation.proofs.lemmas.ConnectionLemmas.{closed_is_not_logged_in}
 use Rattle.fe2o3_sasl_negotiation.proofs.lemmas.KindLemmas.{standing_of}
+use Rattle.fe2o3_sasl_runs.specs.declared.sasl_profile.error.ProfileError.{ProfileError}
+use Rattle.fe2o3_sasl_runs.specs.declared.sasl_profile.error.ProfileError.TheVariants.{NotImplemented, Scram, OtherKeys, Frame as FrameFault, OutOfMemory}
 
 -- an answer has logged in, and that exactly on an Ok
 abbrev Kind : Type 0 → SideOutput → Type 0
@@ -108,7 +110,7 @@ started_is_no_ok body (more, same) = cc
 answered_is_no_ok : (body : List ℕ) → ¬ IsOkReported (Answered body)
 answered_is_no_ok body (more, same) = cc
 
-refused_is_no_ok : (fault : ClientFault) → ¬ IsOkReported (ClientRefused fault)
+refused_is_no_ok : (fault : ProfileError) → ¬ IsOkReported (ClientRefused fault)
 refused_is_no_ok fault (more, same) = cc
 
 started_kind : (body : List ℕ) (turn : Turn) (answer : SideOutput) → of_client.ClientOutputs (Started body) turn answer
@@ -144,12 +146,12 @@ client_kind (Reported outcomes.SysTemp more) turn answer same =
     closes_kind (Refused outcomes.SysTemp) _ answer _ (λ ok. let apart = ok.1 in absurd (cc)) same
 client_kind (ClientRefused OutOfMemory) turn answer never = absurd never
 client_kind (ClientRefused NotImplemented) turn answer closed =
-    closes_kind _ _ answer _ (refused_is_no_ok NotImplemented) closed.2
+    closes_kind _ _ answer _ (refused_is_no_ok NotImplemented) closed
 client_kind (ClientRefused (Scram fault)) turn answer closed =
-    closes_kind _ _ answer _ (refused_is_no_ok (Scram fault)) closed.2
-client_kind (ClientRefused OtherKeys) turn answer closed = closes_kind _ _ answer _ (refused_is_no_ok OtherKeys) closed.2
+    closes_kind _ _ answer _ (refused_is_no_ok (Scram fault)) closed
+client_kind (ClientRefused OtherKeys) turn answer closed = closes_kind _ _ answer _ (refused_is_no_ok OtherKeys) closed
 client_kind (ClientRefused (FrameFault fault)) turn answer closed =
-    closes_kind _ _ answer _ (refused_is_no_ok (FrameFault fault)) closed.2
+    closes_kind _ _ answer _ (refused_is_no_ok (FrameFault fault)) closed
 
 -- ---- negotiations
 

@@ -7,9 +7,11 @@ use Rattle.fe2o3_sasl_wire.specs.SaslFrames as frames
 use Rattle.fe2o3_scram.specs.declared.scram_messages.error.ScramErrorKind.{ScramErrorKind}
 use Rattle.fe2o3_scram.specs.ScramClient.{ClientSide, ClientState, AnswersIn, BelievesIn}
 use Rattle.fe2o3_scram.specs.ScramClient as client_states
-use Rattle.fe2o3_sasl_runs.specs.Events.{Given, ClientSays, Started, Answered, Refused, ClientFault, Frame}
+use Rattle.fe2o3_sasl_runs.specs.Events.{Given, ClientSays, Started, Answered, Refused}
 use Rattle.fe2o3_sasl_runs.specs.Profiles.{Profile, ScramProfile, PlainProfile, AnonymousProfile, ExternalProfile, client_frame, profile_machine}
 use Rattle.fe2o3_sasl_runs.specs.Runs.{SendsCanonical, Replies, ProfileSteps}
+use Rattle.fe2o3_sasl_runs.specs.declared.sasl_profile.error.ProfileError.{ProfileError}
+use Rattle.fe2o3_sasl_runs.specs.declared.sasl_profile.error.ProfileError.TheVariants.{Frame}
 
 answer_refused : (state : ClientState) (side after : ClientSide) (text : List ℕ) (kind : ScramErrorKind)
     → AnswersIn state side text (Err kind) after → after ≡ side
@@ -26,7 +28,7 @@ belief_refused (client_states.ClientFinalSent signature keys) side after text ki
 belief_refused (client_states.Complete keys) side after text kind refused = refused.1
 
 machine_refused : (profile : Profile) (hostname : Option (List ℕ)) (nonce : List ℕ) (frame : SaslFrame)
-    (reply : Result SaslFrame ClientFault) (fault : ClientFault) (moved : Profile) → reply ≡ Err fault
+    (reply : Result SaslFrame ProfileError) (fault : ProfileError) (moved : Profile) → reply ≡ Err fault
     → profile_machine profile hostname nonce frame reply moved → moved ≡ profile
 machine_refused profile hostname nonce (frames.Mechanisms names) reply fault moved is (inl m) =
     let apart = m.1 in absurd (cc)
@@ -75,14 +77,14 @@ machine_refused ExternalProfile hostname nonce (frames.Init mechanism response h
 machine_refused ExternalProfile hostname nonce (frames.Response text) reply fault moved is m = m.1
 
 -- a frame that is not sent leaves the profile
-unsent_stays : (says : List ℕ → ClientSays) (body : Option (List ℕ)) (profile moved next : Profile) (fault : ClientFault)
-    → ((b : List ℕ) → Refused fault ≡ says b → ⊥)
+unsent_stays : (says : List ℕ → ClientSays) (body : Option (List ℕ)) (profile moved next : Profile)
+    (fault : ProfileError) → ((b : List ℕ) → Refused fault ≡ says b → ⊥)
     → SendsCanonical (Refused (Frame faults.TooLarge)) says body profile moved (Refused fault) next → next ≡ profile
 unsent_stays says None profile moved next fault other sent = sent.1
 unsent_stays says (Some body) profile moved next fault other sent = absurd (other body sent.0)
 
 reply_refused : (profile moved next : Profile) (hostname : Option (List ℕ)) (nonce : List ℕ) (frame : SaslFrame)
-    (reply : Result SaslFrame ClientFault) (fault : ClientFault)
+    (reply : Result SaslFrame ProfileError) (fault : ProfileError)
     → profile_machine profile hostname nonce frame reply moved → Replies profile moved reply (Refused fault) next
     → next ≡ profile
 reply_refused profile moved next hostname nonce frame (Err kind) fault machine says =
@@ -103,7 +105,7 @@ reply_refused profile moved next hostname nonce frame (Ok (frames.Response text)
     (λ b apart. absurd (cc)) says
 
 -- a step that refuses leaves the profile
-pub step_refused : (hostname : Option (List ℕ)) (profile next : Profile) (event : Given) (fault : ClientFault)
+pub step_refused : (hostname : Option (List ℕ)) (profile next : Profile) (event : Given) (fault : ProfileError)
     → ProfileSteps hostname profile event (Refused fault) next → next ≡ profile
 step_refused hostname profile next event fault (Err kind, spells, gives) = gives.1
 step_refused hostname profile next event fault (Ok frame, spells, inl wants) = wants.2

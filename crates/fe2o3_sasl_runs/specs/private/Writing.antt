@@ -6,17 +6,16 @@ use Rattle.fe2o3_sasl_wire.specs.declared.sasl_frames.error.Error.{Error}
 use Rattle.fe2o3_sasl_wire.specs.declared.sasl_frames.error.Error.TheVariants as faults
 use Rattle.fe2o3_sasl_runs.specs.declared.sasl_profile.error.ProfileError.{ProfileError}
 use Rattle.fe2o3_sasl_runs.specs.declared.sasl_profile.error.ProfileError.TheVariants as profile_faults
-use Rattle.fe2o3_sasl_runs.specs.Events.{ClientFault}
 use Rattle.fe2o3_sasl_runs.specs.Profiles.{Profile, FrameAllocates, ProfileAnswers, profile_machine}
 
 -- what a profile answers to a frame, whatever the hostname and the nonce are
-abbrev pub AnswersAlways : Profile → SaslFrame → Result SaslFrame ClientFault → Profile → Type 0
+abbrev pub AnswersAlways : Profile → SaslFrame → Result SaslFrame ProfileError → Profile → Type 0
 AnswersAlways profile frame answer next =
     (hostname : Option (List ℕ)) (nonce : List ℕ)
     → ProfileAnswers FrameAllocates profile hostname nonce frame answer next
 
 -- what the machine of a profile replies to a frame by which the profile stays, whatever the hostname and the nonce are
-abbrev pub RefusesAlways : Profile → SaslFrame → ClientFault → Type 0
+abbrev pub RefusesAlways : Profile → SaslFrame → ProfileError → Type 0
 RefusesAlways profile frame fault = (hostname : Option (List ℕ)) (nonce : List ℕ)
     → profile_machine profile hostname nonce frame (Err fault) profile
 

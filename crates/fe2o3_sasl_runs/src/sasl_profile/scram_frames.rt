@@ -1,13 +1,13 @@
 //! What a SCRAM client answers to frames (RFC 5802, section 5).
 
 ghost use Rattle.std.specs.Prelude.{◌≡◌, ◌≤◌, ◌^◌, Some, Option, ℕ, List, IfOk, OnOk, OnErr, MatchOption};
+ghost use Rattle.fe2o3_sasl_runs.specs.declared.sasl_profile.error.ProfileError.TheVariants.{Scram};
 ghost use Rattle.fe2o3_sasl_wire.specs.AmqpTypes.{binary_bytes, response_frame, outcome_frame};
 ghost use Rattle.fe2o3_sasl_wire.specs.FrameView.{shown};
 ghost use Rattle.fe2o3_sasl_wire.specs.SaslFrames.{Challenge, Outcome};
 ghost use Rattle.fe2o3_sasl_runs.specs.Costs.{ProfileCosts};
 ghost use Rattle.fe2o3_sasl_runs.specs.Profiles.{ScramProfile, FrameAllocates, StepAllocates, ProfileAnswers, initial_response, after_init};
-ghost use Rattle.fe2o3_sasl_runs.specs.Events.{Scram};
-ghost use Rattle.fe2o3_sasl_runs.specs.ProfileFaults.{answered, client_fault};
+ghost use Rattle.fe2o3_sasl_runs.specs.ProfileFaults.{answered};
 ghost use Rattle.fe2o3_sasl_runs.specs.private.Writing.{AnswersAlways, RefusesAlways};
 
 use crate::OutOfMemory;
@@ -40,7 +40,7 @@ pub(super) fn first_message(
 /// Why a challenge is refused before a part of it is read: it is not UTF-8, or it is not due.
 pub(super) fn refusal_unread(client: &ScramClient, challenge: &[u8]) -> Option<ProfileError>
     ensures { MatchOption result (StepAllocates (ScramProfile client.now) (Challenge challenge.now))
-        (λ fault. RefusesAlways (ScramProfile client.now) (Challenge challenge.now) (client_fault fault)) }
+        (λ fault. RefusesAlways (ScramProfile client.now) (Challenge challenge.now) fault) }
 {
     let Ok(_text) = str::from_utf8(challenge) else {
         return Some(ProfileError::Scram(ScramErrorKind::Utf8Error));

@@ -15,7 +15,7 @@ use Rattle.fe2o3_scram.specs.declared.scram_messages.error.ScramErrorKind.{Scram
 use Rattle.fe2o3_scram.specs.declared.scram_messages.error.ScramErrorKind.TheVariants.{IterationCountTooSmall, OtherKeys as NamesOtherKeys}
 use Rattle.fe2o3_sasl_runs.specs.Bodies.{SpellsBody, carried}
 use Rattle.fe2o3_sasl_runs.specs.ClientHistory.{AnswersAt, IsDue, NonceAt, ReadsChallenge, answer_at, ends_answer, is_answer, is_start, says_answer, says_start}
-use Rattle.fe2o3_sasl_runs.specs.Events.{Answered, ClientSays, Frame, Given, Login, OtherKeys, Refused, Reported, Started, scram_fault}
+use Rattle.fe2o3_sasl_runs.specs.Events.{Answered, ClientSays, Given, Login, Refused, Reported, Started, scram_fault}
 use Rattle.fe2o3_sasl_runs.specs.Positions.{test_at}
 use Rattle.fe2o3_sasl_runs.specs.TwoSides.{client_message, proof_at}
 use Rattle.fe2o3_sasl.specs.examples.ClientExamples.{FloorsRefuse, HostnamesAreSent, KeysLogIn, OtherKeysLogInLater, asks, is_served, logs_in, made, names_host, other_salt, starts, with_floor, with_hostname, with_keys}
@@ -28,6 +28,7 @@ use Rattle.fe2o3_sasl.proofs.lemmas.examples.ExampleReadingLemmas.{count_passes,
 use Rattle.fe2o3_sasl.proofs.lemmas.examples.ExampleTextLemmas.{IsBytes-replicate, user_text, utf8_joined}
 use Rattle.fe2o3_sasl_runs.proofs.lemmas.histories.LongerClientHistoryLemmas.{SaysAt}
 use Rattle.fe2o3_sasl_runs.proofs.lemmas.positions.PositionLemmas.{opens_here, stays_open}
+use Rattle.fe2o3_sasl_runs.specs.declared.sasl_profile.error.ProfileError.TheVariants.{Frame, OtherKeys}
 
 -- ---- a challenge
 

@@ -10,7 +10,7 @@ use Rattle.fe2o3_sasl_wire.specs.SaslFrames as frames
 use Rattle.fe2o3_sasl_wire.specs.SaslFrames.{fault_of, Begins, SaslFrame}
 use Rattle.fe2o3_scram.specs.Texts.{joined, Parts}
 use Rattle.fe2o3_sasl_runs.specs.ClientHistory.{ClientHistory}
-use Rattle.fe2o3_sasl_runs.specs.Events.{Concluded, ClientFault, Failed, Frame, OutOfMemory, Refused}
+use Rattle.fe2o3_sasl_runs.specs.Events.{Concluded, Failed, Refused}
 use Rattle.fe2o3_sasl_runs.specs.Bodies.{SpellsBody, carried, says_frame}
 use Rattle.fe2o3_sasl_runs.specs.ServerHistory.{ServerHistory}
 use Rattle.fe2o3_sasl_runs.specs.TwoSides.{Agree, IsPlainInit, NoneMisplacedIn}
@@ -22,6 +22,8 @@ use Rattle.fe2o3_sasl.proofs.lemmas.examples.ExampleLoginLemmas.{PassesUnseen, c
 use Rattle.fe2o3_sasl.proofs.lemmas.examples.ExampleReadingLemmas.{is_login, is_record, password_printable, plain_user, plain_both, plain_names, plain_values, plain_binds, client_joined, server_joined}
 use Rattle.fe2o3_sasl.proofs.lemmas.examples.ExampleTextLemmas.{Plain, plain-literal, plain-append, plain-base64_text, parts_joined, length-base64_text, IsBytes-replicate}
 use Rattle.fe2o3_sasl_runs.proofs.lemmas.lists.EachLemmas.{each_append}
+use Rattle.fe2o3_sasl_runs.specs.declared.sasl_profile.error.ProfileError.{ProfileError}
+use Rattle.fe2o3_sasl_runs.specs.declared.sasl_profile.error.ProfileError.TheVariants.{Frame, OutOfMemory}
 
 pub short_both : length both ≤ 100
 short_both = omega (arith, length-both)
@@ -69,7 +71,7 @@ holds = record {
 }
 
 -- no reply is a fault
-no_client_fault : (fault : ClientFault) (k : ℕ)
+no_client_fault : (fault : ProfileError) (k : ℕ)
     → slice_get (sides_with unaltered).client_replies k ≢ Some (Refused fault)
 no_client_fault fault zero e = absurd (cc)
 no_client_fault fault (suc zero) e = absurd (cc)

@@ -14,7 +14,7 @@ use Rattle.fe2o3_scram.specs.Credentials.{Provider}
 use Rattle.fe2o3_scram.specs.Hmac.{hmac_of}
 use Rattle.fe2o3_scram.specs.Texts.{base64_text, joined, Part}
 use Rattle.fe2o3_sasl_runs.specs.ClientHistory.{Answering, AnswersAt, IsDue, OpenAnswer, ReadsChallenge, ClientHistory, says_start, says_answer, is_start, is_answer, ends_answer}
-use Rattle.fe2o3_sasl_runs.specs.Events.{Given, Login, ServerSays, Challenged, Concluded, Failed, ClientSays, Started, Answered, Refused, Frame}
+use Rattle.fe2o3_sasl_runs.specs.Events.{Given, Login, ServerSays, Challenged, Concluded, Failed, ClientSays, Started, Answered, Refused}
 use Rattle.fe2o3_sasl_runs.specs.Bodies.{SpellsBody, carried, says_frame}
 use Rattle.fe2o3_sasl_runs.specs.ServerHistory.{Accepted, FitsAsInit, FitsAsResponse, Open, ServerHistory, is_challenge, is_ok, says_ok, server_at, first_message}
 use Rattle.fe2o3_sasl_runs.specs.TwoSides.{Histories, OkAt, Shows, Takes, client_message, proof_at, server_message}
@@ -27,6 +27,7 @@ use Rattle.fe2o3_sasl_runs.proofs.lemmas.histories.LongerClientHistoryLemmas.{Sa
 use Rattle.fe2o3_sasl_runs.proofs.lemmas.histories.LongerServerHistoryLemmas.{Says}
 use Rattle.fe2o3_sasl_runs.proofs.lemmas.positions.PositionLemmas.{opens_here}
 use Rattle.fe2o3_sasl_runs.proofs.lemmas.lists.EachLemmas.{each_append}
+use Rattle.fe2o3_sasl_runs.specs.declared.sasl_profile.error.ProfileError.TheVariants.{Frame}
 
 -- ---- histories, reply by reply
 

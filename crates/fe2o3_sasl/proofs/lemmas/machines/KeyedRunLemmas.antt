@@ -17,12 +17,14 @@ use Rattle.fe2o3_scram.specs.Laws.{AreKeysOf}
 use Rattle.fe2o3_scram.specs.Passwords.{PasswordText, IsNormal, password_bytes}
 use Rattle.fe2o3_scram.specs.ScramClient.{ClientSide, ClientState, ClientInitial, ClientFirstSent, ClientFinalSent, Complete, AnswersIn, BelievesIn, started}
 use Rattle.fe2o3_scram.proofs.lemmas.messages.KeptKeyLemmas.{keys_stand}
-use Rattle.fe2o3_sasl_runs.specs.Events.{Given, Login, ClientSays, Refused, ClientFault, OtherKeys}
+use Rattle.fe2o3_sasl_runs.specs.Events.{Given, Login, ClientSays, Refused}
 use Rattle.fe2o3_sasl_runs.specs.Laws.{KeysFit, KeyedRunsAreRuns, KeyedRunsAreHistories}
 use Rattle.fe2o3_sasl_runs.specs.Profiles.{Profile, ScramProfile, StepAllocates, client_frame, profile_machine}
 use Rattle.fe2o3_sasl_runs.specs.Runs.{ProfileGives, ProfileReplies, ProfileSteps, Replies, Runs, SendsCanonical}
 use Rattle.fe2o3_sasl_runs.specs.Bodies.{SpellsBody}
 use Rattle.fe2o3_sasl_runs.proofs.lemmas.machines.ClientMachineLemmas.{profile_runs_are_histories}
+use Rattle.fe2o3_sasl_runs.specs.declared.sasl_profile.error.ProfileError.{ProfileError}
+use Rattle.fe2o3_sasl_runs.specs.declared.sasl_profile.error.ProfileError.TheVariants.{OtherKeys}
 
 module _ (user : List ℕ) (limits : IterationLimits) (keys : ClientKeys) (password : PasswordText)
     (normal : IsNormal password) (are : AreKeysOf keys (password_bytes password)) where
@@ -87,7 +89,7 @@ module _ (user : List ℕ) (limits : IterationLimits) (keys : ClientKeys) (passw
   belief_alike (Complete kept) own text (Err fault) next is = (own, is.1, (is.0, refl))
 
   machine_alike : (state : ClientState) (hostname : Option (List ℕ)) (nonce : List ℕ) (frame : SaslFrame)
-      (reply : Result SaslFrame ClientFault) (moved : Profile) → reply ≢ Err OtherKeys
+      (reply : Result SaslFrame ProfileError) (moved : Profile) → reply ≢ Err OtherKeys
       → profile_machine (keyed state) hostname nonce frame reply moved
       → EndsIn moved (λ after. profile_machine (twin state) hostname nonce frame reply (twin after))
   machine_alike state hostname nonce (frames.Mechanisms names) reply moved fit (inl is) =
@@ -135,7 +137,7 @@ module _ (user : List ℕ) (limits : IterationLimits) (keys : ClientKeys) (passw
   sent_alike state after moved next too_large says carry None m is = (state, is.1, (is.0, refl))
   sent_alike state after moved next too_large says carry (Some body) m is = (after, is.1 ∙ m, (is.0, refl))
 
-  says_alike : (state after : ClientState) (moved next : Profile) (reply : Result SaslFrame ClientFault)
+  says_alike : (state after : ClientState) (moved next : Profile) (reply : Result SaslFrame ProfileError)
       (says : ClientSays) → moved ≡ keyed after → Replies (keyed state) moved reply says next
       → EndsIn next (λ last. Replies (twin state) (twin after) reply says (twin last))
   says_alike state after moved next (Err fault) says m is = (after, is.1 ∙ m, (is.0, refl))
@@ -150,10 +152,10 @@ module _ (user : List ℕ) (limits : IterationLimits) (keys : ClientKeys) (passw
       sent_alike state after moved next _ says _ (canonical (frames.Response text)) m is
 
   -- a refusal by other keys is said
-  fits : (state : ClientState) (moved next : Profile) (reply : Result SaslFrame ClientFault) (says : ClientSays)
+  fits : (state : ClientState) (moved next : Profile) (reply : Result SaslFrame ProfileError) (says : ClientSays)
       → says ≢ Refused OtherKeys → Replies (keyed state) moved reply says next → reply ≢ Err OtherKeys
   fits state moved next reply says other is same =
-      other (subst (λ (r : Result SaslFrame ClientFault). Replies (keyed state) moved r says next) same is).0
+      other (subst (λ (r : Result SaslFrame ProfileError). Replies (keyed state) moved r says next) same is).0
 
   -- ---- one event, and all
 

@@ -15,7 +15,7 @@ use Rattle.fe2o3_scram.specs.ScramServer.{ServerState, ServerFinalSent, Conclude
 use Rattle.fe2o3_scram.specs.Logins.{IsSigned}
 use Rattle.fe2o3_scram.proofs.lemmas.messages.LoginLemmas.{accepted_texts_log_in, hidden_text_logs_in, believed_texts_are_signed}
 use Rattle.fe2o3_sasl_runs.specs.Bodies.{SpellsBody, carried, server_says}
-use Rattle.fe2o3_sasl_runs.specs.Events.{Given, ServerSays, Concluded, Failed, ClientSays, Reported, Refused, ClientFault, Frame}
+use Rattle.fe2o3_sasl_runs.specs.Events.{Given, ServerSays, Concluded, Failed, ClientSays, Reported, Refused}
 use Rattle.fe2o3_sasl_runs.specs.HidingAcceptor.{with_name}
 use Rattle.fe2o3_sasl_runs.specs.HidingLaws.{HiddenBodyLogsIn, HiddenOksLogIn}
 use Rattle.fe2o3_sasl_runs.specs.PlainAuthenticator.{PlainLogsIn, PlainServer, plain_machine}
@@ -23,6 +23,8 @@ use Rattle.fe2o3_sasl_runs.specs.Profiles.{Profile, ScramProfile, client_frame, 
 use Rattle.fe2o3_sasl_runs.specs.Runs.{Replies, SendsCanonical}
 use Rattle.fe2o3_sasl_runs.specs.SaslAcceptor.{Acceptor, AnonymousAcceptor, ScramAcceptor, acceptor_machine, ends_with, server_frame}
 use Rattle.fe2o3_sasl_runs.specs.StepLaws.{BodyLogsIn, OksLogIn, PlainOksLogIn, ReportedOksAreSigned}
+use Rattle.fe2o3_sasl_runs.specs.declared.sasl_profile.error.ProfileError.{ProfileError}
+use Rattle.fe2o3_sasl_runs.specs.declared.sasl_profile.error.ProfileError.TheVariants.{Frame}
 
 -- ---- a server
 
@@ -218,31 +220,31 @@ plain_oks_log_in server next event body (Ok (frames.Response text), spells, inr 
 -- ---- a client
 
 -- what a profile replies is no report, where it is a refusal, an init or a response
-abbrev Reports : Profile → Profile → Result SaslFrame ClientFault → Option (List ℕ) → Profile → Type 0
+abbrev Reports : Profile → Profile → Result SaslFrame ProfileError → Option (List ℕ) → Profile → Type 0
 Reports profile moved reply more next = Replies profile moved reply (Reported outcomes.Ok more) next
 
-refusal_is_no_report : (profile moved next : Profile) (reply : Result SaslFrame ClientFault) (fault : ClientFault)
+refusal_is_no_report : (profile moved next : Profile) (reply : Result SaslFrame ProfileError) (fault : ProfileError)
     (more : Option (List ℕ)) → reply ≡ Err fault → ¬ Reports profile moved reply more next
 refusal_is_no_report profile moved next reply fault more is said =
-    let no = (subst (λ (r : Result SaslFrame ClientFault). Reports profile moved r more next) is said).0 in absurd (cc)
+    let no = (subst (λ (r : Result SaslFrame ProfileError). Reports profile moved r more next) is said).0 in absurd (cc)
 
-init_is_no_report : (profile moved next : Profile) (reply : Result SaslFrame ClientFault) (mechanism : List ℕ)
+init_is_no_report : (profile moved next : Profile) (reply : Result SaslFrame ProfileError) (mechanism : List ℕ)
     (response hostname more : Option (List ℕ)) → reply ≡ Ok (frames.Init mechanism response hostname)
     → ¬ Reports profile moved reply more next
 init_is_no_report profile moved next reply mechanism response hostname more is said =
     none (canonical (frames.Init mechanism response hostname))
-    (subst (λ (r : Result SaslFrame ClientFault). Reports profile moved r more next) is said).0
+    (subst (λ (r : Result SaslFrame ProfileError). Reports profile moved r more next) is said).0
   where
     none : (sent : Option (List ℕ)) → Reported outcomes.Ok more
         ≢ carried (Refused (Frame faults.TooLarge)) (λ body. Rattle.fe2o3_sasl_runs.specs.Events.Started body) sent
     none None same = absurd (cc)
     none (Some other) same = absurd (cc)
 
-response_is_no_report : (profile moved next : Profile) (reply : Result SaslFrame ClientFault) (text : List ℕ)
+response_is_no_report : (profile moved next : Profile) (reply : Result SaslFrame ProfileError) (text : List ℕ)
     (more : Option (List ℕ)) → reply ≡ Ok (frames.Response text) → ¬ Reports profile moved reply more next
 response_is_no_report profile moved next reply text more is said =
     none (canonical (frames.Response text))
-    (subst (λ (r : Result SaslFrame ClientFault). Reports profile moved r more next) is said).0
+    (subst (λ (r : Result SaslFrame ProfileError). Reports profile moved r more next) is said).0
   where
     none : (sent : Option (List ℕ)) → Reported outcomes.Ok more
         ≢ carried (Refused (Frame faults.TooLarge)) (λ body. Rattle.fe2o3_sasl_runs.specs.Events.Answered body) sent
@@ -250,21 +252,21 @@ response_is_no_report profile moved next reply text more is said =
     none (Some other) same = absurd (cc)
 
 -- an outcome of another code is not reported as Ok
-other_code : (profile moved next : Profile) (reply : Result SaslFrame ClientFault) (code : SaslCode)
+other_code : (profile moved next : Profile) (reply : Result SaslFrame ProfileError) (code : SaslCode)
     (shown more : Option (List ℕ)) → reply ≡ Ok (frames.Outcome code shown) → code ≢ outcomes.Ok
     → ¬ Reports profile moved reply more next
 other_code profile moved next reply code shown more is apart said =
-    let same = (subst (λ (r : Result SaslFrame ClientFault). Reports profile moved r more next) is said).0 in
+    let same = (subst (λ (r : Result SaslFrame ProfileError). Reports profile moved r more next) is said).0 in
     apart (cc)
 
 -- a verifier that is believed
 believed_is_signed : (client after : ClientSide) (event : Given) (text : List ℕ)
-    (answer : Result (Unit {0}) ScramErrorKind) (reply : Result SaslFrame ClientFault) (moved next : Profile)
+    (answer : Result (Unit {0}) ScramErrorKind) (reply : Result SaslFrame ProfileError) (moved next : Profile)
     (more : Option (List ℕ)) → BelievesIn client.state client text answer after
     → reply ≡ client_frame (λ believed. frames.Outcome outcomes.Ok (Some text)) answer
     → Reports (ScramProfile client) moved reply more next → (more ≡ Some text) × IsSigned client.state text
 believed_is_signed client after event text (Ok tt) reply moved next more from is said =
-    let same = (subst (λ (r : Result SaslFrame ClientFault). Reports (ScramProfile client) moved r more next) is
+    let same = (subst (λ (r : Result SaslFrame ProfileError). Reports (ScramProfile client) moved r more next) is
     said).0 in (cc, believed_texts_are_signed client after text from)
 believed_is_signed client after event text (Err kind) reply moved next more from is said =
     absurd (refusal_is_no_report (ScramProfile client) moved next reply _ more is said)
@@ -276,7 +278,7 @@ reported_oks_are_signed hostname client event more next (Ok frame, spells, inl w
 reported_oks_are_signed hostname client event more next (Ok frame, spells, inr gives) =
     go frame gives.0 gives.1 spells gives.2 gives.3
   where
-    go : (frame : SaslFrame) (reply : Result SaslFrame ClientFault) (moved : Profile)
+    go : (frame : SaslFrame) (reply : Result SaslFrame ProfileError) (moved : Profile)
         → SpellsBody event.body (Ok frame) → profile_machine (ScramProfile client) hostname event.nonce frame reply moved
         → Reports (ScramProfile client) moved reply more next
         → (text : List ℕ) × (more ≡ Some text) × SpellsBody event.body (Ok (frames.Outcome outcomes.Ok (Some text)))

@@ -1,7 +1,6 @@
 use Rattle.std.proofs.Common.{Result, Ok, Err, OnErr}
 use Rattle.fe2o3_sasl_runs.specs.Events.{Given}
 use Rattle.fe2o3_sasl_runs.specs.Runs.{client_reply}
-use Rattle.fe2o3_sasl_runs.specs.ProfileFaults.{client_fault}
 use Rattle.fe2o3_sasl_runs.specs.SaslProfile.{profile_of}
 use Rattle.fe2o3_sasl_wire.specs.FrameView.{shown}
 use Rattle.fe2o3_sasl_negotiation.specs.declared.standing.Due.TheVariants.{Frame}
@@ -56,7 +55,7 @@ returns-in-Err-clause-unchanged c =
     always c.refuse.result
     (step_refused (shown c.args.hostname) (profile_of c.args.profile.now) (profile_of c.profile_body_step.new.profile)
     event
-    (client_fault c.in-Err.fault) (rw c.in-Err.is at c.profile_body_step.ensures.step))
+    c.in-Err.fault (rw c.in-Err.is at c.profile_body_step.ensures.step))
   where
     always : {A E P : Type 0} (result : Result A E) → P → OnErr result P
     always (Ok value) holds = tt

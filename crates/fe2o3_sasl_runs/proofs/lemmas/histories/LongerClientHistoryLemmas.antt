@@ -5,11 +5,12 @@ use Rattle.std.proofs.lemmas.Option.{same_Some, slice_get_within}
 use Rattle.fe2o3_sasl_wire.specs.declared.sasl_frames.error.Error.{Error}
 use Rattle.fe2o3_sasl_wire.specs.SaslFrames.{SaslFrame}
 use Rattle.fe2o3_sasl_runs.specs.ClientHistory.{ClientAnswers, ClientAllocates, is_start, is_answer, ends_answer, NonceAt, IsDue, AnswersAt, OpenAnswer, ClientHistory}
-use Rattle.fe2o3_sasl_runs.specs.Events.{Given, Login, ClientSays, Refused, OutOfMemory}
+use Rattle.fe2o3_sasl_runs.specs.Events.{Given, Login, ClientSays, Refused}
 use Rattle.fe2o3_sasl_runs.specs.Bodies.{SpellsBody}
 use Rattle.fe2o3_sasl_runs.proofs.lemmas.histories.OneClientHistoryLemmas.{challenge_moves, client_moves}
 use Rattle.fe2o3_sasl_runs.proofs.lemmas.positions.OpenStateLemmas.{AreSame, open_by_front}
 use Rattle.fe2o3_sasl_runs.proofs.lemmas.positions.PositionLemmas.{below_or_at, slice_get-front, slice_get-behind}
+use Rattle.fe2o3_sasl_runs.specs.declared.sasl_profile.error.ProfileError.TheVariants.{OutOfMemory}
 
 pub nonce_front : (events more : List Given) (k : ℕ) → k < length events
     → AreSame (NonceAt events k) (NonceAt (events ++ more) k)

@@ -9,7 +9,7 @@ use Rattle.fe2o3_sasl_wire.specs.SaslFrames.{SaslFrame}
 use Rattle.fe2o3_scram.specs.declared.scram_messages.error.ScramErrorKind.{ScramErrorKind}
 use Rattle.fe2o3_scram.specs.Texts.{base64_text}
 use Rattle.fe2o3_sasl_runs.specs.ClientHistory.{Answering, answer_at, says_answer, ReadsChallenge, ReadsOutcome, ClientAnswers, ClientAllocates, is_start, is_answer, ends_answer, NonceAt, IsDue, AnswersAt, OpenAnswer, ClientHistory}
-use Rattle.fe2o3_sasl_runs.specs.Events.{Given, Login, ClientSays, Refused, OutOfMemory, scram_fault}
+use Rattle.fe2o3_sasl_runs.specs.Events.{Given, Login, ClientSays, Refused, scram_fault}
 use Rattle.fe2o3_sasl_runs.specs.Laws.{OneClientHistory}
 use Rattle.fe2o3_scram.specs.ServerFinal.{ReadsServerFinal}
 use Rattle.fe2o3_scram.specs.ServerFirst.{ServerFirst, ReadsServerFirst, client_of}
@@ -20,6 +20,7 @@ use Rattle.fe2o3_sasl_runs.proofs.lemmas.positions.PositionLemmas.{below_or_at, 
 use Rattle.fe2o3_scram.proofs.lemmas.messages.ServerFinalLemmas.{one_server_final}
 use Rattle.fe2o3_scram.proofs.lemmas.messages.ServerFirstLemmas.{one_server_first}
 use Rattle.fe2o3_sasl_runs.proofs.lemmas.frames.SpellingLemmas.{one_spelling}
+use Rattle.fe2o3_sasl_runs.specs.declared.sasl_profile.error.ProfileError.TheVariants.{OutOfMemory}
 
 -- ---- the table
 

@@ -10,11 +10,12 @@ use Rattle.fe2o3_sasl_wire.specs.SaslFrames as frames
 use Rattle.fe2o3_scram.specs.Texts.{base64_text, HasBase64}
 use Rattle.fe2o3_scram.specs.ClientFirst.{client_first}
 use Rattle.fe2o3_sasl_runs.specs.ClientHistory.{Answering, OpenAnswer, IsDue, ClientHistory, ClientAnswers, ClientAllocates, ReadsOutcome, answer_at}
-use Rattle.fe2o3_sasl_runs.specs.Events.{Given, Login, ClientSays, Started, Answered, Reported, Refused, Frame, OutOfMemory}
+use Rattle.fe2o3_sasl_runs.specs.Events.{Given, Login, ClientSays, Started, Answered, Reported, Refused}
 use Rattle.fe2o3_scram.specs.Hmac.{mechanism_name}
 use Rattle.fe2o3_scram.proofs.lemmas.messages.OneValueLemmas.{names_server_final}
 use Rattle.fe2o3_sasl_runs.proofs.lemmas.positions.PositionLemmas.{some_at}
 use Rattle.fe2o3_sasl_runs.proofs.lemmas.frames.SpellingLemmas.{carried_not}
+use Rattle.fe2o3_sasl_runs.specs.declared.sasl_profile.error.ProfileError.TheVariants.{Frame, OutOfMemory}
 
 module _ (login : Login) (Due : List ℕ → Type 0) (IsOpen : Answering → Type 0) where
   reads_ok : (more : Option (List ℕ)) → ReadsOutcome login IsOpen more (Ok tt)

@@ -17,7 +17,7 @@ use Rattle.fe2o3_scram.specs.ClientFirst.{client_first, client_first_bare}
 use Rattle.fe2o3_scram.specs.ClientKeys.{ClientKeys}
 use Rattle.fe2o3_sasl_runs.specs.ClientHistory.{Answering, answer_at, says_answer, ReadsChallenge, ReadsOutcome, ClientAnswers, ClientAllocates, is_start, is_answer, ends_answer, NonceAt, IsDue, AnswersAt, OpenAnswer, ClientHistory}
 use Rattle.fe2o3_scram.specs.ScramClient.{ClientState, ClientInitial, ClientFirstSent, ClientFinalSent, Complete, ClientSide, AnswersIn, BelievesIn}
-use Rattle.fe2o3_sasl_runs.specs.Events.{Given, Login, ClientSays, Started, Answered, Reported, Refused, ClientFault, NotImplemented, Scram, Frame, OutOfMemory, scram_fault}
+use Rattle.fe2o3_sasl_runs.specs.Events.{Given, Login, ClientSays, Started, Answered, Reported, Refused, scram_fault}
 use Rattle.fe2o3_sasl_runs.specs.Laws.{ProfileRunsAreHistories}
 use Rattle.fe2o3_scram.specs.Hmac.{mechanism_name}
 use Rattle.fe2o3_sasl_runs.specs.Profiles.{Profile, ScramProfile, client_frame, profile_machine, StepAllocates}
@@ -29,6 +29,8 @@ use Rattle.fe2o3_sasl_runs.proofs.lemmas.positions.OpenStateLemmas.{AreSame, Hol
 use Rattle.fe2o3_sasl_runs.proofs.lemmas.frames.SpellingLemmas.{sent}
 use Rattle.fe2o3_sasl_runs.proofs.lemmas.positions.PositionLemmas.{slice_get-behind}
 use Rattle.fe2o3_sasl_runs.proofs.lemmas.histories.LongerClientHistoryLemmas.{nonce_front, due_front, answers_front, SaysAt, client_history_push}
+use Rattle.fe2o3_sasl_runs.specs.declared.sasl_profile.error.ProfileError.{ProfileError}
+use Rattle.fe2o3_sasl_runs.specs.declared.sasl_profile.error.ProfileError.TheVariants.{NotImplemented, Scram, Frame, OutOfMemory}
 
 -- ---- the state and what it stands for
 
@@ -93,12 +95,12 @@ StepsTo login state due waits event spelled says next =
 
 -- ---- one step
 
-leaves_refused : (says : ClientSays) (fault : ClientFault) → says ≡ Refused fault → Leaves says
+leaves_refused : (says : ClientSays) (fault : ProfileError) → says ≡ Refused fault → Leaves says
 leaves_refused says fault e = (ap is_start e, ap is_answer e, ap ends_answer e)
 
 -- what is refused stays
 refused : (login : Login) (state : ClientState) (due : Option (List ℕ)) (waits : Option Answering) (event : Given)
-    (spelled : Result SaslFrame Error) (says : ClientSays) (next : Profile) (fault : ClientFault) →
+    (spelled : Result SaslFrame Error) (says : ClientSays) (next : Profile) (fault : ProfileError) →
     says ≡ Refused fault → next ≡ profile_in login state → SaysRow login due waits event spelled says
     → StepsTo login state due waits event spelled says next
 refused login state due waits event spelled says next fault e n row =
@@ -239,16 +241,16 @@ outcome_step login state due waits event text (Err kind) after says next stands 
     (h.1 ∙ ap (λ (c : ClientSide). ScramProfile c) d.1) (inr (inr (kind, d.0, h.0)))
 
 -- the reply of the machine in its place
-replied : (profile moved then : Profile) (reply other : Result SaslFrame ClientFault) (says : ClientSays)
+replied : (profile moved then : Profile) (reply other : Result SaslFrame ProfileError) (says : ClientSays)
     (next : Profile) → reply ≡ other → moved ≡ then → Replies profile moved reply says next
     → Replies profile then other says next
 replied profile moved then reply other says next e n h =
     subst (λ (x : Profile). Replies profile x other says next) n
-    (subst (λ (x : Result SaslFrame ClientFault). Replies profile moved x says next) e h)
+    (subst (λ (x : Result SaslFrame ProfileError). Replies profile moved x says next) e h)
 
 -- the step where memory is not wanting
 machine_step : (login : Login) (state : ClientState) (due : Option (List ℕ)) (waits : Option Answering) (event : Given)
-    (frame : SaslFrame) (reply : Result SaslFrame ClientFault) (moved : Profile) (says : ClientSays) (next : Profile)
+    (frame : SaslFrame) (reply : Result SaslFrame ProfileError) (moved : Profile) (says : ClientSays) (next : Profile)
     → StandsFor login state due waits →
     profile_machine (profile_in login state) login.hostname event.nonce frame reply moved
     → Replies (profile_in login state) moved reply says next

@@ -11,13 +11,15 @@ use Rattle.fe2o3_scram.specs.Credentials.{Provider}
 use Rattle.fe2o3_scram.specs.declared.scram_messages.error.ScramErrorKind.{ScramErrorKind}
 use Rattle.fe2o3_scram.specs.declared.scram_messages.error.ScramErrorKind.TheVariants as kinds
 use Rattle.fe2o3_sasl_runs.specs.ClientHistory.{Answering, ClientAllocates, ClientAnswers, IsDue, OpenAnswer}
-use Rattle.fe2o3_sasl_runs.specs.Events.{Given, Login, ClientFault, Answered, Reported, Refused, NotImplemented, Scram, Frame, OutOfMemory, Failed, scram_fault}
+use Rattle.fe2o3_sasl_runs.specs.Events.{Given, Login, Answered, Reported, Refused, Failed, scram_fault}
 use Rattle.fe2o3_sasl_runs.specs.Laws.{WantsAtServer, ServersWantMemory, ClientsWantMemory, ProfilesWantMemory}
 use Rattle.fe2o3_sasl_runs.specs.Profiles.{Profile, ScramProfile, client_frame, profile_machine, StepAllocates}
 use Rattle.fe2o3_sasl_runs.specs.Runs.{Replies}
 use Rattle.fe2o3_sasl_runs.specs.Bodies.{SpellsBody, carried}
 use Rattle.fe2o3_sasl_runs.specs.ServerHistory.{Challenging, Open, ServerAllocates, ServerAnswers}
 use Rattle.fe2o3_sasl_runs.proofs.lemmas.positions.PositionLemmas.{some_at}
+use Rattle.fe2o3_sasl_runs.specs.declared.sasl_profile.error.ProfileError.{ProfileError}
+use Rattle.fe2o3_sasl_runs.specs.declared.sasl_profile.error.ProfileError.TheVariants.{NotImplemented, Scram, Frame, OutOfMemory}
 
 -- ---- a server
 
@@ -70,7 +72,7 @@ pub scram_tells : (kind : ScramErrorKind) → scram_fault kind ≢ OutOfMemory
 scram_tells kinds.OtherKeys is = cc
 scram_tells kind is = cc
 
-same_refusal : (fault other : ClientFault) → Refused fault ≡ Refused other → fault ≡ other
+same_refusal : (fault other : ProfileError) → Refused fault ≡ Refused other → fault ≡ other
 same_refusal fault other is = cc
 
 -- want of memory is no other reply
@@ -115,16 +117,16 @@ clients_want_memory login events replies k history is =
 -- ---- any profile
 
 -- neither a refusal of another kind nor an outcome is want of memory
-refused_otherwise : (profile moved next : Profile) (reply : Result SaslFrame ClientFault) (fault : ClientFault)
+refused_otherwise : (profile moved next : Profile) (reply : Result SaslFrame ProfileError) (fault : ProfileError)
     → reply ≡ Err fault → Refused OutOfMemory ≢ Refused fault → ¬ Replies profile moved reply (Refused OutOfMemory) next
 refused_otherwise profile moved next reply fault is apart said = apart (subst
-    (λ (some : Result SaslFrame ClientFault). Replies profile moved some (Refused OutOfMemory) next) is said).0
+    (λ (some : Result SaslFrame ProfileError). Replies profile moved some (Refused OutOfMemory) next) is said).0
 
-reported_otherwise : (profile moved next : Profile) (reply : Result SaslFrame ClientFault) (code : SaslCode)
+reported_otherwise : (profile moved next : Profile) (reply : Result SaslFrame ProfileError) (code : SaslCode)
     (more : Option (List ℕ)) → reply ≡ Ok (frames.Outcome code more)
     → ¬ Replies profile moved reply (Refused OutOfMemory) next
 reported_otherwise profile moved next reply code more is said = not_reported code more (subst
-    (λ (some : Result SaslFrame ClientFault). Replies profile moved some (Refused OutOfMemory) next) is said).0
+    (λ (some : Result SaslFrame ProfileError). Replies profile moved some (Refused OutOfMemory) next) is said).0
 
 -- nor is a response, sent or too large
 carried_otherwise : (body : Option (List ℕ))
@@ -139,16 +141,16 @@ not_scram : (kind : ScramErrorKind) → Refused OutOfMemory ≢ Refused (scram_f
 not_scram kind is = absurd (scram_tells kind (same_refusal (scram_fault kind) OutOfMemory (sym is)))
 
 -- what a client of SCRAM answers to a challenge, and whether it believes an outcome
-answered_otherwise : (profile moved next : Profile) (reply : Result SaslFrame ClientFault)
+answered_otherwise : (profile moved next : Profile) (reply : Result SaslFrame ProfileError)
     (answer : Result (List ℕ) ScramErrorKind) → reply ≡ client_frame (λ message. frames.Response message) answer
     → ¬ Replies profile moved reply (Refused OutOfMemory) next
 answered_otherwise profile moved next reply (Ok message) is said = carried_otherwise
     (canonical (frames.Response message)) (subst
-    (λ (some : Result SaslFrame ClientFault). Replies profile moved some (Refused OutOfMemory) next) is said).0
+    (λ (some : Result SaslFrame ProfileError). Replies profile moved some (Refused OutOfMemory) next) is said).0
 answered_otherwise profile moved next reply (Err kind) is said =
     refused_otherwise profile moved next reply (scram_fault kind) is (not_scram kind) said
 
-believed_otherwise : (profile moved next : Profile) (reply : Result SaslFrame ClientFault) (text : List ℕ)
+believed_otherwise : (profile moved next : Profile) (reply : Result SaslFrame ProfileError) (text : List ℕ)
     (answer : Result (Unit {0}) ScramErrorKind)
     → reply ≡ client_frame (λ believed. frames.Outcome outcomes.Ok (Some text)) answer
     → ¬ Replies profile moved reply (Refused OutOfMemory) next
@@ -159,7 +161,7 @@ believed_otherwise profile moved next reply text (Err kind) is said =
 
 -- the machine gives it in no case, or memory is asked for
 machine_wants : (hostname : Option (List ℕ)) (profile next : Profile) (nonce : List ℕ) (frame : SaslFrame)
-    (reply : Result SaslFrame ClientFault) (moved : Profile) → profile_machine profile hostname nonce frame reply moved
+    (reply : Result SaslFrame ProfileError) (moved : Profile) → profile_machine profile hostname nonce frame reply moved
     → Replies profile moved reply (Refused OutOfMemory) next → StepAllocates profile frame
 machine_wants hostname profile next nonce (frames.Mechanisms names) reply moved (inl named) said = named.0
 machine_wants hostname profile next nonce (frames.Mechanisms names) reply moved (inr unnamed) said =

@@ -21,10 +21,10 @@ use Rattle.fe2o3_scram.proofs.lemmas.messages.ClientFinalLemmas.{one_client_fina
 use Rattle.fe2o3_scram.proofs.lemmas.messages.ClientFirstLemmas.{one_client_first}
 use Rattle.fe2o3_scram.proofs.lemmas.messages.ServerFinalLemmas.{one_server_final}
 use Rattle.fe2o3_scram.proofs.lemmas.messages.ServerFirstLemmas.{one_server_first}
-use Rattle.fe2o3_sasl_runs.specs.Events.{ClientFault}
 use Rattle.fe2o3_sasl_runs.specs.MechanismLaws.{OneAcceptorReply, OneProfileReply}
 use Rattle.fe2o3_sasl_runs.specs.SaslAcceptor.{Acceptor, ScramAcceptor, PlainAcceptor, AnonymousAcceptor, server_frame}
 use Rattle.fe2o3_sasl_runs.specs.Profiles.{Profile, ScramProfile, client_frame}
+use Rattle.fe2o3_sasl_runs.specs.declared.sasl_profile.error.ProfileError.{ProfileError}
 
 -- the result is made of a reading
 abbrev MadeOf : {V R : Type 0} → (V → Type 0) → (V → R) → R → Type 0
@@ -266,7 +266,7 @@ one_belief (client_states.Complete keys) side text (Err fault) (Err kind) next l
 
 -- both of one turn of the client
 same_turn : {A : Type 0} (frame : A → SaslFrame) (turn again : ClientTurn A)
-    (reply other : Result SaslFrame ClientFault) (next last : Profile) → turn ≡ again
+    (reply other : Result SaslFrame ProfileError) (next last : Profile) → turn ≡ again
     → reply ≡ client_frame frame turn.0 → next ≡ ScramProfile turn.1
     → other ≡ client_frame frame again.0 → last ≡ ScramProfile again.1 → (reply ≡ other) × (next ≡ last)
 same_turn {A} frame turn again reply other next last same r n s l = (

@@ -20,13 +20,14 @@ use Rattle.fe2o3_scram.proofs.lemmas.texts.DecisionLemmas.{Decided, utf8_or}
 use Rattle.fe2o3_sasl_runs.specs.Bodies.{carried}
 use Rattle.fe2o3_sasl_runs.specs.CostLaws.{MeteredAcceptorSteps, MeteredProfileSteps, server_most, client_most, SumsUp, ServerRunsCost, ClientRunsCost, reply_of}
 use Rattle.fe2o3_sasl_runs.specs.Costs.{acceptor_hmacs, AcceptorCostsOf, ProfileCostsOf}
-use Rattle.fe2o3_sasl_runs.specs.Events.{Given, ClientSays, ClientFault}
+use Rattle.fe2o3_sasl_runs.specs.Events.{Given, ClientSays}
 use Rattle.fe2o3_sasl_runs.specs.Profiles.{Profile, ScramProfile, profile_machine}
 use Rattle.fe2o3_sasl_runs.specs.Runs.{Runs, ProfileGives, Replies}
 use Rattle.fe2o3_sasl_runs.specs.SaslAcceptor.{Acceptor, ScramAcceptor}
 use Rattle.fe2o3_sasl_runs.proofs.lemmas.frames.SpellingLemmas.{one_spelling}
 use Rattle.fe2o3_sasl_runs.proofs.lemmas.machines.ServerMachineLemmas.{gives_back}
 use Rattle.fe2o3_sasl_runs.proofs.lemmas.machines.SomeRunLemmas.{some_conclusion}
+use Rattle.fe2o3_sasl_runs.specs.declared.sasl_profile.error.ProfileError.{ProfileError}
 
 -- ---- a server
 
@@ -165,7 +166,7 @@ believed_keeps (client_states.Complete keys) client text (Err fault) after is =
     ap (λ (side : ClientSide). side.limits) is.1
 
 machine_keeps : (client : ClientSide) (hostname : Option (List ℕ)) (nonce : List ℕ) (frame : SaslFrame)
-    (reply : Result SaslFrame ClientFault) (moved : Profile)
+    (reply : Result SaslFrame ProfileError) (moved : Profile)
     → profile_machine (ScramProfile client) hostname nonce frame reply moved → Keeps client moved
 machine_keeps client hostname nonce (frames.Mechanisms names) reply moved (inl is) =
     (started client nonce, is.2, refl)
@@ -186,7 +187,7 @@ carried_keeps : (client : ClientSide) (body : Option (List ℕ)) (moved next : P
 carried_keeps client None moved next kept is = (client, is, refl)
 carried_keeps client (Some body) moved next kept is = (kept.0, is ∙ kept.1, kept.2)
 
-replied_keeps : (client : ClientSide) (moved next : Profile) (reply : Result SaslFrame ClientFault)
+replied_keeps : (client : ClientSide) (moved next : Profile) (reply : Result SaslFrame ProfileError)
     (says : ClientSays) → Keeps client moved → Replies (ScramProfile client) moved reply says next → Keeps client next
 replied_keeps client moved next (Err fault) says kept is = (kept.0, is.1 ∙ kept.1, kept.2)
 replied_keeps client moved next (Ok (frames.Outcome code more)) says kept is = (kept.0, is.1 ∙ kept.1, kept.2)

@@ -26,7 +26,7 @@ use Rattle.fe2o3_scram.specs.declared.scram_messages.error.ServerScramErrorKind.
 use Rattle.fe2o3_scram.specs.declared.scram_messages.error.ServerScramErrorKind.TheVariants.{AuthenticationFailed, IllegalAuthenticatorState}
 use Rattle.fe2o3_scram.proofs.lemmas.messages.SomeReadingLemmas.{some_client_first, some_server_first, some_client_final, some_server_final}
 use Rattle.fe2o3_scram.proofs.lemmas.texts.DecisionLemmas.{Decided, same_or, utf8_or}
-use Rattle.fe2o3_sasl_runs.specs.Events.{Given, ServerSays, Failed, ClientSays, Started, Answered, Reported, Refused, ClientFault, NotImplemented, Scram, Frame, OutOfMemory}
+use Rattle.fe2o3_sasl_runs.specs.Events.{Given, ServerSays, Failed, ClientSays, Started, Answered, Reported, Refused}
 use Rattle.fe2o3_sasl_runs.specs.Laws.{BodiesAreBytes, SomeServerHistory, SomeClientHistory}
 use Rattle.fe2o3_sasl_runs.specs.Runs.{Runs, AcceptorGives, AcceptorSteps, ProfileGives, ProfileSteps, Replies, SendsCanonical}
 use Rattle.fe2o3_sasl_runs.specs.SaslAcceptor.{ScramAcceptor, acceptor_machine, ends_with, server_frame}
@@ -36,6 +36,8 @@ use Rattle.fe2o3_sasl_runs.specs.Bodies.{SpellsBody, server_says}
 use Rattle.fe2o3_sasl_runs.proofs.lemmas.machines.ClientMachineLemmas.{profile_runs_are_histories}
 use Rattle.fe2o3_sasl_runs.proofs.lemmas.machines.MemoryLemmas.{no_want, scram_tells}
 use Rattle.fe2o3_sasl_runs.proofs.lemmas.machines.ServerMachineLemmas.{acceptor_runs_are_histories}
+use Rattle.fe2o3_sasl_runs.specs.declared.sasl_profile.error.ProfileError.{ProfileError}
+use Rattle.fe2o3_sasl_runs.specs.declared.sasl_profile.error.ProfileError.TheVariants.{NotImplemented, Scram, Frame, OutOfMemory}
 
 -- ---- what a body spells
 
@@ -253,7 +255,7 @@ some_belief (client_states.ClientFinalSent signature keys) side text =
     go (Err kind) reads = (Err kind, side, (reads, refl))
 
 -- it is not a refusal for want of memory
-abbrev pub Told : Result SaslFrame ClientFault → Type 0
+abbrev pub Told : Result SaslFrame ProfileError → Type 0
 Told (Ok frame) = Unit {0}
 Told (Err fault) = fault ≢ OutOfMemory
 
@@ -263,7 +265,7 @@ told_frame frame (Err kind) = scram_tells kind
 
 -- what the machine of a SCRAM profile does
 abbrev pub Moves : Option (List ℕ) → ClientSide → List ℕ → SaslFrame → Type 0
-Moves hostname side nonce frame = (reply : Result SaslFrame ClientFault) × (moved : ClientSide)
+Moves hostname side nonce frame = (reply : Result SaslFrame ProfileError) × (moved : ClientSide)
     × profile_machine (ScramProfile side) hostname nonce frame reply (ScramProfile moved)
     × Told reply
 
@@ -310,7 +312,7 @@ some_move hostname side nonce (frames.Init mechanism response host) = (Err NotIm
 some_move hostname side nonce (frames.Response text) = (Err NotImplemented, side, (refl, refl), λ is. cc)
 
 -- what a client says with a reply
-abbrev SaysWith : ClientSide → ClientSide → Result SaslFrame ClientFault → Type 0
+abbrev SaysWith : ClientSide → ClientSide → Result SaslFrame ProfileError → Type 0
 SaysWith side moved reply = (says : ClientSays) × (after : ClientSide)
     × Replies (ScramProfile side) (ScramProfile moved) reply says
     (ScramProfile after) × (says ≢ Refused OutOfMemory)
@@ -326,7 +328,7 @@ some_carried : (side moved : ClientSide) (carry : List ℕ → ClientSays) (body
 some_carried side moved carry None other = (Refused (Frame faults.TooLarge), side, (refl, refl), λ is. cc)
 some_carried side moved carry (Some body) other = (carry body, moved, (refl, refl), other body)
 
-some_says : (side moved : ClientSide) (reply : Result SaslFrame ClientFault) → Told reply → SaysWith side moved reply
+some_says : (side moved : ClientSide) (reply : Result SaslFrame ProfileError) → Told reply → SaysWith side moved reply
 some_says side moved (Err fault) told = (Refused fault, moved, (refl, refl), λ is. told (same_fault is))
   where
     same_fault : Refused fault ≡ Refused OutOfMemory → fault ≡ OutOfMemory

@@ -15,10 +15,11 @@ use Rattle.fe2o3_sasl_wire.specs.declared.amqp_types.SaslCode.{SaslCode}
 use Rattle.fe2o3_sasl_wire.specs.declared.amqp_types.SaslCode.TheVariants as outcomes
 use Rattle.fe2o3_scram.specs.ClientKeys.{ClientKeys}
 use Rattle.fe2o3_scram.specs.ServerFinal.{ReadsServerFinal, ReadsSignature}
-use Rattle.fe2o3_sasl_runs.specs.Events.{ClientFault, NotImplemented, Scram, OtherKeys, Frame, OutOfMemory}
 use Rattle.fe2o3_sasl_runs.specs.Profiles.{Profile, ScramProfile, PlainProfile, AnonymousProfile, ExternalProfile, FrameAllocates, ViewAllocates, StepAllocates, IsAnswered, ProfileAnswers, is_scram}
-use Rattle.fe2o3_sasl_runs.specs.ProfileFaults.{client_fault, fault_of_kind}
+use Rattle.fe2o3_sasl_runs.specs.ProfileFaults.{fault_of_kind}
 use Rattle.fe2o3_sasl_runs.specs.private.Writing.{RefusesAlways}
+use Rattle.fe2o3_sasl_runs.specs.declared.sasl_profile.error.ProfileError.{ProfileError}
+use Rattle.fe2o3_sasl_runs.specs.declared.sasl_profile.error.ProfileError.TheVariants.{NotImplemented, Scram, OtherKeys, Frame, OutOfMemory}
 
 -- a challenge that the client refuses: its fault is that of the machine, or want of memory
 pub challenge_refused : {V : Type 0} (view : V → List ℕ) (client next : ClientSide)
@@ -26,7 +27,7 @@ pub challenge_refused : {V : Type 0} (view : V → List ℕ) (client next : Clie
     → Gives kinds.OutOfMemory (ReachesSaltIn client.state text) view (Err kind)
     (λ answer. AnswersIn client.state client text answer next)
     → ProfileAnswers FrameAllocates (ScramProfile client) hostname nonce (frames.Challenge text)
-    (Err (client_fault (fault_of_kind kind))) (ScramProfile next)
+    (Err (fault_of_kind kind)) (ScramProfile next)
 challenge_refused view client next hostname nonce text kinds.OutOfMemory utf8 same from =
     ((utf8, from.0 refl), ap (λ (side : ClientSide). ScramProfile side) same)
 challenge_refused view client next hostname nonce text kinds.OtherKeys utf8 same from =
@@ -60,7 +61,7 @@ outcome_allocates ExternalProfile code text has = tt
 
 -- what a profile refuses, it refuses of a view
 pub view_refuses : (profile next : Profile) (hostname : Option (List ℕ)) (nonce : List ℕ) (frame : SaslFrame)
-    (fault : ClientFault) → ProfileAnswers FrameAllocates profile hostname nonce frame (Err fault) next
+    (fault : ProfileError) → ProfileAnswers FrameAllocates profile hostname nonce frame (Err fault) next
     → ProfileAnswers ViewAllocates profile hostname nonce frame (Err fault) next
 view_refuses profile next hostname nonce frame OutOfMemory h = (view_allocates profile frame h.0, h.1)
 view_refuses profile next hostname nonce frame NotImplemented h = h

@@ -7,16 +7,16 @@ use Rattle.fe2o3_sasl_wire.specs.declared.sasl_frames.error.Error.{Error}
 use Rattle.fe2o3_sasl_wire.specs.declared.sasl_frames.error.Error.TheVariants as faults
 use Rattle.fe2o3_sasl_wire.specs.SaslFrames as frames
 use Rattle.fe2o3_sasl_wire.specs.SaslFrames.{SaslFrame, canonical}
-use Rattle.fe2o3_sasl_runs.specs.Events.{ClientFault, NotImplemented, Scram, OtherKeys, Frame, OutOfMemory, Started, Answered, Reported, Refused}
+use Rattle.fe2o3_sasl_runs.specs.Events.{Started, Answered, Reported, Refused}
 use Rattle.fe2o3_sasl_runs.specs.Runs.{ProfileReplies, SendsCanonical}
 use Rattle.fe2o3_sasl_runs.specs.Profiles.{Profile, ScramProfile, profile_name, initial_response, after_init, profile_machine, FrameAllocates, StepAllocates, IsStarted, ProfileAnswers}
 use Rattle.fe2o3_scram.specs.ScramClient as client_states
 use Rattle.fe2o3_scram.specs.ScramClient.{ClientState, ReachesSaltIn}
-use Rattle.fe2o3_sasl_runs.specs.ProfileFaults.{client_fault}
 use Rattle.fe2o3_sasl_runs.specs.declared.sasl_profile.error.ProfileError.{ProfileError}
 use Rattle.fe2o3_sasl_runs.specs.declared.sasl_profile.error.ProfileError.TheVariants as profile_faults
 use Rattle.fe2o3_sasl_runs.specs.private.Writing.{RefusesAlways, WritesBody}
 use Rattle.fe2o3_sasl_runs.proofs.lemmas.steps.ProfileReplyLemmas.{waiting}
+use Rattle.fe2o3_sasl_runs.specs.declared.sasl_profile.error.ProfileError.TheVariants.{NotImplemented, Scram, OtherKeys, Frame, OutOfMemory}
 
 -- a client that comes to the salt has been started
 started : (state : ClientState) (text : List ℕ) → ReachesSaltIn state text → IsStarted state
@@ -32,7 +32,8 @@ step_allocates profile frame has = absurd has
 
 -- a refusal of the profile is what it replies
 pub refusal_replies : (hostname : Option (List ℕ)) (profile : Profile) (nonce : List ℕ) (frame : SaslFrame)
-    (fault : ClientFault) (next : Profile) → ProfileAnswers FrameAllocates profile hostname nonce frame (Err fault) next
+    (fault : ProfileError) (next : Profile)
+    → ProfileAnswers FrameAllocates profile hostname nonce frame (Err fault) next
     → ProfileReplies hostname profile nonce frame (Refused fault) next
 refusal_replies hostname profile nonce frame OutOfMemory next h = inl (step_allocates profile frame h.0, refl, h.1)
 refusal_replies hostname profile nonce frame NotImplemented next h = inr (Err NotImplemented, next, h, (refl, refl))
@@ -42,7 +43,7 @@ refusal_replies hostname profile nonce frame (Frame fault) next h = inr (Err (Fr
 
 -- one on a copy leaves the profile
 pub refused_on_copy : (hostname : Option (List ℕ)) (profile begun moved : Profile) (nonce : List ℕ) (frame : SaslFrame)
-    (fault : ClientFault) → begun ≡ profile → moved ≡ begun
+    (fault : ProfileError) → begun ≡ profile → moved ≡ begun
     → ProfileAnswers FrameAllocates begun hostname nonce frame (Err fault) moved
     → ProfileReplies hostname profile nonce frame (Refused fault) profile
 refused_on_copy hostname profile begun moved nonce frame fault same kept h =
@@ -92,7 +93,7 @@ pub started_err : {X : Type 0} (view : X → List ℕ) (hostname : Option (List 
     → Contains names (profile_name profile)
     → init ≡ frames.Init (profile_name begun) (initial_response begun nonce) hostname
     → WritesBody view (canonical init) (Err fault)
-    → ProfileReplies hostname profile nonce (frames.Mechanisms names) (Refused (client_fault fault)) profile
+    → ProfileReplies hostname profile nonce (frames.Mechanisms names) (Refused fault) profile
 started_err view hostname profile begun nonce names init profile_faults.OutOfMemory same has is w =
     inl (has, refl, refl)
 started_err view hostname profile begun nonce names init (profile_faults.Frame fault) same has is w =
@@ -114,7 +115,7 @@ started_err view hostname profile begun nonce names init profile_faults.OtherKey
 
 -- a frame that is refused unread
 pub refused_unread : (hostname : Option (List ℕ)) (profile : Profile) (nonce : List ℕ) (frame : SaslFrame)
-    (fault : ClientFault) → RefusesAlways profile frame fault
+    (fault : ProfileError) → RefusesAlways profile frame fault
     → ProfileReplies hostname profile nonce frame (Refused fault) profile
 refused_unread hostname profile nonce frame fault refuses =
     inr (Err fault, profile, refuses hostname nonce, (refl, refl))
@@ -141,7 +142,7 @@ pub responded_err : {X : Type 0} (view : X → List ℕ) (hostname : Option (Lis
     → StepAllocates profile (frames.Challenge text)
     → ProfileAnswers FrameAllocates begun hostname nonce (frames.Challenge text) (Ok (frames.Response response)) moved
     → WritesBody view (canonical (frames.Response response)) (Err fault)
-    → ProfileReplies hostname profile nonce (frames.Challenge text) (Refused (client_fault fault)) profile
+    → ProfileReplies hostname profile nonce (frames.Challenge text) (Refused fault) profile
 responded_err view hostname profile begun moved nonce text response profile_faults.OutOfMemory same is made w =
     inl (is, refl, refl)
 responded_err view hostname profile begun moved nonce text response (profile_faults.Frame fault) same is made w =

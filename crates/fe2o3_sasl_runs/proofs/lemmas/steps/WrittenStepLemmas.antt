@@ -7,10 +7,11 @@ use Rattle.fe2o3_sasl_wire.specs.Owned.{RefusesView}
 use Rattle.fe2o3_sasl_wire.specs.SaslFrames as frames
 use Rattle.fe2o3_sasl_wire.specs.SaslFrames.{SaslFrame, ReadsBody}
 use Rattle.fe2o3_sasl_wire.proofs.lemmas.frames.LawLemmas.{spelled_mechanisms_are_ascii}
-use Rattle.fe2o3_sasl_runs.specs.Events.{Given, ServerSays, Failed, NotImplemented, Frame, ClientSays, Refused}
+use Rattle.fe2o3_sasl_runs.specs.Events.{Given, ServerSays, Failed, ClientSays, Refused}
 use Rattle.fe2o3_sasl_runs.specs.Runs.{AcceptorAnswers, AcceptorGives, AcceptorSteps, ProfileReplies, ProfileSteps}
 use Rattle.fe2o3_sasl_runs.specs.Profiles.{Profile, profile_name}
 use Rattle.fe2o3_sasl_runs.specs.private.Writing.{IsRequest}
+use Rattle.fe2o3_sasl_runs.specs.declared.sasl_profile.error.ProfileError.TheVariants.{NotImplemented, Frame}
 
 -- ---- acceptors
 

@@ -10,7 +10,7 @@ use Rattle.fe2o3_sasl_wire.specs.SaslFrames.{SaslFrame}
 use Rattle.fe2o3_scram.specs.declared.scram_messages.error.ScramErrorKind.{ScramErrorKind}
 use Rattle.fe2o3_sasl_runs.specs.ClientHistory.{ClientHistory, OpenAnswer, IsDue, ClientAnswers, ClientAllocates, ReadsOutcome}
 use Rattle.fe2o3_scram.specs.Credentials.{Provider}
-use Rattle.fe2o3_sasl_runs.specs.Events.{Given, Login, IsRecord, ServerSays, Concluded, Failed, ClientSays, Reported, Refused, OutOfMemory, scram_fault}
+use Rattle.fe2o3_sasl_runs.specs.Events.{Given, Login, IsRecord, ServerSays, Concluded, Failed, ClientSays, Reported, Refused, scram_fault}
 use Rattle.fe2o3_sasl_runs.specs.Headline.{AnswersOkExactly, SignedAt, ReportsOkExactly, VerifierAgrees, TakenVerifiersAgree}
 use Rattle.fe2o3_sasl_runs.specs.Laws.{EveryServer, EveryClient}
 use Rattle.fe2o3_sasl_runs.specs.Positions.{test_at}
@@ -24,6 +24,7 @@ use Rattle.fe2o3_sasl_runs.proofs.lemmas.positions.PositionLemmas.{some_at}
 use Rattle.fe2o3_sasl_runs.proofs.lemmas.histories.OneServerHistoryLemmas.{one_response, one_challenge}
 use Rattle.fe2o3_sasl_runs.proofs.lemmas.histories.ServerLawLemmas.{ok_accepts}
 use Rattle.fe2o3_sasl_runs.proofs.lemmas.frames.SpellingLemmas.{one_spelling}
+use Rattle.fe2o3_sasl_runs.specs.declared.sasl_profile.error.ProfileError.TheVariants.{OutOfMemory}
 
 -- ---- the server
 

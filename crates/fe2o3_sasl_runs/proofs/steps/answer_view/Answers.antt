@@ -1,11 +1,10 @@
 use Rattle.std.proofs.Common.{◌≡◌, Bool, true, false, refl, inr, Err}
 use Rattle.fe2o3_sasl_wire.specs.FrameView.{shown}
 use Rattle.fe2o3_sasl_wire.specs.SaslFrames as frames
-use Rattle.fe2o3_sasl_runs.specs.Events.{NotImplemented}
-use Rattle.fe2o3_sasl_runs.specs.ProfileFaults.{client_fault}
 use Rattle.fe2o3_sasl_runs.specs.SaslProfile.{profile_of}
 use Rattle.fe2o3_sasl_runs.proofs.lemmas.steps.WrittenReplyLemmas.{refused_unread}
 use Rattle.fe2o3_sasl_runs.proofs.lemmas.steps.WrittenStepLemmas.{unnamed}
+use Rattle.fe2o3_sasl_runs.specs.declared.sasl_profile.error.ProfileError.TheVariants.{NotImplemented}
 use Rattle.fe2o3_sasl_runs.proofs.steps.answer_view.Goals as goal
 
 pub returns-then-not-contains-clause-answer : goal.returns-then-not-contains-clause-answer
@@ -20,7 +19,7 @@ returns-then-not-contains-clause-answer c =
 pub returns-in-Some-clause-answer : goal.returns-in-Some-clause-answer
 returns-in-Some-clause-answer c =
     rw c.in-Challenge.is (refused_unread (shown c.args.hostname) (profile_of c.args.profile.now) c.args.nonce.now
-    (frames.Challenge c.in-Challenge.challenge.now) (client_fault c.in-Some.fault) c.in-Some.ensures)
+    (frames.Challenge c.in-Challenge.challenge.now) c.in-Some.fault c.in-Some.ensures)
 
 pub returns-in_default-clause-answer : goal.returns-in_default-clause-answer
 returns-in_default-clause-answer c =

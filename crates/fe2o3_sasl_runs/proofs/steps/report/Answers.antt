@@ -4,11 +4,11 @@ use Rattle.fe2o3_sasl_wire.specs.AmqpTypes.{binary_bytes, outcome_frame}
 use Rattle.fe2o3_sasl_wire.specs.FrameView.{shown}
 use Rattle.fe2o3_sasl_wire.specs.SaslFrames as frames
 use Rattle.fe2o3_sasl_wire.specs.SaslFrames.{SaslFrame}
-use Rattle.fe2o3_sasl_runs.specs.Events.{Reported, Refused, Scram}
+use Rattle.fe2o3_sasl_runs.specs.Events.{Reported, Refused}
 use Rattle.fe2o3_sasl_runs.specs.Runs.{ProfileReplies}
-use Rattle.fe2o3_sasl_runs.specs.ProfileFaults.{client_fault}
 use Rattle.fe2o3_sasl_runs.specs.SaslProfile.{profile_of}
 use Rattle.fe2o3_sasl_runs.proofs.lemmas.steps.WrittenReplyLemmas.{reported, refusal_replies, refused_unread}
+use Rattle.fe2o3_sasl_runs.specs.declared.sasl_profile.error.ProfileError.TheVariants.{Scram}
 use Rattle.fe2o3_sasl_runs.proofs.steps.report.Goals as goal
 
 pub returns-in-Ok-conclude : goal.returns-in-Ok-conclude
@@ -23,9 +23,9 @@ returns-in-Ok-conclude c = λ hostname nonce.
 pub returns-in-Err-conclude : goal.returns-in-Err-conclude
 returns-in-Err-conclude c = λ hostname nonce.
     subst (λ (f : SaslFrame). ProfileReplies hostname (profile_of c.args.profile.now) nonce f
-    (Refused (client_fault c.in-Err-conclude.fault)) (profile_of c.conclude.new.self)) c.in-Ok.ensures.ok
+    (Refused c.in-Err-conclude.fault) (profile_of c.conclude.new.self)) c.in-Ok.ensures.ok
     (refusal_replies hostname (profile_of c.args.profile.now) nonce (outcome_frame c.in-Ok.outcome)
-    (client_fault c.in-Err-conclude.fault) (profile_of c.conclude.new.self)
+    c.in-Err-conclude.fault (profile_of c.conclude.new.self)
     (c.in-Err-conclude.ensures.answer hostname nonce))
 
 pub returns-in-Some : goal.returns-in-Some

@@ -2,7 +2,6 @@ use Rattle.std.proofs.Common.{refl, Ok, Err}
 use Rattle.std.specs.Prelude.{Vec, ℕ}
 use Rattle.std.specs.declared.alloc.Global.{Global}
 use Rattle.fe2o3_sasl_wire.specs.SaslFrames as frames
-use Rattle.fe2o3_sasl_runs.specs.ProfileFaults.{client_fault}
 use Rattle.fe2o3_sasl_runs.specs.SaslProfile.{profile_of}
 use Rattle.fe2o3_sasl_runs.proofs.lemmas.steps.CostLemmas.{costs_again}
 use Rattle.fe2o3_sasl_runs.proofs.lemmas.steps.WrittenReplyLemmas.{responded_ok, responded_err, refused_on_copy}
@@ -25,7 +24,7 @@ returns-in-Err-client_body_of-clause-answer c = λ hostname nonce.
 pub returns-in-Err-clause-answer : goal.returns-in-Err-clause-answer
 returns-in-Err-clause-answer c = λ hostname nonce.
     refused_on_copy hostname (profile_of c.args.profile.now) (profile_of c.in_ok-next.next)
-    (profile_of c.respond.new.self) nonce (frames.Challenge c.args.challenge.now) (client_fault c.in-Err.fault)
+    (profile_of c.respond.new.self) nonce (frames.Challenge c.args.challenge.now) c.in-Err.fault
     c.in_ok-next.ensures.cases c.in-Err.ensures.err (c.in-Err.ensures.answer hostname nonce)
 
 pub returns-in-Ok-client_body_of-clause-cost : goal.returns-in-Ok-client_body_of-clause-cost

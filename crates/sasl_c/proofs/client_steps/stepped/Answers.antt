@@ -1,6 +1,5 @@
 use Rattle.std.proofs.Common.{inl, inr, sym, ◌∙◌}
 use Rattle.fe2o3_sasl_runs.specs.Events.{Refused}
-use Rattle.fe2o3_sasl_runs.specs.ProfileFaults.{client_fault}
 use Rattle.fe2o3_sasl_runs.specs.Runs.{client_reply}
 use Rattle.fe2o3_sasl_runs.specs.SaslProfile.{profile_of}
 use Rattle.sasl_c.proofs.StatusLemmas.{profile_not_room}
@@ -10,7 +9,7 @@ use Rattle.sasl_c.proofs.client_steps.stepped.Goals as goal
 pub returns-in-Err-clause-err : goal.returns-in-Err-clause-err
 returns-in-Err-clause-err c = λ other. (
   profile_of c.profile_body_step.new.profile,
-  Refused (client_fault c.in-Err.fault),
+  Refused c.in-Err.fault,
   c.in-Err.ensures.step,
   inl (client_hides c.in-Err.fault c.of_profile.result c.of_profile.ensures),
 )
