@@ -17,4 +17,7 @@ pub mod NegotiatedLemmas
 pub mod OneLoginLemmas
 pub mod NegotiationAgreeLemmas
 pub mod CompletingCallLemmas
+pub mod FinishedCallLemmas
+pub mod LoginFrameLemmas
+pub mod LoginAnswerLemmas
 pub mod JoinedExistLemmas
