@@ -1,29 +1,40 @@
 #!/usr/bin/env python3
-"""What a reader has to believe of a statement: every definition that it rests on, file by file.
+"""What a reader has to believe of some statements: every definition that they rest on, file by file.
 
-    tools/believed.py [MODULE]      the module defaults to the headline's, Rattle.fe2o3_sasl_runs.specs.Headline
+    tools/believed.py [STATEMENT..]
 
-For each file of specs/: how many lines it has, and how many of its definitions the statements of the
-module reach, with their lines (comments with them; imports, blank lines and what is not reached without).
+A statement is one of:
+    MODULE          each definition of a module of specs/; with no statement, the headline's, Rattle.fe2o3_sasl_runs.specs.Headline
+    MODULE:NAME     one definition of that module
+    CRATE::LAW      the clauses of a law: an empty function of the crate's src/, as fe2o3_sasl_negotiation::server_connections
+
+For each file of specs/: how many lines it has, and how many of its definitions the statements reach, with their lines
+(comments with them; imports, blank lines and what is not reached without). A definition that two statements reach counts once.
+
+What is left out:
+  - what specs/ takes from std, from other libraries of the kit, and from the types that Rust code declares;
+  - the arguments that a clause of a law passes to the definition at its head, as a machine, its first state, or what one
+    call does. The definition is a statement about any such argument, and what links the argument to code is a contract that
+    names it too: a reader compares the two names, and reads what an argument means only to know more than the law says. The
+    last line counts the arguments and what they rest on.
 """
 import re
 import sys
 from pathlib import Path
 
 CRATES = Path(__file__).resolve().parent.parent / "crates"
-LIBRARIES = ("fe2o3_sasl_wire", "fe2o3_scram", "fe2o3_sasl_runs", "fe2o3_sasl", "fe2o3_sasl_negotiation")
+LIBRARIES = ("fe2o3_sasl_wire", "fe2o3_scram", "fe2o3_sasl_runs", "fe2o3_sasl", "fe2o3_sasl_negotiation", "connection_laws")
 HEADLINE = "Rattle.fe2o3_sasl_runs.specs.Headline"
 HEAD = re.compile(r"(?:abbrev |unfoldable |infix\w* \d+ \S+ )*(?:pub )?(?:record |data )?(\S+)")
-USE = re.compile(r"use ([\w.]+?)(?:\.\{(.*)\})?(?: as (\w+))?$")
+USE = re.compile(r"(?:ghost )?use ([\w.]+?)(?:\.\{(.*)\})?(?: as (\w+))?;?$")
 
 
 def module_of(path, crate):
     return f"Rattle.{crate}.specs." + ".".join(path.relative_to(CRATES / crate / "specs").with_suffix("").parts)
 
 
-def read(path):
-    """The names that a file imports, the modules that it names, and its definitions with their comments."""
-    lines = path.read_text(encoding="utf-8").splitlines()
+def imports_of(lines):
+    """The names that a file imports, the modules that it names, and its other lines."""
     names, modules, body = {}, {}, []
     for line in lines:
         use = USE.match(line)
@@ -34,6 +45,13 @@ def read(path):
             modules[use[3] or use[1].split(".")[-1]] = use[1]
         else:
             body.append(line)
+    return names, modules, body
+
+
+def read(path):
+    """How many lines a file has, the names and the modules that it imports, and its definitions with their comments."""
+    lines = path.read_text(encoding="utf-8").splitlines()
+    names, modules, body = imports_of(lines)
     definitions = []
     for block in re.split(r"\n\n+", "\n".join(body).strip("\n")):
         code = [line for line in block.split("\n") if not line.startswith("--")]
@@ -57,7 +75,7 @@ def find(module, name):
 
 
 def cited(module, text):
-    """The definitions that a text names."""
+    """The definitions that a text of a module names."""
     _, names, modules, _ = FILES[module]
     for word in set(re.findall(r"[\w-]+(?:\.[\w-]+)*", text)):
         first, _, rest = word.partition(".")
@@ -66,10 +84,14 @@ def cited(module, text):
         yield find(*names.get(first, (module, first)))
 
 
-def reached_from(start):
-    """The definitions that the statements of a module rest on, each by its module and its place there."""
-    open_ones = [(start, place) for place in range(len(FILES[start][3]))]
-    reached = set()
+def whole(module):
+    """Each definition of a module."""
+    return [(module, place) for place in range(len(FILES[module][3]))]
+
+
+def rest_on(starts):
+    """The definitions that some definitions rest on, with them, each by its module and its place there."""
+    open_ones, reached = list(starts), set()
     while open_ones:
         found = open_ones.pop()
         if found and found not in reached:
@@ -78,15 +100,59 @@ def reached_from(start):
     return reached
 
 
+def reached_from(module):
+    """The definitions that the statements of a module rest on."""
+    return rest_on(whole(module))
+
+
+def law(crate, name):
+    """The definitions at the heads of the clauses of a law, and those that the clauses name as arguments."""
+    for path in (CRATES / crate / "src").rglob("*.rt"):
+        names, _, body = imports_of(path.read_text(encoding="utf-8").splitlines())
+        function = re.search(rf"^pub fn {name}\b.*?^\{{", "\n".join(body), re.M | re.S)
+        if function:
+            heads, arguments = [], []
+            for clause in re.findall(r"^    ensures \w* ?\{ (.*?) \}$", function[0], re.M | re.S):
+                found = [find(*names[word]) for word in re.findall(r"[\w-]+", clause) if word in names]
+                heads.append(found[0])
+                arguments += found[1:]
+            return heads, arguments
+    sys.exit(f"no law {crate}::{name}")
+
+
+def statements(words):
+    """The definitions that the words of the command line name, and the arguments of clauses among them."""
+    starts, arguments = [], []
+    for word in words:
+        module, _, name = word.partition(":")
+        if name.startswith(":"):
+            heads, more = law(module, name[1:])
+            starts += heads
+            arguments += more
+        elif module not in FILES:
+            sys.exit(f"no module {module}")
+        elif name:
+            starts.append(find(module, name) or sys.exit(f"no definition {word}"))
+        else:
+            starts += whole(module)
+    return starts, arguments
+
+
+def lines_of(reached):
+    return sum(FILES[module][3][place][2] for module, place in reached)
+
+
 def main():
-    reached = reached_from(sys.argv[1] if len(sys.argv) > 1 else HEADLINE)
-    total = 0
+    starts, arguments = statements(sys.argv[1:] or [HEADLINE])
+    reached = rest_on(starts)
     for module, (lines, _, _, definitions) in FILES.items():
         mine = [definitions[place][2] for at, place in reached if at == module]
         if mine:
-            total += sum(mine)
             print(f"{module}: {lines} lines; {len(mine)} of {len(definitions)} definitions, {sum(mine)} lines")
-    print(f"{len(reached)} definitions, {total} lines")
+    print(f"{len(reached)} definitions, {lines_of(reached)} lines")
+    if arguments:
+        more = rest_on(starts + arguments)
+        print(f"with the arguments of the clauses: {len(more)} definitions, {lines_of(more)} lines")
 
 
 if __name__ == "__main__":

@@ -12,6 +12,10 @@ pub mod CutConnectionLemmas
 pub mod CutCallLemmas
 pub mod SmallReplyLemmas
 pub mod ExactSideLemmas
+pub mod ReplyListLemmas
+pub mod UnalteredSideLemmas
+pub mod UnalteredBodyLemmas
+pub mod UnalteredEndLemmas
 pub mod UnalteredLemmas
 pub mod NegotiatedLemmas
 pub mod OneLoginLemmas

@@ -4,13 +4,14 @@ use Rattle.std.specs.Prelude.{◌≡◌, ℕ, ◌+◌, ◌<◌, ◌^◌, Option,
 use Rattle.fe2o3_sasl_wire.specs.SaslFrames.{SaslFrame, IsBytes}
 use Rattle.fe2o3_sasl_runs.specs.OneOfLaws.{Machine}
 use Rattle.fe2o3_sasl_runs.specs.Profiles.{Profile}
+use Rattle.fe2o3_sasl_runs.specs.Runs.{ProfileSteps}
 use Rattle.fe2o3_sasl_negotiation.specs.declared.standing.Due.{Due}
 use Rattle.fe2o3_sasl_negotiation.specs.declared.standing.Standing.TheVariants.{Wanting}
 use Rattle.fe2o3_sasl_negotiation.specs.ClientNegotiation.{ClientSideAnswers}
 use Rattle.fe2o3_sasl_negotiation.specs.Connections.{Piece, PieceNonceAt, ServerNegotiated, ClientNegotiated, ServerConnection, ClientConnection, fresh}
 use Rattle.fe2o3_sasl_negotiation.specs.Framing.{sasl_header, framed}
 use Rattle.fe2o3_sasl_negotiation.specs.Laws.{Call, Calls}
-use Rattle.fe2o3_sasl_negotiation.specs.Negotiations.{Side, SideOutput}
+use Rattle.fe2o3_sasl_negotiation.specs.Negotiations.{Side, SideOutput, Receives}
 use Rattle.fe2o3_sasl_negotiation.specs.ServerNegotiation.{ServerSideAnswers}
 
 -- the machine has one reply at most to each frame, and one state after it
@@ -57,15 +58,15 @@ FunctionsNegotiateEqually machine = IsFunction machine → ServersNegotiateEqual
 abbrev pub ClientsNegotiateEqually : Type 0
 ClientsNegotiateEqually = (hostname : Option (List ℕ)) (limit : ℕ) (profile : Profile) (pieces others : List Piece)
     (taken sent out : List ℕ) (last end : Side Profile) → limit < 2 ^ 32
-    → (first : ClientNegotiated hostname limit profile pieces taken sent last)
-    (second : ClientNegotiated hostname limit profile others taken out end)
+    → (first : ClientNegotiated (ProfileSteps hostname) limit profile pieces taken sent last)
+    (second : ClientNegotiated (ProfileSteps hostname) limit profile others taken out end)
     → HaveOneNonceEach pieces others taken
     → (first.events ≡ second.events) × (first.replies ≡ second.replies) × EndEqually sent out last end
 
 -- ---- from the first byte
 
 -- two connections of servers from one fresh side over the same bytes, in any two divisions, end equally. The law
--- `connections` of `fe2o3_sasl_negotiation` says that calls make such connections
+-- `server_connections` of `fe2o3_sasl_negotiation` says that calls make such connections
 abbrev pub ServersEndEqually : {S : Type 0} → (S → List (List ℕ)) → Machine S → Type 0
 ServersEndEqually {S} names machine = (limit : ℕ) (state : S) (pieces others : List Piece) (taken sent out : List ℕ)
     (last end : Side S) → limit < 2 ^ 32 → ServerConnection names machine limit state pieces taken sent last
@@ -80,8 +81,8 @@ FunctionsEndEqually names machine = IsFunction machine → ServersEndEqually nam
 abbrev pub ClientsEndEqually : Type 0
 ClientsEndEqually = (hostname : Option (List ℕ)) (limit : ℕ) (profile : Profile) (pieces others : List Piece)
     (taken sent out : List ℕ) (last end : Side Profile) → limit < 2 ^ 32
-    → ClientConnection hostname limit profile pieces taken sent last
-    → ClientConnection hostname limit profile others taken out end → HaveOneNonceEach pieces others taken
+    → ClientConnection (ProfileSteps hostname) limit profile pieces taken sent last
+    → ClientConnection (ProfileSteps hostname) limit profile others taken out end → HaveOneNonceEach pieces others taken
     → EndEqually sent out last end
 
 -- ---- of calls
@@ -93,12 +94,12 @@ pub record CallsOver {S : Type 0} (Answers : Due → S → List ℕ → List ℕ
   pub sent : List ℕ
   pub last : Side S
   pub rest : List ℕ
-  pub made : Calls Answers side calls stream sent last rest
+  pub made : Calls (Receives Answers) side calls stream sent last rest
 
 -- the bytes that each call took, with its nonce
 abbrev pub taken_pieces : {S : Type 0} (Answers : Due → S → List ℕ → List ℕ → SideOutput → S → Type 0) (side : Side S)
     (calls : List Call) (stream sent : List ℕ) (last : Side S) (rest : List ℕ)
-    → Calls Answers side calls stream sent last rest → List Piece
+    → Calls (Receives Answers) side calls stream sent last rest → List Piece
 taken_pieces Answers side [] stream sent last rest made = []
 taken_pieces Answers side (call ∷ calls) stream sent last rest (taken, first, next, later, receives, made, all) =
     record { bytes = take taken (take call.handed stream); nonce = call.nonce }

@@ -12,8 +12,7 @@ use Rattle.fe2o3_sasl_runs.specs.UnalteredRuns.{HoldsLogin}
 use Rattle.fe2o3_sasl_negotiation.specs.declared.standing.Standing.TheVariants.{LoggedIn}
 use Rattle.fe2o3_sasl_negotiation.specs.Laws.{Call}
 use Rattle.fe2o3_sasl_negotiation.specs.Negotiations.{Side}
-use Rattle.fe2o3_sasl_negotiation.specs.UnalteredConnections.{Joined}
-use Rattle.connection_laws.specs.Unaltered.{HasNonce, FitsFrames, TakesFrames}
+use Rattle.connection_laws.specs.Unaltered.{HasNonce, FitsFrames, Joined, TakesFrames}
 
 -- the calls can take this many bytes, in this many units of at most 512 bytes: each call is passed a byte or more, and
 -- there is one for each byte; or each is passed 512 bytes or more, and there is one for each unit

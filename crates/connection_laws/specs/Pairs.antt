@@ -15,16 +15,18 @@ use Rattle.fe2o3_sasl_runs.specs.Headline.{VerifierAgrees}
 use Rattle.fe2o3_sasl_runs.specs.Laws.{HoldsRecords}
 use Rattle.fe2o3_sasl_runs.specs.Positions.{IsLastOpen}
 use Rattle.fe2o3_sasl_runs.specs.Profiles.{Profile, scram_profile}
-use Rattle.fe2o3_sasl_runs.specs.SaslAcceptor.{Acceptor, ScramAcceptor, acceptor_names, acceptor_machine, acceptor_user}
+use Rattle.fe2o3_sasl_runs.specs.Runs.{ProfileSteps}
+use Rattle.fe2o3_sasl_runs.specs.SaslAcceptor.{ScramAcceptor, acceptor_names, acceptor_machine, acceptor_user}
 use Rattle.fe2o3_sasl_runs.specs.ServerHistory.{Accepted, AcceptsAt, final_message, is_challenge, is_ok}
 use Rattle.fe2o3_sasl_runs.specs.TwoSides.{Sides, sides_of, OkAt, Takes, Shows, Agree, client_message, server_message}
 use Rattle.fe2o3_sasl_runs.specs.UnalteredRuns.{HoldsLogin}
 use Rattle.fe2o3_sasl_runs.specs.Verdicts.{Verdict, JudgesProof}
 use Rattle.fe2o3_sasl_negotiation.specs.declared.standing.Standing.TheVariants.{LoggedIn}
-use Rattle.fe2o3_sasl_negotiation.specs.Connections.{Piece, ServerNegotiated, ClientNegotiated}
+use Rattle.fe2o3_sasl_negotiation.specs.Connections.{Piece, ClientNegotiated}
 use Rattle.fe2o3_sasl_negotiation.specs.Framing.{sasl_header, framed}
 use Rattle.fe2o3_sasl_negotiation.specs.Negotiations.{Side}
 use Rattle.fe2o3_sasl_negotiation.specs.ServerNegotiation.{offer_body}
+use Rattle.connection_laws.specs.Servers.{ServerBy}
 
 -- a connection of a SCRAM client of this login, after the server's header, over any bytes in any pieces
 pub record ClientOf (login : Login) : Type 0 where
@@ -33,16 +35,11 @@ pub record ClientOf (login : Login) : Type 0 where
   pub taken : List ℕ
   pub sent : List ℕ
   pub last : Side Profile
-  pub connection : ClientNegotiated login.hostname limit (scram_profile login) pieces taken sent last
+  pub connection : ClientNegotiated (ProfileSteps login.hostname) limit (scram_profile login) pieces taken sent last
 
 -- a connection of a SCRAM server over this provider, after the client's header, over any bytes in any pieces
-pub record ServerOf (provider : Provider) : Type 0 where
-  pub limit : ℕ
-  pub pieces : List Piece
-  pub taken : List ℕ
-  pub sent : List ℕ
-  pub last : Side Acceptor
-  pub connection : ServerNegotiated acceptor_machine limit (ScramAcceptor provider Initial) pieces taken sent last
+abbrev pub ServerOf : Provider → Type 0
+ServerOf provider = ServerBy acceptor_machine (ScramAcceptor provider Initial)
 
 -- the frame bodies and the replies of both
 abbrev pub sides : {login : Login} {provider : Provider} → ClientOf login → ServerOf provider → Sides
@@ -170,7 +167,7 @@ ShowsEqually login provider sides = (k : ℕ) × (n : ℕ) × (answer : Answerin
     × Shows sides k n answer accepted × MeanOneLogin login provider answer accepted
 
 -- where both have logged in over unaltered bytes, the server with a record that the client's secret opens, their
--- AuthMessages are equal. The law `unaltered_connections` of `fe2o3_sasl_negotiation` says where both log in
+-- AuthMessages are equal. The law `unaltered` says where both log in
 abbrev pub UnalteredConnectionsAgree : Type 0
 UnalteredConnectionsAgree = (login : Login) (provider : Provider) (client : ClientOf login) (server : ServerOf provider)
     (password salt : List ℕ) (count : ℕ) → IsLogin login → HoldsLogin (sides client server) password salt count

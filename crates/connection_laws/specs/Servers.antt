@@ -1,60 +1,52 @@
 -- What holds of the connections of each kind of server (AMQP 1.0, part 5, section 5.3). Each law is the contract of a
 -- clause of a function of `servers`.
-use Rattle.std.specs.Prelude.{◌≡◌, ◌≢◌, ◌↔◌, ℕ, Bool, Option, Some, None, List, [], ◌∷◌, length, Ok}
+use Rattle.std.specs.Prelude.{◌≡◌, ◌≢◌, ℕ, Bool, Option, Some, None, List, [], ◌∷◌, Ok}
 use Rattle.std.specs.List.{AllByRecursion}
 use Rattle.fe2o3_sasl_wire.specs.SaslFrames as frames
 use Rattle.fe2o3_sasl_wire.specs.SaslFrames.{SaslFrame}
 use Rattle.fe2o3_scram.specs.Credentials.{Provider, Store}
-use Rattle.fe2o3_scram.specs.HidingServer.{HidingServer}
 use Rattle.fe2o3_scram.specs.Nobody.{Nobody, with_nobody}
-use Rattle.fe2o3_scram.specs.ScramServer.{Initial, logged_in as named_in}
 use Rattle.fe2o3_sasl_runs.specs.Bodies.{SpellsBody}
 use Rattle.fe2o3_sasl_runs.specs.Events.{Given, ServerSays}
 use Rattle.fe2o3_sasl_runs.specs.ExternalAcceptor.{External, IsInitOf, external_machine, external_user}
-use Rattle.fe2o3_sasl_runs.specs.Headline.{AnswersOkExactly}
-use Rattle.fe2o3_sasl_runs.specs.HidingAcceptor.{hiding_machine, hiding_names}
-use Rattle.fe2o3_sasl_runs.specs.HidingLaws.{HoldsName, hiding}
+use Rattle.fe2o3_sasl_runs.specs.HidingLaws.{HoldsName}
 use Rattle.fe2o3_sasl_runs.specs.OffersOnly.{Offering, offering_machine}
 use Rattle.fe2o3_sasl_runs.specs.OneOf.{BothStates, both_names, one_of_machine, part_names}
-use Rattle.fe2o3_sasl_runs.specs.OneOfLaws.{Machine, Splits, PassesOn, AnswersAsScram, those, to_first, to_second}
+use Rattle.fe2o3_sasl_runs.specs.OneOfLaws.{Machine, Splits, PassesOn}
 use Rattle.fe2o3_sasl_runs.specs.OneOfUsers.{SomeEvent, AsksOffered}
 use Rattle.fe2o3_sasl_runs.specs.PlainAuthenticator.{PlainServer, PlainLogsIn, plain_machine}
-use Rattle.fe2o3_sasl_runs.specs.Runs.{AcceptorSteps}
-use Rattle.fe2o3_sasl_runs.specs.SaslAcceptor.{Acceptor, ScramAcceptor, acceptor_machine, acceptor_names}
-use Rattle.fe2o3_sasl_runs.specs.ServerHistory.{ServerHistory, LoggedIn as UserLoggedIn}
+use Rattle.fe2o3_sasl_runs.specs.Runs.{Runs, AcceptorSteps}
 use Rattle.fe2o3_sasl_runs.specs.declared.one_of.Part.{Part}
 use Rattle.fe2o3_sasl_runs.specs.declared.one_of.Part.TheVariants.{First, Second}
 use Rattle.fe2o3_sasl_negotiation.specs.declared.standing.Standing.TheVariants.{LoggedIn}
-use Rattle.fe2o3_sasl_negotiation.specs.Connections.{Piece, ServerNegotiated, LastReply, IsOkSent}
+use Rattle.fe2o3_sasl_negotiation.specs.Connections.{Piece, ServerNegotiated}
 use Rattle.fe2o3_sasl_negotiation.specs.Negotiations.{Side}
+use Rattle.fe2o3_sasl_negotiation.specs.ScramConnections.{ScramServes}
+
+-- a server's negotiation by this machine from this state, over any bytes in any pieces
+pub record ServerBy {S : Type 0} (machine : Machine S) (state : S) : Type 0 where
+  pub limit : ℕ
+  pub pieces : List Piece
+  pub taken : List ℕ
+  pub sent : List ℕ
+  pub last : Side S
+  pub connection : ServerNegotiated machine limit state pieces taken sent last
 
 -- ---- mock authentication
 
--- a server with mock authentication answers as a SCRAM server over its provider with the mock records of these names
--- after its own: it answers Ok exactly as the headline says, has logged a client in exactly where it sent that Ok, and
--- names the user of that challenge
-pub record MockServes (provider : Provider) (nobody : Nobody) (names : List (List ℕ)) (events : List Given)
-    (replies : List ServerSays) (last : Side HidingServer) : Type 0 where
-  pub history : ServerHistory (with_nobody provider nobody names) events replies
-  pub exactly : AnswersOkExactly (with_nobody provider nobody names) events replies
-  pub logged_in : (last.standing ≡ LoggedIn) ↔ LastReply IsOkSent replies
-  pub user : (user : List ℕ) → (named_in last.state.state ≡ Some user)
-      ↔ UserLoggedIn (with_nobody provider nobody names) events replies (length replies) user
-
--- every such server that nobody has used, and all names that hold those of its inits
-abbrev pub MockServersServe : Type 0
-MockServersServe = (provider : Provider) (nobody : Nobody) (names : List (List ℕ)) (limit : ℕ) (pieces : List Piece)
-    (taken sent : List ℕ) (last : Side HidingServer)
-    (negotiated : ServerNegotiated hiding_machine limit (hiding provider nobody Initial) pieces taken sent last)
-    → AllByRecursion (HoldsName provider.unbound names) negotiated.events
-    → MockServes provider nobody names negotiated.events negotiated.replies last
+-- every server of this machine that nobody has used: over its provider with the mock records of all names that hold those
+-- of its inits after its own, it serves as a SCRAM server
+abbrev pub MockServersServe : {S : Type 0} → Machine S → (Provider → Nobody → S) → (S → Option (List ℕ)) → Type 0
+MockServersServe {S} machine start named = (provider : Provider) (nobody : Nobody) (names : List (List ℕ))
+    (server : ServerBy machine (start provider nobody))
+    → AllByRecursion (HoldsName provider.unbound names) server.connection.events
+    → ScramServes (with_nobody provider nobody names) server.connection.events server.connection.replies
+    (named server.last.state)
 
 -- there are such names: each negotiation of a server has a list with the names of its inits
 abbrev pub NegotiationsHaveNames : {S : Type 0} → Machine S → Type 0
-NegotiationsHaveNames {S} machine = (unbound : Bool) (limit : ℕ) (state : S) (pieces : List Piece)
-    (taken sent : List ℕ) (last : Side S)
-    (negotiated : ServerNegotiated machine limit state pieces taken sent last)
-    → (names : List (List ℕ)) × AllByRecursion (HoldsName unbound names) negotiated.events
+NegotiationsHaveNames {S} machine = (unbound : Bool) (state : S) (server : ServerBy machine state)
+    → (names : List (List ℕ)) × AllByRecursion (HoldsName unbound names) server.connection.events
 
 -- ---- several mechanisms
 
@@ -62,83 +54,35 @@ NegotiationsHaveNames {S} machine = (unbound : Bool) (limit : ℕ) (state : S) (
 -- acceptor is a run of that acceptor by itself
 abbrev pub OneOfServersSplit : {S T : Type 0} → (S → List (List ℕ)) → (T → List (List ℕ)) → Machine S → Machine T
     → Type 0
-OneOfServersSplit {S} {T} names others machine other = (limit : ℕ) (state : BothStates S T) (pieces : List Piece)
-    (taken sent : List ℕ) (last : Side (BothStates S T))
-    (negotiated : ServerNegotiated (one_of_machine names others machine other) limit state pieces taken sent last)
+OneOfServersSplit {S} {T} names others machine other = (state : BothStates S T)
+    (server : ServerBy (one_of_machine names others machine other) state)
     → (marks : List (Option Part))
-    × Splits names others machine other state negotiated.events negotiated.replies last.state marks
+    × Splits names others machine other state server.connection.events server.connection.replies server.last.state marks
 
--- SCRAM that is the first of two answers Ok to the events that went to it exactly as the headline says, and names
--- exactly who has logged in
-abbrev pub ScramFirstServes : {T : Type 0} → (T → List (List ℕ)) → Machine T → Type 0
-ScramFirstServes {T} others other = (provider : Provider) (second : T) (limit : ℕ) (pieces : List Piece)
-    (taken sent : List ℕ) (last : Side (BothStates Acceptor T))
-    → let state : BothStates Acceptor T = record { first = ScramAcceptor provider Initial; second = second; asked = None } in
-    (negotiated : ServerNegotiated (one_of_machine acceptor_names others acceptor_machine other) limit state pieces taken
-    sent last)
-    → (marks : List (Option Part))
-    × Splits acceptor_names others acceptor_machine other state negotiated.events negotiated.replies last.state marks
-    × AnswersAsScram provider (those to_first marks negotiated.events) (those to_first marks negotiated.replies)
-    last.state.first
+-- every run of this machine from its first state serves as a SCRAM server. What went to a SCRAM acceptor is one, by
+-- `Splits`, and what was passed on to it, by `PassesOn`
+abbrev pub ScramRunsServe : {S : Type 0} → Machine S → (Provider → S) → (S → Option (List ℕ)) → Type 0
+ScramRunsServe {S} machine start named = (provider : Provider) (events : List Given) (replies : List ServerSays)
+    (last : S) → Runs (AcceptorSteps machine) (start provider) events replies last
+    → ScramServes provider events replies (named last)
 
--- and SCRAM that is the second
-abbrev pub ScramSecondServes : {S : Type 0} → (S → List (List ℕ)) → Machine S → Type 0
-ScramSecondServes {S} names machine = (provider : Provider) (first : S) (limit : ℕ) (pieces : List Piece)
-    (taken sent : List ℕ) (last : Side (BothStates S Acceptor))
-    → let state : BothStates S Acceptor = record { first = first; second = ScramAcceptor provider Initial; asked = None } in
-    (negotiated : ServerNegotiated (one_of_machine names acceptor_names machine acceptor_machine) limit state pieces taken
-    sent last)
-    → (marks : List (Option Part))
-    × Splits names acceptor_names machine acceptor_machine state negotiated.events negotiated.replies last.state marks
-    × AnswersAsScram provider (those to_second marks negotiated.events) (those to_second marks negotiated.replies)
-    last.state.second
-
--- SCRAM with mock authentication over these events, from its first state to this one: over its provider with the mock
--- records of all names that hold those of its inits, it answers Ok exactly as the headline says, and names exactly who
--- has logged in
-pub record AnswersAsMock (provider : Provider) (nobody : Nobody) (names : List (List ℕ)) (events : List Given)
-    (replies : List ServerSays) (last : HidingServer) : Type 0 where
-  pub exactly : AnswersOkExactly (with_nobody provider nobody names) events replies
-  pub user : (user : List ℕ) → (named_in last.state ≡ Some user)
-      ↔ UserLoggedIn (with_nobody provider nobody names) events replies (length replies) user
-
--- SCRAM with mock authentication that is the first of two answers so the events that went to it
-abbrev pub MockFirstServes : {T : Type 0} → (T → List (List ℕ)) → Machine T → Type 0
-MockFirstServes {T} others other = (provider : Provider) (nobody : Nobody) (second : T) (limit : ℕ)
-    (pieces : List Piece) (taken sent : List ℕ) (last : Side (BothStates HidingServer T))
-    → let state : BothStates HidingServer T =
-    record { first = hiding provider nobody Initial; second = second; asked = None } in
-    (negotiated : ServerNegotiated (one_of_machine hiding_names others hiding_machine other) limit state pieces taken
-    sent last)
-    → (marks : List (Option Part))
-    × Splits hiding_names others hiding_machine other state negotiated.events negotiated.replies last.state marks
-    × ((names : List (List ℕ)) → AllByRecursion (HoldsName provider.unbound names) (those to_first marks negotiated.events)
-    → AnswersAsMock provider nobody names (those to_first marks negotiated.events)
-    (those to_first marks negotiated.replies) last.state.first)
-
--- and so does one that is the second
-abbrev pub MockSecondServes : {S : Type 0} → (S → List (List ℕ)) → Machine S → Type 0
-MockSecondServes {S} names machine = (provider : Provider) (nobody : Nobody) (first : S) (limit : ℕ)
-    (pieces : List Piece) (taken sent : List ℕ) (last : Side (BothStates S HidingServer))
-    → let state : BothStates S HidingServer =
-    record { first = first; second = hiding provider nobody Initial; asked = None } in
-    (negotiated : ServerNegotiated (one_of_machine names hiding_names machine hiding_machine) limit state pieces taken
-    sent last)
-    → (marks : List (Option Part))
-    × Splits names hiding_names machine hiding_machine state negotiated.events negotiated.replies last.state marks
-    × ((users : List (List ℕ)) → AllByRecursion (HoldsName provider.unbound users) (those to_second marks negotiated.events)
-    → AnswersAsMock provider nobody users (those to_second marks negotiated.events)
-    (those to_second marks negotiated.replies) last.state.second)
+-- and of a machine with mock authentication, over its provider with the mock records of all names that hold those of its
+-- inits after its own
+abbrev pub MockRunsServe : {S : Type 0} → Machine S → (Provider → Nobody → S) → (S → Option (List ℕ)) → Type 0
+MockRunsServe {S} machine start named = (provider : Provider) (nobody : Nobody) (names : List (List ℕ))
+    (events : List Given) (replies : List ServerSays) (last : S)
+    → AllByRecursion (HoldsName provider.unbound names) events
+    → Runs (AcceptorSteps machine) (start provider nobody) events replies last
+    → ScramServes (with_nobody provider nobody names) events replies (named last)
 
 -- ---- only some of the names
 
 -- a server that offers only some of its names: each event was passed on as `is_passed_on` says in the state before it,
 -- what was passed on is a run of its acceptor by itself, and the rest was rejected
 abbrev pub OfferingServersPassOn : {S : Type 0} → (S → List (List ℕ)) → Machine S → Type 0
-OfferingServersPassOn {S} names machine = (limit : ℕ) (state : Offering S) (pieces : List Piece)
-    (taken sent : List ℕ) (last : Side (Offering S))
-    (negotiated : ServerNegotiated (offering_machine names machine) limit state pieces taken sent last)
-    → (marks : List Bool) × PassesOn names machine state negotiated.events negotiated.replies last.state marks
+OfferingServersPassOn {S} names machine = (state : Offering S) (server : ServerBy (offering_machine names machine) state)
+    → (marks : List Bool)
+    × PassesOn names machine state server.connection.events server.connection.replies server.last.state marks
 
 -- the machine of a server of two acceptors that offers only some of their names
 abbrev pub offering_both : {S T : Type 0} → (S → List (List ℕ)) → (T → List (List ℕ)) → Machine S → Machine T
@@ -152,15 +96,14 @@ offering_both {S} {T} names others machine other =
 abbrev pub OfferingServersNameUsers : {S T : Type 0} → (S → List (List ℕ)) → (T → List (List ℕ)) → Machine S
     → Machine T → Type 0
 OfferingServersNameUsers {S} {T} names others machine other = (user : S → Option (List ℕ))
-    (other_user : T → Option (List ℕ)) (limit : ℕ) (state : Offering (BothStates S T)) (pieces : List Piece)
-    (taken sent : List ℕ) (last : Side (Offering (BothStates S T))) (name : List ℕ)
-    (negotiated : ServerNegotiated (offering_both names others machine other) limit state pieces taken sent last)
-    → let parts : BothStates S T = last.state.inner in
+    (other_user : T → Option (List ℕ)) (state : Offering (BothStates S T))
+    (server : ServerBy (offering_both names others machine other) state) (name : List ℕ)
+    → let parts : BothStates S T = server.last.state.inner in
     state.inner.asked ≡ None → part_names parts.asked (user parts.first) (other_user parts.second) ≡ Some name
     → (part : Part) × (part_names (Some part) (user parts.first) (other_user parts.second) ≡ Some name)
     × (parts.asked ≡ Some part)
-    × SomeEvent (AcceptorSteps (offering_both names others machine other)) state negotiated.events negotiated.replies
-    (AsksOffered names others part)
+    × SomeEvent (AcceptorSteps (offering_both names others machine other)) state server.connection.events
+    server.connection.replies (AsksOffered names others part)
 
 -- ---- who has logged in at one of several
 
@@ -174,46 +117,41 @@ side_with state side = record {
   state = state;
 }
 
--- the bytes are a negotiation of this machine too, between these states of it, with these events and replies
-abbrev pub NegotiatesAs : {S T : Type 0} → Machine T → ℕ → T → List Piece → List ℕ → List ℕ → Side S → T → List Given
-    → List ServerSays → Type 0
-NegotiatesAs machine limit state pieces taken sent last end events replies =
-    (own : ServerNegotiated machine limit state pieces taken sent (side_with end last)) × (own.events ≡ events)
-    × (own.replies ≡ replies)
+-- the bytes are a negotiation of this machine too, between these states of it, with the same events and replies
+abbrev pub NegotiatesAs : {S T : Type 0} (whole : Machine S) (state : S) → ServerBy whole state → Machine T → T → T
+    → Type 0
+NegotiatesAs whole state server machine begin end =
+    (own : ServerNegotiated machine server.limit begin server.pieces server.taken server.sent (side_with end server.last))
+    × (own.events ≡ server.connection.events) × (own.replies ≡ server.connection.replies)
 
 -- and one of this part of a server of two acceptors
-abbrev pub PartNegotiates : {S T : Type 0} → Machine S → Machine T → Part → ℕ → BothStates S T → List Piece → List ℕ
-    → List ℕ → Side (BothStates S T) → List Given → List ServerSays → Type 0
-PartNegotiates machine other First limit state pieces taken sent last events replies =
-    NegotiatesAs machine limit state.first pieces taken sent last last.state.first events replies
-PartNegotiates machine other Second limit state pieces taken sent last events replies =
-    NegotiatesAs other limit state.second pieces taken sent last last.state.second events replies
+abbrev pub PartNegotiates : {S T : Type 0} (whole : Machine (BothStates S T)) (state : BothStates S T)
+    → ServerBy whole state → Machine S → Machine T → Part → Type 0
+PartNegotiates whole state server machine other First =
+    NegotiatesAs whole state server machine state.first server.last.state.first
+PartNegotiates whole state server machine other Second =
+    NegotiatesAs whole state server other state.second server.last.state.second
 
 -- a server of two acceptors that has logged its client in is, byte for byte, a server of the acceptor asked last
 abbrev pub OneOfServersActAsPart : {S T : Type 0} → (S → List (List ℕ)) → (T → List (List ℕ)) → Machine S → Machine T
     → Type 0
-OneOfServersActAsPart {S} {T} names others machine other = (limit : ℕ) (state : BothStates S T) (pieces : List Piece)
-    (taken sent : List ℕ) (last : Side (BothStates S T))
-    (negotiated : ServerNegotiated (one_of_machine names others machine other) limit state pieces taken sent last)
-    → last.standing ≡ LoggedIn
-    → (part : Part) × (last.state.asked ≡ Some part)
-    × PartNegotiates machine other part limit state pieces taken sent last negotiated.events negotiated.replies
+OneOfServersActAsPart {S} {T} names others machine other = (state : BothStates S T)
+    (server : ServerBy (one_of_machine names others machine other) state) → server.last.standing ≡ LoggedIn
+    → (part : Part) × (server.last.state.asked ≡ Some part)
+    × PartNegotiates (one_of_machine names others machine other) state server machine other part
 
 -- and one that offers only some of its names is a server of its acceptor
 abbrev pub OfferingServersActAsInner : {S : Type 0} → (S → List (List ℕ)) → Machine S → Type 0
-OfferingServersActAsInner {S} names machine = (limit : ℕ) (state : Offering S) (pieces : List Piece)
-    (taken sent : List ℕ) (last : Side (Offering S))
-    (negotiated : ServerNegotiated (offering_machine names machine) limit state pieces taken sent last)
-    → last.standing ≡ LoggedIn
-    → NegotiatesAs machine limit state.inner pieces taken sent last last.state.inner negotiated.events negotiated.replies
+OfferingServersActAsInner {S} names machine = (state : Offering S)
+    (server : ServerBy (offering_machine names machine) state) → server.last.standing ≡ LoggedIn
+    → NegotiatesAs (offering_machine names machine) state server machine state.inner server.last.state.inner
 
 -- ---- who has not logged in
 
 -- the acceptor of a server that has not logged its client in is as it was, so that it names nobody new
 abbrev pub ServersStay : {S : Type 0} → Machine S → Type 0
-ServersStay {S} machine = (limit : ℕ) (state : S) (pieces : List Piece) (taken sent : List ℕ) (last : Side S)
-    (negotiated : ServerNegotiated machine limit state pieces taken sent last)
-    → last.standing ≢ LoggedIn → last.state ≡ state
+ServersStay {S} machine = (state : S) (server : ServerBy machine state) → server.last.standing ≢ LoggedIn
+    → server.last.state ≡ state
 
 -- ---- EXTERNAL
 
@@ -231,9 +169,8 @@ pub record ExternalLogsIn (user : List ℕ) (events : List Given) (last : Extern
 
 -- every server of EXTERNAL
 abbrev pub ExternalServersLogIn : Type 0
-ExternalServersLogIn = (limit : ℕ) (state : External) (pieces : List Piece) (taken sent : List ℕ)
-    (last : Side External) (negotiated : ServerNegotiated external_machine limit state pieces taken sent last)
-    → last.standing ≡ LoggedIn → ExternalLogsIn state.user negotiated.events last.state
+ExternalServersLogIn = (state : External) (server : ServerBy external_machine state) → server.last.standing ≡ LoggedIn
+    → ExternalLogsIn state.user server.connection.events server.last.state
 
 -- ---- PLAIN
 
@@ -250,6 +187,5 @@ pub record PlainServes (provider : Store) (events : List Given) (last : PlainSer
 
 -- every server of PLAIN over records
 abbrev pub PlainServersLogIn : Type 0
-PlainServersLogIn = (limit : ℕ) (state : PlainServer) (pieces : List Piece) (taken sent : List ℕ)
-    (last : Side PlainServer) (negotiated : ServerNegotiated plain_machine limit state pieces taken sent last)
-    → last.standing ≡ LoggedIn → PlainServes state.provider negotiated.events last.state
+PlainServersLogIn = (state : PlainServer) (server : ServerBy plain_machine state) → server.last.standing ≡ LoggedIn
+    → PlainServes state.provider server.connection.events server.last.state

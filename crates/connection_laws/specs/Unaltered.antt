@@ -14,13 +14,28 @@ use Rattle.fe2o3_sasl_runs.specs.ServerHistory.{Accepted, AcceptsAt}
 use Rattle.fe2o3_sasl_runs.specs.TwoSides.{Sides, sides_of, client_message, server_message}
 use Rattle.fe2o3_sasl_runs.specs.UnalteredRuns.{HoldsLogin, UnalteredRun, LogsIn}
 use Rattle.fe2o3_sasl_negotiation.specs.declared.standing.Standing.TheVariants.{LoggedIn}
-use Rattle.fe2o3_sasl_negotiation.specs.Connections.{Piece, frames_of, ClientNegotiated, ServerNegotiated}
+use Rattle.fe2o3_sasl_negotiation.specs.ClientNegotiation.{ClientReceives}
+use Rattle.fe2o3_sasl_negotiation.specs.Connections.{Piece, frames_of, ClientNegotiated, ServerNegotiated, fresh}
 use Rattle.fe2o3_sasl_negotiation.specs.FrameSizes.{length_of}
 use Rattle.fe2o3_sasl_negotiation.specs.Framing.{sasl_header, framed}
-use Rattle.fe2o3_sasl_negotiation.specs.Laws.{Call}
+use Rattle.fe2o3_sasl_negotiation.specs.Laws.{Call, Calls}
 use Rattle.fe2o3_sasl_negotiation.specs.Negotiations.{Side}
-use Rattle.fe2o3_sasl_negotiation.specs.ServerNegotiation.{offer_body}
-use Rattle.fe2o3_sasl_negotiation.specs.UnalteredConnections.{Joined}
+use Rattle.fe2o3_sasl_negotiation.specs.ServerNegotiation.{offer_body, ServerReceives}
+
+-- a SCRAM client and a SCRAM server that are joined: each receives what the other sends, the server after the client's
+-- header, in whatever calls, and in the end each has taken all of it
+pub record Joined (login : Login) (provider : Provider) (client : Side Profile) (server : Side Acceptor) : Type 0 where
+  pub client_limit : ℕ
+  pub server_limit : ℕ
+  pub client_calls : List Call
+  pub server_calls : List Call
+  pub client_sent : List ℕ
+  pub server_sent : List ℕ
+  pub client_takes : Calls (ClientReceives login.hostname) (fresh client_limit (scram_profile login)) client_calls
+      server_sent client_sent client []
+  pub server_takes : Calls (ServerReceives acceptor_names acceptor_machine)
+      (fresh server_limit (ScramAcceptor provider Initial)) server_calls (sasl_header ++ client_sent) server_sent
+      server []
 
 -- the nonce of a call has 32 bytes
 abbrev pub HasNonce : Call → Type 0
@@ -86,7 +101,7 @@ NegotiationsAgree = (login : Login) (provider : Provider) (password salt : List 
     → (client_pieces server_pieces : List Piece) (offer out : List ℕ)
     → offer_body (acceptor_names (ScramAcceptor provider Initial)) ≡ Some offer
     → joined.server_sent ≡ sasl_header ++ (framed offer ++ out)
-    → (mine : ClientNegotiated login.hostname joined.client_limit (scram_profile login) client_pieces joined.server_sent
+    → (mine : ClientNegotiated (ProfileSteps login.hostname) joined.client_limit (scram_profile login) client_pieces joined.server_sent
     joined.client_sent client)
     (theirs : ServerNegotiated acceptor_machine joined.server_limit (ScramAcceptor provider Initial) server_pieces
     (sasl_header ++ joined.client_sent) out server)

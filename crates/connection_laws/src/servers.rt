@@ -1,34 +1,41 @@
 //! What the bytes of a connection say of each kind of server.
 
+ghost use Rattle.fe2o3_scram.specs.HidingServer.{HidingServer};
+ghost use Rattle.fe2o3_scram.specs.ScramServer.{Initial, logged_in as named_in};
 ghost use Rattle.fe2o3_sasl_runs.specs.ExternalAcceptor.{external_machine};
 ghost use Rattle.fe2o3_sasl_runs.specs.HidingAcceptor.{hiding_machine};
+ghost use Rattle.fe2o3_sasl_runs.specs.HidingLaws.{hiding};
 ghost use Rattle.fe2o3_sasl_runs.specs.PlainAuthenticator.{plain_machine};
-ghost use Rattle.connection_laws.specs.Servers.{MockServersServe, NegotiationsHaveNames, OneOfServersSplit, ScramFirstServes, ScramSecondServes, MockFirstServes, MockSecondServes, OneOfServersActAsPart, OfferingServersPassOn, OfferingServersActAsInner, OfferingServersNameUsers, ServersStay, ExternalServersLogIn, PlainServersLogIn};
+ghost use Rattle.fe2o3_sasl_runs.specs.SaslAcceptor.{ScramAcceptor, acceptor_machine, acceptor_user};
+ghost use Rattle.fe2o3_sasl_negotiation.specs.Connections.{ServerConnectionsLogIn};
+ghost use Rattle.connection_laws.specs.Servers.{MockServersServe, NegotiationsHaveNames, OneOfServersSplit, ScramRunsServe, MockRunsServe, OneOfServersActAsPart, OfferingServersPassOn, OfferingServersActAsInner, OfferingServersNameUsers, ServersStay, ExternalServersLogIn, PlainServersLogIn};
 
 use fe2o3_sasl_runs::one_of::HasMechanism;
 
 /// Mock authentication over the bytes of a connection. Each negotiation of a server with mock authentication is a history
 /// of a SCRAM server over its provider with mock records after its own, for any list with the names of its inits; there
 /// is such a list. The server answers Ok exactly to a response that fits its open challenge and whose proof meets the
-/// stored key. It has logged a client in exactly where its last reply is an Ok that was sent. It names exactly the user
-/// of the challenge that this Ok closed.
+/// stored key, and names exactly the user of the challenge that this Ok closed. It has logged a client in exactly where
+/// its last reply is an Ok that was sent.
 pub fn mock()
-    ensures serves { MockServersServe }
+    ensures serves { MockServersServe hiding_machine (λ provider nobody. hiding provider nobody Initial)
+        (λ (server : HidingServer). named_in server.state) }
     ensures names { NegotiationsHaveNames hiding_machine }
+    ensures logged_in { ServerConnectionsLogIn hiding_machine }
 {}
 
 /// A server of several mechanisms over the bytes of a connection. Each event of a negotiation went where `part_for` sends
 /// it in the state before it: to one of two acceptors, or to neither, and then it was rejected. What went to one acceptor
-/// is a run of that acceptor by itself. A SCRAM acceptor, first or second, answers Ok to what went to it exactly as the
-/// headline theorem says, and names exactly who has logged in. With mock authentication it does so over its provider
-/// with mock records after its own, for any list with the names of the inits that went to it. A server that has logged a
-/// client in is, byte for byte, a server of the acceptor asked last, so that all laws of that acceptor hold of it.
+/// is a run of that acceptor by itself. Every run of a SCRAM acceptor answers Ok exactly as the headline theorem says, and
+/// names exactly who has logged in, so that this holds of what went to a SCRAM acceptor, first or second. With mock
+/// authentication it does so over its provider with mock records after its own, for any list with the names of the inits
+/// that went to it. A server that has logged a client in is, byte for byte, a server of the acceptor asked last, so that
+/// all laws of that acceptor hold of it.
 pub fn one_of<A: HasMechanism, B: HasMechanism>()
     ensures split { OneOfServersSplit A.names B.names A.machine B.machine }
-    ensures scram_first { ScramFirstServes B.names B.machine }
-    ensures scram_second { ScramSecondServes A.names A.machine }
-    ensures mock_first { MockFirstServes B.names B.machine }
-    ensures mock_second { MockSecondServes A.names A.machine }
+    ensures scram { ScramRunsServe acceptor_machine (λ provider. ScramAcceptor provider Initial) acceptor_user }
+    ensures mock { MockRunsServe hiding_machine (λ provider nobody. hiding provider nobody Initial)
+        (λ (server : HidingServer). named_in server.state) }
     ensures logged_in { OneOfServersActAsPart A.names B.names A.machine B.machine }
 {}
 

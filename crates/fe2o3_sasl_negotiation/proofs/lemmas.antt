@@ -8,13 +8,11 @@ pub mod UnitLemmas
 pub mod KindLemmas
 pub mod PieceLemmas
 pub mod ConnectionLemmas
-pub mod JoinedSideLemmas
 pub mod ServerConnectionLemmas
 pub mod ClientConnectionLemmas
 pub mod LoginLemmas
 pub mod NamedUserLemmas
 pub mod ContinueLemmas
-pub mod UnalteredConnectionLemmas
 pub mod CostLemmas
 pub mod ServerCostLemmas
 pub mod ClientCostLemmas

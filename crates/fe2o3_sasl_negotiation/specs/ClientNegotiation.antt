@@ -18,7 +18,7 @@ use Rattle.fe2o3_sasl_negotiation.specs.declared.standing.Turn.{Turn}
 use Rattle.fe2o3_sasl_negotiation.specs.declared.standing.Turn.TheVariants as turns
 use Rattle.fe2o3_sasl_negotiation.specs.declared.standing.Standing.TheVariants.{Wanting, LoggedIn}
 use Rattle.fe2o3_sasl_negotiation.specs.Framing.{sasl_header}
-use Rattle.fe2o3_sasl_negotiation.specs.Negotiations.{Side, SideOutput, closes, Sends, IsInTurn, AnswersTo, Receives, Completes}
+use Rattle.fe2o3_sasl_negotiation.specs.Negotiations.{Side, SideOutput, closes, Sends, IsInTurn, AnswersTo, Receiving, Receives, Completes}
 
 -- what it answers to a header: the one of SASL it waits for, another closes
 abbrev pub ClientOpens : List ℕ → SideOutput → Type 0
@@ -56,9 +56,8 @@ ClientSideAnswers hostname (Frame turn) profile nonce unit answer next =
     ClientReplies hostname turn profile (record { body = drop 4 unit; nonce = nonce }) answer next
 
 -- what a call makes of the bytes that it is handed
-abbrev pub ClientReceives : Option (List ℕ) → Side Profile → List ℕ → List ℕ → ℕ → List ℕ → Side Profile → Type 0
-ClientReceives hostname side bytes nonce taken sent next =
-    Receives (ClientSideAnswers hostname) side bytes nonce taken sent next
+abbrev pub ClientReceives : Option (List ℕ) → Receiving Profile
+ClientReceives hostname = Receives (ClientSideAnswers hostname)
 
 -- the HMAC values of an answer to a body: none, or those of the profile's step over a body in turn
 abbrev pub ClientReplyCosts : Turn → Profile → Given → ℕ → ℕ → Type 0

@@ -1,13 +1,12 @@
 -- What a side of a connection makes of the bytes that arrive, in whatever pieces (AMQP 1.0, part 5, section 5.3.2). Each
--- law is the contract of a clause of `laws::connections`.
+-- law is the contract of a clause of `laws::server_connections` or of `laws::client_connections`.
 use Rattle.std.specs.Prelude.{◌≡◌, ◌≢◌, ◌⊎◌, ◌↔◌, ℕ, ◌+◌, ◌<◌, ◌≤◌, Option, Some, List, [], ◌∷◌, ◌++◌, length, replicate, flat_map, slice_get, Result, Ok, Err}
 use Rattle.fe2o3_sasl_wire.specs.declared.amqp_types.SaslCode.TheVariants as outcomes
 use Rattle.fe2o3_sasl_wire.specs.declared.sasl_frames.error.Error.{Error}
 use Rattle.fe2o3_sasl_wire.specs.SaslFrames.{SaslFrame, IsBytes}
 use Rattle.fe2o3_sasl_runs.specs.Bodies.{SpellsBody}
 use Rattle.fe2o3_sasl_runs.specs.Events.{Given, ServerSays, Concluded, ClientSays, Reported}
-use Rattle.fe2o3_sasl_runs.specs.Profiles.{Profile}
-use Rattle.fe2o3_sasl_runs.specs.Runs.{Runs, AcceptorSteps, ProfileSteps}
+use Rattle.fe2o3_sasl_runs.specs.Runs.{Runs, AcceptorSteps}
 use Rattle.fe2o3_sasl_negotiation.specs.declared.standing.ClosedBecause.{ClosedBecause}
 use Rattle.fe2o3_sasl_negotiation.specs.declared.standing.ClosedBecause.TheVariants.{FrameSize, OtherHeader, OutOfTurn, ReplyTooLarge, Unread}
 use Rattle.fe2o3_sasl_negotiation.specs.declared.standing.Due.TheVariants.{Header, Frame}
@@ -15,12 +14,11 @@ use Rattle.fe2o3_sasl_negotiation.specs.declared.standing.Standing.{Standing}
 use Rattle.fe2o3_sasl_negotiation.specs.declared.standing.Standing.TheVariants.{Wanting, LoggedIn, Closed}
 use Rattle.fe2o3_sasl_negotiation.specs.declared.standing.Turn.{Turn}
 use Rattle.fe2o3_sasl_negotiation.specs.declared.standing.Turn.TheVariants as turns
-use Rattle.fe2o3_sasl_negotiation.specs.ClientNegotiation.{ClientSideAnswers}
 use Rattle.fe2o3_sasl_negotiation.specs.ClientNegotiation as of_client
 use Rattle.fe2o3_sasl_negotiation.specs.Framing.{sasl_header, framed, size_of, Fits, IsPart}
 use Rattle.fe2o3_sasl_negotiation.specs.Laws.{Call, Calls}
-use Rattle.fe2o3_sasl_negotiation.specs.Negotiations.{Side, SideOutput, IsInTurn}
-use Rattle.fe2o3_sasl_negotiation.specs.ServerNegotiation.{offer_body, ServerSideAnswers}
+use Rattle.fe2o3_sasl_negotiation.specs.Negotiations.{Side, SideOutput, IsInTurn, Receiving}
+use Rattle.fe2o3_sasl_negotiation.specs.ServerNegotiation.{offer_body}
 use Rattle.fe2o3_sasl_negotiation.specs.ServerNegotiation as of_server
 
 -- ---- the bytes that arrive
@@ -112,10 +110,11 @@ ServerNegotiated machine limit state pieces taken sent last =
     Negotiated (AcceptorSteps machine) of_server.ServerOutputs (turns.Init ∷ turns.Response ∷ []) limit state pieces taken sent last
 
 -- and of a client: a list of mechanisms is due, then a challenge or at once an outcome, and after a challenge an outcome
-abbrev pub ClientNegotiated : Option (List ℕ) → ℕ → Profile → List Piece → List ℕ → List ℕ → Side Profile → Type 0
-ClientNegotiated hostname limit profile pieces taken sent last =
-    Negotiated (ProfileSteps hostname) of_client.ClientOutputs (turns.Mechanisms ∷ turns.Challenge ∷ turns.Outcome ∷ []) limit
-    profile pieces taken sent last
+abbrev pub ClientNegotiated : {S : Type 0} → (S → Given → ClientSays → S → Type 0) → ℕ → S → List Piece → List ℕ
+    → List ℕ → Side S → Type 0
+ClientNegotiated Steps limit state pieces taken sent last =
+    Negotiated Steps of_client.ClientOutputs (turns.Mechanisms ∷ turns.Challenge ∷ turns.Outcome ∷ []) limit state pieces
+    taken sent last
 
 -- ---- from the first byte
 
@@ -149,39 +148,43 @@ ServerConnection names machine limit state pieces taken sent last =
     ⊎ ((offer : List ℕ) × (out : List ℕ) × (offer_body (names state) ≡ Some offer) × (length offer + 4 ≤ 512)
     × (sent ≡ sasl_header ++ (framed offer ++ out)) × ServerNegotiated machine limit state pieces taken out last)
 
--- and a client's side, from a fresh one whose profile is this: what it sends comes after its own header, and nothing is
--- sent for the server's
-abbrev pub ClientConnection : Option (List ℕ) → ℕ → Profile → List Piece → List ℕ → List ℕ → Side Profile → Type 0
-ClientConnection hostname limit profile pieces taken sent last =
-    IsHeaderPart limit profile taken sent last
-    ⊎ (IsOtherHeader profile taken last × (sent ≡ []))
-    ⊎ ClientNegotiated hostname limit profile pieces taken sent last
+-- and a client's side, from a fresh one whose profile takes these steps and is in this state: what it sends comes after
+-- its own header, and nothing is sent for the server's
+abbrev pub ClientConnection : {S : Type 0} → (S → Given → ClientSays → S → Type 0) → ℕ → S → List Piece → List ℕ
+    → List ℕ → Side S → Type 0
+ClientConnection Steps limit state pieces taken sent last =
+    IsHeaderPart limit state taken sent last
+    ⊎ (IsOtherHeader state taken last × (sent ≡ []))
+    ⊎ ClientNegotiated Steps limit state pieces taken sent last
 
 -- ---- the laws
 
--- the pieces that calls take: each at most as long as what its call was handed, with the nonce of that call
+-- the pieces that calls take: each at most as long as what its call was passed, with the nonce of that call
 abbrev pub ArePieces : List Call → List Piece → Type 0
 ArePieces [] [] = Unit {0}
 ArePieces (call ∷ calls) (piece ∷ pieces) =
     (length piece.bytes ≤ call.handed) × (piece.nonce ≡ call.nonce) × ArePieces calls pieces
 ArePieces calls pieces = ⊥
 
--- every server, of whatever acceptor, limit, calls and bytes
+-- every server, of whatever acceptor, limit, calls and bytes. What one call does is what the
+-- contract of `ServerNegotiation::receive` says
 abbrev pub ServersConnect : {S : Type 0} → (S → List (List ℕ)) → (S → List ℕ → SaslFrame → SaslFrame → S → Type 0)
-    → Type 0
-ServersConnect {S} names machine = (limit : ℕ) (state : S) (calls : List Call) (stream sent rest : List ℕ)
+    → Receiving S → Type 0
+ServersConnect {S} names machine OneCall = (limit : ℕ) (state : S) (calls : List Call) (stream sent rest : List ℕ)
     (last : Side S) → IsBytes stream
-    → Calls (ServerSideAnswers names machine) (fresh limit state) calls stream sent last rest
+    → Calls OneCall (fresh limit state) calls stream sent last rest
     → (pieces : List Piece) × ArePieces calls pieces × (stream ≡ bytes_of pieces ++ rest)
     × ServerConnection names machine limit state pieces (bytes_of pieces) sent last
 
--- and every client, of whatever profile and hostname
-abbrev pub ClientsConnect : Type 0
-ClientsConnect = (hostname : Option (List ℕ)) (limit : ℕ) (profile : Profile) (calls : List Call)
-    (stream sent rest : List ℕ) (last : Side Profile) → IsBytes stream
-    → Calls (ClientSideAnswers hostname) (fresh limit profile) calls stream sent last rest
+-- and every client, of whatever profile, hostname, limit, calls and bytes. What one call does is
+-- what the contract of `ClientNegotiation::receive` says
+abbrev pub ClientsConnect : {S : Type 0} → (Option (List ℕ) → S → Given → ClientSays → S → Type 0)
+    → (Option (List ℕ) → Receiving S) → Type 0
+ClientsConnect {S} Steps OneCall = (hostname : Option (List ℕ)) (limit : ℕ) (state : S) (calls : List Call)
+    (stream sent rest : List ℕ) (last : Side S) → IsBytes stream
+    → Calls (OneCall hostname) (fresh limit state) calls stream sent last rest
     → (pieces : List Piece) × ArePieces calls pieces × (stream ≡ bytes_of pieces ++ rest)
-    × ClientConnection hostname limit profile pieces (bytes_of pieces) sent last
+    × ClientConnection (Steps hostname) limit state pieces (bytes_of pieces) sent last
 
 -- the last of the replies is such
 abbrev pub LastReply : {A : Type 0} → (A → Type 0) → List A → Type 0
@@ -204,8 +207,8 @@ ServerConnectionsLogIn {S} machine = (limit : ℕ) (state : S) (pieces : List Pi
     → (last.standing ≡ LoggedIn) ↔ LastReply IsOkSent negotiated.replies
 
 -- and a client has logged in exactly where its last reply reports an Ok
-abbrev pub ClientConnectionsLogIn : Type 0
-ClientConnectionsLogIn = (hostname : Option (List ℕ)) (limit : ℕ) (profile : Profile) (pieces : List Piece)
-    (taken sent : List ℕ) (last : Side Profile)
-    (negotiated : ClientNegotiated hostname limit profile pieces taken sent last)
+abbrev pub ClientConnectionsLogIn : {S : Type 0} → (Option (List ℕ) → S → Given → ClientSays → S → Type 0) → Type 0
+ClientConnectionsLogIn {S} Steps = (hostname : Option (List ℕ)) (limit : ℕ) (state : S) (pieces : List Piece)
+    (taken sent : List ℕ) (last : Side S)
+    (negotiated : ClientNegotiated (Steps hostname) limit state pieces taken sent last)
     → (last.standing ≡ LoggedIn) ↔ LastReply IsOkReported negotiated.replies

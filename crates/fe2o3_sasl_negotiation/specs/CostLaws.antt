@@ -8,11 +8,11 @@ use Rattle.fe2o3_sasl_runs.specs.Costs.{acceptor_hmacs}
 use Rattle.fe2o3_sasl_runs.specs.Profiles.{Profile, ScramProfile}
 use Rattle.fe2o3_sasl_runs.specs.SaslAcceptor.{Acceptor, ScramAcceptor, acceptor_names, acceptor_machine}
 use Rattle.fe2o3_sasl_negotiation.specs.declared.standing.Due.{Due}
-use Rattle.fe2o3_sasl_negotiation.specs.ClientNegotiation.{ClientSideAnswers, ClientCosts}
+use Rattle.fe2o3_sasl_negotiation.specs.ClientNegotiation.{ClientSideAnswers, ClientReceives, ClientCosts}
 use Rattle.fe2o3_sasl_negotiation.specs.Connections.{fresh}
 use Rattle.fe2o3_sasl_negotiation.specs.Laws.{Call, Calls}
 use Rattle.fe2o3_sasl_negotiation.specs.Negotiations.{Side, SideOutput, Receives}
-use Rattle.fe2o3_sasl_negotiation.specs.ServerNegotiation.{ServerSideAnswers, ServerCosts}
+use Rattle.fe2o3_sasl_negotiation.specs.ServerNegotiation.{ServerSideAnswers, ServerReceives, ServerCosts}
 
 -- calls over a stream, each handed any number of the bytes that the calls before it left, with what one meter shows
 -- before and behind them
@@ -48,12 +48,12 @@ Bounded most limit sent last = (length sent ≤ most) × ((length last.held < 8)
 abbrev pub ServersAreBounded : Type 0
 ServersAreBounded = (acceptor : Acceptor) (limit : ℕ) (calls : List Call) (stream sent rest : List ℕ)
     (last : Side Acceptor)
-    → Calls (ServerSideAnswers acceptor_names acceptor_machine) (fresh limit acceptor) calls stream sent last rest
+    → Calls (ServerReceives acceptor_names acceptor_machine) (fresh limit acceptor) calls stream sent last rest
     → Bounded (8 + 3 * 512) limit sent last
 
 -- and a client, behind its header, one init and one response
 abbrev pub ClientsAreBounded : Type 0
 ClientsAreBounded = (hostname : Option (List ℕ)) (profile : Profile) (limit : ℕ) (calls : List Call)
     (stream sent rest : List ℕ) (last : Side Profile)
-    → Calls (ClientSideAnswers hostname) (fresh limit profile) calls stream sent last rest
+    → Calls (ClientReceives hostname) (fresh limit profile) calls stream sent last rest
     → Bounded (2 * 512) limit sent last

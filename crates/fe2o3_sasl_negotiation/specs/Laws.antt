@@ -4,22 +4,21 @@ use Rattle.fe2o3_sasl_negotiation.specs.declared.standing.Due.{Due}
 use Rattle.fe2o3_sasl_negotiation.specs.declared.standing.Standing.TheVariants.{Wanting}
 use Rattle.fe2o3_sasl_negotiation.specs.ClientNegotiation.{ClientSideAnswers}
 use Rattle.fe2o3_sasl_negotiation.specs.Framing.{IsPart}
-use Rattle.fe2o3_sasl_negotiation.specs.Negotiations.{Side, SideOutput, Receives}
+use Rattle.fe2o3_sasl_negotiation.specs.Negotiations.{Side, SideOutput, Receiving, Receives}
 
 -- a call: how many of the bytes that are left it is handed, and a nonce
 pub record Call : Type 0 where
   pub handed : ℕ
   pub nonce : List ℕ
 
--- calls over a stream, each handed any number of the bytes that the calls before it left: what they send, how the side
--- stands behind them, and the bytes that are left in the end
-abbrev pub Calls : {S : Type 0} → (Due → S → List ℕ → List ℕ → SideOutput → S → Type 0) → Side S → List Call → List ℕ
-    → List ℕ → Side S → List ℕ → Type 0
-Calls Answers side [] stream sent last rest = (sent ≡ []) × (last ≡ side) × (rest ≡ stream)
-Calls {S} Answers side (call ∷ calls) stream sent last rest =
-    (taken : ℕ) × (first : List ℕ) × (next : Side S) × (behind : List ℕ)
-    × Receives Answers side (take call.handed stream) call.nonce taken first next
-    × Calls Answers next calls (drop taken stream) behind last rest × (sent ≡ first ++ behind)
+-- calls over a stream, each passed any number of the bytes that the calls before it left: what they send, the side after
+-- them, and the bytes that are left in the end
+abbrev pub Calls : {S : Type 0} → Receiving S → Side S → List Call → List ℕ → List ℕ → Side S → List ℕ → Type 0
+Calls OneCall side [] stream sent last rest = (sent ≡ []) × (last ≡ side) × (rest ≡ stream)
+Calls {S} OneCall side (call ∷ calls) stream sent last rest =
+    (taken : ℕ) × (first : List ℕ) × (next : Side S) × (later : List ℕ)
+    × OneCall side (take call.handed stream) call.nonce taken first next
+    × Calls OneCall next calls (drop taken stream) later last rest × (sent ≡ first ++ later)
 
 -- less than a unit has come, and is kept; or the side is at its end, and nothing has come
 abbrev pub Stops : {S : Type 0} → Side S → List ℕ → List ℕ → Side S → Type 0
@@ -47,7 +46,7 @@ NoncesOf (call ∷ calls) nonces = NoncesOf calls nonces
 -- unit with the nonce of a call, in order: the cut does not matter. `Connections` says which call that is
 abbrev pub CutsDoNotMatter : {S : Type 0} → (Due → S → List ℕ → List ℕ → SideOutput → S → Type 0) → Type 0
 CutsDoNotMatter {S} Answers = (side last : Side S) (calls : List Call) (stream sent rest : List ℕ)
-    → IsPart side.due side.limit side.held → Calls Answers side calls stream sent last rest
+    → IsPart side.due side.limit side.held → Calls (Receives Answers) side calls stream sent last rest
     → (taken : List ℕ) × (nonces : List (List ℕ)) × (stream ≡ taken ++ rest)
     × Negotiates Answers side nonces taken sent last × NoncesOf calls nonces
 

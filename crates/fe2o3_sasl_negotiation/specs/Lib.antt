@@ -9,7 +9,6 @@ pub mod Connections
 pub mod Pieces
 pub mod ScramConnections
 pub mod NamedUsers
-pub mod UnalteredConnections
 pub mod private
 pub mod CostLaws
 pub mod Memory

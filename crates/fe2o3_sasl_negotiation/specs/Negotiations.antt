@@ -22,6 +22,11 @@ pub record Side (S : Type 0) : Type 0 where
   pub held : List ℕ
   pub state : S
 
+-- what one call does: from a side, the bytes that the call is passed and its nonce to how many of the bytes it takes, what
+-- it sends, and the side after it
+abbrev pub Receiving : Type 0 → Type 1
+Receiving S = Side S → List ℕ → List ℕ → ℕ → List ℕ → Side S → Type 0
+
 -- what it answers to a unit: the bytes that it sends, how it stands then, and what is due then
 pub record SideOutput : Type 0 where
   pub sent : List ℕ

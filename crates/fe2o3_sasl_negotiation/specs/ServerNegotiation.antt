@@ -17,7 +17,7 @@ use Rattle.fe2o3_sasl_negotiation.specs.declared.standing.Turn.{Turn}
 use Rattle.fe2o3_sasl_negotiation.specs.declared.standing.Turn.TheVariants as turns
 use Rattle.fe2o3_sasl_negotiation.specs.declared.standing.Standing.TheVariants.{Wanting, LoggedIn, Closed}
 use Rattle.fe2o3_sasl_negotiation.specs.Framing.{sasl_header}
-use Rattle.fe2o3_sasl_negotiation.specs.Negotiations.{Side, SideOutput, closes, Sends, IsInTurn, AnswersTo, Receives, Completes}
+use Rattle.fe2o3_sasl_negotiation.specs.Negotiations.{Side, SideOutput, closes, Sends, IsInTurn, AnswersTo, Receiving, Receives, Completes}
 
 -- the body of the list of mechanisms, if it has one (part 5, section 5.3.3.1)
 abbrev pub offer_body : List (List ℕ) → Option (List ℕ)
@@ -68,9 +68,8 @@ ServerSideAnswers names machine (Frame turn) state nonce unit answer next =
 
 -- what a call makes of the bytes that it is handed
 abbrev pub ServerReceives : {S : Type 0} → (S → List (List ℕ)) → (S → List ℕ → SaslFrame → SaslFrame → S → Type 0)
-    → Side S → List ℕ → List ℕ → ℕ → List ℕ → Side S → Type 0
-ServerReceives names machine side bytes nonce taken sent next =
-    Receives (ServerSideAnswers names machine) side bytes nonce taken sent next
+    → Receiving S
+ServerReceives names machine = Receives (ServerSideAnswers names machine)
 
 -- the HMAC values of an answer to a body: none, or those of the acceptor's step over a body in turn
 abbrev pub ServerReplyCosts : {S : Type 0} → (S → SaslFrame → ℕ → Type 0) → Turn → S → Given → ℕ → ℕ → Type 0

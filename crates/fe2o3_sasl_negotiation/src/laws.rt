@@ -1,38 +1,58 @@
 //! Laws of the definitions. A function with an empty body says nothing but its contract: a statement about
 //! every list of bytes, which the check has proved.
 
+ghost use Rattle.fe2o3_scram.specs.ScramServer.{Initial};
+ghost use Rattle.fe2o3_sasl_runs.specs.Profiles.{scram_profile};
+ghost use Rattle.fe2o3_sasl_runs.specs.Runs.{ProfileSteps};
+ghost use Rattle.fe2o3_sasl_runs.specs.SaslAcceptor.{ScramAcceptor, acceptor_machine, acceptor_user};
+ghost use Rattle.fe2o3_sasl_negotiation.specs.ClientNegotiation.{ClientReceives};
 ghost use Rattle.fe2o3_sasl_negotiation.specs.Connections.{ServersConnect, ClientsConnect, ServerConnectionsLogIn, ClientConnectionsLogIn};
 ghost use Rattle.fe2o3_sasl_negotiation.specs.CostLaws.{ServersCost, ClientsCost, ServersAreBounded, ClientsAreBounded};
 ghost use Rattle.fe2o3_sasl_negotiation.specs.Laws.{CutsDoNotMatter, ClientCutsDoNotMatter};
 ghost use Rattle.fe2o3_sasl_negotiation.specs.NamedUsers.{OneOfServersLogIn, OneOfStepsLogIn};
-ghost use Rattle.fe2o3_sasl_negotiation.specs.ScramConnections.{ScramServersServe, ScramClientsLogIn};
-ghost use Rattle.fe2o3_sasl_negotiation.specs.ServerNegotiation.{ServerSideAnswers};
-ghost use Rattle.fe2o3_sasl_negotiation.specs.UnalteredConnections.{JoinedSidesLogIn};
+ghost use Rattle.fe2o3_sasl_negotiation.specs.ScramConnections.{ScramServersServe, ScramClientsReport};
+ghost use Rattle.fe2o3_sasl_negotiation.specs.ServerNegotiation.{ServerSideAnswers, ServerReceives};
 
 use fe2o3_sasl_runs::{HasMechanism, NamesUser};
 
 /// However a stream of bytes is cut into calls, what they take of it is answered as it would be as a whole, unit by unit,
-/// each with the nonce of a call, in order. Which call that is for a frame, [`connections`] says.
+/// each with the nonce of a call, in order. Which call that is for a frame, [`server_connections`] and
+/// [`client_connections`] say.
 pub fn cuts<A: NamesUser>()
     ensures server { CutsDoNotMatter (ServerSideAnswers A.names A.machine) }
     ensures client { ClientCutsDoNotMatter }
 {}
 
-/// The headline theorem over the bytes of a connection, in whatever calls they are passed. A server of any acceptor and a
-/// client of any profile answer every frame up to the one that ends the negotiation, in a run over the bodies: each
-/// frame with the nonce of the call that completes it. What each side sends is the header, the list of mechanisms and
-/// the frames of its replies, and how it ends is what its last reply says. It has logged in exactly where that reply is
-/// an Ok. A SCRAM server answers Ok only to a response that fits its open challenge and whose proof meets the stored
-/// key, and names the user of that challenge; a SCRAM client reports Ok only on the signature of its open answered
-/// challenge; and of each verifier that a client took and a server issued, both sides agree, or their own AuthMessages
-/// share one HMAC value.
-pub fn connections<A: NamesUser>()
-    ensures server { ServersConnect A.names A.machine }
-    ensures client { ClientsConnect }
-    ensures server_logged_in { ServerConnectionsLogIn A.machine }
-    ensures client_logged_in { ClientConnectionsLogIn }
-    ensures scram_server { ScramServersServe }
-    ensures scram_client { ScramClientsLogIn }
+/// The headline theorem over the bytes of a server's connection, in whatever calls they are passed. A server of any
+/// acceptor answers every frame up to the one that ends the negotiation, in a run over the bodies: each frame with the
+/// nonce of the call that completes it. What the server sends is its header, its list of mechanisms and the frames of
+/// its replies, and how it ends is what its last reply says. It has logged a client in exactly where that reply is an Ok
+/// that it sent. A SCRAM server answers Ok exactly to a response that fits its open challenge and whose proof meets the
+/// stored key, and names exactly the user of that challenge.
+///
+/// The last argument of `connects` is what one call does, by the contract of
+/// [`ServerNegotiation::receive`](crate::ServerNegotiation::receive). The arguments of `scram` are the machine of a SCRAM
+/// server, its state before its first frame, and the user that a state names.
+pub fn server_connections<A: NamesUser>()
+    ensures connects { ServersConnect A.names A.machine (ServerReceives A.names A.machine) }
+    ensures logged_in { ServerConnectionsLogIn A.machine }
+    ensures scram { ScramServersServe acceptor_machine (λ provider. ScramAcceptor provider Initial) acceptor_user }
+{}
+
+/// The headline theorem over the bytes of a client's connection, in whatever calls they are passed. A client of any
+/// profile answers every frame up to the one that ends the negotiation, in a run over the bodies: each frame with the
+/// nonce of the call that completes it. What the client sends is the frames of its replies, and how it ends is what its
+/// last reply says. It has logged in exactly where that reply reports an Ok. A SCRAM client reports Ok exactly on the
+/// signature of its open answered challenge. On each verifier that it took and a server issued, both sides agree, or
+/// their own AuthMessages share one HMAC value.
+///
+/// The last argument of `connects` is what one call does, by the contract of
+/// [`ClientNegotiation::receive`](crate::ClientNegotiation::receive). `ProfileSteps` is what a profile answers to a frame.
+/// The last argument of `scram` is the profile that a login starts with, by the contracts of its constructors.
+pub fn client_connections()
+    ensures connects { ClientsConnect ProfileSteps ClientReceives }
+    ensures logged_in { ClientConnectionsLogIn ProfileSteps }
+    ensures scram { ScramClientsReport ProfileSteps scram_profile }
 {}
 
 /// Who a server of several mechanisms has logged in, whatever its bytes are: the init asks for a mechanism that it offers,
@@ -40,15 +60,6 @@ pub fn connections<A: NamesUser>()
 pub fn users_of_one_of<A: HasMechanism, B: HasMechanism>()
     ensures connections { OneOfServersLogIn A.names B.names A.machine B.machine }
     ensures steps { OneOfStepsLogIn A.names B.names A.machine B.machine }
-{}
-
-/// An honest client and an honest server that are joined both log in, in whatever pieces their bytes arrive, and
-/// the server names the client's user: where the server holds a record that the client's secret opens (a password
-/// that is printable ASCII or was handed in as prepared, or keys of the record's), the count is from 1 on and within
-/// the client's limits, each side is handed what the other sends and takes all of it, and no frame is larger than 512
-/// bytes or the limit of its receiver.
-pub fn unaltered_connections()
-    ensures { JoinedSidesLogIn }
 {}
 
 /// What a connection costs, whatever its bytes are and in whatever calls they are handed in: a SCRAM server makes

@@ -1,14 +1,15 @@
 //! Whole connections over bytes that arrive in pieces, without a socket: for tests, replays and logs.
 
-ghost use Rattle.std.specs.Prelude.{◌≡◌, ◌≢◌, ◌<◌, ◌≤◌, ◌++◌, List, ℕ, IfOk, length, map, false, option_map, string_bytes};
+ghost use Rattle.std.specs.Prelude.{◌≡◌, ◌≢◌, ◌↔◌, ◌<◌, ◌≤◌, ◌++◌, List, ℕ, IfOk, length, map, false, option_map, string_bytes};
 ghost use Rattle.fe2o3_sasl_wire.specs.SaslFrames.{IsBytes};
-ghost use Rattle.fe2o3_sasl_negotiation.specs.declared.standing.Standing.TheVariants.{Wanting};
+ghost use Rattle.fe2o3_sasl_negotiation.specs.declared.standing.Standing.TheVariants.{Wanting, LoggedIn};
 ghost use Rattle.fe2o3_scram.specs.Credentials.{serving};
 ghost use Rattle.fe2o3_scram.specs.ScramServer.{Initial, served_by, state_in};
 ghost use Rattle.fe2o3_sasl_runs.specs.Profiles.{Profile};
+ghost use Rattle.fe2o3_sasl_runs.specs.Runs.{ProfileSteps};
 ghost use Rattle.fe2o3_sasl_runs.specs.SaslProfile.{profile_of};
-ghost use Rattle.fe2o3_sasl_runs.specs.SaslAcceptor.{ScramAcceptor, acceptor_machine, acceptor_names};
-ghost use Rattle.fe2o3_sasl_negotiation.specs.Connections.{ServerConnection, ServerNegotiated, ClientConnection, bytes_of};
+ghost use Rattle.fe2o3_sasl_runs.specs.SaslAcceptor.{ScramAcceptor, acceptor_machine, acceptor_names, acceptor_user};
+ghost use Rattle.fe2o3_sasl_negotiation.specs.Connections.{ServerConnection, ServerNegotiated, ClientConnection, LastReply, IsOkSent, bytes_of};
 ghost use Rattle.fe2o3_sasl_negotiation.specs.ScramConnections.{ScramServes};
 ghost use Rattle.fe2o3_sasl_negotiation.specs.Pieces.{piece_of, first_bytes};
 ghost use Rattle.fe2o3_sasl_negotiation.specs.Sides.{client_side, hostname_in, server_side};
@@ -130,7 +131,14 @@ pub fn scram_server_connection<C: ScramCredentialProvider>(
         (ScramAcceptor (serving false (C.meaning credentials.now)) Initial) (map piece_of pieces.now) taken out
         (server_side (λ server. ScramAcceptor (served_by C.meaning server) (state_in server)) served.side))
         → ScramServes (serving false (C.meaning credentials.now)) negotiated.events negotiated.replies
-        (server_side (λ server. ScramAcceptor (served_by C.meaning server) (state_in server)) served.side)) }
+        (acceptor_user
+        (server_side (λ server. ScramAcceptor (served_by C.meaning server) (state_in server)) served.side).state)) }
+    ensures logged_in { IfOk result (λ served. (taken out : List ℕ)
+        (negotiated : ServerNegotiated acceptor_machine 512
+        (ScramAcceptor (serving false (C.meaning credentials.now)) Initial) (map piece_of pieces.now) taken out
+        (server_side (λ server. ScramAcceptor (served_by C.meaning server) (state_in server)) served.side))
+        → ((server_side (λ server. ScramAcceptor (served_by C.meaning server) (state_in server)) served.side).standing
+        ≡ LoggedIn) ↔ LastReply IsOkSent negotiated.replies) }
     ensures all { IfOk result (λ served.
         (server_side (λ server. ScramAcceptor (served_by C.meaning server) (state_in server)) served.side).standing ≡ Wanting
         → served.pieces ≡ length pieces.now) }
@@ -152,7 +160,7 @@ fn answer_piece(
     ensures hostname { IfOk result (λ _. hostname_in side.new ≡ hostname_in side.old) }
     ensures ok { IfOk result (λ taken. (more : List ℕ) × (sent.new.items ≡ sent.old.items ++ more)
         × ((limit : ℕ) (profile : Profile)
-        → Continues (ClientConnection (hostname_in side.old) limit profile) (client_side side.old) piece.now.bytes.now
+        → Continues (ClientConnection (ProfileSteps (hostname_in side.old)) limit profile) (client_side side.old) piece.now.bytes.now
         piece.now.nonce taken more (client_side side.new))) }
 {
     let mut taken = 0;
@@ -165,8 +173,8 @@ fn answer_piece(
 }
 
 /// Like [`server_connection`], of a client by a profile that no connection has used, with a hostname if any: what it
-/// sends after its own header. What the headline says of its bodies and replies is the clause `scram_client` of the law
-/// `connections`.
+/// sends after its own header. What the headline says of its bodies and replies is the clause `scram` of the law
+/// `client_connections`.
 pub fn client_connection(
     alloc: Global,
     profile: SaslProfile,
@@ -174,7 +182,7 @@ pub fn client_connection(
     pieces: &[Piece<'_>],
 ) -> Result<Negotiated<ClientNegotiation>, OutOfMemory>
     ensures connection { IfOk result (λ answered. IsBytes (bytes_of (map piece_of pieces.now))
-        → ClientConnection (option_map string_bytes hostname) 512 (profile_of profile) (map piece_of pieces.now)
+        → ClientConnection (ProfileSteps (option_map string_bytes hostname)) 512 (profile_of profile) (map piece_of pieces.now)
         (first_bytes (map piece_of pieces.now) answered.pieces answered.bytes) answered.sent.items
         (client_side answered.side)) }
     ensures all { IfOk result (λ answered. (client_side answered.side).standing ≡ Wanting

@@ -23,13 +23,13 @@ use Rattle.fe2o3_sasl_negotiation.specs.declared.standing.ClosedBecause.TheVaria
 use Rattle.fe2o3_sasl_negotiation.specs.declared.standing.Due.TheVariants.{Frame}
 use Rattle.fe2o3_sasl_negotiation.specs.declared.standing.Standing.TheVariants.{Wanting}
 use Rattle.fe2o3_sasl_negotiation.specs.declared.standing.Turn.TheVariants as turns
-use Rattle.fe2o3_sasl_negotiation.specs.Connections.{Piece, AreFrames, Replied, ServerNegotiated, LastReply, IsOkSent}
+use Rattle.fe2o3_sasl_negotiation.specs.Connections.{Piece, AreFrames, Replied, LastReply, IsOkSent}
 use Rattle.fe2o3_sasl_negotiation.specs.Negotiations.{Side, SideOutput}
 use Rattle.fe2o3_sasl_negotiation.specs.ServerNegotiation.{ServerOutputs}
 use Rattle.fe2o3_sasl_negotiation.proofs.lemmas.ConnectionLemmas.{closed_is_not_wanting}
 use Rattle.fe2o3_sasl_negotiation.proofs.lemmas.KindLemmas.{closes_waits_not, sends_ends}
 use Rattle.fe2o3_sasl_negotiation.proofs.lemmas.LoginLemmas.{servers_log_in}
-use Rattle.connection_laws.specs.Servers.{side_with, NegotiatesAs, PartNegotiates, OneOfServersActAsPart, OfferingServersActAsInner}
+use Rattle.connection_laws.specs.Servers.{ServerBy, side_with, NegotiatesAs, PartNegotiates, OneOfServersActAsPart, OfferingServersActAsInner}
 use Rattle.connection_laws.proofs.lemmas.OneFrameLemmas.{response_of}
 
 -- ---- replies
@@ -65,12 +65,11 @@ none_refuses (says ∷ then ∷ []) answer (first, rest, said, waits, more, is) 
 none_refuses (says ∷ then ∷ third ∷ replies) answer (first, rest, said, waits, more, is) ok = absurd more.4
 
 -- a run of another machine over the events of a negotiation makes it one of that machine
-negotiates_as : {S T : Type 0} (whole : Machine S) (machine : Machine T) (limit : ℕ) (state : S) (own end : T)
-    (pieces : List Piece) (taken sent : List ℕ) (last : Side S)
-    (n : ServerNegotiated whole limit state pieces taken sent last)
-    → Runs (AcceptorSteps machine) own n.events n.replies end
-    → NegotiatesAs machine limit own pieces taken sent last end n.events n.replies
-negotiates_as {S} {T} whole machine limit state own end pieces taken sent last n run = (
+negotiates_as : {S T : Type 0} (whole : Machine S) (state : S) (server : ServerBy whole state) (machine : Machine T)
+    (begin end : T)
+    → Runs (AcceptorSteps machine) begin server.connection.events server.connection.replies end
+    → NegotiatesAs whole state server machine begin end
+negotiates_as {S} {T} whole state server machine begin end run = let n = server.connection in (
   record {
     events = n.events;
     replies = n.replies;
@@ -224,17 +223,18 @@ module _ {S T : Type 0} (names : S → List (List ℕ)) (others : T → List (Li
       absurd due.3.3
 
   pub one_of_servers_act_as_part : OneOfServersActAsPart names others machine other
-  one_of_servers_act_as_part limit state pieces taken sent last n logged =
-      let (part, asked, run) = acts_as pieces limit n.events n.replies n.answer state last.state n.frames n.run n.replied
-      ((servers_log_in whole limit state pieces taken sent last n).0 logged) in
+  one_of_servers_act_as_part state server logged =
+      let n = server.connection in
+      let (part, asked, run) = acts_as server.pieces server.limit n.events n.replies n.answer state server.last.state
+      n.frames n.run n.replied
+      ((servers_log_in whole server.limit state server.pieces server.taken server.sent server.last n).0 logged) in
       (part, asked, go part run)
     where
-      go : (part : Part) → PartRuns part state n.events n.replies last.state
-          → PartNegotiates machine other part limit state pieces taken sent last n.events n.replies
-      go First run =
-          negotiates_as whole machine limit state state.first last.state.first pieces taken sent last n run
-      go Second run =
-          negotiates_as whole other limit state state.second last.state.second pieces taken sent last n run
+      go : (part : Part)
+          → PartRuns part state server.connection.events server.connection.replies server.last.state
+          → PartNegotiates whole state server machine other part
+      go First run = negotiates_as whole state server machine state.first server.last.state.first run
+      go Second run = negotiates_as whole state server other state.second server.last.state.second run
 
 -- ---- only some of the names
 
@@ -263,14 +263,16 @@ all_passed (false ∷ marks) (event ∷ events) (says ∷ replies) count many (k
 
 pub offering_servers_act_as_inner : {S : Type 0} (names : S → List (List ℕ)) (machine : Machine S)
     → OfferingServersActAsInner names machine
-offering_servers_act_as_inner {S} names machine limit state pieces taken sent last n logged =
+offering_servers_act_as_inner {S} names machine state server logged =
     let whole : Machine (Offering S) = offering_machine names machine in
-    let ok = (servers_log_in whole limit state pieces taken sent last n).0 logged in
-    let (marks, on) = offering_runs names machine state last.state n.events n.replies n.run in
+    let n = server.connection in
+    let end : S = server.last.state.inner in
+    let ok = (servers_log_in whole server.limit state server.pieces server.taken server.sent server.last n).0 logged in
+    let (marks, on) = offering_runs names machine state server.last.state n.events n.replies n.run in
     let (all, said) = all_passed marks n.events n.replies on.marked.count
-    (run_count (AcceptorSteps whole) state last.state n.events n.replies n.run)
+    (run_count (AcceptorSteps whole) state server.last.state n.events n.replies n.run)
     (none_refuses n.replies n.answer n.replied ok) on.rest in
-    negotiates_as whole machine limit state state.inner last.state.inner pieces taken sent last n
-    (subst (λ (events : List Given). Runs (AcceptorSteps machine) state.inner events n.replies last.state.inner) all
+    negotiates_as whole state server machine state.inner end
+    (subst (λ (events : List Given). Runs (AcceptorSteps machine) state.inner events n.replies end) all
     (subst (λ (replies : List ServerSays). Runs (AcceptorSteps machine) state.inner (those (λ mark. mark) marks n.events)
-    replies last.state.inner) said on.passed))
+    replies end) said on.passed))

@@ -65,7 +65,7 @@ module _ {S : Type 0} (Answers : Due → S → List ℕ → List ℕ → SideOut
 
   module _ (due : Due) (limit : ℕ) (state next : S) (unit more nonce sent : List ℕ) (answer : SideOutput)
       (after : List Call) (last : Side S) (is : IsUnit due limit unit) (answers : Answers due state nonce unit answer next)
-      (others : Calls Answers (behind_answer answer limit next) after more sent last []) where
+      (others : Calls (Receives Answers) (behind_answer answer limit next) after more sent last []) where
     -- a call that takes the rest of the unit
     completes : (held rest : List ℕ) (handed : ℕ) → held ++ rest ≡ unit → length rest ≤ handed
         → Receives Answers (holding due limit state held) (take handed (rest ++ more)) nonce (length rest) answer.sent
@@ -101,7 +101,7 @@ module _ {S : Type 0} (Answers : Due → S → List ℕ → List ℕ → SideOut
 
     pub unit_calls : (calls : List Call) (held rest : List ℕ) → held ++ rest ≡ unit
         → Finishes calls (length rest) nonce after
-        → Calls Answers (holding due limit state held) calls (rest ++ more) (answer.sent ++ sent) last []
+        → Calls (Receives Answers) (holding due limit state held) calls (rest ++ more) (answer.sent ++ sent) last []
     unit_calls [] held rest same finishes = absurd finishes
     unit_calls (call ∷ calls) held rest same (inl (enough, with_nonce, then)) = (
       length rest,
@@ -111,9 +111,9 @@ module _ {S : Type 0} (Answers : Due → S → List ℕ → List ℕ → SideOut
       subst (λ (n : List ℕ). Receives Answers (holding due limit state held) (take call.handed (rest ++ more)) n
           (length rest) answer.sent (behind_answer answer limit next)) (sym with_nonce)
           (completes held rest call.handed same enough),
-      subst (λ (l : List ℕ). Calls Answers (behind_answer answer limit next) calls l sent last [])
+      subst (λ (l : List ℕ). Calls (Receives Answers) (behind_answer answer limit next) calls l sent last [])
           (sym (drop_at rest more (length rest) refl))
-          (subst (λ (c : List Call). Calls Answers (behind_answer answer limit next) c more sent last []) (sym then)
+          (subst (λ (c : List Call). Calls (Receives Answers) (behind_answer answer limit next) c more sent last []) (sym then)
           others),
       refl,
     )
@@ -128,7 +128,7 @@ module _ {S : Type 0} (Answers : Due → S → List ℕ → List ℕ → SideOut
             is.part (held ++ front) back joined (omega (arith, few, back_length)),
             (sym front_length, refl, refl),
           )),
-      subst (λ (l : List ℕ). Calls Answers (holding due limit state (held ++ front)) calls l (answer.sent ++ sent) last
+      subst (λ (l : List ℕ). Calls (Receives Answers) (holding due limit state (held ++ front)) calls l (answer.sent ++ sent) last
           []) (sym (drop-append-le call.handed rest more (omega (arith, few))))
           (unit_calls calls (held ++ front) back joined
           (subst (λ (n : ℕ). Finishes calls n nonce after) (sym back_length) finishes)),
@@ -158,7 +158,7 @@ module _ {S : Type 0} (Answers : Due → S → List ℕ → List ℕ → SideOut
         )
 
   -- a side that has logged in takes nothing
-  pub rests : (calls : List Call) (side : Side S) → side.standing ≡ LoggedIn → Calls Answers side calls [] [] side []
+  pub rests : (calls : List Call) (side : Side S) → side.standing ≡ LoggedIn → Calls (Receives Answers) side calls [] [] side []
   rests [] side logged_in = (refl, refl, refl)
   rests (call ∷ calls) side logged_in = (
     0,

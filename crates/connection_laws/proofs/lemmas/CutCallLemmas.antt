@@ -7,6 +7,7 @@ use Rattle.std.proofs.Math.Seq.{take-append-add}
 use Rattle.fe2o3_sasl_wire.specs.SaslFrames.{IsBytes}
 use Rattle.fe2o3_sasl_wire.proofs.lemmas.reading.StepLemmas.{IsBytes-take}
 use Rattle.fe2o3_sasl_runs.specs.OneOfLaws.{Machine}
+use Rattle.fe2o3_sasl_runs.specs.Runs.{ProfileSteps}
 use Rattle.fe2o3_sasl_runs.specs.SaslAcceptor.{acceptor_names, acceptor_machine}
 use Rattle.fe2o3_sasl_runs.proofs.lemmas.machines.OneReplyLemmas.{one_acceptor_reply}
 use Rattle.fe2o3_sasl_negotiation.specs.declared.standing.Due.{Due}
@@ -49,7 +50,7 @@ module _ {S : Type 0} (Answers : Due → S → List ℕ → List ℕ → SideOut
 
   -- the pieces are the front of the stream
   covers : (side : Side S) (calls : List Call) (stream sent : List ℕ) (last : Side S) (rest : List ℕ)
-      (made : Calls Answers side calls stream sent last rest)
+      (made : Calls (Receives Answers) side calls stream sent last rest)
       → stream ≡ bytes_of (taken_pieces Answers side calls stream sent last rest made) ++ rest
   covers side [] stream sent last rest (nothing, same, left) = sym left
   covers side (call ∷ calls) stream sent last rest (k, first, next, later, receives, made, all) =
@@ -67,7 +68,7 @@ module _ {S : Type 0} (Answers : Due → S → List ℕ → List ℕ → SideOut
       → IsBytes (taken ++ bytes) → ((i : ℕ) → i < k → PieceNonceAt all (length taken + i) nonce)
       → Receives Answers side bytes nonce k first next → Is (taken ++ take k bytes) (sent ++ first) next) where
     in_calls : (calls : List Call) (done : List Piece) (side last : Side S) (stream before sent rest : List ℕ)
-        (made : Calls Answers side calls stream sent last rest)
+        (made : Calls (Receives Answers) side calls stream sent last rest)
         → all ≡ done ++ taken_pieces Answers side calls stream sent last rest made → Is (bytes_of done) before side
         → IsBytes (bytes_of done ++ stream) → Is (bytes_of all) (before ++ sent) last
     in_calls [] done side last stream before sent rest (nothing, same, left) whole is are_bytes =
@@ -175,7 +176,7 @@ server_calls_end_equally = function_calls_end_equally acceptor_names acceptor_ma
 pub client_calls_end_equally : ClientCallsEndEqually
 client_calls_end_equally hostname profile limit stream small are_bytes first second same nonces =
     calls_end_equally (ClientSideAnswers hostname) limit profile stream
-    (λ pieces taken out side. ClientConnection hostname limit profile pieces taken out side)
+    (λ pieces taken out side. ClientConnection (ProfileSteps hostname) limit profile pieces taken out side)
     (λ pieces taken out side next bytes nonce more k is fine known receives.
     client_call hostname limit profile pieces taken out side next bytes nonce more k is fine known receives)
     (λ pieces. client_fresh hostname limit profile pieces)

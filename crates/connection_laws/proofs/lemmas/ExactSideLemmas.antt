@@ -22,7 +22,7 @@ use Rattle.fe2o3_sasl_negotiation.specs.ClientNegotiation as of_client
 use Rattle.fe2o3_sasl_negotiation.specs.ServerNegotiation as of_server
 use Rattle.fe2o3_sasl_negotiation.specs.Framing.{sasl_header, framed, size_of, Fits}
 use Rattle.fe2o3_sasl_negotiation.specs.Laws.{Call, Calls, Negotiates}
-use Rattle.fe2o3_sasl_negotiation.specs.Negotiations.{Side, SideOutput, Sends, IsInTurn, AnswersTo, ReceivesAt}
+use Rattle.fe2o3_sasl_negotiation.specs.Negotiations.{Side, SideOutput, Sends, IsInTurn, AnswersTo, Receives, ReceivesAt}
 use Rattle.fe2o3_sasl_negotiation.proofs.lemmas.UnitLemmas.{awaiting, behind_answer, AnswersUnit, one_unit, size_of-framed, length-framed, body_of-framed}
 use Rattle.connection_laws.specs.Unaltered.{HasNonce}
 use Rattle.connection_laws.proofs.lemmas.SmallReplyLemmas.{fits_as, names_fit}
@@ -47,7 +47,7 @@ exact_at Answers (Closed why) side bytes nonce taken sent next long rests = rest
 
 pub exact_calls : {S : Type 0} (Answers : Due → S → List ℕ → List ℕ → SideOutput → S → Type 0) (calls : List Call)
     (side : Side S) (stream sent : List ℕ) (last : Side S) (rest : List ℕ) → AllByRecursion HasNonce calls
-    → Calls Answers side calls stream sent last rest → Calls (Exact Answers) side calls stream sent last rest
+    → Calls (Receives Answers) side calls stream sent last rest → Calls (Receives (Exact Answers)) side calls stream sent last rest
 exact_calls Answers [] side stream sent last rest all made = made
 exact_calls Answers (call ∷ calls) side stream sent last rest all
     (taken, first, next, more, receives, others, whole) = (

@@ -80,7 +80,7 @@ module _ (p : Premises) (client_limit server_limit : ℕ) (client_wide : 512 ≤
 
   abbrev ClientCalls : Side Profile → List Call → List ℕ → List ℕ → Type 0
   ClientCalls side calls stream sent =
-      Calls (of_client.ClientSideAnswers p.login.hostname) side calls stream sent client_last []
+      Calls (of_client.ClientReceives p.login.hostname) side calls stream sent client_last []
 
   names_is_unit : IsUnit (Frame turns.Mechanisms) client_limit (framed names_body)
   names_is_unit = frame_is_unit turns.Mechanisms client_limit names_body client_wide
@@ -146,7 +146,7 @@ module _ (p : Premises) (client_limit server_limit : ℕ) (client_wide : 512 ≤
 
   abbrev ServerCalls : Side Acceptor → List Call → List ℕ → List ℕ → Type 0
   ServerCalls side calls stream sent =
-      Calls (of_server.ServerSideAnswers acceptor_names acceptor_machine) side calls stream sent server_last []
+      Calls (of_server.ServerReceives acceptor_names acceptor_machine) side calls stream sent server_last []
 
   init_is_unit : IsUnit (Frame turns.Init) server_limit (framed init_body)
   init_is_unit = frame_is_unit turns.Init server_limit init_body server_wide

@@ -112,5 +112,5 @@ run_names machine unbound state last (event ∷ events) replies
     (name ∷ names, (holds_it names, one_more unbound name names events holds))
 
 pub negotiations_have_names : {S : Type 0} (machine : Machine S) → NegotiationsHaveNames machine
-negotiations_have_names machine unbound limit state pieces taken sent last n =
-    run_names machine unbound state last.state n.events n.replies n.run
+negotiations_have_names machine unbound state server =
+    let n = server.connection in run_names machine unbound state server.last.state n.events n.replies n.run

@@ -13,6 +13,7 @@ use Rattle.fe2o3_sasl_runs.specs.ClientHistory.{ClientHistory}
 use Rattle.fe2o3_sasl_runs.specs.Complete.{ClientComplete, ServerComplete}
 use Rattle.fe2o3_sasl_runs.specs.Events.{Given, Login, IsLogin, ServerSays, Challenged, Concluded, Failed, ClientSays, Started, Answered, Reported, Refused, Frame as FrameFault, OutOfMemory}
 use Rattle.fe2o3_sasl_runs.specs.Profiles.{Profile, scram_profile}
+use Rattle.fe2o3_sasl_runs.specs.Runs.{ProfileSteps}
 use Rattle.fe2o3_sasl_runs.specs.SaslAcceptor.{Acceptor, ScramAcceptor, acceptor_machine}
 use Rattle.fe2o3_sasl_runs.specs.ServerHistory.{ServerHistory}
 use Rattle.fe2o3_sasl_runs.specs.TwoSides.{Sides, sides_of}
@@ -22,11 +23,10 @@ use Rattle.fe2o3_sasl_runs.proofs.lemmas.machines.ServerMachineLemmas.{acceptor_
 use Rattle.fe2o3_sasl_negotiation.specs.Connections.{Piece, frames_of, ClientNegotiated, ServerNegotiated}
 use Rattle.fe2o3_sasl_negotiation.specs.Framing.{sasl_header, framed}
 use Rattle.fe2o3_sasl_negotiation.specs.Negotiations.{Side}
-use Rattle.fe2o3_sasl_negotiation.specs.UnalteredConnections.{Joined}
-use Rattle.fe2o3_sasl_negotiation.proofs.lemmas.JoinedSideLemmas.{none_at}
+use Rattle.connection_laws.proofs.lemmas.ReplyListLemmas.{none_at}
 use Rattle.fe2o3_sasl_negotiation.proofs.lemmas.LoginLemmas.{servers_log_in, clients_log_in}
 use Rattle.fe2o3_sasl_negotiation.proofs.lemmas.PieceLemmas.{length-frames_of}
-use Rattle.connection_laws.specs.Unaltered.{BothLogIn, OneLogin, NegotiationsAgree}
+use Rattle.connection_laws.specs.Unaltered.{Joined, BothLogIn, OneLogin, NegotiationsAgree}
 use Rattle.connection_laws.proofs.lemmas.NegotiatedLemmas.{SameBodies, same_frames, without_header, no_tail, ServerShape, server_shape, ClientShape, client_shape}
 use Rattle.connection_laws.proofs.lemmas.OneLoginLemmas.{one_login}
 use Rattle.connection_laws.proofs.lemmas.SmallReplyLemmas.{names_fit, fits_as}
@@ -112,7 +112,7 @@ module _ (login : Login) (provider : Provider) (password salt : List ℕ) (count
     (both : BothLogIn joined salt count) (client_pieces server_pieces : List Piece) (offer out : List ℕ)
     (offered : canonical (frames.Mechanisms (mechanism_name provider.version ∷ [])) ≡ Some offer)
     (all : joined.server_sent ≡ sasl_header ++ (framed offer ++ out))
-    (mine : ClientNegotiated login.hostname joined.client_limit (scram_profile login) client_pieces joined.server_sent
+    (mine : ClientNegotiated (ProfileSteps login.hostname) joined.client_limit (scram_profile login) client_pieces joined.server_sent
     joined.client_sent client)
     (theirs : ServerNegotiated acceptor_machine joined.server_limit (ScramAcceptor provider Initial) server_pieces
     (sasl_header ++ joined.client_sent) out server) where

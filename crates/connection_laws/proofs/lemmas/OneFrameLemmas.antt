@@ -137,11 +137,13 @@ external_only_inits state next event text spells ok =
     (frames.Init mechanism response hostname) (frames.Response text) spelled spells)
 
 pub external_servers_log_in : ExternalServersLogIn
-external_servers_log_in limit state pieces taken sent last n logged =
-    let (event, only, ok) = by_one_frame external_machine external_only_inits pieces limit n.events n.replies state
-    last.state n.frames n.run
-    ((servers_log_in external_machine limit state pieces taken sent last n).0 logged) in
-    let (mechanism, response, hostname, spells, asks, to) = external_oks state last.state event ok in
+external_servers_log_in state server logged =
+    let n = server.connection in
+    let (event, only, ok) = by_one_frame external_machine external_only_inits server.pieces server.limit n.events
+    n.replies state server.last.state n.frames n.run
+    ((servers_log_in external_machine server.limit state server.pieces server.taken server.sent server.last n).0 logged)
+    in
+    let (mechanism, response, hostname, spells, asks, to) = external_oks state server.last.state event ok in
     record {
       event = event;
       mechanism = mechanism;
@@ -167,11 +169,12 @@ plain_only_inits state next event text spells (body, step) =
     logs
 
 pub plain_servers_log_in : PlainServersLogIn
-plain_servers_log_in limit state pieces taken sent last n logged =
-    let (event, only, ok) = by_one_frame plain_machine plain_only_inits pieces limit n.events n.replies state
-    last.state n.frames n.run
-    ((servers_log_in plain_machine limit state pieces taken sent last n).0 logged) in
-    let (frame, user, spells, logs, to) = plain_oks_log_in state last.state event ok.0 ok.1 in
+plain_servers_log_in state server logged =
+    let n = server.connection in
+    let (event, only, ok) = by_one_frame plain_machine plain_only_inits server.pieces server.limit n.events n.replies
+    state server.last.state n.frames n.run
+    ((servers_log_in plain_machine server.limit state server.pieces server.taken server.sent server.last n).0 logged) in
+    let (frame, user, spells, logs, to) = plain_oks_log_in state server.last.state event ok.0 ok.1 in
     record {
       event = event;
       frame = frame;

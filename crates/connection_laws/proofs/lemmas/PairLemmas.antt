@@ -11,6 +11,7 @@ use Rattle.fe2o3_scram.specs.Credentials.{Provider}
 use Rattle.fe2o3_scram.specs.Texts.{Part, base64_text}
 use Rattle.fe2o3_scram.proofs.lemmas.texts.Base64Lemmas.{one_spelled}
 use Rattle.fe2o3_scram.proofs.lemmas.texts.PartsLemmas.{one_part}
+use Rattle.fe2o3_scram.specs.ScramServer.{Initial}
 use Rattle.fe2o3_sasl_runs.specs.Bodies.{SpellsBody}
 use Rattle.fe2o3_sasl_runs.proofs.lemmas.frames.SpellingLemmas.{one_spelled_frame}
 use Rattle.fe2o3_sasl.proofs.lemmas.examples.ExampleTextLemmas.{length-base64_text}
@@ -18,6 +19,8 @@ use Rattle.fe2o3_sasl_runs.specs.Events.{Given, Login, IsRecord, Reported}
 use Rattle.fe2o3_sasl_runs.specs.Headline.{SignedAt}
 use Rattle.fe2o3_sasl_runs.specs.Laws.{HoldsRecords}
 use Rattle.fe2o3_sasl_runs.specs.Positions.{test_at}
+use Rattle.fe2o3_sasl_runs.specs.Profiles.{scram_profile}
+use Rattle.fe2o3_sasl_runs.specs.SaslAcceptor.{ScramAcceptor, acceptor_machine}
 use Rattle.fe2o3_sasl_runs.specs.ServerHistory.{Accepted, LoggedIn as UserLoggedIn, full_nonce, is_challenge, is_ok}
 use Rattle.fe2o3_sasl_runs.specs.TwoSides.{Sides, OkAt}
 use Rattle.fe2o3_sasl_runs.proofs.lemmas.histories.ServerLawLemmas.{accepted_response}
@@ -29,7 +32,7 @@ use Rattle.fe2o3_sasl_negotiation.specs.declared.standing.Standing.TheVariants.{
 use Rattle.fe2o3_sasl_negotiation.specs.declared.standing.Turn.{Turn}
 use Rattle.fe2o3_sasl_negotiation.specs.declared.standing.Turn.TheVariants as turns
 use Rattle.fe2o3_sasl_negotiation.specs.Connections.{Piece, PieceNonceAt, AreFrames, LastReply, IsOkSent, IsOkReported}
-use Rattle.fe2o3_sasl_negotiation.proofs.lemmas.LoginLemmas.{scram_servers_serve, scram_clients_log_in}
+use Rattle.fe2o3_sasl_negotiation.proofs.lemmas.LoginLemmas.{servers_log_in, clients_log_in, scram_servers_serve, scram_clients_report}
 use Rattle.connection_laws.specs.Pairs.{ClientOf, ServerOf, ReportsLast, sides, LoggedInClientsAgree, LoggedInServersAccept, AcceptedProofsAreJudged, AcceptsLast, ChallengesWith, RepeatedResponsesMeanOneNonce, ReplaysAreRejected}
 
 -- the last reply, and where it is
@@ -56,9 +59,11 @@ pub reports_last : (login : Login) (client : ClientOf login) → client.last.sta
     → (m : ℕ) × (text : List ℕ) × ReportsLast client m text
     × SignedAt login client.connection.events client.connection.replies m text
 reports_last login client logged =
-    let logs = scram_clients_log_in login client.limit client.pieces client.taken client.sent client.last
+    let logs = scram_clients_report login client.limit client.pieces client.taken client.sent client.last
     client.connection in
-    let last = last_at IsOkReported client.connection.replies (logs.logged_in.0 logged) in
+    let last = last_at IsOkReported client.connection.replies
+    ((clients_log_in login.hostname client.limit (scram_profile login) client.pieces client.taken client.sent client.last
+    client.connection).0 logged) in
     let at = last.3 ∙ ap Some last.4.1 in
     let signed = logs.exactly.only last.0 last.4.0 at in
     let reported = at ∙ ap (λ more. Some (Reported outcomes.Ok more)) signed.1 in
@@ -66,7 +71,7 @@ reports_last login client logged =
 
 pub logged_in_clients_agree : LoggedInClientsAgree
 logged_in_clients_agree login provider client server records logged =
-    let logs = scram_clients_log_in login client.limit client.pieces client.taken client.sent client.last
+    let logs = scram_clients_report login client.limit client.pieces client.taken client.sent client.last
     client.connection in
     let serves = scram_servers_serve provider server.limit server.pieces server.taken server.sent server.last
     server.connection in
@@ -88,7 +93,9 @@ logged_in_servers_accept provider server logged =
     let replies = server.connection.replies in
     let serves = scram_servers_serve provider server.limit server.pieces server.taken server.sent server.last
     server.connection in
-    let last = last_at IsOkSent replies (serves.logged_in.0 logged) in
+    let last = last_at IsOkSent replies
+    ((servers_log_in acceptor_machine server.limit (ScramAcceptor provider Initial) server.pieces server.taken
+    server.sent server.last server.connection).0 logged) in
     let says = last.3 ∙ ap Some last.4.1 in
     let is = serves.exactly.only last.0 last.4.0 says in
     let response = accepted_response provider events replies last.0 is.0 is.1 in
@@ -113,7 +120,7 @@ logged_in_servers_accept provider server logged =
 
 pub accepted_proofs_are_judged : AcceptedProofsAreJudged
 accepted_proofs_are_judged login provider client server n text accepted secret records accepts k answer shows =
-    let logs = scram_clients_log_in login client.limit client.pieces client.taken client.sent client.last
+    let logs = scram_clients_report login client.limit client.pieces client.taken client.sent client.last
     client.connection in
     let serves = scram_servers_serve provider server.limit server.pieces server.taken server.sent server.last
     server.connection in

@@ -28,7 +28,7 @@ use Rattle.fe2o3_sasl_negotiation.specs.Connections.{Piece, AreFrames, LeftOver,
 use Rattle.fe2o3_sasl_negotiation.specs.Framing.{sasl_header, framed, size_of}
 use Rattle.fe2o3_sasl_negotiation.specs.Negotiations.{Side, SideOutput, Sends}
 use Rattle.fe2o3_sasl_negotiation.proofs.lemmas.KindLemmas.{standing_of}
-use Rattle.fe2o3_sasl_negotiation.proofs.lemmas.LoginLemmas.{scram_servers_serve, scram_clients_log_in}
+use Rattle.fe2o3_sasl_negotiation.proofs.lemmas.LoginLemmas.{scram_servers_serve, scram_clients_report}
 use Rattle.fe2o3_sasl_negotiation.proofs.lemmas.UnitLemmas.{size_of-framed, length-framed, body_of-framed}
 use Rattle.connection_laws.specs.Pairs.{ClientOf, ServerOf}
 use Rattle.connection_laws.proofs.lemmas.PairLemmas.{reports_last, logged_in_servers_accept, one_split}
@@ -267,7 +267,7 @@ pub record ClientShape {login : Login} (client : ClientOf login) : Type 0 where
 pub client_shape : (login : Login) (client : ClientOf login) → client.last.standing ≡ LoggedIn → ClientShape client
 client_shape login client logged_in =
     let n = client.connection in
-    let history = (scram_clients_log_in login client.limit client.pieces client.taken client.sent client.last n).history
+    let history = (scram_clients_report login client.limit client.pieces client.taken client.sent client.last n).history
     in
     let reports = reports_last login client logged_in in
     let opened = reports.3.4 in

@@ -68,9 +68,12 @@ module _ {S : Type 0} (machine : Machine S) (steps : StaysOrOk machine) where
       absurd due.3.3
 
   pub servers_stay : ServersStay machine
-  servers_stay limit state pieces taken sent last n out =
-      elim (stays_or_ok pieces limit n.events n.replies n.answer state last.state n.frames n.run n.replied) [
-        | inl ok ↦ absurd (out ((servers_log_in machine limit state pieces taken sent last n).1 ok))
+  servers_stay state server out =
+      let n = server.connection in
+      elim (stays_or_ok server.pieces server.limit n.events n.replies n.answer state server.last.state n.frames n.run
+      n.replied) [
+        | inl ok ↦ absurd (out ((servers_log_in machine server.limit state server.pieces server.taken server.sent
+            server.last n).1 ok))
         | inr same ↦ same
       ]
 

@@ -17,8 +17,8 @@ use Rattle.fe2o3_sasl_runs.specs.Verdicts.{Finding, OfVerifier, OfProof, IsVerif
 use Rattle.fe2o3_sasl_runs.proofs.lemmas.lists.EachLemmas.{each_append, each_weaker}
 use Rattle.fe2o3_sasl_runs.proofs.lemmas.unaltered.UnalteredRunLemmas as unaltered
 use Rattle.fe2o3_sasl_negotiation.specs.Framing.{sasl_header, framed}
-use Rattle.fe2o3_sasl_negotiation.proofs.lemmas.JoinedSideLemmas.{none_at}
-use Rattle.fe2o3_sasl_negotiation.proofs.lemmas.LoginLemmas.{scram_servers_serve, scram_clients_log_in}
+use Rattle.connection_laws.proofs.lemmas.ReplyListLemmas.{none_at}
+use Rattle.fe2o3_sasl_negotiation.proofs.lemmas.LoginLemmas.{scram_servers_serve, scram_clients_report}
 use Rattle.fe2o3_sasl_negotiation.proofs.lemmas.UnitLemmas.{length-framed}
 use Rattle.connection_laws.specs.Pairs.{ClientOf, ServerOf, sides, Unaltered, TakesEqually, ShowsEqually, UnalteredConnectionsAgree}
 use Rattle.connection_laws.proofs.lemmas.ShapeLemmas.{one_frame, three, ServerShape, server_shape, ClientShape, client_shape}
@@ -159,7 +159,7 @@ pub unaltered_connections_agree : UnalteredConnectionsAgree
 unaltered_connections_agree login provider client server password salt count is holds bytes logged_in server_logged_in =
     let c = client_shape login client logged_in in
     let s = server_shape provider server server_logged_in in
-    let history = (scram_clients_log_in login client.limit client.pieces client.taken client.sent client.last
+    let history = (scram_clients_report login client.limit client.pieces client.taken client.sent client.last
     client.connection).history in
     let server_history = (scram_servers_serve provider server.limit server.pieces server.taken server.sent server.last
     server.connection).history in

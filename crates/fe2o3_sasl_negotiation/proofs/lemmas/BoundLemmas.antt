@@ -20,7 +20,7 @@ use Rattle.fe2o3_sasl_negotiation.specs.Connections.{fresh}
 use Rattle.fe2o3_sasl_negotiation.specs.CostLaws.{Bounded, ServersAreBounded, ClientsAreBounded}
 use Rattle.fe2o3_sasl_negotiation.specs.Framing.{sasl_header, IsPart}
 use Rattle.fe2o3_sasl_negotiation.specs.Laws.{Call, Calls, Negotiates}
-use Rattle.fe2o3_sasl_negotiation.specs.Negotiations.{Side, SideOutput, Sends, closes}
+use Rattle.fe2o3_sasl_negotiation.specs.Negotiations.{Side, SideOutput, Receives, Sends, closes}
 use Rattle.fe2o3_sasl_negotiation.proofs.lemmas.CutLemmas.{nothing_is_part, EndsUnit, unit_of_call, cuts_do_not_matter}
 use Rattle.fe2o3_sasl_negotiation.proofs.lemmas.UnitLemmas.{length-framed}
 
@@ -162,7 +162,7 @@ module _ {S : Type 0} (Answers : Due → S → List ℕ → List ℕ → SideOut
           inr (omega (arith, most, short))
 
   bounded : (limit : ℕ) (state : S) (calls : List Call) (stream sent rest : List ℕ) (last : Side S)
-      → Calls Answers (fresh limit state) calls stream sent last rest → Bounded (budget Header) limit sent last
+      → Calls (Receives Answers) (fresh limit state) calls stream sent last rest → Bounded (budget Header) limit sent last
   bounded limit state calls stream sent rest last made =
       let (taken, nonces, all, whole) = cuts_do_not_matter Answers (fresh limit state) last calls stream sent rest
       (nothing_is_part Header limit) made in

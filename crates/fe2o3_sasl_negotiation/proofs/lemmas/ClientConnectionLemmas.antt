@@ -13,7 +13,7 @@ use Rattle.fe2o3_sasl_negotiation.specs.declared.standing.Standing.{Standing}
 use Rattle.fe2o3_sasl_negotiation.specs.declared.standing.Standing.TheVariants.{Wanting, LoggedIn, Closed}
 use Rattle.fe2o3_sasl_negotiation.specs.declared.standing.Turn.{Turn}
 use Rattle.fe2o3_sasl_negotiation.specs.declared.standing.Turn.TheVariants as turns
-use Rattle.fe2o3_sasl_negotiation.specs.ClientNegotiation.{ClientOpens, ClientOutputs, ClientSideAnswers}
+use Rattle.fe2o3_sasl_negotiation.specs.ClientNegotiation.{ClientOpens, ClientOutputs, ClientSideAnswers, ClientReceives}
 use Rattle.fe2o3_sasl_negotiation.specs.Connections.{Piece, ClientConnection, ClientsConnect, fresh}
 use Rattle.fe2o3_sasl_negotiation.specs.Negotiations.{Side, SideOutput, Receives, ReceivesAt}
 use Rattle.fe2o3_sasl_negotiation.specs.private.Pieces.{NextNonces}
@@ -70,7 +70,7 @@ says_last (ClientRefused (FrameFault fault)) answer closed waits = closes_waits_
 
 module _ (hostname : Option (List ℕ)) (limit : ℕ) (profile : Profile) (pieces : List Piece) where
   abbrev Is : List ℕ → List ℕ → Side Profile → Type 0
-  Is taken sent last = ClientConnection hostname limit profile pieces taken sent last
+  Is taken sent last = ClientConnection (ProfileSteps hostname) limit profile pieces taken sent last
 
   abbrev seen : List Turn
   seen = turns.Mechanisms ∷ turns.Challenge ∷ turns.Outcome ∷ []
@@ -151,7 +151,7 @@ module _ (hostname : Option (List ℕ)) (limit : ℕ) (profile : Profile) (piece
   client_fresh = inl (omega arith, refl, refl)
 
   grows : (more : List Piece) (taken sent : List ℕ) (side : Side Profile) → Is taken sent side
-      → ClientConnection hostname limit profile (pieces ++ more) taken sent side
+      → ClientConnection (ProfileSteps hostname) limit profile (pieces ++ more) taken sent side
   grows more taken sent side (inl part) = inl part
   grows more taken sent side (inr (inl other)) = inr (inl other)
   grows more taken sent side (inr (inr negotiated)) =
@@ -159,10 +159,10 @@ module _ (hostname : Option (List ℕ)) (limit : ℕ) (profile : Profile) (piece
       (says_first, (says_next, says_last)) (λ turn s n nonce unit a h. h) limit profile pieces more taken sent side
       negotiated))
 
-pub clients_connect : ClientsConnect
+pub clients_connect : ClientsConnect ProfileSteps ClientReceives
 clients_connect hostname limit profile calls stream sent rest last are_bytes made =
     connected (ClientSideAnswers hostname)
-    (λ pieces taken out side. ClientConnection hostname limit profile pieces taken out side)
+    (λ pieces taken out side. ClientConnection (ProfileSteps hostname) limit profile pieces taken out side)
     (λ pieces taken out side next bytes nonce first k is fine nonces receives.
     client_call hostname limit profile pieces taken out side next bytes nonce first k is fine nonces receives)
     (λ pieces more taken out side is. grows hostname limit profile pieces more taken out side is)

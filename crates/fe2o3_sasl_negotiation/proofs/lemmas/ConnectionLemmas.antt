@@ -414,7 +414,7 @@ module _ {S : Type 0} (Answers : Due → S → List ℕ → List ℕ → SideOut
     → Is (pieces ++ more) taken sent side) where
   in_calls : (calls : List Call) (done : List Piece) (side last : Side S) (stream before sent rest : List ℕ)
       → Is done (bytes_of done) before side → IsBytes (bytes_of done ++ stream)
-      → Calls Answers side calls stream sent last rest
+      → Calls (Receives Answers) side calls stream sent last rest
       → (pieces : List Piece) × ArePieces calls pieces × (stream ≡ bytes_of pieces ++ rest)
       × Is (done ++ pieces) (bytes_of (done ++ pieces)) (before ++ sent) last
   in_calls [] done side last stream before sent rest is are_bytes (nothing, same, left) = (
@@ -458,7 +458,7 @@ module _ {S : Type 0} (Answers : Due → S → List ℕ → List ℕ → SideOut
 
   -- and from the first byte
   pub connected : (side last : Side S) (calls : List Call) (stream sent rest : List ℕ) → Is [] [] [] side → IsBytes stream
-      → Calls Answers side calls stream sent last rest
+      → Calls (Receives Answers) side calls stream sent last rest
       → (pieces : List Piece) × ArePieces calls pieces × (stream ≡ bytes_of pieces ++ rest)
       × Is pieces (bytes_of pieces) sent last
   connected side last calls stream sent rest is are_bytes made =

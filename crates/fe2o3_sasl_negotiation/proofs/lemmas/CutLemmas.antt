@@ -243,14 +243,14 @@ module _ {S : Type 0} (Answers : Due → S → List ℕ → List ℕ → SideOut
   -- what these calls do, is done with what they take as a whole
   abbrev AreCut : List Call → Type 0
   AreCut calls = (side last : Side S) (stream sent rest : List ℕ) → IsPart side.due side.limit side.held
-      → Calls Answers side calls stream sent last rest
+      → Calls (Receives Answers) side calls stream sent last rest
       → (taken : List ℕ) × (nonces : List (List ℕ)) × (stream ≡ taken ++ rest)
       × Negotiates Answers side nonces taken sent last × NoncesOf calls nonces
 
   -- a call that keeps all it is handed
   kept_call : (calls : List Call) → AreCut calls → (side last : Side S) (call : Call) (stream behind rest : List ℕ)
       → side.standing ≡ Wanting → IsPart side.due side.limit (side.held ++ take call.handed stream)
-      → Calls Answers (held_more side (take call.handed stream)) calls
+      → Calls (Receives Answers) (held_more side (take call.handed stream)) calls
       (drop (length (take call.handed stream)) stream) behind last rest
       → (taken : List ℕ) × (nonces : List (List ℕ)) × (stream ≡ taken ++ rest)
       × Negotiates Answers side nonces taken behind last × NoncesOf calls nonces
@@ -273,7 +273,7 @@ module _ {S : Type 0} (Answers : Due → S → List ℕ → List ℕ → SideOut
       (stream first behind rest : List ℕ) (n taken : ℕ) → side.standing ≡ Wanting
       → IsPart side.due side.limit side.held → IsPart next.due next.limit next.held
       → EndsUnit side (side.held ++ take call.handed stream) call.nonce n taken first next
-      → Calls Answers next calls (drop taken stream) behind last rest
+      → Calls (Receives Answers) next calls (drop taken stream) behind last rest
       → (all : List ℕ) × (nonces : List (List ℕ)) × (stream ≡ all ++ rest)
       × Negotiates Answers side nonces all (first ++ behind) last × NoncesOf (call ∷ calls) nonces
   unit_call calls others side last next call stream first behind rest n taken wanting part empty unit more =
@@ -314,12 +314,12 @@ module _ {S : Type 0} (Answers : Due → S → List ℕ → List ℕ → SideOut
   -- a call to a side at its end
   ended_call : (calls : List Call) → AreCut calls → (side last next : Side S) (stream first behind sent rest : List ℕ)
       (taken : ℕ) → IsPart side.due side.limit side.held → Rests side taken first next
-      → Calls Answers next calls (drop taken stream) behind last rest → sent ≡ first ++ behind
+      → Calls (Receives Answers) next calls (drop taken stream) behind last rest → sent ≡ first ++ behind
       → (all : List ℕ) × (nonces : List (List ℕ)) × (stream ≡ all ++ rest)
       × Negotiates Answers side nonces all sent last × NoncesOf calls nonces
   ended_call calls others side last next stream first behind sent rest taken part (none, nothing, same) more all =
-      let again = subst (λ (s : Side S). Calls Answers s calls stream behind last rest) same
-      (subst (λ (k : ℕ). Calls Answers next calls (drop k stream) behind last rest) none more) in
+      let again = subst (λ (s : Side S). Calls (Receives Answers) s calls stream behind last rest) same
+      (subst (λ (k : ℕ). Calls (Receives Answers) next calls (drop k stream) behind last rest) none more) in
       let cut = others side last stream behind rest part again in
       let one : sent ≡ behind = all ∙ ap (λ l. l ++ behind) nothing in (
         cut.0,
@@ -334,7 +334,7 @@ module _ {S : Type 0} (Answers : Due → S → List ℕ → List ℕ → SideOut
       (stream first behind sent rest : List ℕ) (taken : ℕ) (standing : Standing) → side.standing ≡ standing
       → IsPart side.due side.limit side.held
       → ReceivesAt standing Answers side (take call.handed stream) call.nonce taken first next
-      → Calls Answers next calls (drop taken stream) behind last rest → sent ≡ first ++ behind
+      → Calls (Receives Answers) next calls (drop taken stream) behind last rest → sent ≡ first ++ behind
       → (all : List ℕ) × (nonces : List (List ℕ)) × (stream ≡ all ++ rest)
       × Negotiates Answers side nonces all sent last × NoncesOf (call ∷ calls) nonces
   first_call calls others side last next call stream first behind sent rest taken LoggedIn is part rests more all =
@@ -345,8 +345,8 @@ module _ {S : Type 0} (Answers : Due → S → List ℕ → List ℕ → SideOut
       (cut.0, cut.1, cut.2, cut.3, inl cut.4)
   first_call calls others side last next call stream first behind sent rest taken Wanting is part (inl waits) more all =
       let piece = take call.handed stream in
-      let again = subst (λ (s : Side S). Calls Answers s calls (drop (length piece) stream) behind last rest) waits.1.2
-      (subst (λ (k : ℕ). Calls Answers next calls (drop k stream) behind last rest) waits.1.0 more) in
+      let again = subst (λ (s : Side S). Calls (Receives Answers) s calls (drop (length piece) stream) behind last rest) waits.1.2
+      (subst (λ (k : ℕ). Calls (Receives Answers) next calls (drop k stream) behind last rest) waits.1.0 more) in
       let cut = kept_call calls others side last call stream behind rest is waits.0 again in
       let one : sent ≡ behind = all ∙ ap (λ l. l ++ behind) waits.1.1 in (
         cut.0,
@@ -419,7 +419,7 @@ cuts_with_nonces Answers side last calls stream sent rest part made =
 -- without the nonces
 pub cuts_do_not_matter : {S : Type 0} (Answers : Due → S → List ℕ → List ℕ → SideOutput → S → Type 0) (side last : Side S)
     (calls : List Call) (stream sent rest : List ℕ) → IsPart side.due side.limit side.held
-    → Calls Answers side calls stream sent last rest
+    → Calls (Receives Answers) side calls stream sent last rest
     → (taken : List ℕ) × (nonces : List (List ℕ)) × (stream ≡ taken ++ rest)
     × Negotiates Answers side nonces taken sent last
 cuts_do_not_matter Answers side last calls stream sent rest part made =

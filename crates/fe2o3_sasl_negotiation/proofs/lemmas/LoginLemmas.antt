@@ -6,8 +6,9 @@ use Rattle.fe2o3_sasl_wire.specs.declared.sasl_frames.error.Error.TheVariants as
 use Rattle.fe2o3_sasl_wire.specs.SaslFrames.{SaslFrame}
 use Rattle.fe2o3_scram.specs.ScramServer.{Initial}
 use Rattle.fe2o3_sasl_runs.specs.Events.{Given, ServerSays, Challenged, Concluded, Failed, ClientSays, Started, Answered, Reported, Refused as ClientRefused, ClientFault, NotImplemented, Scram, OtherKeys, Frame as FrameFault, OutOfMemory}
+use Rattle.fe2o3_sasl_runs.specs.Profiles.{scram_profile}
 use Rattle.fe2o3_sasl_runs.specs.Runs.{AcceptorSteps, ProfileSteps}
-use Rattle.fe2o3_sasl_runs.specs.SaslAcceptor.{ScramAcceptor, acceptor_machine}
+use Rattle.fe2o3_sasl_runs.specs.SaslAcceptor.{ScramAcceptor, acceptor_machine, acceptor_user}
 use Rattle.fe2o3_sasl_runs.proofs.lemmas.two_sides.HeadlineLemmas.{answers_ok_exactly, reports_ok_exactly, taken_verifiers_agree}
 use Rattle.fe2o3_sasl_runs.proofs.lemmas.machines.ClientMachineLemmas.{profile_runs_are_histories}
 use Rattle.fe2o3_sasl_runs.proofs.lemmas.machines.ServerMachineLemmas.{acceptor_runs_are_histories, acceptor_runs_name_users}
@@ -22,7 +23,7 @@ use Rattle.fe2o3_sasl_negotiation.specs.declared.standing.Turn.TheVariants as tu
 use Rattle.fe2o3_sasl_negotiation.specs.ClientNegotiation as of_client
 use Rattle.fe2o3_sasl_negotiation.specs.Connections.{Piece, LeftOver, Replied, Negotiated, LastReply, IsOkSent, IsOkReported, ServerConnectionsLogIn, ClientConnectionsLogIn}
 use Rattle.fe2o3_sasl_negotiation.specs.Negotiations.{Side, SideOutput, Sends, closes}
-use Rattle.fe2o3_sasl_negotiation.specs.ScramConnections.{ScramServersServe, ScramClientsLogIn}
+use Rattle.fe2o3_sasl_negotiation.specs.ScramConnections.{ScramServersServe, ScramClientsReport}
 use Rattle.fe2o3_sasl_negotiation.specs.ServerNegotiation as of_server
 use Rattle.fe2o3_sasl_negotiation.proofs.lemmas.ConnectionLemmas.{closed_is_not_logged_in}
 use Rattle.fe2o3_sasl_negotiation.proofs.lemmas.KindLemmas.{standing_of}
@@ -199,27 +200,25 @@ servers_log_in machine limit state pieces taken sent last n =
     logs_in (AcceptorSteps machine) of_server.ServerOutputs IsOkSent server_kind (turns.Init ∷ turns.Response ∷ []) limit state
     pieces taken sent last n
 
-pub clients_log_in : ClientConnectionsLogIn
+pub clients_log_in : ClientConnectionsLogIn ProfileSteps
 clients_log_in hostname limit profile pieces taken sent last n =
     logs_in (ProfileSteps hostname) of_client.ClientOutputs IsOkReported client_kind
     (turns.Mechanisms ∷ turns.Challenge ∷ turns.Outcome ∷ []) limit profile pieces taken sent last n
 
-pub scram_servers_serve : ScramServersServe
+pub scram_servers_serve : ScramServersServe acceptor_machine (λ provider. ScramAcceptor provider Initial) acceptor_user
 scram_servers_serve provider limit pieces taken sent last n =
     let history = acceptor_runs_are_histories provider n.events n.replies last.state n.run in
     record {
       history = history;
       exactly = answers_ok_exactly provider n.events n.replies history;
-      logged_in = servers_log_in acceptor_machine limit (ScramAcceptor provider Initial) pieces taken sent last n;
       user = λ user. acceptor_runs_name_users provider n.events n.replies last.state user n.run;
     }
 
-pub scram_clients_log_in : ScramClientsLogIn
-scram_clients_log_in login limit pieces taken sent last n =
+pub scram_clients_report : ScramClientsReport ProfileSteps scram_profile
+scram_clients_report login limit pieces taken sent last n =
     let history = profile_runs_are_histories login n.events n.replies last.state n.run in
     record {
       history = history;
       exactly = reports_ok_exactly login n.events n.replies history;
       agreement = taken_verifiers_agree login n.events n.replies history;
-      logged_in = clients_log_in login.hostname limit _ pieces taken sent last n;
     }

@@ -17,7 +17,7 @@ use Rattle.fe2o3_sasl_negotiation.specs.declared.standing.Turn.TheVariants as tu
 use Rattle.fe2o3_sasl_negotiation.specs.Connections.{Piece, OffersNone, ServerConnection, ServersConnect, fresh}
 use Rattle.fe2o3_sasl_negotiation.specs.Framing.{sasl_header, framed}
 use Rattle.fe2o3_sasl_negotiation.specs.Negotiations.{Side, SideOutput, Receives, ReceivesAt}
-use Rattle.fe2o3_sasl_negotiation.specs.ServerNegotiation.{offer_body, Offers, ServerOpens, ServerOutputs, ServerSideAnswers}
+use Rattle.fe2o3_sasl_negotiation.specs.ServerNegotiation.{offer_body, Offers, ServerOpens, ServerOutputs, ServerSideAnswers, ServerReceives}
 use Rattle.fe2o3_sasl_negotiation.specs.private.Pieces.{NextNonces}
 use Rattle.fe2o3_sasl_negotiation.proofs.lemmas.ConnectionLemmas.{closed_is_not_wanting, logged_in_is_not_wanting, opened, negotiated_call, negotiated_more, rests_there, connected}
 use Rattle.fe2o3_sasl_negotiation.proofs.lemmas.KindLemmas.{standing_of, closes_waits_not, sends_goes_on, sends_ends}
@@ -226,7 +226,7 @@ module _ {S : Type 0} (names : S → List (List ℕ)) (machine : S → List ℕ 
   )))
 
 pub servers_connect : {S : Type 0} (names : S → List (List ℕ)) (machine : S → List ℕ → SaslFrame → SaslFrame → S → Type 0)
-    → ServersConnect names machine
+    → ServersConnect names machine (ServerReceives names machine)
 servers_connect names machine limit state calls stream sent rest last are_bytes made =
     connected (ServerSideAnswers names machine)
     (λ pieces taken out side. ServerConnection names machine limit state pieces taken out side)

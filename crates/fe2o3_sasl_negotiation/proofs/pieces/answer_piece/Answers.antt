@@ -1,6 +1,7 @@
 use Rattle.std.proofs.Common.{ℕ, ◌≤◌, Option, List, [], ◌++◌, length, drop, refl, sym, ap, ◌∙◌, subst, append_assoc, arith}
 use Rattle.std.proofs.lemmas.List.{append-nil, length-drop, take_rest}
 use Rattle.fe2o3_sasl_negotiation.specs.ClientNegotiation.{ClientSideAnswers, ClientReceives}
+use Rattle.fe2o3_sasl_runs.specs.Runs.{ProfileSteps}
 use Rattle.fe2o3_sasl_negotiation.specs.Connections.{ClientConnection}
 use Rattle.fe2o3_sasl_negotiation.specs.Sides.{client_side, hostname_in}
 use Rattle.fe2o3_sasl_negotiation.proofs.lemmas.ClientConnectionLemmas.{client_call}
@@ -16,7 +17,7 @@ loop-taken-init c =
       kept = (
         [],
         sym (append-nil c.args.sent.now.items),
-        λ limit profile. continues_so_far (ClientSideAnswers host) (ClientConnection host limit profile)
+        λ limit profile. continues_so_far (ClientSideAnswers host) (ClientConnection (ProfileSteps host) limit profile)
             (client_call host limit profile) (client_side c.args.side.now) c.args.piece.now.bytes.now
             c.args.piece.now.nonce,
       );
@@ -38,7 +39,7 @@ loop-taken-preserved c =
       kept = (
         more ++ first,
         sent ∙ (ap (λ l. l ++ first) kept ∙ append_assoc c.args.sent.now.items more first),
-        λ limit profile. continues_further (ClientSideAnswers host) (ClientConnection host limit profile)
+        λ limit profile. continues_further (ClientSideAnswers host) (ClientConnection (ProfileSteps host) limit profile)
             (client_call host limit profile) (client_side c.args.side.now) (client_side c.loop-taken.side)
             (client_side c.receive.new.self) bytes nonce more first c.loop-taken.taken c.in_ok-received.received.taken
             (so_far limit profile) within few

@@ -1,5 +1,6 @@
 use Rattle.std.proofs.Common.{length, ◌-◌, ◌≡◌, ◌≤◌, ◌++◌, List, ℕ}
 use Rattle.fe2o3_sasl_runs.specs.Profiles.{Profile}
+use Rattle.fe2o3_sasl_runs.specs.Runs.{ProfileSteps}
 use Rattle.fe2o3_sasl_negotiation.specs.Connections.{ClientConnection}
 use Rattle.fe2o3_sasl_negotiation.specs.Sides.{client_side, hostname_in}
 use Rattle.fe2o3_sasl_negotiation.specs.private.Pieces.{Continues}
@@ -11,7 +12,7 @@ invariant-loop-taken l = record {
   hostname : hostname_in l.side ≡ hostname_in l.fn.side;
   kept : (more : List ℕ) × (l.sent.items ≡ l.fn.sent.items ++ more)
       × ((limit : ℕ) (profile : Profile)
-      → Continues (ClientConnection (hostname_in l.fn.side) limit profile) (client_side l.fn.side) l.piece.bytes.now
+      → Continues (ClientConnection (ProfileSteps (hostname_in l.fn.side)) limit profile) (client_side l.fn.side) l.piece.bytes.now
       l.piece.nonce l.taken more (client_side l.side));
 }
 

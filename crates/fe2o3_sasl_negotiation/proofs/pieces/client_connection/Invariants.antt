@@ -1,6 +1,7 @@
 use Rattle.std.proofs.Common.{◌≡◌, map, take, option_map, string_bytes}
 use Rattle.fe2o3_sasl_wire.specs.SaslFrames.{IsBytes}
 use Rattle.fe2o3_sasl_runs.specs.SaslProfile.{profile_of}
+use Rattle.fe2o3_sasl_runs.specs.Runs.{ProfileSteps}
 use Rattle.fe2o3_sasl_negotiation.specs.Connections.{ClientConnection, bytes_of}
 use Rattle.fe2o3_sasl_negotiation.specs.Pieces.{piece_of}
 use Rattle.fe2o3_sasl_negotiation.specs.Sides.{client_side, hostname_in}
@@ -11,6 +12,6 @@ invariant-loop-piece l = record {
   count : l.whole ≡ l.piece-index;
   hostname : hostname_in l.side ≡ option_map string_bytes l.fn.hostname;
   so_far : IsBytes (bytes_of (map piece_of l.pieces))
-      → ClientConnection (option_map string_bytes l.fn.hostname) 512 (profile_of l.fn.profile) (map piece_of l.pieces)
+      → ClientConnection (ProfileSteps (option_map string_bytes l.fn.hostname)) 512 (profile_of l.fn.profile) (map piece_of l.pieces)
       (bytes_of (map piece_of (take l.piece-index l.pieces))) l.sent.items (client_side l.side);
 }

@@ -1,12 +1,12 @@
 use Rattle.std.proofs.Common.{ap, ◌∙◌, map, subst, false}
 use Rattle.fe2o3_scram.specs.Credentials.{serving}
-use Rattle.fe2o3_scram.specs.ScramServer.{served_by, state_in}
+use Rattle.fe2o3_scram.specs.ScramServer.{Initial, served_by, state_in}
 use Rattle.fe2o3_sasl_runs.specs.SaslAcceptor.{Acceptor, ScramAcceptor, acceptor_machine, acceptor_names}
 use Rattle.fe2o3_sasl_runs.proofs.lemmas.steps.LongerRunLemmas.{if_ok_map}
 use Rattle.fe2o3_sasl_negotiation.specs.Connections.{ServerConnection}
 use Rattle.fe2o3_sasl_negotiation.specs.Pieces.{piece_of, first_bytes}
 use Rattle.fe2o3_sasl_negotiation.specs.Sides.{server_side}
-use Rattle.fe2o3_sasl_negotiation.proofs.lemmas.LoginLemmas.{scram_servers_serve}
+use Rattle.fe2o3_sasl_negotiation.proofs.lemmas.LoginLemmas.{servers_log_in, scram_servers_serve}
 use Rattle.fe2o3_sasl_negotiation.proofs.pieces.scram_server_connection.Goals as goal
 
 pub returns-clause-connection : goal.returns-clause-connection
@@ -27,5 +27,14 @@ returns-clause-headline g c =
     let m = g.C.ScramCredentialProvider in
     if_ok_map _ _ c.server_connection.result (λ served holds taken out negotiated.
     scram_servers_serve (serving false (m.meaning c.args.credentials.now)) 512 (map piece_of c.args.pieces.now) taken out
+    (server_side (λ server. ScramAcceptor (served_by m.meaning server) (state_in server)) served.side) negotiated)
+    c.server_connection.ensures.connection
+
+pub returns-clause-logged_in : goal.returns-clause-logged_in
+returns-clause-logged_in g c =
+    let m = g.C.ScramCredentialProvider in
+    if_ok_map _ _ c.server_connection.result (λ served holds taken out negotiated.
+    servers_log_in acceptor_machine 512 (ScramAcceptor (serving false (m.meaning c.args.credentials.now)) Initial)
+    (map piece_of c.args.pieces.now) taken out
     (server_side (λ server. ScramAcceptor (served_by m.meaning server) (state_in server)) served.side) negotiated)
     c.server_connection.ensures.connection
