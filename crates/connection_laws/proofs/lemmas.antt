@@ -24,4 +24,7 @@ pub mod NegotiatedLemmas
 pub mod OneLoginLemmas
 pub mod NegotiationAgreeLemmas
 pub mod CompletingCallLemmas
+pub mod FinishedCallLemmas
+pub mod LoginFrameLemmas
+pub mod LoginAnswerLemmas
 pub mod JoinedExistLemmas

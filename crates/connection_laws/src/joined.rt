@@ -2,11 +2,15 @@
 
 ghost use Rattle.connection_laws.specs.JoinedSides.{JoinedSidesExist, UserLogsIn};
 
-/// States that the premises of the law `unaltered::unaltered` can be met. Where a login, a provider, limits and nonces meet
-/// those that can be tested before the first byte is sent, there are a client and a server that are joined: the client
-/// makes four calls and the server three, and each call completes one unit. Both sides log in, and no call runs out of
-/// memory. One such login is given too: the user "user" with the password "pencil" and SCRAM-SHA-256, where the record has
-/// a salt of 32 bytes and the count 4096, and both limits are 512.
+/// States that the premises of the law `unaltered::unaltered` can be met, in whatever pieces the bytes arrive. For each
+/// login, provider, limits and calls that meet the premises on them, there are two sides that these calls join. Both log
+/// in. The calls have to be enough:
+/// - each is passed a byte or more, and there are 1544 of the client and 1032 of the server, one for each byte that can
+///   arrive;
+/// - or each is passed 512 bytes or more, and there are four of the client and three of the server, one for each unit.
+///
+/// One such login is given too. The user "user" has the password "pencil" and uses SCRAM-SHA-256. The record has a salt of
+/// 32 bytes and the count 4096, and both limits are 512. Two sides are joined unit by unit, and two byte by byte.
 pub fn joined_sides()
     ensures exist { JoinedSidesExist }
     ensures example { UserLogsIn }

@@ -1,0 +1,133 @@
+-- The frames of a login, each of which is sent.
+use Rattle.std.proofs.Common.{◌≡◌, ℕ, Some, List, [], ◌∷◌, length, ◌∙◌, arith}
+use Rattle.std.proofs.lemmas.List.{length-append}
+use Rattle.fe2o3_sasl_wire.specs.declared.amqp_types.SaslCode.TheVariants as outcomes
+use Rattle.fe2o3_sasl_wire.specs.SaslFrames.{SaslFrame, canonical}
+use Rattle.fe2o3_sasl_wire.specs.SaslFrames as frames
+use Rattle.fe2o3_scram.specs.ClientFirst.{client_first}
+use Rattle.fe2o3_scram.specs.ClientFinal.{keys_for, without_proof}
+use Rattle.fe2o3_scram.specs.ClientKeys.{ClientKeys, keys_of}
+use Rattle.fe2o3_scram.specs.Credentials.{Provider}
+use Rattle.fe2o3_scram.specs.Exchanges.{Exchange, IsSound, Succeeds, nonce_in, bare_in, named_in, first_in, answer_in}
+use Rattle.fe2o3_scram.specs.Hmac.{mechanism_name}
+use Rattle.fe2o3_scram.specs.Keys.{auth_message, client_proof}
+use Rattle.fe2o3_scram.specs.Texts.{base64_text}
+use Rattle.fe2o3_scram.proofs.lemmas.messages.ExchangeLemmas.{succeeds, opened}
+use Rattle.fe2o3_sasl_runs.specs.Events.{Login, IsLogin}
+use Rattle.fe2o3_sasl_runs.specs.ServerHistory.{final_message}
+use Rattle.fe2o3_sasl_runs.specs.TwoSides.{sides_of}
+use Rattle.fe2o3_sasl_runs.specs.UnalteredRuns.{HoldsLogin}
+use Rattle.fe2o3_sasl_runs.proofs.lemmas.unaltered.UnalteredStepLemmas as step
+use Rattle.fe2o3_sasl_negotiation.specs.FrameSizes.{CanBeSent}
+use Rattle.fe2o3_sasl_negotiation.proofs.lemmas.FrameSizeLemmas.{scram_inits_fit, texts_fit}
+use Rattle.connection_laws.specs.Unaltered.{FitsFrames}
+use Rattle.connection_laws.proofs.lemmas.SmallReplyLemmas.{nonce_length, first_length, proof_length, response_length, names_fit, ok_fits}
+
+-- a login with all that the law asks of it, and the nonces that both sides send
+pub record Premises : Type 0 where
+  pub login : Login
+  pub provider : Provider
+  pub password : List ℕ
+  pub salt : List ℕ
+  pub count : ℕ
+  pub mine : List ℕ
+  pub theirs : List ℕ
+  pub is : IsLogin login
+  pub holds : HoldsLogin (sides_of login [] [] provider [] []) password salt count
+  pub fits : FitsFrames login salt
+  pub mine_long : length mine ≡ 32
+  pub theirs_long : length theirs ≡ 32
+
+-- the init with this nonce
+abbrev pub init_of : Login → List ℕ → SaslFrame
+init_of login nonce = frames.Init (mechanism_name login.version) (Some (client_first login.user (base64_text nonce))) login.hostname
+
+pub init_fits : (login : Login) (salt nonce : List ℕ) → FitsFrames login salt → length nonce ≡ 32
+    → CanBeSent (init_of login nonce)
+init_fits login salt nonce fits long = scram_inits_fit login.version login.user (base64_text nonce) login.hostname
+    (omega (arith, nonce_length nonce long)) fits.names
+
+module _ (p : Premises) where
+  abbrev login : Login
+  login = p.login
+
+  abbrev provider : Provider
+  provider = p.provider
+
+  abbrev mine : List ℕ
+  mine = p.mine
+
+  abbrev theirs : List ℕ
+  theirs = p.theirs
+
+  abbrev pub exchange : Exchange
+  exchange = step.exchange_of login provider.unbound p.password p.salt p.count mine theirs
+
+  pub sound : IsSound exchange
+  sound = step.sound_exchange (sides_of login [] [] provider [] []) p.password p.salt p.count mine theirs p.is p.holds
+
+  pub meets : Succeeds exchange
+  meets = succeeds exchange sound
+
+  -- ---- the frames
+
+  abbrev pub names : SaslFrame
+  names = frames.Mechanisms (mechanism_name login.version ∷ [])
+
+  abbrev pub init : SaslFrame
+  init = init_of login mine
+
+  abbrev pub message : List ℕ
+  message = (answer_in exchange).message
+
+  abbrev pub final_sent : List ℕ
+  final_sent = final_message provider (step.accepted_in exchange)
+
+  abbrev pub outcome : SaslFrame
+  outcome = frames.Outcome outcomes.Ok (Some final_sent)
+
+  mine_long : length (base64_text mine) ≡ 44
+  mine_long = nonce_length mine p.mine_long
+
+  theirs_long : length (base64_text theirs) ≡ 44
+  theirs_long = nonce_length theirs p.theirs_long
+
+  abbrev pub names_sent : CanBeSent names
+  names_sent = names_fit login.version
+
+  abbrev pub init_sent : CanBeSent init
+  init_sent = init_fits login p.salt mine p.fits p.mine_long
+
+  pub challenge_sent : CanBeSent (frames.Challenge (first_in exchange))
+  challenge_sent = (texts_fit (first_in exchange)
+      (first_length exchange mine_long theirs_long p.fits.salt (omega (arith, p.holds.within, p.is.limit)))).0
+
+  by_keys : keys_for login.version login.secret (named_in exchange) ≡ keys_of login.version p.password p.salt p.count
+  by_keys = (opened login.version login.secret p.password p.salt p.count (nonce_in exchange) p.holds.opens).0
+
+  pub response_sent : CanBeSent (frames.Response message)
+  response_sent =
+      let keys : ClientKeys = keys_for login.version login.secret (named_in exchange) in
+      let auth : List ℕ = auth_message (bare_in exchange) (first_in exchange) (without_proof (nonce_in exchange)) in
+      (texts_fit message
+      (response_length (nonce_in exchange) (client_proof keys.version keys.client_key auth)
+      (length-append (base64_text mine) (base64_text theirs) ∙ omega (arith, mine_long, theirs_long))
+      (proof_length keys login.version p.password p.salt auth p.count by_keys))).1
+
+  pub outcome_sent : CanBeSent outcome
+  outcome_sent = ok_fits provider (step.accepted_in exchange)
+
+  abbrev pub names_body : List ℕ
+  names_body = names_sent.0
+
+  abbrev pub init_body : List ℕ
+  init_body = init_sent.0
+
+  abbrev pub challenge_body : List ℕ
+  challenge_body = challenge_sent.0
+
+  abbrev pub response_body : List ℕ
+  response_body = response_sent.0
+
+  abbrev pub outcome_body : List ℕ
+  outcome_body = outcome_sent.0
