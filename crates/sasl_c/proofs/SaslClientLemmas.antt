@@ -234,10 +234,10 @@ says_short (Reported outcomes.Sys more) turn answer same = silent_short answer _
 says_short (Reported outcomes.SysPerm more) turn answer same = silent_short answer _ same refl
 says_short (Reported outcomes.SysTemp more) turn answer same = silent_short answer _ same refl
 says_short (Refused OutOfMemory) turn answer never = absurd never
-says_short (Refused NotImplemented) turn answer refused = silent_short answer _ refused.2 refl
-says_short (Refused (Scram kind)) turn answer refused = silent_short answer _ refused.2 refl
-says_short (Refused OtherKeys) turn answer refused = silent_short answer _ refused.2 refl
-says_short (Refused (FrameFault fault)) turn answer refused = silent_short answer _ refused.2 refl
+says_short (Refused NotImplemented) turn answer refused = silent_short answer _ refused refl
+says_short (Refused (Scram kind)) turn answer refused = silent_short answer _ refused refl
+says_short (Refused OtherKeys) turn answer refused = silent_short answer _ refused refl
+says_short (Refused (FrameFault fault)) turn answer refused = silent_short answer _ refused refl
 
 answers_short : (hostname : Option (List ℕ)) (due : Due) (profile next : Profile) (nonce unit : List ℕ)
     (answer : SideOutput) → ClientSideAnswers hostname due profile nonce unit answer next → Short answer
