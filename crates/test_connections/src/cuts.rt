@@ -56,7 +56,7 @@ pub fn text<R: Abort + AllocGlobal>(rt: &R, text: &str) -> String {
 }
 
 /// Returns the bytes of headers and frames, one after another.
-fn bytes_of<R: Abort + AllocGlobal>(rt: &R, units: &[&str]) -> Vec<u8> {
+pub fn bytes_of<R: Abort + AllocGlobal>(rt: &R, units: &[&str]) -> Vec<u8> {
     let mut bytes = Vec::new(rt.alloc());
     for digits in units {
         let unit = hex::decode(rt.alloc(), digits).expect(rt, "hexadecimal digits");

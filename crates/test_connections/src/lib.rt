@@ -1,11 +1,14 @@
-//! Tests of the public calls of `fe2o3_sasl_negotiation` that pass a whole connection in pieces. Expected values are
-//! rows of `crates/sasl_vectors/data/connections.txt`, which a model in Python wrote (`tools/negotiations`).
+//! Tests of the public calls of `fe2o3_sasl_negotiation` that pass a whole connection in pieces, and of sides that are
+//! saved and restored. Expected values are rows of `crates/sasl_vectors/data/connections.txt`, which a model in Python
+//! wrote (`tools/negotiations`).
 #![tactic(auto)]
 
 #[cfg(test)]
 mod clients;
 #[cfg(test)]
 mod cuts;
+#[cfg(test)]
+mod saved;
 #[cfg(test)]
 mod servers;
 #[cfg(test)]

@@ -1,6 +1,6 @@
 //! Headers and frames in hexadecimal digits: of SCRAM-SHA-256, user `user`, password `pencil`, a salt of 32 bytes 03,
-//! count 1, a client's nonce of 32 bytes 01 and a server's of 32 bytes 02; and of PLAIN. Copied from the rows of
-//! `crates/sasl_vectors/data/connections.txt`, which `tools/negotiations` made.
+//! count 1, a client's nonce of 32 bytes 01 and a server's of 32 bytes 02; and of PLAIN, EXTERNAL and ANONYMOUS. Copied
+//! from the rows of `crates/sasl_vectors/data/connections.txt`, which `tools/negotiations` made.
 
 /// The name of the user.
 pub const USER: &str = "user";
@@ -73,3 +73,9 @@ pub const PLAIN_OUTCOME: &str = "0000001002010000005344c003015000";
 
 /// A response of no bytes.
 pub const EMPTY_RESPONSE: &str = "0000001002010000005343c00301a000";
+
+/// The init of EXTERNAL, which asks for no name.
+pub const EXTERNAL_INIT: &str = "0000001802010000005341c00b01a30845585445524e414c";
+
+/// The init of ANONYMOUS.
+pub const ANONYMOUS_INIT: &str = "0000001902010000005341c00c01a309414e4f4e594d4f5553";

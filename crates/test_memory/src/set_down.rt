@@ -52,6 +52,7 @@ fn kept(due: Due, limit: usize, held: &[u8]) -> SetDown<'_> {
         due,
         limit,
         held,
+        user: None,
     }
 }
 
