@@ -1,7 +1,7 @@
 //! A server with mock authentication where memory runs out: known and unknown users get the same answer.
 
 use crate::blocks::TakenMemory;
-use crate::scram_values::{CLIENT_FIRST, SALT};
+use crate::scram_values::{CLIENT_FIRST, SALT, WITHOUT_PROOF};
 use crate::users::stored;
 use fe2o3_scram::credentials::StoredScramCredential;
 use fe2o3_scram::scram_messages::ServerScramErrorKind;
@@ -11,6 +11,9 @@ use std::test::Fail;
 
 /// The client-first message of an unknown user, as long as that of the known one.
 const OF_UNKNOWN: &str = "n,,n=us=2Ces,r=AQEBAQEBAQEBAQEBAQEBAQEBAQEBAQEBAQEBAQEBAQE=";
+
+/// The proof of 32 zero bytes, which is nobody's.
+const WRONG_PROOF: &str = ",p=AAAAAAAAAAAAAAAAAAAAAAAAAAAAAAAAAAAAAAAAAAA=";
 
 /// By how many bytes the room grows from one try to the next.
 const STEP: usize = 16;
@@ -47,6 +50,28 @@ fn is_challenged(
     }
 }
 
+/// Returns whether the server rejects a wrong proof with this much memory. The only other answer is
+/// `OutOfMemory`.
+fn is_rejected(
+    alloc: Global,
+    memory: &mut TakenMemory,
+    room: usize,
+    client_first: &str,
+) -> Result<bool, Fail> {
+    let mut server = server(alloc)?;
+    server.compute_server_first_message(alloc, client_first.as_bytes(), &[2; 32])?;
+    let mut client_final = WITHOUT_PROOF.to_string(alloc)?;
+    client_final.push_str(WRONG_PROOF)?;
+    memory.leave(room)?;
+    let answer = server.compute_server_final_message(alloc, client_final.as_bytes());
+    memory.give_back();
+    match answer {
+        Err(ServerScramErrorKind::AuthenticationFailed) => Ok(true),
+        Err(ServerScramErrorKind::OutOfMemory) => Ok(false),
+        _ => Err(Fail::new(format_args!("neither a rejected proof nor OutOfMemory"))),
+    }
+}
+
 #[test]
 fn known_and_unknown_users_run_out_of_memory_alike(rt: HostRuntime) -> Result<(), Fail> {
     let alloc = rt.alloc();
@@ -63,4 +88,22 @@ fn known_and_unknown_users_run_out_of_memory_alike(rt: HostRuntime) -> Result<()
         }
     }
     Err(Fail::new(format_args!("no challenge, or one without memory")))
+}
+
+#[test]
+fn proofs_of_known_and_unknown_users_run_out_of_memory_alike(rt: HostRuntime) -> Result<(), Fail> {
+    let alloc = rt.alloc();
+    let mut memory = TakenMemory::take(alloc)?;
+    for tries in 0..TRIES {
+        let room = tries * STEP;
+        let known = is_rejected(alloc, &mut memory, room, CLIENT_FIRST)?;
+        let unknown = is_rejected(alloc, &mut memory, room, OF_UNKNOWN)?;
+        if known != unknown {
+            return Err(Fail::new(format_args!("room {room}: known {known}, unknown {unknown}")));
+        }
+        if known && tries != 0 {
+            return Ok(());
+        }
+    }
+    Err(Fail::new(format_args!("no rejected proof, or one without memory")))
 }
