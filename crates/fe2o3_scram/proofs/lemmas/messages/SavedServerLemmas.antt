@@ -1,7 +1,6 @@
 -- What a server reports of its state is all of it.
-use Rattle.std.proofs.Common.{◌≡◌, ℕ, Some, None, List, refl, ap}
-use Rattle.fe2o3_scram.specs.ScramServer.{ServerState, Initial, ServerFirstSent, ServerFinalSent, StatesAreReported}
-use Rattle.fe2o3_scram.specs.ServerFirst.{ServerChallenge}
+use Rattle.std.proofs.Common.{◌≡◌, refl, ap}
+use Rattle.fe2o3_scram.specs.ScramServer.{Initial, ServerFirstSent, ServerFinalSent, StatesAreReported}
 
 pub states_are_reported : StatesAreReported
 states_are_reported Initial Initial challenge user = refl
