@@ -1,11 +1,15 @@
 -- That what a client answers has room: its message behind a bound that the challenge tells, its signature in a struct.
-use Rattle.std.proofs.Common.{rules, arith, refl, sym, inl, inr, ap, ◌≢◌, ◌∙◌, ◌≡◌, ◌≤◌, ◌<◌, ◌+◌, ◌++◌, ◌∷◌, [], ℕ, List, length}
+use Rattle.std.proofs.Common.{true, false, rules, arith, refl, sym, inl, inr, ap, ◌≢◌, ◌∙◌, ◌≡◌, ◌≤◌, ◌<◌, ◌+◌, ◌++◌, ◌∷◌, ◌⊎◌, [], ℕ, List, length, take}
+use Rattle.std.proofs.Math.Dec.{eqb}
+use Rattle.std.proofs.lemmas.Bool.{cases_lt}
+use Rattle.std.proofs.lemmas.Bool.Decides.{eqb_tells}
 use Rattle.fe2o3_scram.specs.Readings.{NoneHolds}
-use Rattle.std.specs.Prelude.{Option, Some, Result, Ok, Err, IfOk, IfErr, codes, slice_get, bit_xor}
+use Rattle.std.specs.Prelude.{Option, Some, None, Result, Ok, Err, IfOk, IfErr, codes, slice_get, bit_xor}
 use Rattle.std.specs.List.{zip}
 use Rattle.std.proofs.lemmas.List.{length-append, length-map}
 use Rattle.std.proofs.lemmas.Slice.Zip.{length-zip}
 use Rattle.fe2o3_scram.specs.declared.hmac.ScramVersion.{ScramVersion}
+use Rattle.fe2o3_scram.specs.declared.hmac.ScramVersion.TheVariants as versions
 use Rattle.fe2o3_scram.specs.ClientFinal.{Answer, client_final_of, keys_for, without_proof}
 use Rattle.fe2o3_scram.specs.ClientFirst.{client_first_bare}
 use Rattle.fe2o3_scram.specs.ClientKeys.{ClientKeys}
@@ -14,6 +18,7 @@ use Rattle.fe2o3_scram.specs.Hmac.{exclusive_or}
 use Rattle.fe2o3_scram.specs.Keys.{client_proof, client_signature, server_signature, stored_key, auth_message}
 use Rattle.fe2o3_scram.specs.ScramClient.{AnswersIn, BelievesIn, ClientSide, ClientState, ClientInitial, ClientFirstSent, ClientFinalSent, Complete, with_state}
 use Rattle.fe2o3_scram.specs.ServerFirst.{Client, NamesServerFirst, ReadsServerFirst, ServerFirst, client_of}
+use Rattle.fe2o3_scram.specs.ServerFinal.{ReadsServerFinal}
 use Rattle.fe2o3_scram.specs.ServerFirstAnswers.{AnswersServerFirst}
 use Rattle.fe2o3_scram.specs.declared.client_secret.IterationLimits.{IterationLimits}
 use Rattle.fe2o3_scram.specs.Texts.{Part, base64_text, joined}
@@ -24,7 +29,9 @@ use Rattle.sasl_c.specs.declared.status.Status.{Status}
 use Rattle.sasl_c.specs.declared.status.Status.TheVariants as statuses
 use Rattle.sasl_c.specs.declared.client.Login.{Login}
 use Rattle.sasl_c.specs.declared.client.ScramClient.{ScramClient as Struct}
-use Rattle.sasl_c.specs.Client.{AnswersByMessage, Believes, Holds, IsAnswer, IsClientOf, IsNoLogin, IsNoSecret, IsReached, IsSecretOf, IsSide, IsState, NotAnswered, Responds, WritesClient, complete_struct, name_tests}
+use Rattle.sasl_c.specs.Client.{AnswersByMessage, AwaitsSignature, Believes, HasSecret, Holds, IsAnswer, IsClientOf, IsTestedLogin, IsNoLogin, IsNoSecret, IsReached, IsSecretOf, IsSide, IsState, NotAnswered, Responds, WritesClient, complete_struct, name_tests}
+use Rattle.sasl_c.specs.declared.keys.ClientKeys.{ClientKeys as KeysStruct}
+use Rattle.sasl_c.specs.Keys.{shown_keys}
 use Rattle.sasl_c.specs.Records.{IsVersion}
 use Rattle.sasl_c.proofs.LoginLemmas.{no_secrets}
 use Rattle.sasl_c.proofs.StatusLemmas.{carried, client_not_room}
@@ -218,11 +225,92 @@ not_due_in user before (ClientFirstSent nonce bare) side text is other = absurd 
 not_due_in user before (ClientFinalSent signature keys) side text is other = (refl, refl)
 not_due_in user before (Complete keys) side text is other = (refl, refl)
 
-pub not_due : (login : Login) (before : Struct) (side : ClientSide) (text : List ℕ) → IsSide login before side
-    → before.sent ≢ 1 → NotAnswered login before text (statuses.Client IllegalClientState)
+-- ---- that a login has a client, whatever its struct is
+
+known_of : (number : ℕ) → ((number ≡ 1) ⊎ (number ≢ 1)) → ((number ≡ 256) ⊎ (number ≢ 256))
+    → ((number ≡ 512) ⊎ (number ≢ 512))
+    → ((version : ScramVersion) × IsVersion number version) ⊎ ((version : ScramVersion) → ¬ IsVersion number version)
+known_of number (inl one) second third = inl (versions.Sha1, sym one)
+known_of number (inr first) (inl two) third = inl (versions.Sha256, sym two)
+known_of number (inr first) (inr second) (inl three) = inl (versions.Sha512, sym three)
+known_of number (inr first) (inr second) (inr third) = inr none where
+  none : (version : ScramVersion) → ¬ IsVersion number version
+  none versions.Sha1 is = first (sym is)
+  none versions.Sha256 is = second (sym is)
+  none versions.Sha512 is = third (sym is)
+
+equal_or : (a b : ℕ) → (a ≡ b) ⊎ (a ≢ b)
+equal_or a b = told (eqb_tells a b) where
+  told : ((eqb a b ≡ true) × (a ≡ b)) ⊎ ((eqb a b ≡ false) × (a ≢ b)) → (a ≡ b) ⊎ (a ≢ b)
+  told (inl (is, same)) = inl same
+  told (inr (is, other)) = inr other
+
+held_by : (kept : KeysStruct)
+    → ((version : ScramVersion) × IsVersion kept.version version) ⊎ ((version : ScramVersion)
+    → ¬ IsVersion kept.version version) → (128 < kept.salt_len) ⊎ (kept.salt_len ≤ 128)
+    → (keys : Option ClientKeys) × Holds kept keys
+held_by kept (inl (version, is)) (inr few) = (Some (shown_keys version kept), inl (is, few, refl))
+held_by kept (inl (version, is)) (inl wide) = (None, λ keys shows. absurd (omega (arith, wide, shows.1)))
+held_by kept (inr none) length = (None, λ keys shows. none keys.version shows.0)
+
+holds : (kept : KeysStruct) → (keys : Option ClientKeys) × Holds kept keys
+holds kept = held_by kept (known_of kept.version (equal_or kept.version 1) (equal_or kept.version 256)
+    (equal_or kept.version 512)) (cases_lt 128 kept.salt_len)
+
+-- the state of a struct that has not sent its client-first message last
+state_by : (user : List ℕ) (before : Struct) → before.sent ≢ 1 → (before.sent ≡ 2) ⊎ (before.sent ≢ 2)
+    → (64 < before.signature_len) ⊎ (before.signature_len ≤ 64) → (state : ClientState) × IsState user before state
+state_by user before other (inl two) (inr few) =
+    let keys = holds before.keys in
+    (ClientFinalSent (take before.signature_len before.signature) keys.0, (two, few, refl, keys.1))
+state_by user before other (inl two) (inl wide) = (ClientInitial, (other, λ is. wide))
+state_by user before other (inr none) length = (ClientInitial, (other, λ is. absurd (none is)))
+
+-- a client of the login in this state
+abbrev side_with : Login → ScramVersion → Secret → ClientState → ClientSide
+side_with login version secret state = record {
+  user = login.username.now;
+  secret = secret;
+  version = version;
+  limits = limits_of login;
+  state = state;
+}
+
+is_side_with : (login : Login) (before : Struct) (version : ScramVersion) (secret : Secret) (state : ClientState)
+    → IsVersion login.version version → IsSecretOf login secret → IsState login.username.now before state
+    → IsSide login before (side_with login version secret state)
+is_side_with login before version secret state known has is = (
+  record {
+    version = known;
+    user = refl;
+    secret = has;
+    least = refl;
+    most = refl;
+  },
+  is,
+)
+
+secret_of_login : (login : Login) → HasSecret login → (secret : Secret) × IsSecretOf login secret
+unfolding HasSecret
+secret_of_login login held = held.0
+
+pub not_due : (login : Login) (before : Struct) (text : List ℕ) (version : ScramVersion)
+    → IsVersion login.version version → IsTestedLogin login → before.sent ≢ 1
+    → NotAnswered login before text (statuses.Client IllegalClientState)
 unfolding NotAnswered
-not_due login before side text is other =
-    inr (IllegalClientState, refl, (side, is, not_due_in side.user before side.state side text is.1 other))
+not_due login before text version known is other =
+    let secret = secret_of_login login is.1 in
+    let state = state_by login.username.now before other (equal_or before.sent 2) (cases_lt 64 before.signature_len) in
+    let side = side_with login version secret.0 state.0 in
+    inr (
+      IllegalClientState,
+      refl,
+      (
+        side,
+        is_side_with login before version secret.0 state.0 known secret.1 state.1,
+        not_due_in login.username.now before state.0 side text state.1 other,
+      ),
+    )
 
 -- the message has room behind the bound
 pub answer_has_room : (login : Login) (before : Struct) (text message signature : List ℕ) (keys : ClientKeys)
@@ -318,23 +406,87 @@ believes login before after side next text believed is held written = (
   written,
 )
 
-pub disbelieves : (login : Login) (before : Struct) (side next : ClientSide) (text : List ℕ) (why : ScramErrorKind)
-    (status : Status) → IsSide login before side → next ≡ side
-    → (why ≢ NoMemory → BelievesIn side.state side text (Err why) next) → status ≡ client_status why
+pub verified : (login : Login) (before after : Struct) (text signature : List ℕ) (version : ScramVersion)
+    (believed : Unit {0}) → IsVersion login.version version → IsTestedLogin login → AwaitsSignature before
+    → signature ≡ take before.signature_len before.signature → ReadsServerFinal signature text (Ok believed)
+    → after ≡ complete_struct before.keys → Believes login text before after (Ok tt)
+verified login before after text signature version believed known is waits same reads written =
+    let secret = secret_of_login login is.1 in
+    let keys = holds before.keys in
+    let side = side_with login version secret.0 (ClientFinalSent signature keys.0) in
+    believes login before after side (with_state side (Complete keys.0)) text believed
+    (is_side_with login before version secret.0 (ClientFinalSent signature keys.0) known secret.1
+    (waits.0, waits.1, same, keys.1))
+    (reads, refl)
+    written
+
+pub unverified : (login : Login) (before : Struct) (text signature : List ℕ) (version : ScramVersion)
+    (why : ScramErrorKind) (status : Status) → IsVersion login.version version → IsTestedLogin login
+    → AwaitsSignature before → signature ≡ take before.signature_len before.signature
+    → (why ≢ NoMemory → ReadsServerFinal signature text (Err why)) → status ≡ client_status why
     → Believes login text before before (Err status)
 unfolding Believes
-disbelieves login before side next text why status is stays held gives = (
+unverified login before text signature version why status known is waits same held gives = (
   refl,
   λ other.
-      let told : why ≢ NoMemory = λ same. other (gives ∙ ap client_status same) in
-      let refuses = carried (BelievesIn side.state side text (Err why)) next side stays (held told) in
-      inr (why, gives, (side, is, refuses)),
+      let told : why ≢ NoMemory = λ memory. other (gives ∙ ap client_status memory) in
+      let secret = secret_of_login login is.1 in
+      let keys = holds before.keys in
+      let side = side_with login version secret.0 (ClientFinalSent signature keys.0) in
+      inr (
+        why,
+        gives,
+        (
+          side,
+          is_side_with login before version secret.0 (ClientFinalSent signature keys.0) known secret.1
+              (waits.0, waits.1, same, keys.1),
+          (held told, refl),
+        ),
+      ),
 )
 
-pub no_believer : (login : Login) (before : Struct) (text : List ℕ) (status : Status)
-    → (status ≢ statuses.OutOfMemory → IsNoLogin login status) → Believes login text before before (Err status)
+-- a client that waits for no signature
+not_waiting_in : (user : List ℕ) (before : Struct) (state : ClientState) (side : ClientSide) (text : List ℕ)
+    → IsState user before state → ¬ AwaitsSignature before → BelievesIn state side text (Err IllegalClientState) side
+not_waiting_in user before ClientInitial side text is other = (refl, refl)
+not_waiting_in user before (ClientFirstSent nonce bare) side text is other = (refl, refl)
+not_waiting_in user before (ClientFinalSent signature keys) side text is other = absurd (other (is.0, is.1))
+not_waiting_in user before (Complete keys) side text is other = (refl, refl)
+
+any_state : (user : List ℕ) (before : Struct) → (before.sent ≡ 1) ⊎ (before.sent ≢ 1)
+    → (state : ClientState) × IsState user before state
+any_state user before (inl one) =
+    (ClientFirstSent (base64_text before.nonce) (client_first_bare user (base64_text before.nonce)), (one, refl, refl))
+any_state user before (inr other) =
+    state_by user before other (equal_or before.sent 2) (cases_lt 64 before.signature_len)
+
+pub not_waiting : (login : Login) (before : Struct) (text : List ℕ) (version : ScramVersion)
+    → IsVersion login.version version → IsTestedLogin login → ¬ AwaitsSignature before
+    → Believes login text before before (Err (statuses.Client IllegalClientState))
 unfolding Believes
-no_believer login before text status wrong = (refl, λ other. inl (wrong other))
+not_waiting login before text version known is other = (
+  refl,
+  λ memory.
+      let secret = secret_of_login login is.1 in
+      let state = any_state login.username.now before (equal_or before.sent 1) in
+      let side = side_with login version secret.0 state.0 in
+      inr (
+        IllegalClientState,
+        refl,
+        (
+          side,
+          is_side_with login before version secret.0 state.0 known secret.1 state.1,
+          not_waiting_in login.username.now before state.0 side text state.1 other,
+        ),
+      ),
+)
+
+pub no_believer : (login : Login) (before : Struct) (text : List ℕ) (status : Status) → IsNoLogin login status
+    → Believes login text before before (Err status)
+unfolding Believes
+no_believer login before text status wrong = (refl, λ other. inl wrong)
+
+pub ruleset verifies = (verified, unverified, not_waiting, no_believer)
 
 -- what the client's answer takes
 -- why a client whose login has a version and a user has no secret
@@ -357,6 +509,8 @@ mapped_err P Q (Err fault) held map = map fault held
 
 pub ruleset secrets = (unanswered, no_secrets)
 
-pub ruleset answers = (answered_by, refused_by, no_login, not_due, client_not_room)
+pub ruleset answers = (answered_by, refused_by, no_login, client_not_room)
+
+pub ruleset not_dues = (no_login, not_due)
 
 pub ruleset sent = (responds, always_waits, answer_has_room, no_text, not_answered)

@@ -1,16 +1,22 @@
 -- What is found of a user in a text of lines (RFC 5803, section 2).
-use Rattle.std.proofs.Common.{inl, inr, ap, ◌∙◌, ◌≡◌, ◌≢◌, ℕ, List}
+use Rattle.std.proofs.Common.{inl, inr, refl, sym, ap, ◌∙◌, ◌≡◌, ◌≢◌, ℕ, List}
 use Rattle.std.specs.Prelude.{Ok, Err}
 use Rattle.std.specs.Str.{IsUtf8}
 use Rattle.fe2o3_scram.specs.declared.credentials.record_lines.ReadLinesError.{ReadLinesError}
+use Rattle.fe2o3_scram.specs.declared.credentials.record_lines.ReadLinesErrorKind.{ReadLinesErrorKind}
+use Rattle.fe2o3_scram.specs.declared.credentials.record_lines.ReadLinesErrorKind.TheVariants as kinds
 use Rattle.fe2o3_scram.specs.declared.credentials.record_lines.ReadLinesErrorKind.TheVariants.{OutOfMemory as NoMemory}
+use Rattle.fe2o3_scram.specs.declared.credentials.record_text.RecordTextError.TheVariants as texts
 use Rattle.fe2o3_scram.specs.declared.hmac.ScramVersion.{ScramVersion}
+use Rattle.fe2o3_scram.specs.declared.hmac.ScramVersion.TheVariants.{Sha1}
 use Rattle.fe2o3_scram.specs.Mixed.{MixedRecords}
-use Rattle.fe2o3_scram.specs.MixedLines.{ReadsMixed, SpellsMixed}
+use Rattle.fe2o3_scram.specs.MixedLines.{MixedFault, ReadsMixed, SpellsMixed, UpToMixed}
+use Rattle.fe2o3_scram.specs.RecordLines.{ReachesUser}
+use Rattle.fe2o3_scram.specs.RecordText.{ReadsRecord}
 use Rattle.sasl_c.specs.declared.records.ScramRecord.{ScramRecord as Struct}
 use Rattle.sasl_c.specs.declared.status.Status.{Status}
 use Rattle.sasl_c.specs.declared.status.Status.TheVariants as statuses
-use Rattle.sasl_c.specs.Lines.{Chosen, FindsRecord, NotChosen, line_status}
+use Rattle.sasl_c.specs.Lines.{Chosen, FindAsks, FindsRecord, NotChosen, line_status}
 use Rattle.sasl_c.specs.Records.{IsVersion}
 
 pub found : (lines name : List ℕ) (version : ℕ) (made : Struct) (known : ScramVersion) (users : MixedRecords)
@@ -49,4 +55,42 @@ unfolding FindsRecord
 not_found lines name version line known users status at is spells none =
     inr (at, inr (inr (known, users, (is, spells), none)))
 
-pub ruleset finds = (found, unread, no_version, no_name, no_lines, not_found)
+-- no text of a record says that there was no memory
+never_memory : (kept : List ℕ) → ReadsRecord kept (Err texts.OutOfMemory) → ⊥
+unfolding ReadsRecord
+never_memory kept (inl (none, same)) = absurd (cc)
+never_memory kept (inr (fields, has, inl (is, same))) = absurd (cc)
+never_memory kept (inr (fields, has, inr (a, inl (is, same)))) = absurd (cc)
+never_memory kept (inr (fields, has, inr (a, inr (b, inl (is, same))))) = absurd (cc)
+never_memory kept (inr (fields, has, inr (a, inr (b, inr (c, inl (is, same)))))) = absurd (cc)
+never_memory kept (inr (fields, has, inr (a, inr (b, inr (c, inr (d, inl (is, same))))))) = absurd (cc)
+never_memory kept (inr (fields, has, inr (a, inr (b, inr (c, inr (d, inr (e, inl (is, same)))))))) = absurd (cc)
+never_memory kept (inr (fields, has, inr (a, inr (b, inr (c, inr (d, inr (e, inr (f, inl (is, same))))))))) = absurd (cc)
+never_memory kept (inr (fields, has, inr (a, inr (b, inr (c, inr (d, inr (e, inr (f, inr (g, none))))))))) = none
+
+-- a line that is not read for memory is one that has a user
+reaches : (lines : List ℕ) (line : ℕ) (kind : ReadLinesErrorKind)
+    → (kind ≢ NoMemory → UpToMixed lines line (λ rest. MixedFault rest kind))
+    → (kind ≡ NoMemory → UpToMixed lines line ReachesUser) → line_status kind ≡ statuses.OutOfMemory
+    → UpToMixed lines line ReachesUser
+reaches lines line kinds.OutOfMemory reads asks is = asks refl
+reaches lines line (kinds.InvalidRecord texts.OutOfMemory) reads asks is =
+    absurd (never_memory _ ((reads (λ same. absurd (cc))).5 Sha1).3.3.1)
+reaches lines line (kinds.InvalidRecord texts.PartsMismatch) reads asks is = absurd (cc)
+reaches lines line (kinds.InvalidRecord texts.UnknownMechanism) reads asks is = absurd (cc)
+reaches lines line (kinds.InvalidRecord texts.IterationCountParseError) reads asks is = absurd (cc)
+reaches lines line (kinds.InvalidRecord texts.Base64DecodeError) reads asks is = absurd (cc)
+reaches lines line (kinds.InvalidRecord texts.KeyLengthMismatch) reads asks is = absurd (cc)
+reaches lines line kinds.LineFeedMissing reads asks is = absurd (cc)
+reaches lines line kinds.SpaceMissing reads asks is = absurd (cc)
+reaches lines line kinds.InvalidName reads asks is = absurd (cc)
+reaches lines line kinds.VersionMismatch reads asks is = absurd (cc)
+
+pub asks : (lines name : List ℕ) (version : ℕ) (known : ScramVersion) (error : ReadLinesError) (status : Status)
+    → IsVersion version known → IsUtf8 name → IsUtf8 lines → (error.kind ≢ NoMemory → ReadsMixed lines (Err error))
+    → (error.kind ≡ NoMemory → UpToMixed lines error.line ReachesUser) → status ≡ line_status error.kind
+    → status ≡ statuses.OutOfMemory → FindAsks lines name version
+asks lines name version known error status is named utf8 reads comes gives memory =
+    ((known, is), named, utf8, (error.line, reaches lines error.line error.kind reads comes (sym gives ∙ memory)))
+
+pub ruleset finds = (asks, found, unread, no_version, no_name, no_lines, not_found)

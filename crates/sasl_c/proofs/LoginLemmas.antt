@@ -1,12 +1,16 @@
 -- Why a login is none.
-use Rattle.std.proofs.Common.{inl, inr, refl, ◌≡◌, ◌<◌}
+use Rattle.std.proofs.Common.{arith, inl, inr, refl, ◌∷◌, ◌≡◌, ◌≢◌, ◌≤◌, ◌<◌}
 use Rattle.std.specs.Str.{IsUtf8}
 use Rattle.fe2o3_scram.specs.declared.hmac.ScramVersion.{ScramVersion}
 use Rattle.sasl_c.specs.declared.client.Login.{Login}
 use Rattle.sasl_c.specs.declared.status.Status.{Status}
 use Rattle.sasl_c.specs.declared.status.Status.TheVariants as statuses
+use Rattle.fe2o3_scram.specs.ClientSecret.{Password, Keys, Both}
+use Rattle.fe2o3_scram.specs.Passwords.{Prepared, Typed}
 use Rattle.fe2o3_scram.specs.Readings.{IsFirst, NoneHolds}
-use Rattle.sasl_c.specs.Client.{IsNoLogin, IsNoSecret, keys_tests, name_tests}
+use Rattle.sasl_c.specs.declared.keys.ClientKeys.{ClientKeys as KeysStruct}
+use Rattle.sasl_c.specs.Client.{HasSecret, HoldsNone, IsNoLogin, IsNoSecret, keys_tests, name_tests}
+use Rattle.sasl_c.specs.Keys.{ShowsSomeKeys, shown_keys}
 use Rattle.sasl_c.specs.Records.{IsVersion}
 
 -- its version and its user are some, and its secret is none
@@ -65,7 +69,155 @@ pub ruleset no_secrets = (
   other_secret,
 )
 
--- a login whose version and user are known
-pub named : (login : Login) (version : ScramVersion) → IsVersion login.version version → IsUtf8 login.username.now
-    → NoneHolds (name_tests login)
-named login version known utf8 = ((λ none. none version known), ((λ wrong. wrong utf8), tt))
+-- ---- what its keys are
+
+pub shows_keys : (kept : KeysStruct) (version : ScramVersion) → IsVersion kept.version version → kept.salt_len ≤ 128
+    → ShowsSomeKeys kept
+shows_keys kept version is few = (shown_keys version kept, (is, few, refl))
+
+pub is_short : (kept : KeysStruct) → ShowsSomeKeys kept → kept.salt_len ≤ 128
+is_short kept (keys, (is, few, same)) = few
+
+pub of_no_version : (kept : KeysStruct) → ((version : ScramVersion) → ¬ IsVersion kept.version version)
+    → ¬ ShowsSomeKeys kept
+of_no_version kept none (keys, (is, few, same)) = none keys.version is
+
+pub none_shown : (kept : KeysStruct) → ¬ ShowsSomeKeys kept → HoldsNone kept
+none_shown kept none = λ keys shows. none (keys, shows)
+
+pub ruleset key_tests = (shows_keys, is_short, of_no_version)
+
+pub are_none : (login : Login) → ¬ ShowsSomeKeys login.keys.now → IsFirst (keys_tests login) statuses.NoKeys
+are_none login none = inl ((λ keys shows. none (keys, shows)), refl)
+
+pub are_other : (login : Login) → ShowsSomeKeys login.keys.now → login.keys.now.version ≢ login.version
+    → IsFirst (keys_tests login) statuses.OtherVersion
+are_other login shows other = inr ((λ none. none shows.0 shows.1), inl (other, refl))
+
+pub are_there : (login : Login) → ShowsSomeKeys login.keys.now → login.keys.now.version ≡ login.version
+    → NoneHolds (keys_tests login)
+are_there login shows same = ((λ none. none shows.0 shows.1), ((λ other. other same), tt))
+
+pub ruleset keys_there = (are_none, are_other, are_there)
+
+-- ---- a login that has a secret
+
+-- no test of its keys holds
+no_first : (login : Login) (status : Status) → NoneHolds (keys_tests login) → IsFirst (keys_tests login) status → ⊥
+no_first login status none (inl (first, same)) = none.0 first
+no_first login status none (inr (first, inl (second, same))) = none.1.0 second
+no_first login status none (inr (first, inr (second, nothing))) = nothing
+
+only_password : (login : Login) (status : Status) → login.secret ≡ 0 → IsUtf8 login.password.now
+    → ¬ IsNoSecret login status
+unfolding IsNoSecret
+only_password login status is utf8 (inl (which, same, wrong)) = wrong utf8
+only_password login status is utf8 (inr (inl (one, first))) = absurd (omega (arith, is, one))
+only_password login status is utf8 (inr (inr (inl (inl two, first)))) = absurd (omega (arith, is, two))
+only_password login status is utf8 (inr (inr (inl (inr four, first)))) = absurd (omega (arith, is, four))
+only_password login status is utf8 (inr (inr (inr (wide, same)))) = absurd (omega (arith, is, wide))
+
+only_prepared : (login : Login) (status : Status) → login.secret ≡ 3 → IsUtf8 login.password.now
+    → ¬ IsNoSecret login status
+unfolding IsNoSecret
+only_prepared login status is utf8 (inl (which, same, wrong)) = wrong utf8
+only_prepared login status is utf8 (inr (inl (one, first))) = absurd (omega (arith, is, one))
+only_prepared login status is utf8 (inr (inr (inl (inl two, first)))) = absurd (omega (arith, is, two))
+only_prepared login status is utf8 (inr (inr (inl (inr four, first)))) = absurd (omega (arith, is, four))
+only_prepared login status is utf8 (inr (inr (inr (wide, same)))) = absurd (omega (arith, is, wide))
+
+only_keys : (login : Login) (status : Status) → login.secret ≡ 1 → NoneHolds (keys_tests login)
+    → ¬ IsNoSecret login status
+unfolding IsNoSecret
+only_keys login status is none (inl (inl zero, same, wrong)) = absurd (omega (arith, is, zero))
+only_keys login status is none (inl (inr three, same, wrong)) = absurd (omega (arith, is, three))
+only_keys login status is none (inr (inl (one, first))) = no_first login status none first
+only_keys login status is none (inr (inr (inl (inl two, first)))) = absurd (omega (arith, is, two))
+only_keys login status is none (inr (inr (inl (inr four, first)))) = absurd (omega (arith, is, four))
+only_keys login status is none (inr (inr (inr (wide, same)))) = absurd (omega (arith, is, wide))
+
+no_both : (login : Login) (status : Status) → IsUtf8 login.password.now → NoneHolds (keys_tests login)
+    → IsFirst ((statuses.NotUtf8, ¬ IsUtf8 login.password.now) ∷ keys_tests login) status → ⊥
+no_both login status utf8 none (inl (wrong, same)) = wrong utf8
+no_both login status utf8 none (inr (right, first)) = no_first login status none first
+
+both_typed : (login : Login) (status : Status) → login.secret ≡ 2 → IsUtf8 login.password.now
+    → NoneHolds (keys_tests login) → ¬ IsNoSecret login status
+unfolding IsNoSecret
+both_typed login status is utf8 none (inl (which, same, wrong)) = wrong utf8
+both_typed login status is utf8 none (inr (inl (one, first))) = absurd (omega (arith, is, one))
+both_typed login status is utf8 none (inr (inr (inl (which, first)))) = no_both login status utf8 none first
+both_typed login status is utf8 none (inr (inr (inr (wide, same)))) = absurd (omega (arith, is, wide))
+
+both_prepared : (login : Login) (status : Status) → login.secret ≡ 4 → IsUtf8 login.password.now
+    → NoneHolds (keys_tests login) → ¬ IsNoSecret login status
+unfolding IsNoSecret
+both_prepared login status is utf8 none (inl (which, same, wrong)) = wrong utf8
+both_prepared login status is utf8 none (inr (inl (one, first))) = absurd (omega (arith, is, one))
+both_prepared login status is utf8 none (inr (inr (inl (which, first)))) = no_both login status utf8 none first
+both_prepared login status is utf8 none (inr (inr (inr (wide, same)))) = absurd (omega (arith, is, wide))
+
+pub has_password : (login : Login) → login.secret ≡ 0 → IsUtf8 login.password.now → HasSecret login
+unfolding HasSecret
+has_password login is utf8 =
+    ((Password (Typed login.password.now), (is, refl)), λ status. only_password login status is utf8)
+
+pub has_prepared : (login : Login) → login.secret ≡ 3 → IsUtf8 login.password.now → HasSecret login
+unfolding HasSecret
+has_prepared login is utf8 =
+    ((Password (Prepared login.password.now), (is, refl)), λ status. only_prepared login status is utf8)
+
+pub has_keys : (login : Login) → login.secret ≡ 1 → NoneHolds (keys_tests login) → ShowsSomeKeys login.keys.now
+    → HasSecret login
+unfolding HasSecret
+has_keys login is none shows = ((Keys shows.0, (is, shows.1)), λ status. only_keys login status is none)
+
+pub has_both : (login : Login) → login.secret ≡ 2 → IsUtf8 login.password.now → NoneHolds (keys_tests login)
+    → ShowsSomeKeys login.keys.now → HasSecret login
+unfolding HasSecret
+has_both login is utf8 none shows = (
+  (Both (Typed login.password.now) shows.0, (is, refl, shows.1)),
+  λ status. both_typed login status is utf8 none,
+)
+
+pub has_both_prepared : (login : Login) → login.secret ≡ 4 → IsUtf8 login.password.now → NoneHolds (keys_tests login)
+    → ShowsSomeKeys login.keys.now → HasSecret login
+unfolding HasSecret
+has_both_prepared login is utf8 none shows = (
+  (Both (Prepared login.password.now) shows.0, (is, refl, shows.1)),
+  λ status. both_prepared login status is utf8 none,
+)
+
+pub ruleset secret_tests = (
+  no_secrets,
+  has_password,
+  has_prepared,
+  has_keys,
+  has_both,
+  has_both_prepared,
+)
+
+-- ---- a login
+
+pub no_name : (login : Login) (status : Status) → IsFirst (name_tests login) status → IsNoLogin login status
+no_name login status first = inl first
+
+pub has_no_secret : (login : Login) (status : Status) → NoneHolds (name_tests login) → IsNoSecret login status
+    → IsNoLogin login status
+has_no_secret login status none wrong = inr (none, wrong)
+
+name_status : (login : Login) (status : Status) → IsFirst (name_tests login) status
+    → (status ≢ statuses.OutOfMemory) × (status ≢ statuses.RoomTooSmall)
+name_status login status (inl (none, same)) = ((λ other. absurd (cc)), λ other. absurd (cc))
+name_status login status (inr (some, inl (wrong, same))) = ((λ other. absurd (cc)), λ other. absurd (cc))
+name_status login status (inr (some, inr (right, none))) = absurd none
+
+pub name_not_memory : (login : Login) (status : Status) → IsFirst (name_tests login) status
+    → status ≢ statuses.OutOfMemory
+name_not_memory login status first = (name_status login status first).0
+
+pub name_not_room : (login : Login) (status : Status) → IsFirst (name_tests login) status
+    → status ≢ statuses.RoomTooSmall
+name_not_room login status first = (name_status login status first).1
+
+pub ruleset login_tests = (no_name, has_no_secret, name_not_memory, name_not_room)

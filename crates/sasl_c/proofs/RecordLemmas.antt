@@ -11,13 +11,17 @@ use Rattle.sasl_c.specs.declared.passwords.PasswordForm.TheVariants as forms
 use Rattle.sasl_c.specs.declared.records.ScramRecord.{ScramRecord as Struct}
 use Rattle.sasl_c.specs.declared.status.Status.TheVariants as statuses
 use Rattle.sasl_c.specs.Passwords.{in_form}
-use Rattle.sasl_c.specs.Records.{IsVersion, ShowsRecord, Verifies, struct_making_tests}
+use Rattle.sasl_c.specs.Records.{IsVersion, ShowsRecord, ShowsSomeRecord, Verifies, struct_making_tests}
 use Rattle.sasl_c.proofs.StatusLemmas.{carried}
 
 -- keys are made of the same bytes in either form
 pub bytes_in_form : (form : PasswordForm) (text : List ℕ) → password_bytes (in_form form text) ≡ text
 bytes_in_form forms.Typed text = refl
 bytes_in_form forms.Prepared text = refl
+
+-- the struct shows one
+pub shows_some : (kept : Struct) (shown : VersionedRecord) → ShowsRecord kept shown → ShowsSomeRecord kept
+shows_some kept shown is = (shown, is)
 
 pub verified : (kept : Struct) (form : PasswordForm) (given password : List ℕ) (version : ScramVersion)
     (stored : Record) → ShowsRecord kept (versioned version stored) → password ≡ given

@@ -1,14 +1,15 @@
 -- What comes of preparing a text.
 use Rattle.std.proofs.Common.{refl, sym, ap, ◌∙◌, ◌≡◌, ◌≢◌, ℕ, List}
 use Rattle.std.specs.Prelude.{Some, None, Ok, Err, chars, encode_utf8_all}
-use Rattle.std.specs.Str.{IsUtf8}
-use Rattle.saslprep.specs.Saslprep.{prepared, refusal}
+use Rattle.std.specs.Str.{IsAscii, IsUtf8}
+use Rattle.saslprep.specs.Saslprep.{IsPrintableText, prepared, refusal}
 use Rattle.saslprep.specs.declared.Unassigned.{Unassigned}
 use Rattle.saslprep.specs.declared.error.SaslprepError.{SaslprepError}
 use Rattle.saslprep.specs.declared.error.SaslprepError.TheVariants as faults
 use Rattle.sasl_c.specs.declared.status.Status.{Status}
 use Rattle.sasl_c.specs.declared.status.Status.TheVariants as statuses
-use Rattle.sasl_c.specs.Saslprep.{PreparesTo, choice_number, saslprep_status}
+use Rattle.sasl_c.proofs.StatusLemmas.{carried}
+use Rattle.sasl_c.specs.Saslprep.{PrepareAsks, PreparesTo, choice_number, saslprep_status}
 
 pub no_choice : (number : ℕ) (text : List ℕ) → ((choice : Unassigned) → choice_number choice ≢ number)
     → PreparesTo number text (Err statuses.NoSuchChoice)
@@ -56,4 +57,15 @@ not_room (faults.ProhibitedCharacter c) = λ same. absurd (cc)
 not_room faults.MixedDirections = λ same. absurd (cc)
 not_room (faults.UnassignedCodePoint c) = λ same. absurd (cc)
 
-pub ruleset prepares_to = (no_choice, no_text, accepts, refuses, not_room)
+-- memory is asked for where the text is not ASCII
+pub asks : (number : ℕ) (text given : List ℕ) (choice : Unassigned) (why : SaslprepError) (status : Status)
+    → choice_number choice ≡ number → given ≡ text → IsUtf8 text
+    → (IsAscii given → ¬ IsPrintableText given × (why ≢ faults.OutOfMemory)) → status ≡ saslprep_status why
+    → status ≡ statuses.OutOfMemory → PrepareAsks number text
+asks number text given choice faults.OutOfMemory status is same utf8 ascii gives memory =
+    ((choice, is), utf8, λ held. (ascii (carried IsAscii text given (sym same) held)).1 refl)
+asks number text given choice (faults.ProhibitedCharacter c) status is same utf8 ascii gives memory = absurd (cc)
+asks number text given choice faults.MixedDirections status is same utf8 ascii gives memory = absurd (cc)
+asks number text given choice (faults.UnassignedCodePoint c) status is same utf8 ascii gives memory = absurd (cc)
+
+pub ruleset prepares_to = (asks, no_choice, no_text, accepts, refuses, not_room)

@@ -9,10 +9,10 @@ use Rattle.std.proofs.lemmas.Slice.Eq.{bytes_eq-Decides}
 use Rattle.std.specs.Cmp.Lexicographic.{pointwise}
 use Rattle.std.specs.Prelude.{cond, nat_eq, true}
 use Rattle.fe2o3_scram.proofs.lemmas.messages.OneValueLemmas.{one_client_first_value}
-use Rattle.fe2o3_scram.specs.ClientFinal.{Server, server_of}
+use Rattle.fe2o3_scram.specs.ClientFinal.{ReachesBase64, Server, server_of}
 use Rattle.fe2o3_scram.specs.ClientFirst.{ClientFirst, ReadsClientFirst}
 use Rattle.fe2o3_scram.specs.Keys.{auth_message, server_signature}
-use Rattle.fe2o3_scram.specs.ServerFinal.{AnswersClientFinal}
+use Rattle.fe2o3_scram.specs.ServerFinal.{AnswersClientFinal, FinalCosts}
 use Rattle.fe2o3_scram.proofs.lemmas.hashes.DigestLemmas.{length-hmac_of}
 use Rattle.sasl_c.proofs.TextLemmas.{short, short_text}
 use Rattle.fe2o3_scram.specs.Credentials.{Store, VersionedRecord, record_at, serving}
@@ -24,8 +24,8 @@ use Rattle.sasl_c.specs.declared.status.Status.{Status}
 use Rattle.sasl_c.specs.declared.status.Status.TheVariants as statuses
 use Rattle.sasl_c.specs.Records.{ShowsRecord, SpellsStruct}
 use Rattle.sasl_c.specs.declared.server.ScramServer.{ScramServer as Struct}
-use Rattle.sasl_c.specs.Server.{MakesChallenge, Challenges, ConcludesLogin, Concludes, HasLoggedIn, ChallengeHasRoom, IsOpen, NotChallenged, logged_in_struct, one_user}
-use Rattle.sasl_c.proofs.StatusLemmas.{carried}
+use Rattle.sasl_c.specs.Server.{MakesChallenge, Challenges, ConcludesLogin, Concludes, FinalAsks, HasLoggedIn, MemoryCosts, ChallengeHasRoom, IsOpen, NotChallenged, logged_in_struct, one_user}
+use Rattle.sasl_c.proofs.StatusLemmas.{carried, server_is_memory}
 use Rattle.sasl_c.specs.Status.{server_status}
 
 -- a message that is refused
@@ -155,6 +155,31 @@ pub keeps_none : (kept : Kept) (before : Struct) (text : List ℕ) (challenge : 
     → IsOpen before challenge → SpellsStruct kept (Err status) → Concludes kept text before before (Err status)
 unfolding Concludes
 keeps_none kept before text challenge status is wrong = inr (inl (challenge, is, wrong))
+
+-- memory is asked for where the message comes to a base64 text
+pub final_asks : (kept : Kept) (before : Struct) (text : List ℕ) (challenge : ServerChallenge) (shown : VersionedRecord)
+    (why : ServerScramErrorKind) (status : Status) → IsOpen before challenge → ShowsRecord kept shown
+    → (why ≡ NoMemory → ReachesBase64 challenge.header challenge.nonce text) → status ≡ server_status why
+    → status ≡ statuses.OutOfMemory → FinalAsks kept text before
+final_asks kept before text challenge shown why status is shows comes gives memory =
+    ((challenge, is, comes (server_is_memory why status gives memory)), (shown, shows))
+
+-- and costs no HMAC value for a message that is refused
+pub memory_costs : (A : Type 0) (kept : Kept) (before : Struct) (text : List ℕ) (challenge : ServerChallenge)
+    (shown : VersionedRecord) (why : ServerScramErrorKind) (status : Status) (counted after : ℕ)
+    → IsOpen before challenge → ShowsRecord kept shown → FinalCosts {A = A}
+    (server_of shown.version challenge.header challenge.bare challenge.first challenge.nonce shown.stored) text
+    (Err why) counted after → status ≡ server_status why → status ≡ statuses.OutOfMemory
+    → MemoryCosts kept text before counted after
+memory_costs A kept before text challenge shown why status counted after is shows costs gives memory = (
+  challenge,
+  shown,
+  is,
+  shows,
+  carried (λ fault. FinalCosts {A = A}
+      (server_of shown.version challenge.header challenge.bare challenge.first challenge.nonce shown.stored) text
+      (Err fault) counted after) why NoMemory (server_is_memory why status gives memory) costs,
+)
 
 -- the struct of a server that has logged its user in
 logged_in : (user : List ℕ) → length user ≤ 256 → HasLoggedIn (logged_in_struct user) user

@@ -13,9 +13,10 @@ use Rattle.fe2o3_scram.proofs.lemmas.messages.ClientFirstLemmas.{one_client_firs
 use Rattle.fe2o3_sasl_runs.specs.PlainAuthenticator.{IsTaken, PlainParts, SpellsPlain}
 use Rattle.fe2o3_sasl_negotiation.specs.declared.set_down.SetDown.{SetDown}
 use Rattle.fe2o3_sasl_negotiation.specs.declared.standing.Due.{Due}
-use Rattle.fe2o3_sasl_negotiation.specs.declared.standing.Due.TheVariants.{Frame}
+use Rattle.fe2o3_sasl_negotiation.specs.declared.standing.Due.TheVariants.{Frame, Header}
 use Rattle.fe2o3_sasl_negotiation.specs.declared.standing.Standing.TheVariants.{Wanting}
 use Rattle.fe2o3_sasl_negotiation.specs.declared.standing.Turn.{Turn}
+use Rattle.fe2o3_sasl_negotiation.specs.Framing.{IsPart}
 use Rattle.fe2o3_sasl_negotiation.specs.Negotiations.{Completes}
 use Rattle.fe2o3_sasl_negotiation.specs.SetDown.{IsKept, side_kept}
 use Rattle.sasl_c.specs.declared.sasl_server.SaslServer.{SaslServer as Struct}
@@ -23,7 +24,8 @@ use Rattle.sasl_c.specs.declared.server.ScramServer.{ScramServer as ScramStruct}
 use Rattle.sasl_c.specs.declared.status.Status.{Status}
 use Rattle.sasl_c.specs.declared.status.Status.TheVariants as statuses
 use Rattle.sasl_c.specs.Connection.{Keeps, side_tests}
-use Rattle.sasl_c.specs.SaslServer.{BodyNames, BodyNamesNobody, FrameNames, InitNames, Named, NotNamed}
+use Rattle.sasl_c.specs.SaslServer.{AwaitsFrame, BodyAsks, BodyNames, BodyNamesNobody, FrameAsks, FrameNames, InitAsks, InitNames, Named, NotNamed}
+use Rattle.sasl_c.specs.Server.{ReadsFirst}
 use Rattle.sasl_c.proofs.ServerCallLemmas.{keeps_no_part, none_holds}
 use Rattle.sasl_c.proofs.StatusLemmas.{carried}
 
@@ -73,7 +75,22 @@ other_names_nobody mechanism text other none name (inl (version, first, same, re
     other version (sym same)
 other_names_nobody mechanism text other none name (inr (plain, rest)) = none plain
 
-pub ruleset init_user = (scram_names, scram_names_nobody, plain_names, plain_names_nobody, other_names_nobody)
+-- ---- where memory is asked for to find the name
+
+pub scram_asks : (mechanism text : List ℕ) (version : ScramVersion) → mechanism_name version ≡ mechanism
+    → ReadsFirst true text → InitAsks mechanism text
+scram_asks mechanism text version is (inl escapes) = inl (version, sym is, escapes)
+scram_asks mechanism text version is (inr (first, reads)) = inr (first.user, inl (version, first, sym is, reads, refl))
+
+pub plain_asks : (mechanism text : List ℕ) (parts : PlainParts) → mechanism ≡ codes "PLAIN"
+    → SpellsPlain parts text → IsTaken parts → InitAsks mechanism text
+plain_asks mechanism text parts is spells taken = inr (parts.user, inr (is, (parts, spells, taken, refl)))
+
+pub body_asks : (scram : ScramStruct) (turn : Turn) (body : List ℕ) (frame : SaslFrame) (taken : ℕ)
+    → ReadsBody body (Ok (frame, taken)) → FrameAsks scram turn frame → BodyAsks scram turn body
+body_asks scram turn body frame taken reads asks = (frame, (taken, reads), asks)
+
+pub ruleset init_user = (scram_asks, plain_asks, scram_names, scram_names_nobody, plain_names, plain_names_nobody, other_names_nobody)
 
 -- a body
 pub body_names : (scram : ScramStruct) (turn : Turn) (body name : List ℕ) (frame : SaslFrame) (taken : ℕ)
@@ -89,7 +106,7 @@ pub body_unread : (scram : ScramStruct) (turn : Turn) (body : List ℕ) (fault :
     → BodyNamesNobody scram turn body
 body_unread scram turn body fault reads = inl (fault, reads)
 
-pub ruleset body_user = (body_names, body_names_nobody, body_unread)
+pub ruleset body_user = (body_asks, body_names, body_names_nobody, body_unread)
 
 -- ---- whom bytes name
 
@@ -164,4 +181,21 @@ pub never_header : (server : Struct) (kept : SetDown) (bytes body : List ℕ) (t
     → NotNamed server bytes status
 never_header server kept bytes body turn status header done = absurd (header turn done.1)
 
-pub ruleset named = (bytes_name, no_connection, not_kept, completes_none, names_nobody, never_header)
+-- memory is asked for where a frame is due
+pub awaits : (server : Struct) (kept : SetDown) → Keeps server.connection kept.standing kept.due kept.held.now
+    → kept.standing ≡ Wanting → kept.limit ≡ 512 → IsKept kept → kept.due ≢ Header → AwaitsFrame server.connection
+awaits server kept keeps wants limit is frame = (
+  kept.due,
+  kept.held.now,
+  carried (λ s. Keeps server.connection s kept.due kept.held.now) kept.standing Wanting wants keeps,
+  carried (λ n. IsPart kept.due n kept.held.now) kept.limit 512 limit is.1,
+  frame,
+)
+
+pub awaits_body : (server : Struct) (kept : SetDown) (bytes body : List ℕ) (turn other : Turn)
+    → Keeps server.connection kept.standing kept.due kept.held.now → kept.standing ≡ Wanting → kept.limit ≡ 512
+    → IsKept kept → kept.due ≡ Frame turn → AwaitsFrame server.connection
+awaits_body server kept bytes body turn other keeps wants limit is due =
+    awaits server kept keeps wants limit is (λ header. absurd (cc))
+
+pub ruleset named = (awaits, awaits_body, bytes_name, no_connection, not_kept, completes_none, names_nobody, never_header)

@@ -1,16 +1,17 @@
 -- What a refusal is not: want of room, and want of memory only where that is its kind.
-use Rattle.std.proofs.Common.{ap, sym, ◌≡◌, ◌≢◌}
+use Rattle.std.proofs.Common.{ap, refl, sym, ◌≡◌, ◌≢◌}
 use Rattle.fe2o3_scram.specs.declared.scram_messages.error.ScramErrorKind.{ScramErrorKind}
 use Rattle.fe2o3_scram.specs.declared.scram_messages.error.ScramErrorKind.TheVariants as client
 use Rattle.fe2o3_scram.specs.declared.scram_messages.error.ServerScramErrorKind.{ServerScramErrorKind}
 use Rattle.fe2o3_scram.specs.declared.scram_messages.error.ServerScramErrorKind.TheVariants as server
-use Rattle.std.specs.Prelude.{Result, Ok, Err, IfOk, IfErr}
+use Rattle.std.specs.Prelude.{Result, Ok, Err, IfOk, IfErr, OnErr}
 use Rattle.fe2o3_sasl_wire.specs.declared.sasl_frames.error.Error.{Error}
 use Rattle.fe2o3_sasl_wire.specs.declared.sasl_frames.error.Error.TheVariants as faults
 use Rattle.fe2o3_sasl_runs.specs.declared.sasl_profile.error.ProfileError.{ProfileError}
 use Rattle.fe2o3_sasl_runs.specs.declared.sasl_profile.error.ProfileError.TheVariants as profile
 use Rattle.sasl_c.specs.Connection.{frame_status, profile_status}
-use Rattle.sasl_c.specs.Status.{client_status, server_status}
+use Rattle.sasl_c.specs.Status.{AsksWhere, client_status, server_status}
+use Rattle.sasl_c.specs.declared.status.Status.{Status}
 use Rattle.sasl_c.specs.declared.status.Status.TheVariants.{OutOfMemory, RoomTooSmall}
 
 pub client_not_room : (why : ScramErrorKind) → client_status why ≢ RoomTooSmall
@@ -56,6 +57,46 @@ client_memory why other same = other (ap client_status same)
 pub server_memory : (why : ServerScramErrorKind) → server_status why ≢ OutOfMemory → why ≢ server.OutOfMemory
 server_memory why other same = other (ap server_status same)
 
+-- a status of memory is that of a fault of memory
+pub client_is_memory : (why : ScramErrorKind) (status : Status) → status ≡ client_status why → status ≡ OutOfMemory
+    → why ≡ client.OutOfMemory
+client_is_memory client.Utf8Error status gives memory = absurd (cc)
+client_is_memory client.InsufficientParts status gives memory = absurd (cc)
+client_is_memory client.ExtensionNotSupported status gives memory = absurd (cc)
+client_is_memory client.NonceNotFound status gives memory = absurd (cc)
+client_is_memory client.ClientNonceMismatch status gives memory = absurd (cc)
+client_is_memory client.SaltNotFound status gives memory = absurd (cc)
+client_is_memory client.Base64DecodeError status gives memory = absurd (cc)
+client_is_memory client.IterationCountNotFound status gives memory = absurd (cc)
+client_is_memory client.IterationCountParseError status gives memory = absurd (cc)
+client_is_memory client.IterationCountTooSmall status gives memory = absurd (cc)
+client_is_memory client.IterationCountTooLarge status gives memory = absurd (cc)
+client_is_memory client.NormalizeError status gives memory = absurd (cc)
+client_is_memory client.OtherKeys status gives memory = absurd (cc)
+client_is_memory client.HmacErrorInvalidLength status gives memory = absurd (cc)
+client_is_memory client.XorLengthMismatch status gives memory = absurd (cc)
+client_is_memory client.IllegalClientState status gives memory = absurd (cc)
+client_is_memory client.ServerSignatureMismatch status gives memory = absurd (cc)
+client_is_memory client.OutOfMemory status gives memory = refl
+
+pub server_is_memory : (why : ServerScramErrorKind) (status : Status) → status ≡ server_status why
+    → status ≡ OutOfMemory → why ≡ server.OutOfMemory
+server_is_memory server.Utf8Error status gives memory = absurd (cc)
+server_is_memory server.CannotParseGs2Header status gives memory = absurd (cc)
+server_is_memory server.CannotParseUsername status gives memory = absurd (cc)
+server_is_memory server.CannotParseClientNonce status gives memory = absurd (cc)
+server_is_memory server.HmacErrorInvalidLength status gives memory = absurd (cc)
+server_is_memory server.XorLengthMismatch status gives memory = absurd (cc)
+server_is_memory server.NormalizeError status gives memory = absurd (cc)
+server_is_memory server.CannotParseClientFinalMessage status gives memory = absurd (cc)
+server_is_memory server.InvalidChannelBinding status gives memory = absurd (cc)
+server_is_memory server.Base64DecodeError status gives memory = absurd (cc)
+server_is_memory server.IncorrectClientFinalNonce status gives memory = absurd (cc)
+server_is_memory server.ProofNotFoundInClientFinal status gives memory = absurd (cc)
+server_is_memory server.AuthenticationFailed status gives memory = absurd (cc)
+server_is_memory server.IllegalAuthenticatorState status gives memory = absurd (cc)
+server_is_memory server.OutOfMemory status gives memory = refl
+
 pub frame_not_room : (fault : Error) → frame_status fault ≢ RoomTooSmall
 frame_not_room faults.DecodeError = λ same. absurd (cc)
 frame_not_room faults.NotImplemented = λ same. absurd (cc)
@@ -79,6 +120,19 @@ pub err_so : {A E : Type 0} (answer : Result A E) (P Q : E → Type 0) → ((e :
     → IfErr answer Q
 err_so (Ok x) P Q says held = held
 err_so (Err e) P Q says held = says e held
+
+-- what a call that is out of memory says holds anyway
+pub asks_so : {A : Type 0} (P : Type 0) (answer : Result A Status) → P → AsksWhere P answer
+asks_so P (Ok x) held = tt
+asks_so P (Err status) held = λ memory. held
+
+pub on_err : {A E : Type 0} (P : Type 0) (answer : Result A E) → P → OnErr answer P
+on_err P (Ok x) held = tt
+on_err P (Err e) held = held
+
+pub on_err_so : {A E : Type 0} (P Q : Type 0) (answer : Result A E) → (P → Q) → OnErr answer P → OnErr answer Q
+on_err_so P Q (Ok x) says held = held
+on_err_so P Q (Err e) says held = says held
 
 -- what holds of one holds of its equal
 pub carried : {A : Type 0} (P : A → Type 0) (x y : A) → x ≡ y → P x → P y

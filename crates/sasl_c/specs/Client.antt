@@ -12,6 +12,7 @@ use Rattle.fe2o3_scram.specs.Passwords.{Prepared, Typed}
 use Rattle.fe2o3_scram.specs.ScramClient.{AnswersIn, BelievesIn, ClientSide, ClientState, ClientInitial, ClientFirstSent, ClientFinalSent, Complete, started}
 use Rattle.fe2o3_scram.specs.Hmac.{zero_filled}
 use Rattle.fe2o3_scram.specs.Readings.{IsFirst, NoneHolds}
+use Rattle.fe2o3_scram.specs.ServerFinal.{ReachesVerifier}
 use Rattle.fe2o3_scram.specs.Texts.{base64_text}
 use Rattle.sasl_c.specs.declared.client.ScramClient.{ScramClient as Struct}
 use Rattle.sasl_c.specs.declared.client.Login.{Login}
@@ -64,6 +65,14 @@ name_tests login = (statuses.NoSuchVersion, (known : ScramVersion) → ¬ IsVers
 abbrev pub IsNoLogin : Login → Status → Type 0
 IsNoLogin login status = IsFirst (name_tests login) status ⊎ (NoneHolds (name_tests login) × IsNoSecret login status)
 
+-- the login has a secret: it has one, and no test of it holds
+unfoldable pub HasSecret : Login → Type 0
+HasSecret login = ((secret : Secret) × IsSecretOf login secret) × ((status : Status) → ¬ IsNoSecret login status)
+
+-- no test of the login holds
+abbrev pub IsTestedLogin : Login → Type 0
+IsTestedLogin login = NoneHolds (name_tests login) × HasSecret login
+
 -- the struct holds no keys
 abbrev pub HoldsNone : KeysStruct → Type 0
 HoldsNone kept = (keys : ClientKeys) → ¬ ShowsKeys kept keys
@@ -82,6 +91,10 @@ IsState user client (ClientFirstSent nonce bare) = (client.sent ≡ 1) × (nonce
 IsState user client (ClientFinalSent signature keys) = (client.sent ≡ 2) × (client.signature_len ≤ 64)
     × (signature ≡ take client.signature_len client.signature) × Holds client.keys keys
 IsState user client (Complete keys) = (client.sent ≡ 3) × Holds client.keys keys
+
+-- the struct waits for a signature
+abbrev pub AwaitsSignature : Struct → Type 0
+AwaitsSignature client = (client.sent ≡ 2) × (client.signature_len ≤ 64)
 
 -- what holds of each state that a client comes to: its message is that of its user, and the signature that it waits for
 -- has room
@@ -186,6 +199,16 @@ Responds login text before after (Ok message) = (next : ClientSide) × AnswersBy
     × IsSide login after next × WritesClient after next.state
 Responds login text before after (Err status) = ((status ≡ client_status Utf8Error) × ¬ IsUtf8 text)
     ⊎ (IsUtf8 text × NotAnswered login before text status)
+
+-- memory is asked for to answer a server-first message: the message is UTF-8, the login is one, and its client-first
+-- message was sent last
+abbrev pub AnswerAsks : Login → List ℕ → Struct → Type 0
+AnswerAsks login text before = IsUtf8 text × IsTestedLogin login × (before.sent ≡ 1)
+
+-- memory is asked for to verify a server-final message: the login is one, its client waits for a signature, and the
+-- message is read as far as its own
+abbrev pub VerifyAsks : Login → List ℕ → Struct → Type 0
+VerifyAsks login text before = IsTestedLogin login × AwaitsSignature before × ReachesVerifier text
 
 -- whether the server is believed
 unfoldable pub Believes : Login → List ℕ → Struct → Struct → Result (Unit {0}) Status → Type 0

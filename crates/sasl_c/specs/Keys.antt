@@ -53,6 +53,10 @@ abbrev pub ShowsKeys : Struct → ClientKeys → Type 0
 ShowsKeys kept keys = IsVersion kept.version keys.version × (kept.salt_len ≤ 128)
     × (keys ≡ shown_keys keys.version kept)
 
+-- the struct shows keys
+abbrev pub ShowsSomeKeys : Struct → Type 0
+ShowsSomeKeys kept = (keys : ClientKeys) × ShowsKeys kept keys
+
 -- why a struct shows none
 abbrev pub ShowsNoKeys : Struct → Status → Type 0
 ShowsNoKeys kept statuses.NoSuchVersion = (known : ScramVersion) → ¬ IsVersion kept.version known

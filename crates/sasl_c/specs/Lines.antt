@@ -10,7 +10,8 @@ use Rattle.fe2o3_scram.specs.declared.credentials.record_text.RecordTextError.Th
 use Rattle.fe2o3_scram.specs.declared.hmac.ScramVersion.{ScramVersion}
 use Rattle.fe2o3_scram.specs.Credentials.{Record, VersionedRecord, record_at, versioned}
 use Rattle.fe2o3_scram.specs.Mixed.{MixedRecords, provider_for}
-use Rattle.fe2o3_scram.specs.MixedLines.{IsMixedWritable, ReadsMixed, SpellsMixed, mixed_text}
+use Rattle.fe2o3_scram.specs.MixedLines.{IsMixedWritable, ReadsMixed, SpellsMixed, UpToMixed, mixed_text}
+use Rattle.fe2o3_scram.specs.RecordLines.{ReachesUser}
 use Rattle.sasl_c.specs.declared.records.ScramRecord.{ScramRecord as Struct}
 use Rattle.sasl_c.specs.declared.status.Status.{Status}
 use Rattle.sasl_c.specs.declared.status.Status.TheVariants as statuses
@@ -53,6 +54,12 @@ FindsRecord lines name version line (Err status) =
     ⊎ ((status ≡ statuses.NotUtf8) × (¬ IsUtf8 name ⊎ ¬ IsUtf8 lines))
     ⊎ ((known : ScramVersion) × (users : MixedRecords) × HasUsers lines version known users
     × NotChosen users name known status)))
+
+-- memory is asked for to find a record: the version is known, the name and the text are UTF-8, and a line that is
+-- reached has a user
+abbrev pub FindAsks : List ℕ → List ℕ → ℕ → Type 0
+FindAsks lines name version = ((known : ScramVersion) × IsVersion version known) × IsUtf8 name × IsUtf8 lines
+    × ((line : ℕ) × UpToMixed lines line ReachesUser)
 
 -- and the struct behind a call, and the number
 abbrev pub FindsInto : List ℕ → List ℕ → ℕ → ℕ → ℕ → Struct → Struct → Result (Unit {0}) Status → Type 0

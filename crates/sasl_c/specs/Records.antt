@@ -47,6 +47,10 @@ abbrev pub ShowsRecord : Struct → VersionedRecord → Type 0
 ShowsRecord kept shown = IsVersion kept.version shown.version × (kept.salt_len ≤ 128)
     × (shown.stored ≡ stored_of shown.version kept)
 
+-- the struct shows a record
+abbrev pub ShowsSomeRecord : Struct → Type 0
+ShowsSomeRecord kept = (shown : VersionedRecord) × ShowsRecord kept shown
+
 -- the tests before a record is made of a password (RFC 4013, section 2; RFC 5802, section 5.1), in their order
 abbrev pub struct_making_tests : ℕ → PasswordText → List ℕ → ℕ → List (Status × Type 0)
 struct_making_tests version password salt count =

@@ -6,7 +6,7 @@ use Rattle.fe2o3_sasl_wire.specs.SaslFrames.{SaslFrame}
 use Rattle.fe2o3_sasl_wire.specs.SaslFrames as frames
 use Rattle.fe2o3_scram.specs.declared.hmac.ScramVersion.{ScramVersion}
 use Rattle.fe2o3_scram.specs.declared.scram_server.ScramAuthenticator.{ScramAuthenticator}
-use Rattle.fe2o3_scram.specs.ClientFirst.{ClientFirst, ReadsClientFirst}
+use Rattle.fe2o3_scram.specs.ClientFirst.{ClientFirst, HasEscapes, ReadsClientFirst}
 use Rattle.fe2o3_scram.specs.Credentials.{Record, Records, Store, serving, versioned}
 use Rattle.fe2o3_scram.specs.Hmac.{mechanism_name}
 use Rattle.fe2o3_scram.specs.Readings.{IsFirst, NoneHolds}
@@ -24,14 +24,18 @@ use Rattle.fe2o3_sasl_runs.specs.OneOfSides.{both_states}
 use Rattle.fe2o3_sasl_runs.specs.PlainAuthenticator.{IsTaken, PlainParts, PlainServer, SpellsPlain, plain_machine, plain_server}
 use Rattle.fe2o3_sasl_runs.specs.SaslAcceptor.{Acceptor, ScramAcceptor, AnonymousAcceptor, acceptor_machine, acceptor_names, acceptor_user}
 use Rattle.fe2o3_sasl_negotiation.specs.declared.server.ServerNegotiation.{ServerNegotiation}
+use Rattle.fe2o3_sasl_negotiation.specs.declared.standing.Due.{Due}
+use Rattle.fe2o3_sasl_negotiation.specs.declared.standing.Due.TheVariants.{Header}
 use Rattle.fe2o3_sasl_negotiation.specs.declared.standing.Standing.{Standing}
 use Rattle.fe2o3_sasl_negotiation.specs.declared.standing.Standing.TheVariants.{Wanting, LoggedIn, Closed}
 use Rattle.fe2o3_sasl_negotiation.specs.declared.standing.Turn.{Turn}
 use Rattle.fe2o3_sasl_negotiation.specs.declared.standing.Turn.TheVariants as turns
+use Rattle.fe2o3_sasl_negotiation.specs.Framing.{IsPart}
 use Rattle.fe2o3_sasl_negotiation.specs.Negotiations.{Completes, Side}
 use Rattle.fe2o3_sasl_negotiation.specs.ServerNegotiation.{ServerReceives}
 use Rattle.fe2o3_sasl_negotiation.specs.SetDown.{server_due}
 use Rattle.fe2o3_sasl_negotiation.specs.Sides.{acceptor_in, server_side}
+use Rattle.sasl_c.specs.declared.connection.Connection.{Connection}
 use Rattle.sasl_c.specs.declared.others.Others.{Others as OthersCode}
 use Rattle.sasl_c.specs.declared.sasl_server.Choice.{Choice}
 use Rattle.sasl_c.specs.declared.sasl_server.SaslHost.{SaslHost as Host}
@@ -361,6 +365,32 @@ BodyNames scram turn body name = (frame : SaslFrame) × SpellsBody body (Ok fram
 abbrev pub BodyNamesNobody : ScramStruct → Turn → List ℕ → Type 0
 BodyNamesNobody scram turn body = ((fault : Error) × SpellsBody body (Err fault))
     ⊎ ((frame : SaslFrame) × SpellsBody body (Ok frame) × ((name : List ℕ) → ¬ FrameNames scram turn frame name))
+
+-- memory is asked for to look for the user of an init: it names one, or its client-first message has a name with
+-- escapes
+abbrev pub InitAsks : List ℕ → List ℕ → Type 0
+InitAsks mechanism text = ((version : ScramVersion) × (mechanism ≡ mechanism_name version) × HasEscapes true text)
+    ⊎ ((name : List ℕ) × InitNames mechanism text name)
+
+-- so it is for the response of an init, if there is one
+abbrev pub ResponseAsks : List ℕ → Option (List ℕ) → Type 0
+ResponseAsks mechanism (Some text) = InitAsks mechanism text
+ResponseAsks mechanism None = ⊥
+
+-- and for a frame in turn: an init, and a response where a challenge is open
+abbrev pub FrameAsks : ScramStruct → Turn → SaslFrame → Type 0
+FrameAsks scram turns.Init (frames.Init mechanism response hostname) = ResponseAsks mechanism response
+FrameAsks scram turns.Response (frames.Response text) = (challenge : ServerChallenge) × IsOpen scram challenge
+FrameAsks scram turn frame = ⊥
+
+-- and for a body
+abbrev pub BodyAsks : ScramStruct → Turn → List ℕ → Type 0
+BodyAsks scram turn body = (frame : SaslFrame) × SpellsBody body (Ok frame) × FrameAsks scram turn frame
+
+-- memory is asked for to look for the user of a connection's bytes: a frame is due to a side, and the struct keeps a
+-- part of it
+abbrev pub AwaitsFrame : Connection → Type 0
+AwaitsFrame kept = (due : Due) × (held : List ℕ) × Keeps kept Wanting due held × IsPart due 512 held × (due ≢ Header)
 
 -- a side with no machine
 abbrev pub Kept : Type 0

@@ -1,6 +1,6 @@
 -- What a text is prepared to for C (RFC 4013).
 use Rattle.std.specs.Prelude.{◌≡◌, ◌≢◌, ℕ, List, Some, None, Result, Ok, Err, chars, encode_utf8_all}
-use Rattle.std.specs.Str.{IsUtf8}
+use Rattle.std.specs.Str.{IsAscii, IsUtf8}
 use Rattle.saslprep.specs.Saslprep.{prepared, refusal}
 use Rattle.saslprep.specs.declared.Unassigned.{Unassigned}
 use Rattle.saslprep.specs.declared.Unassigned.TheVariants.{Allowed, Refused}
@@ -30,6 +30,10 @@ PreparesBy choice text (Ok out) = IsUtf8 text × (refusal choice (chars text) �
 PreparesBy choice text (Err statuses.NotUtf8) = ¬ IsUtf8 text
 PreparesBy choice text (Err status) = IsUtf8 text
     × ((why : SaslprepError) × (refusal choice (chars text) ≡ Some why) × (status ≡ saslprep_status why))
+
+-- memory is asked for to prepare a text: the number is that of a choice, and the text is UTF-8 and not ASCII
+abbrev pub PrepareAsks : ℕ → List ℕ → Type 0
+PrepareAsks number text = ((choice : Unassigned) × (choice_number choice ≡ number)) × IsUtf8 text × ¬ IsAscii text
 
 -- and by the choice of this number, if there is one
 unfoldable pub PreparesTo : ℕ → List ℕ → Result (List ℕ) Status → Type 0

@@ -2,20 +2,22 @@
 use Rattle.std.specs.Prelude.{Bool, true, false, ◌≡◌, ◌≤◌, ◌⊎◌, ℕ, List, [], ◌∷◌, length, replicate, take, Some, Result, Ok, Err}
 use Rattle.std.specs.Str.{IsUtf8}
 use Rattle.fe2o3_scram.specs.declared.scram_messages.error.ServerScramErrorKind.{ServerScramErrorKind}
-use Rattle.fe2o3_scram.specs.declared.scram_messages.error.ServerScramErrorKind.TheVariants.{IllegalAuthenticatorState}
+use Rattle.fe2o3_scram.specs.declared.scram_messages.error.ServerScramErrorKind.TheVariants.{IllegalAuthenticatorState, OutOfMemory}
+use Rattle.fe2o3_scram.specs.ClientFinal.{ReachesBase64, server_of}
 use Rattle.fe2o3_scram.specs.ClientFirst.{ClientFirst, HasEscapes, ReadsClientFirst}
 use Rattle.fe2o3_scram.specs.declared.scram_messages.gs2_header.Gs2Header.{Gs2Header}
 use Rattle.fe2o3_scram.specs.declared.scram_messages.gs2_header.Gs2Header.TheVariants.{Unsupported, Unoffered}
 use Rattle.fe2o3_scram.specs.Credentials.{Store, VersionedRecord, serving}
 use Rattle.fe2o3_scram.specs.Hmac.{zero_filled}
 use Rattle.fe2o3_scram.specs.ScramServer.{ConcludesFrom, ServerFirstSent, ServerFinalSent}
+use Rattle.fe2o3_scram.specs.ServerFinal.{FinalCosts}
 use Rattle.fe2o3_scram.specs.ServerFirst.{AnswersClientFirst, ServerChallenge}
 use Rattle.fe2o3_scram.specs.Texts.{base64_text}
 use Rattle.sasl_c.specs.declared.records.ScramRecord.{ScramRecord as Kept}
 use Rattle.sasl_c.specs.declared.server.ScramServer.{ScramServer as Struct}
 use Rattle.sasl_c.specs.declared.status.Status.{Status}
 use Rattle.sasl_c.specs.declared.status.Status.TheVariants as statuses
-use Rattle.sasl_c.specs.Records.{ShowsRecord, SpellsStruct}
+use Rattle.sasl_c.specs.Records.{ShowsSomeRecord, ShowsRecord, SpellsStruct}
 use Rattle.sasl_c.specs.Status.{server_status}
 
 -- the store of one user
@@ -151,10 +153,19 @@ ConcludesLogin kept before text message user = (challenge : ServerChallenge) × 
     × ConcludesFrom (ServerFirstSent challenge) (serving false (one_user user shown)) text (Ok (Some message))
     (ServerFinalSent user)
 
--- a client-final message comes to be read: a challenge is open, and the struct of the record shows one
-abbrev pub ReadsFinal : Kept → Struct → Type 0
-ReadsFinal kept before = ((challenge : ServerChallenge) × IsOpen before challenge)
-    × ((shown : VersionedRecord) × ShowsRecord kept shown)
+-- memory is asked for to answer a client-final message: a challenge is open, the struct of the record shows one, and
+-- the message is read as far as its first base64 text
+abbrev pub FinalAsks : Kept → List ℕ → Struct → Type 0
+FinalAsks kept text before = ((challenge : ServerChallenge) × IsOpen before challenge
+    × ReachesBase64 challenge.header challenge.nonce text) × ShowsSomeRecord kept
+
+-- the HMAC values of an answer that is out of memory, as a meter shows them before and after: none for a message that
+-- is refused, and at most two
+abbrev pub MemoryCosts : Kept → List ℕ → Struct → ℕ → ℕ → Type 0
+MemoryCosts kept text before counted after = (challenge : ServerChallenge) × (shown : VersionedRecord)
+    × IsOpen before challenge × ShowsRecord kept shown × FinalCosts {A = Unit {0}}
+    (server_of shown.version challenge.header challenge.bare challenge.first challenge.nonce shown.stored) text
+    (Err OutOfMemory) counted after
 
 -- the server-final message, and the struct after it; or that no challenge is open, or one is and the struct of the
 -- record shows none, or it shows one and the message is refused

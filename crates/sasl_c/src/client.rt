@@ -1,14 +1,14 @@
 //! A SCRAM client, which stands in a struct between its calls.
 
-ghost use Rattle.std.specs.Prelude.{◌≡◌, ◌≢◌, ◌<◌, ◌≤◌, length, IfOk, IfErr, IfSome, MatchOption, Option, Some, List, ℕ, Ok, option_map};
+ghost use Rattle.std.specs.Prelude.{◌≡◌, ◌≢◌, ◌<◌, ◌≤◌, length, IfOk, IfErr, IfSome, OnErr, MatchOption, MatchResult, Option, Some, List, ℕ, Ok, option_map, take};
 ghost use Rattle.std.specs.Str.{IsUtf8};
 ghost use Rattle.std.specs.String.{string_bytes};
 ghost use Rattle.fe2o3_scram.specs.ScramClient.{ClientFinalSent, ClientInitial};
 ghost use Rattle.fe2o3_scram.specs.Readings.{IsFirst, NoneHolds, Reads};
 ghost use Rattle.sasl_c.specs.Records.{IsVersion};
 ghost use Rattle.fe2o3_scram.specs.ClientKeys.{ClientKeys as Keys};
-ghost use Rattle.sasl_c.specs.Client.{Believes, HandsOut, Holds, HoldsNone, IsClientOf, IsNoLogin, IsNoSecret, IsSecretOf, IsReached, IsSide, IsState, StartsClient, Starts, WritesClient, complete_struct, fresh_client_struct, keys_tests, name_tests, started_struct};
-ghost use Rattle.sasl_c.specs.Keys.{ShowsKeys, WritesKeys, no_keys_struct};
+ghost use Rattle.sasl_c.specs.Client.{AwaitsSignature, Believes, HandsOut, HasSecret, Holds, HoldsNone, IsClientOf, IsTestedLogin, IsNoLogin, IsNoSecret, IsSecretOf, IsReached, IsSide, IsState, StartsClient, Starts, VerifyAsks, WritesClient, complete_struct, fresh_client_struct, keys_tests, name_tests, started_struct};
+ghost use Rattle.sasl_c.specs.Keys.{ShowsKeys, ShowsSomeKeys, WritesKeys, no_keys_struct};
 ghost use Rattle.sasl_c.specs.Status.{Answers, AsksWhere, Fills, Makes, with_written};
 ghost use Rattle.sasl_c.specs.declared.status.Status.TheVariants.{OutOfMemory as StatusOutOfMemory, NotUtf8 as StatusNotUtf8, RoomTooSmall};
 
@@ -195,6 +195,17 @@ impl ScramClient {
         ScramClient::waiting_for(machine.server_signature()?, machine.answer_keys())
     }
 
+    /// Returns the signature that the struct waits for, or `None` where it waits for none.
+    fn awaited(&self) -> Option<&[u8]>
+        ensures { MatchOption result (¬ AwaitsSignature self.now) (λ signature. AwaitsSignature self.now
+            × (signature.now ≡ take self.now.signature_len self.now.signature)) }
+    {
+        if self.sent != 2 {
+            return None;
+        }
+        head(&self.signature, self.signature_len)
+    }
+
     /// Makes it the struct of a client whose login is complete, which keeps the keys and nothing else of the exchange.
     fn complete(&mut self)
         ensures { self.new ≡ complete_struct self.old.keys }
@@ -208,9 +219,8 @@ impl ScramClient {
     /// The client that the struct is, of this login.
     pub fn read(&self, alloc: Global, login: &Login<'_>) -> Result<Machine, Status>
         ensures ok { IfOk result (λ side. IsSide login.now self.now side) }
-        ensures names { IfOk result (λ _. NoneHolds (name_tests login.now)) }
         ensures err { IfErr result (λ status. status ≢ StatusOutOfMemory → IsNoLogin login.now status) }
-        ensures memory { AsksWhere (NoneHolds (name_tests login.now)) result }
+        ensures memory { AsksWhere (IsTestedLogin login.now) result }
         ensures room { IfErr result (λ status. status ≢ RoomTooSmall) }
     {
         match self.sent {
@@ -223,9 +233,8 @@ impl ScramClient {
     /// The client that has sent its client-first message.
     fn behind_first(&self, alloc: Global, login: &Login<'_>) -> Result<Machine, Status>
         ensures ok { IfOk result (λ side. self.now.sent ≡ 1 → IsSide login.now self.now side) }
-        ensures names { IfOk result (λ _. NoneHolds (name_tests login.now)) }
         ensures err { IfErr result (λ status. status ≢ StatusOutOfMemory → IsNoLogin login.now status) }
-        ensures memory { AsksWhere (NoneHolds (name_tests login.now)) result }
+        ensures memory { AsksWhere (IsTestedLogin login.now) result }
         ensures room { IfErr result (λ status. status ≢ RoomTooSmall) }
     {
         let mut machine = match login.client(alloc) {
@@ -244,16 +253,17 @@ impl ScramClient {
     /// The client that waits for the signature, where it has room.
     fn behind_final(&self, alloc: Global, login: &Login<'_>) -> Result<Machine, Status>
         ensures ok { IfOk result (λ side. self.now.sent ≡ 2 → IsSide login.now self.now side) }
-        ensures names { IfOk result (λ _. NoneHolds (name_tests login.now)) }
         ensures err { IfErr result (λ status. status ≢ StatusOutOfMemory → IsNoLogin login.now status) }
-        ensures memory { AsksWhere (NoneHolds (name_tests login.now)) result }
+        ensures memory { AsksWhere (IsTestedLogin login.now) result }
         ensures room { IfErr result (λ status. status ≢ RoomTooSmall) }
     {
         let Some(signature) = head(&self.signature, self.signature_len) else {
             return login.client(alloc);
         };
-        // The names are tested before memory is asked for.
-        login.named_version()?;
+        // The login is tested before memory is asked for.
+        if let Err(status) = login.tested() {
+            return Err(status);
+        }
         let signature = signature.to_vec(alloc)?;
         let keys = shown(alloc, &self.keys)?;
         match login.client(alloc) {
@@ -264,10 +274,15 @@ impl ScramClient {
 }
 
 /// The keys that a struct shows, if it shows some. `OutOfMemory` is the only refusal.
+#[tactic(auto, using(crate::proofs::LoginLemmas::none_shown))]
 fn shown(alloc: Global, keys: &ClientKeys) -> Result<Option<ScramClientKeys>, Status>
     ensures ok { IfOk result (λ shown. MatchOption shown (HoldsNone keys.now) (λ shown. ShowsKeys keys.now shown)) }
     ensures err { IfErr result (λ status. status ≡ StatusOutOfMemory) }
+    ensures memory { OnErr result (ShowsSomeKeys keys.now) }
 {
+    if !keys.shows() {
+        return Ok(None);
+    }
     match keys.read(alloc) {
         Ok(keys) => Ok(Some(keys)),
         Err(Status::OutOfMemory) => Err(Status::OutOfMemory),
@@ -304,6 +319,92 @@ impl Login<'_> {
         let version = version_of(self.version).ok_or(Status::NoSuchVersion)?;
         text(self.username)?;
         Ok(version)
+    }
+
+    /// Tests the keys, which takes no memory.
+    #[tactic(auto, using(crate::proofs::LoginLemmas::keys_there))]
+    fn has_keys(&self) -> Result<(), Status>
+        ensures tested { MatchResult result (λ _. NoneHolds (keys_tests self.now) × ShowsSomeKeys self.now.keys.now)
+            (λ status. IsFirst (keys_tests self.now) status) }
+        ensures status { IfErr result (λ status. (status ≢ StatusOutOfMemory) × (status ≢ RoomTooSmall)) }
+    {
+        if !self.keys.shows() {
+            return Err(Status::NoKeys);
+        }
+        if self.keys.version != self.version {
+            return Err(Status::OtherVersion);
+        }
+        Ok(())
+    }
+
+    /// Tests the secret, which takes no memory.
+    #[tactic(auto, using(crate::proofs::LoginLemmas::secret_tests))]
+    fn has_secret(&self) -> Result<(), Status>
+        ensures tested { MatchResult result (λ _. HasSecret self.now) (λ status. IsNoSecret self.now status) }
+        ensures status { IfErr result (λ status. (status ≢ StatusOutOfMemory) × (status ≢ RoomTooSmall)) }
+    {
+        match self.secret {
+            0 => match text(self.password) {
+                Ok(_) => Ok(()),
+                Err(status) => Err(status),
+            },
+            1 => match self.has_keys() {
+                Ok(()) => Ok(()),
+                Err(status) => Err(status),
+            },
+            2 => {
+                if let Err(status) = text(self.password) {
+                    return Err(status);
+                }
+                match self.has_keys() {
+                    Ok(()) => Ok(()),
+                    Err(status) => Err(status),
+                }
+            }
+            _ => self.has_prepared(),
+        }
+    }
+
+    /// Tests the secret where its number is above 2, as that of a prepared password is, which takes no memory.
+    #[tactic(auto, using(crate::proofs::LoginLemmas::secret_tests))]
+    fn has_prepared(&self) -> Result<(), Status>
+        requires { 2 < self.now.secret }
+        ensures tested { MatchResult result (λ _. HasSecret self.now) (λ status. IsNoSecret self.now status) }
+        ensures status { IfErr result (λ status. (status ≢ StatusOutOfMemory) × (status ≢ RoomTooSmall)) }
+    {
+        match self.secret {
+            3 => match text(self.password) {
+                Ok(_) => Ok(()),
+                Err(status) => Err(status),
+            },
+            4 => {
+                if let Err(status) = text(self.password) {
+                    return Err(status);
+                }
+                match self.has_keys() {
+                    Ok(()) => Ok(()),
+                    Err(status) => Err(status),
+                }
+            }
+            _ => Err(Status::NoSuchSecret),
+        }
+    }
+
+    /// Tests the version, the user's name and the secret, in this order, which takes no memory. Returns the version.
+    #[tactic(auto, using(crate::proofs::LoginLemmas::login_tests))]
+    pub fn tested(&self) -> Result<ScramVersion, Status>
+        ensures ok { IfOk result (λ version. IsVersion self.now.version version × IsTestedLogin self.now) }
+        ensures err { IfErr result (λ status. IsNoLogin self.now status) }
+        ensures status { IfErr result (λ status. (status ≢ StatusOutOfMemory) × (status ≢ RoomTooSmall)) }
+    {
+        let version = match self.named_version() {
+            Ok(version) => version,
+            Err(status) => return Err(status),
+        };
+        match self.has_secret() {
+            Ok(()) => Ok(version),
+            Err(status) => Err(status),
+        }
     }
 
     /// The keys, which are of the login's version.
@@ -377,16 +478,18 @@ impl Login<'_> {
     }
 
     /// A client that has sent nothing.
-    #[tactic(auto, using(crate::proofs::LoginLemmas::named))]
+    #[tactic(auto, using(crate::proofs::LoginLemmas::login_tests))]
     fn client(&self, alloc: Global) -> Result<Machine, Status>
         ensures ok { IfOk result (λ side. IsClientOf self.now side × (side.state ≡ ClientInitial)) }
-        ensures names { IfOk result (λ _. NoneHolds (name_tests self.now)) }
+        ensures login { IfOk result (λ _. IsTestedLogin self.now) }
         ensures err { IfErr result (λ status. status ≢ StatusOutOfMemory → IsNoLogin self.now status) }
-        ensures memory { AsksWhere (NoneHolds (name_tests self.now)) result }
+        ensures memory { AsksWhere (IsTestedLogin self.now) result }
         ensures room { IfErr result (λ status. status ≢ RoomTooSmall) }
     {
-        let Some(version) = version_of(self.version) else {
-            return Err(Status::NoSuchVersion);
+        // The login is tested before memory is asked for.
+        let version = match self.tested() {
+            Ok(version) => version,
+            Err(status) => return Err(status),
         };
         let username = text(self.username)?.to_string(alloc)?;
         match self.by_secret(alloc, username, version) {
@@ -404,7 +507,7 @@ impl Login<'_> {
 fn first_message(alloc: Global, login: &Login<'_>, nonce: &[u8; 32]) -> Result<Bytes, Status>
     ensures ok { IfOk result (λ message. Starts login.now nonce.now (Ok message)) }
     ensures err { IfErr result (λ status. status ≢ StatusOutOfMemory → IsNoLogin login.now status) }
-    ensures memory { AsksWhere (NoneHolds (name_tests login.now)) result }
+    ensures memory { AsksWhere (IsTestedLogin login.now) result }
     ensures room { IfErr result (λ status. status ≢ RoomTooSmall) }
 {
     let mut machine = match login.client(alloc) {
@@ -455,7 +558,7 @@ fn first(
     ensures text { Fills (Starts login.now nonce.now) (record { bytes = out.old; len = len.old })
         (record { bytes = out.new; len = len.new }) result }
     ensures moved { StartsClient login.now nonce.now client.old client.new result }
-    ensures memory { AsksWhere (NoneHolds (name_tests login.now)) result }
+    ensures memory { AsksWhere (IsTestedLogin login.now) result }
 {
     let message = match first_message(alloc, login, nonce) {
         Ok(message) => message,
@@ -477,13 +580,12 @@ pub extern "C" fn fe2o3_scram_client_first(
 ) -> u32
     ensures { Answers result (λ answer. Fills (Starts login.now nonce.now) (record { bytes = out.old; len = len.old })
         (record { bytes = out.new; len = len.new }) answer × StartsClient login.now nonce.now client.old client.new answer
-        × AsksWhere (NoneHolds (name_tests login.now)) answer) }
+        × AsksWhere (IsTestedLogin login.now) answer) }
 {
     number(first(alloc, login, client, nonce, out, len))
 }
 
 /// Believes the server, or not.
-#[tactic(auto, using(crate::proofs::ClientLemmas::believes))]
 fn verify(
     alloc: Global,
     login: &Login<'_>,
@@ -491,18 +593,18 @@ fn verify(
     server_final: &[u8],
 ) -> Result<(), Status>
     ensures believes { Believes login.now server_final.now client.old client.new result }
-    ensures memory { AsksWhere (NoneHolds (name_tests login.now)) result }
+    ensures memory { AsksWhere (VerifyAsks login.now server_final.now client.old) result }
 {
-    let mut machine = match client.read(alloc, login) {
-        Ok(machine) => machine,
-        #[tactic(auto, using(crate::proofs::ClientLemmas::no_believer))]
+    let version = match login.tested() {
+        Ok(version) => version,
         Err(status) => return Err(status),
     };
-    if let Err(why) = machine.validate_server_final(alloc, server_final) {
-        drop(machine);
+    let Some(signature) = client.awaited() else {
+        return Err(Status::Client(ScramErrorKind::IllegalClientState));
+    };
+    if let Err(why) = version.validate_server_final(alloc, server_final, signature) {
         return Err(Status::from(why));
     }
-    drop(machine);
     client.complete();
     Ok(())
 }
@@ -516,7 +618,7 @@ pub extern "C" fn fe2o3_scram_client_verify(
     server_final: &[u8],
 ) -> u32
     ensures { Answers result (λ answer. Believes login.now server_final.now client.old client.new answer
-        × AsksWhere (NoneHolds (name_tests login.now)) answer) }
+        × AsksWhere (VerifyAsks login.now server_final.now client.old) answer) }
 {
     number(verify(alloc, login, client, server_final))
 }

@@ -6,7 +6,7 @@ ghost use Rattle.sasl_c.specs.Records.{IsVersion};
 ghost use Rattle.fe2o3_scram.specs.ClientFinal.{answer_values};
 ghost use Rattle.fe2o3_scram.specs.ClientSecret.{secret_of};
 ghost use Rattle.fe2o3_scram.specs.Texts.{base64_text};
-ghost use Rattle.sasl_c.specs.Client.{Responds, IsAnswer, IsSecretOf, NotAnswered, name_tests};
+ghost use Rattle.sasl_c.specs.Client.{AnswerAsks, Responds, IsAnswer, IsTestedLogin, IsSecretOf, NotAnswered, name_tests};
 ghost use Rattle.std.specs.Str.{IsUtf8};
 ghost use Rattle.sasl_c.specs.Status.{Answers, AsksWhere, FillsWithin};
 ghost use Rattle.sasl_c.specs.declared.status.Status.TheVariants.{OutOfMemory as StatusOutOfMemory, RoomTooSmall};
@@ -173,18 +173,17 @@ fn answered_of(
 }
 
 /// Why a client that has not sent its client-first message last does not answer.
-fn not_due(alloc: Global, login: &Login<'_>, client: &ScramClient) -> Status
-    ensures why { result ≢ StatusOutOfMemory → client.now.sent ≢ 1 → (text : List ℕ)
+#[tactic(auto, using(crate::proofs::ClientLemmas::not_dues))]
+fn not_due(login: &Login<'_>, client: &ScramClient) -> Status
+    ensures why { client.now.sent ≢ 1 → (text : List ℕ)
         → NotAnswered login.now client.now text result }
-    ensures memory { result ≡ StatusOutOfMemory → NoneHolds (name_tests login.now) }
+    ensures memory { result ≢ StatusOutOfMemory }
     ensures room { result ≢ RoomTooSmall }
 {
-    let client = match client.read(alloc, login) {
-        Ok(client) => client,
-        Err(status) => return status,
-    };
-    drop(client);
-    Status::Client(ScramErrorKind::IllegalClientState)
+    match login.tested() {
+        Ok(_) => Status::Client(ScramErrorKind::IllegalClientState),
+        Err(status) => status,
+    }
 }
 
 /// The answer to a server-first message.
@@ -200,13 +199,16 @@ fn answered(
     ensures ok { IfOk result (λ answer. IsAnswer login.now client.now server_first.now (answer_values answer)) }
     ensures err { IfErr result (λ status. status ≢ StatusOutOfMemory
         → NotAnswered login.now client.now server_first.now status) }
-    ensures memory { AsksWhere (NoneHolds (name_tests login.now)) result }
+    ensures memory { AsksWhere (IsTestedLogin login.now × (client.now.sent ≡ 1)) result }
     ensures room { IfErr result (λ status. status ≢ RoomTooSmall) }
 {
     if client.sent != 1 {
-        return Err(not_due(alloc, login, client));
+        return Err(not_due(login, client));
     }
-    let version = login.named_version()?;
+    let version = match login.tested() {
+        Ok(version) => version,
+        Err(status) => return Err(status),
+    };
     answered_of(alloc, login, version, client, server_first, meter)
 }
 
@@ -227,7 +229,7 @@ fn answer(
         (record { bytes = out.new; len = len.new }) result }
     ensures stays { OnErr result (client.new ≡ client.old) }
     ensures first { IfErr result (λ status. status ≡ RoomTooSmall → meter.new ≡ meter.old) }
-    ensures memory { AsksWhere (IsUtf8 server_first.now × NoneHolds (name_tests login.now)) result }
+    ensures memory { AsksWhere (AnswerAsks login.now server_first.now client.old) result }
 {
     let suffices = server_first.len() + ANSWER_MORE;
     if out.len() < suffices {
@@ -260,7 +262,7 @@ pub extern "C" fn fe2o3_scram_client_final(
     ensures { Answers result (λ answer. FillsWithin (length server_first.now + 128)
         (Responds login.now server_first.now client.old client.new) (record { bytes = out.old; len = len.old })
         (record { bytes = out.new; len = len.new }) answer × OnErr answer (client.new ≡ client.old)
-        × AsksWhere (IsUtf8 server_first.now × NoneHolds (name_tests login.now)) answer) }
+        × AsksWhere (AnswerAsks login.now server_first.now client.old) answer) }
 {
     let mut meter = Meter::new();
     number(answer(alloc, login, client, server_first, &mut meter, out, len))

@@ -1,9 +1,9 @@
 //! What a client keeps in place of its password, as a struct.
 
-ghost use Rattle.std.specs.Prelude.{◌≡◌, ◌≢◌, MatchOption, IfOk, IfErr};
+ghost use Rattle.std.specs.Prelude.{◌≡◌, ◌≢◌, ◌↔◌, IsTrue, MatchOption, IfOk, IfErr};
 ghost use Rattle.fe2o3_scram.specs.Passwords.{Prepared, Typed};
 ghost use Rattle.fe2o3_scram.specs.Readings.{Gives, NoneHolds};
-ghost use Rattle.sasl_c.specs.Keys.{KeysHaveRoom, MakesKeysStruct, ShowsKeys, ShowsNoKeys, keys_struct};
+ghost use Rattle.sasl_c.specs.Keys.{KeysHaveRoom, MakesKeysStruct, ShowsKeys, ShowsNoKeys, ShowsSomeKeys, keys_struct};
 ghost use Rattle.sasl_c.specs.Passwords.{in_form};
 ghost use Rattle.sasl_c.specs.Records.{struct_making_tests};
 ghost use Rattle.sasl_c.specs.Status.{Answers, Makes};
@@ -70,6 +70,17 @@ impl ClientKeys {
             salt: self.salt,
             client_key: self.client_key,
             server_key: self.server_key,
+        }
+    }
+
+    /// Returns whether the struct shows keys.
+    #[tactic(auto, using(crate::proofs::LoginLemmas::key_tests))]
+    pub fn shows(&self) -> bool
+        ensures { IsTrue result ↔ ShowsSomeKeys self.now }
+    {
+        match version_of(self.version) {
+            Some(_) => self.salt_len <= 128,
+            None => false,
         }
     }
 

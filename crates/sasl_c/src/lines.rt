@@ -1,8 +1,9 @@
 //! The text of users and their records, a line for each (RFC 5802, section 5.1; RFC 5803, section 2).
 
 ghost use Rattle.std.specs.Prelude.{◌≡◌, ◌≢◌, Ok, Err, IfOk, IfErr};
-ghost use Rattle.sasl_c.specs.Lines.{Chosen, FindsRecord, FindsInto, NotChosen, SpellsLine, line_status};
-ghost use Rattle.sasl_c.specs.Status.{Answers, Fills};
+ghost use Rattle.std.specs.Str.{IsUtf8};
+ghost use Rattle.sasl_c.specs.Lines.{Chosen, FindAsks, FindsRecord, FindsInto, NotChosen, SpellsLine, line_status};
+ghost use Rattle.sasl_c.specs.Status.{Answers, AsksWhere, Fills};
 ghost use Rattle.sasl_c.specs.declared.status.Status.TheVariants.{OutOfMemory as StatusOutOfMemory, RoomTooSmall};
 
 use crate::arrays::put;
@@ -72,6 +73,8 @@ fn found(
     ensures ok { IfOk result (λ made. FindsRecord lines.now username.now version 0 (Ok made)) }
     ensures err { IfErr result (λ none. none.why ≢ StatusOutOfMemory
         → FindsRecord lines.now username.now version none.line (Err none.why)) }
+    ensures memory { IfErr result (λ none. none.why ≡ StatusOutOfMemory
+        → FindAsks lines.now username.now version) }
 {
     let Some(version) = version_of(version) else {
         return Err(NotFound::from(Status::NoSuchVersion));
@@ -115,7 +118,8 @@ fn find(
     line: &mut usize,
     kept: &mut ScramRecord,
 ) -> Result<(), Status>
-    ensures { FindsInto lines.now username.now version line.old line.new kept.old kept.new result }
+    ensures finds { FindsInto lines.now username.now version line.old line.new kept.old kept.new result }
+    ensures memory { AsksWhere (FindAsks lines.now username.now version) result }
 {
     match found(alloc, lines, username, version) {
         Ok(made) => {
@@ -142,7 +146,8 @@ pub extern "C" fn fe2o3_scram_lines_find(
     line: &mut usize,
     kept: &mut ScramRecord,
 ) -> u32
-    ensures { Answers result (FindsInto lines.now username.now version line.old line.new kept.old kept.new) }
+    ensures { Answers result (λ answer. FindsInto lines.now username.now version line.old line.new kept.old kept.new
+        answer × AsksWhere (FindAsks lines.now username.now version) answer) }
 {
     number(find(alloc, lines, username, version, line, kept))
 }
@@ -152,6 +157,7 @@ fn line_of(alloc: Global, username: &[u8], kept: &ScramRecord) -> Result<Vec<u8>
     ensures ok { IfOk result (λ text. SpellsLine username.now kept.now (Ok text.items)) }
     ensures err { IfErr result (λ status. status ≢ StatusOutOfMemory
         → SpellsLine username.now kept.now (Err status)) }
+    ensures memory { AsksWhere (IsUtf8 username.now) result }
     ensures room { IfErr result (λ status. status ≢ RoomTooSmall) }
 {
     let username = text(username)?.to_string(alloc)?;
@@ -181,8 +187,9 @@ fn write(
     out: &mut [u8],
     len: &mut usize,
 ) -> Result<(), Status>
-    ensures { Fills (SpellsLine username.now kept.now) (record { bytes = out.old; len = len.old })
+    ensures text { Fills (SpellsLine username.now kept.now) (record { bytes = out.old; len = len.old })
         (record { bytes = out.new; len = len.new }) result }
+    ensures memory { AsksWhere (IsUtf8 username.now) result }
 {
     let line = line_of(alloc, username, kept)?;
     put(&line, out, len)
@@ -198,8 +205,8 @@ pub extern "C" fn fe2o3_scram_line(
     out: &mut [u8],
     len: &mut usize,
 ) -> u32
-    ensures { Answers result (Fills (SpellsLine username.now kept.now) (record { bytes = out.old; len = len.old })
-        (record { bytes = out.new; len = len.new })) }
+    ensures { Answers result (λ answer. Fills (SpellsLine username.now kept.now) (record { bytes = out.old; len = len.old })
+        (record { bytes = out.new; len = len.new }) answer × AsksWhere (IsUtf8 username.now) answer) }
 {
     number(write(alloc, username, kept, out, len))
 }

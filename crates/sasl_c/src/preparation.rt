@@ -3,8 +3,8 @@
 ghost use Rattle.std.specs.Prelude.{◌≡◌, ◌≢◌, Ok, Err, IfOk, IfErr, MatchOption};
 ghost use Rattle.std.specs.Cow.{cow_str_bytes};
 ghost use Rattle.saslprep.specs.declared.Unassigned.{Unassigned as Choice};
-ghost use Rattle.sasl_c.specs.Saslprep.{PreparesTo, choice_number, saslprep_status};
-ghost use Rattle.sasl_c.specs.Status.{Answers, Fills};
+ghost use Rattle.sasl_c.specs.Saslprep.{PrepareAsks, PreparesTo, choice_number, saslprep_status};
+ghost use Rattle.sasl_c.specs.Status.{Answers, AsksWhere, Fills};
 ghost use Rattle.sasl_c.specs.declared.status.Status.TheVariants.{OutOfMemory as StatusOutOfMemory, RoomTooSmall};
 
 use crate::arrays::put;
@@ -43,6 +43,7 @@ fn choice_of(number: u32) -> Option<Unassigned>
 fn prepared(alloc: Global, bytes: &[u8], unassigned: u32) -> Result<CowStr<'_>, Status>
     ensures ok { IfOk result (λ out. PreparesTo unassigned bytes.now (Ok (cow_str_bytes out))) }
     ensures err { IfErr result (λ status. status ≢ StatusOutOfMemory → PreparesTo unassigned bytes.now (Err status)) }
+    ensures memory { AsksWhere (PrepareAsks unassigned bytes.now) result }
     ensures room { IfErr result (λ status. status ≢ RoomTooSmall) }
 {
     let Some(choice) = choice_of(unassigned) else {
@@ -65,8 +66,9 @@ fn prepare(
     out: &mut [u8],
     len: &mut usize,
 ) -> Result<(), Status>
-    ensures { Fills (PreparesTo unassigned bytes.now) (record { bytes = out.old; len = len.old })
+    ensures text { Fills (PreparesTo unassigned bytes.now) (record { bytes = out.old; len = len.old })
         (record { bytes = out.new; len = len.new }) result }
+    ensures memory { AsksWhere (PrepareAsks unassigned bytes.now) result }
 {
     let text = match prepared(alloc, bytes, unassigned) {
         Ok(text) => text,
@@ -87,8 +89,8 @@ pub extern "C" fn fe2o3_saslprep(
     out: &mut [u8],
     len: &mut usize,
 ) -> u32
-    ensures { Answers result (Fills (PreparesTo unassigned text.now) (record { bytes = out.old; len = len.old })
-        (record { bytes = out.new; len = len.new })) }
+    ensures { Answers result (λ answer. Fills (PreparesTo unassigned text.now) (record { bytes = out.old; len = len.old })
+        (record { bytes = out.new; len = len.new }) answer × AsksWhere (PrepareAsks unassigned text.now) answer) }
 {
     number(prepare(alloc, text, unassigned, out, len))
 }

@@ -6,8 +6,8 @@ ghost use Rattle.fe2o3_scram.specs.Credentials.{kept, versioned};
 ghost use Rattle.fe2o3_scram.specs.RecordText.{ReachesValues};
 ghost use Rattle.fe2o3_scram.specs.Passwords.{Prepared, Typed};
 ghost use Rattle.sasl_c.specs.Passwords.{in_form};
-ghost use Rattle.sasl_c.specs.Status.{Answers, Fills, Makes};
-ghost use Rattle.sasl_c.specs.Records.{RecordHasRoom, ShowsRecord, record_struct, struct_making_tests, MakesRecordStruct, MakesUp, nobody_tests, ParsesStruct, SpellsStruct, Verifies};
+ghost use Rattle.sasl_c.specs.Status.{Answers, AsksWhere, Fills, Makes};
+ghost use Rattle.sasl_c.specs.Records.{RecordHasRoom, ShowsSomeRecord, ShowsRecord, record_struct, struct_making_tests, MakesRecordStruct, MakesUp, nobody_tests, ParsesStruct, SpellsStruct, Verifies};
 ghost use Rattle.sasl_c.specs.declared.records.ScramRecord.{ScramRecord as Struct};
 ghost use Rattle.sasl_c.specs.declared.status.Status.TheVariants.{OutOfMemory as StatusOutOfMemory, RoomTooSmall};
 
@@ -65,6 +65,7 @@ impl ScramRecord {
     pub fn lent(&self) -> Result<(ScramVersion, StoredPassword<'_>), Status>
         ensures ok { IfOk result (λ shown. ShowsRecord self.now (versioned shown.0 (kept shown.1))) }
         ensures err { IfErr result (λ status. SpellsStruct self.now (Err status)) }
+        ensures memory { IfErr result (λ status. status ≢ StatusOutOfMemory) }
         ensures room { IfErr result (λ status. status ≢ RoomTooSmall) }
     {
         let version = version_of(self.version).ok_or(Status::NoSuchVersion)?;
@@ -84,6 +85,7 @@ impl ScramRecord {
     pub fn read(&self, alloc: Global) -> Result<fe2o3_scram::ScramRecord, Status>
         ensures ok { IfOk result (λ shown. ShowsRecord self.now shown) }
         ensures err { IfErr result (λ status. status ≢ StatusOutOfMemory → SpellsStruct self.now (Err status)) }
+        ensures memory { AsksWhere (ShowsSomeRecord self.now) result }
     {
         let (version, stored) = self.lent()?;
         Ok(fe2o3_scram::ScramRecord::from_parts(
@@ -241,8 +243,9 @@ pub extern "C" fn fe2o3_scram_record_parse(
 
 /// Writes the text of the record that the struct shows.
 fn spell(alloc: Global, kept: &ScramRecord, out: &mut [u8], len: &mut usize) -> Result<(), Status>
-    ensures { Fills (SpellsStruct kept.now) (record { bytes = out.old; len = len.old })
+    ensures text { Fills (SpellsStruct kept.now) (record { bytes = out.old; len = len.old })
         (record { bytes = out.new; len = len.new }) result }
+    ensures memory { AsksWhere (ShowsSomeRecord kept.now) result }
 {
     let kept = kept.read(alloc)?;
     let text = kept.to_text(alloc)?;
@@ -257,8 +260,8 @@ pub extern "C" fn fe2o3_scram_record_text(
     out: &mut [u8],
     len: &mut usize,
 ) -> u32
-    ensures { Answers result (Fills (SpellsStruct kept.now) (record { bytes = out.old; len = len.old })
-        (record { bytes = out.new; len = len.new })) }
+    ensures { Answers result (λ answer. Fills (SpellsStruct kept.now) (record { bytes = out.old; len = len.old })
+        (record { bytes = out.new; len = len.new }) answer × AsksWhere (ShowsSomeRecord kept.now) answer) }
 {
     number(spell(alloc, kept, out, len))
 }

@@ -152,7 +152,9 @@ impl SaslClient {
 
 /// Writes the header of SASL.
 fn open(out: &mut [u8], len: &mut usize) -> Result<(), Status>
-    ensures { Fills OpensConnection (record { bytes = out.old; len = len.old }) (record { bytes = out.new; len = len.new }) result }
+    ensures text { Fills OpensConnection (record { bytes = out.old; len = len.old })
+        (record { bytes = out.new; len = len.new }) result }
+    ensures memory { AsksWhere ⊥ result }
 {
     put(&<[u8; 8]>::from(ProtocolHeader::sasl()), out, len)
 }
@@ -160,8 +162,8 @@ fn open(out: &mut [u8], len: &mut usize) -> Result<(), Status>
 /// Writes the header of SASL, with which a client begins a connection.
 #[unsafe(no_mangle)]
 pub extern "C" fn fe2o3_sasl_client_open(out: &mut [u8], len: &mut usize) -> u32
-    ensures { Answers result (Fills OpensConnection (record { bytes = out.old; len = len.old })
-        (record { bytes = out.new; len = len.new })) }
+    ensures { Answers result (λ answer. Fills OpensConnection (record { bytes = out.old; len = len.old })
+        (record { bytes = out.new; len = len.new }) answer × AsksWhere ⊥ answer) }
 {
     number(open(out, len))
 }

@@ -1,10 +1,11 @@
 //! A SCRAM server, which stands in a struct between its calls.
 
 ghost use Rattle.std.specs.Prelude.{false, true, ◌≡◌, ◌≢◌, ◌<◌, ◌≤◌, ◌^◌, List, ℕ, length, take, Ok, Err, IfOk, IfErr, IfSome, OnErr, MatchOption};
+ghost use Rattle.fe2o3_scram.specs.ClientFirst.{HasEscapes};
 ghost use Rattle.fe2o3_scram.specs.ServerFirst.{ServerChallenge};
 ghost use Rattle.fe2o3_scram.specs.ScramServer.{Initial, ServerFirstSent, challenge_kept, provider_in, state_in, unbound_in};
 ghost use Rattle.fe2o3_scram.specs.declared.scram_messages.gs2_header.Gs2Header.{Gs2Header as HeaderOf};
-ghost use Rattle.sasl_c.specs.Server.{MakesChallenge, Challenges, ConcludesLogin, Concludes, HasLoggedIn, ChallengeHasRoom, IsOpen, NamesUser, NotChallenged, OpensExchange, ReadsFinal, ReadsFirst, TellsUser, fresh_server_struct, logged_in_struct, open_number, open_struct, user_struct};
+ghost use Rattle.sasl_c.specs.Server.{MakesChallenge, Challenges, ConcludesLogin, Concludes, FinalAsks, HasLoggedIn, ChallengeHasRoom, IsOpen, NamesUser, NotChallenged, OpensExchange, MemoryCosts, ReadsFirst, TellsUser, fresh_server_struct, logged_in_struct, open_number, open_struct, user_struct};
 ghost use Rattle.sasl_c.specs.Status.{Answers, AsksWhere, Fills, FillsWithin};
 ghost use Rattle.sasl_c.specs.declared.status.Status.TheVariants.{OutOfMemory as StatusOutOfMemory, RoomTooSmall};
 
@@ -330,8 +331,9 @@ pub extern "C" fn fe2o3_scram_server_first_unbound(
 
 /// Writes the name of the user.
 fn user(alloc: Global, client_first: &[u8], out: &mut [u8], len: &mut usize) -> Result<(), Status>
-    ensures { Fills (NamesUser client_first.now) (record { bytes = out.old; len = len.old })
+    ensures text { Fills (NamesUser client_first.now) (record { bytes = out.old; len = len.old })
         (record { bytes = out.new; len = len.new }) result }
+    ensures memory { AsksWhere (HasEscapes true client_first.now) result }
 {
     let first = match ClientFirst::parse_unbound(alloc, client_first, true) {
         Ok(first) => first,
@@ -348,8 +350,8 @@ pub extern "C" fn fe2o3_scram_server_user(
     out: &mut [u8],
     len: &mut usize,
 ) -> u32
-    ensures { Answers result (Fills (NamesUser client_first.now) (record { bytes = out.old; len = len.old })
-        (record { bytes = out.new; len = len.new })) }
+    ensures { Answers result (λ answer. Fills (NamesUser client_first.now) (record { bytes = out.old; len = len.old })
+        (record { bytes = out.new; len = len.new }) answer × AsksWhere (HasEscapes true client_first.now) answer) }
 {
     number(user(alloc, client_first, out, len))
 }
@@ -369,7 +371,8 @@ fn concluded(
     ensures named { IfOk result (λ _. server.now.user_len ≤ 256) }
     ensures err { IfErr result (λ status. status ≢ StatusOutOfMemory
         → Concludes kept.now client_final.now server.now server.now (Err status)) }
-    ensures memory { AsksWhere (ReadsFinal kept.now server.now) result }
+    ensures memory { AsksWhere (FinalAsks kept.now client_final.now server.now) result }
+    ensures cost { AsksWhere (MemoryCosts kept.now client_final.now server.now meter.old meter.new) result }
     ensures room { IfErr result (λ status. status ≢ RoomTooSmall) }
 {
     let Some(challenge) = server.challenge() else {
@@ -413,7 +416,8 @@ fn conclude(
         (record { bytes = out.old; len = len.old }) (record { bytes = out.new; len = len.new }) result }
     ensures stays { OnErr result (server.new ≡ server.old) }
     ensures first { IfErr result (λ status. status ≡ RoomTooSmall → meter.new ≡ meter.old) }
-    ensures memory { AsksWhere (ReadsFinal kept.now server.old) result }
+    ensures memory { AsksWhere (FinalAsks kept.now client_final.now server.old) result }
+    ensures cost { AsksWhere (MemoryCosts kept.now client_final.now server.old meter.old meter.new) result }
 {
     if out.len() < FINAL_MOST {
         *len = FINAL_MOST;
@@ -439,7 +443,7 @@ pub extern "C" fn fe2o3_scram_server_final(
 ) -> u32
     ensures { Answers result (λ answer. FillsWithin 90 (Concludes kept.now client_final.now server.old server.new)
         (record { bytes = out.old; len = len.old }) (record { bytes = out.new; len = len.new }) answer
-        × OnErr answer (server.new ≡ server.old) × AsksWhere (ReadsFinal kept.now server.old) answer) }
+        × OnErr answer (server.new ≡ server.old) × AsksWhere (FinalAsks kept.now client_final.now server.old) answer) }
 {
     let mut meter = Meter::new();
     number(conclude(alloc, kept, server, client_final, &mut meter, out, len))

@@ -5,7 +5,7 @@ ghost use Rattle.fe2o3_sasl_runs.specs.Events.{ServerSays};
 ghost use Rattle.fe2o3_sasl_runs.specs.Runs.{AcceptorSteps, server_reply};
 ghost use Rattle.fe2o3_sasl_negotiation.specs.ServerNegotiation.{offer_body};
 ghost use Rattle.fe2o3_sasl_negotiation.specs.declared.standing.Turn.TheVariants.{Init, Response};
-ghost use Rattle.sasl_c.specs.SaslServer.{BodyNames, BodyNamesNobody, host_tests};
+ghost use Rattle.sasl_c.specs.SaslServer.{BodyAsks, BodyNames, BodyNamesNobody, host_tests};
 ghost use Rattle.fe2o3_scram.specs.Readings.{NoneHolds};
 ghost use Rattle.sasl_c.specs.Status.{Answers, AsksWhere, Fills, FillsWithin};
 ghost use Rattle.sasl_c.specs.Steps.{IsStepped, NotStepped, HostOffers, ServerHides, ServerNotStepped, ServerStepped, ServerSteps, ServerTells, StepNames, standing_number};
@@ -244,6 +244,7 @@ pub extern "C" fn fe2o3_sasl_server_step(
 fn named(alloc: Global, server: &ScramServer, body: &[u8]) -> Result<Vec<u8>, Status>
     ensures names { MatchResult result (λ name. StepNames server.now body.now (Ok name.items))
         (λ status. status ≢ StatusOutOfMemory → StepNames server.now body.now (Err status)) }
+    ensures memory { AsksWhere (BodyAsks server.now Init body.now ⊎ BodyAsks server.now Response body.now) result }
     ensures room { IfErr result (λ status. status ≢ RoomTooSmall) }
 {
     if let Some(name) = body_user(alloc, server, Turn::Init, body)? {
@@ -263,8 +264,9 @@ fn user(
     out: &mut [u8],
     len: &mut usize,
 ) -> Result<(), Status>
-    ensures { Fills (StepNames server.now body.now) (record { bytes = out.old; len = len.old })
+    ensures text { Fills (StepNames server.now body.now) (record { bytes = out.old; len = len.old })
         (record { bytes = out.new; len = len.new }) result }
+    ensures memory { AsksWhere (BodyAsks server.now Init body.now ⊎ BodyAsks server.now Response body.now) result }
 {
     let name = match named(alloc, server, body) {
         Ok(name) => name,
@@ -284,8 +286,9 @@ pub extern "C" fn fe2o3_sasl_server_step_user(
     out: &mut [u8],
     len: &mut usize,
 ) -> u32
-    ensures { Answers result (Fills (StepNames server.now body.now) (record { bytes = out.old; len = len.old })
-        (record { bytes = out.new; len = len.new })) }
+    ensures { Answers result (λ answer. Fills (StepNames server.now body.now) (record { bytes = out.old; len = len.old })
+        (record { bytes = out.new; len = len.new }) answer
+        × AsksWhere (BodyAsks server.now Init body.now ⊎ BodyAsks server.now Response body.now) answer) }
 {
     number(user(alloc, server, body, out, len))
 }

@@ -1,12 +1,12 @@
 //! Whom the bytes of a connection, or the body of a frame, name to a server before it takes them.
 
-ghost use Rattle.std.specs.Prelude.{true, ◌≡◌, ◌≢◌, ℕ, List, Ok, IfOk, IfErr, MatchOption};
-ghost use Rattle.sasl_c.specs.SaslServer.{BodyNames, BodyNamesNobody, FrameNames, InitNames, Named, Names, NotNamed, ResponseNames};
+ghost use Rattle.std.specs.Prelude.{true, ◌≡◌, ◌≢◌, ℕ, List, Ok, IfOk, IfErr, OnErr, MatchOption};
+ghost use Rattle.sasl_c.specs.SaslServer.{AwaitsFrame, BodyAsks, BodyNames, BodyNamesNobody, FrameAsks, FrameNames, InitAsks, InitNames, Named, Names, NotNamed, ResponseAsks, ResponseNames};
 ghost use Rattle.fe2o3_sasl_wire.specs.FrameView.{shown, viewed_frame};
 ghost use Rattle.fe2o3_scram.specs.ClientFirst.{ClientFirst as FirstValues, ReadsClientFirst};
 ghost use Rattle.fe2o3_scram.specs.ServerFirst.{ServerChallenge};
-ghost use Rattle.sasl_c.specs.Server.{IsOpen};
-ghost use Rattle.sasl_c.specs.Status.{Answers, Fills};
+ghost use Rattle.sasl_c.specs.Server.{IsOpen, ReadsFirst};
+ghost use Rattle.sasl_c.specs.Status.{Answers, AsksWhere, Fills};
 ghost use Rattle.sasl_c.specs.declared.status.Status.TheVariants.{OutOfMemory as StatusOutOfMemory, RoomTooSmall};
 
 use crate::arrays::put;
@@ -27,6 +27,7 @@ fn scram_user(alloc: Global, text: &[u8]) -> Result<Option<Vec<u8>>, Status>
         ((first : FirstValues) → ¬ ReadsClientFirst true text.now (Ok first))
         (λ user. (first : FirstValues) × ReadsClientFirst true text.now (Ok first) × (user.items ≡ first.user))) }
     ensures err { IfErr result (λ status. status ≡ StatusOutOfMemory) }
+    ensures memory { OnErr result (ReadsFirst true text.now) }
 {
     match ClientFirst::parse_unbound(alloc, text, true) {
         Ok(first) => Ok(Some(first.username.as_bytes().to_vec(alloc)?)),
@@ -42,8 +43,9 @@ fn init_user(alloc: Global, mechanism: &str, text: &[u8]) -> Result<Option<Vec<u
         ((name : List ℕ) → ¬ InitNames mechanism.now text.now name)
         (λ user. InitNames mechanism.now text.now user.items)) }
     ensures err { IfErr result (λ status. status ≡ StatusOutOfMemory) }
+    ensures memory { OnErr result (InitAsks mechanism.now text.now) }
 {
-    if ScramVersion::from_mechanism(mechanism).is_some() {
+    if let Some(_) = ScramVersion::from_mechanism(mechanism) {
         return scram_user(alloc, text);
     }
     if mechanism != "PLAIN" {
@@ -65,6 +67,7 @@ fn response_user(
         ((name : List ℕ) → ¬ ResponseNames mechanism.now (shown response.entry) name)
         (λ user. ResponseNames mechanism.now (shown response.entry) user.items)) }
     ensures err { IfErr result (λ status. status ≡ StatusOutOfMemory) }
+    ensures memory { OnErr result (ResponseAsks mechanism.now (shown response.entry)) }
 {
     match response {
         Some(text) => init_user(alloc, mechanism, text),
@@ -77,6 +80,7 @@ fn open_user(alloc: Global, scram: &ScramServer) -> Result<Option<Vec<u8>>, Stat
     ensures ok { IfOk result (λ user. MatchOption user ((challenge : ServerChallenge) → ¬ IsOpen scram.now challenge)
         (λ user. (challenge : ServerChallenge) × IsOpen scram.now challenge × (user.items ≡ challenge.user))) }
     ensures err { IfErr result (λ status. status ≡ StatusOutOfMemory) }
+    ensures memory { OnErr result ((challenge : ServerChallenge) × IsOpen scram.now challenge) }
 {
     match scram.challenge() {
         Some(challenge) => Ok(Some(challenge.username.as_bytes().to_vec(alloc)?)),
@@ -95,6 +99,7 @@ fn frame_user(
         ((name : List ℕ) → ¬ FrameNames scram.now turn (viewed_frame frame.now) name)
         (λ user. FrameNames scram.now turn (viewed_frame frame.now) user.items)) }
     ensures err { IfErr result (λ status. status ≡ StatusOutOfMemory) }
+    ensures memory { OnErr result (FrameAsks scram.now turn (viewed_frame frame.now)) }
 {
     match (turn, frame) {
         (
@@ -121,6 +126,7 @@ pub fn body_user(
     ensures ok { IfOk result (λ user. MatchOption user (BodyNamesNobody scram.now turn body.now)
         (λ user. BodyNames scram.now turn body.now user.items)) }
     ensures err { IfErr result (λ status. status ≡ StatusOutOfMemory) }
+    ensures memory { OnErr result (BodyAsks scram.now turn body.now) }
 {
     match view_frame(body) {
         Ok((frame, _)) => frame_user(alloc, scram, turn, &frame),
@@ -133,6 +139,7 @@ pub fn body_user(
 fn named(alloc: Global, server: &SaslServer, bytes: &[u8]) -> Result<Vec<u8>, Status>
     ensures ok { IfOk result (λ name. Named server.now bytes.now name.items) }
     ensures err { IfErr result (λ status. status ≢ StatusOutOfMemory → NotNamed server.now bytes.now status) }
+    ensures memory { AsksWhere (AwaitsFrame server.now.connection) result }
     ensures room { IfErr result (λ status. status ≢ RoomTooSmall) }
 {
     let kept = server.connection.read()?;
@@ -161,8 +168,9 @@ fn user(
     out: &mut [u8],
     len: &mut usize,
 ) -> Result<(), Status>
-    ensures { Fills (Names server.now bytes.now) (record { bytes = out.old; len = len.old })
+    ensures text { Fills (Names server.now bytes.now) (record { bytes = out.old; len = len.old })
         (record { bytes = out.new; len = len.new }) result }
+    ensures memory { AsksWhere (AwaitsFrame server.now.connection) result }
 {
     let name = match named(alloc, server, bytes) {
         Ok(name) => name,
@@ -182,8 +190,8 @@ pub extern "C" fn fe2o3_sasl_server_user(
     out: &mut [u8],
     len: &mut usize,
 ) -> u32
-    ensures { Answers result (Fills (Names server.now bytes.now) (record { bytes = out.old; len = len.old })
-        (record { bytes = out.new; len = len.new })) }
+    ensures { Answers result (λ answer. Fills (Names server.now bytes.now) (record { bytes = out.old; len = len.old })
+        (record { bytes = out.new; len = len.new }) answer × AsksWhere (AwaitsFrame server.now.connection) answer) }
 {
     number(user(alloc, server, bytes, out, len))
 }

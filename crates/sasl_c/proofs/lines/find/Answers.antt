@@ -4,8 +4,8 @@ use Rattle.sasl_c.specs.Lines.{FindsRecord}
 use Rattle.sasl_c.proofs.StatusLemmas.{carried}
 use Rattle.sasl_c.proofs.lines.find.Goals as goal
 
-pub returns-in-Err : goal.returns-in-Err
-returns-in-Err c = (
+pub returns-in-Err-clause-finds : goal.returns-in-Err-clause-finds
+returns-in-Err-clause-finds c = (
   refl,
   c.tell.ensures.memory,
   λ other. carried (λ (n : ℕ). FindsRecord c.args.lines.now c.args.username.now c.args.version n (Err c.in-Err.none.why))

@@ -1,7 +1,7 @@
 use Rattle.std.proofs.Common.{rules}
 use Rattle.fe2o3_scram.specs.Credentials.{kept, versioned}
 use Rattle.fe2o3_scram.specs.ScramServer.{challenge_kept}
-use Rattle.sasl_c.proofs.ServerLemmas.{concluded, keeps_none, not_open, refuses}
+use Rattle.sasl_c.proofs.ServerLemmas.{concluded, final_asks, keeps_none, memory_costs, not_open, refuses}
 use Rattle.sasl_c.proofs.server.concluded.Goals as goal
 
 pub returns-in_default-clause-err : goal.returns-in_default-clause-err
@@ -38,3 +38,19 @@ returns-in-Err-compute_server_final_message_behind-clause-err c =
     (versioned c.in-Ok.shown.0 (kept c.in-Ok.shown.1))
     c.in-Err-compute_server_final_message_behind.why c.from.result c.in-Some.ensures c.in-Ok.ensures.ok
     c.in-Err-compute_server_final_message_behind.ensures.answer.1 c.from.ensures
+
+pub returns-in-Err-compute_server_final_message_behind-clause-memory :
+    goal.returns-in-Err-compute_server_final_message_behind-clause-memory
+returns-in-Err-compute_server_final_message_behind-clause-memory c =
+    final_asks c.args.kept.now c.args.server.now c.args.client_final.now (challenge_kept c.in-Some.challenge)
+    (versioned c.in-Ok.shown.0 (kept c.in-Ok.shown.1))
+    c.in-Err-compute_server_final_message_behind.why c.from.result c.in-Some.ensures c.in-Ok.ensures.ok
+    c.in-Err-compute_server_final_message_behind.ensures.answer.0 c.from.ensures
+
+pub returns-in-Err-compute_server_final_message_behind-clause-cost :
+    goal.returns-in-Err-compute_server_final_message_behind-clause-cost
+returns-in-Err-compute_server_final_message_behind-clause-cost c =
+    memory_costs (Unit {0}) c.args.kept.now c.args.server.now c.args.client_final.now (challenge_kept c.in-Some.challenge)
+    (versioned c.in-Ok.shown.0 (kept c.in-Ok.shown.1))
+    c.in-Err-compute_server_final_message_behind.why c.from.result _ _ c.in-Some.ensures c.in-Ok.ensures.ok
+    c.in-Err-compute_server_final_message_behind.ensures.cost c.from.ensures
