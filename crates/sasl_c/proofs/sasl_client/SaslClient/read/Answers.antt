@@ -13,4 +13,4 @@ returns-in-Err-NotKept-clause-err c = λ _.
     is_not_kept c.args.login.now c.args.self.now c.in_ok-kept.kept (profile_of c.in-Ok.profile)
     c.in_ok-kept.ensures.kept c.in_ok-kept.ensures.wanting.0 c.in_ok-kept.ensures.wanting.1
     c.in_ok-kept.ensures.nobody c.in_ok-hostname.ensures.utf8 c.in-Ok.ensures.ok
-    (c.in-Err-NotKept.ensures.refused refl)
+    (c.in-Err-NotKept.ensures.refused is)
