@@ -29,7 +29,7 @@ check:
 # these the wrong bodies; and the two built programs that keep a secret, started again, which say nothing
 # where all is well.
 test:
-	@tools/progress $$PPID 60 'a whole run takes 57 min on 4 processors, 79 on 2, and 11,158 s of processor' &
+	@tools/progress $$PPID 60 'a whole run takes 51 to 57 min on 4 processors, 79 on 2, and 8,600 to 11,200 s of processor' &
 	sh tools/quoted.sh
 	python3 tools/signatures.py --check
 	python3 tools/header.py --check
