@@ -11,7 +11,7 @@ use bytes::Bytes;
 use std::alloc::Global;
 
 /// An open challenge: what a server keeps between its two messages, each text as it was sent or received.
-/// It holds no key and no record, and of the user only the name.
+/// These texts hold no key and no record, and of the user only the name.
 #[derive(Drop)]
 pub struct OpenChallenge<'a> {
     /// The user's name, plain, and not escaped.

@@ -23,8 +23,9 @@ impl<C: ScramCredentialProvider> HidingAuthenticator<C> {
 
     /// Returns this server with this open challenge, as `open_challenge` returned it. The mock record of
     /// the challenge's user is computed from the secret again, for a known user too. The meter, of at
-    /// most 2^63, counts three HMAC values. Texts that no server has sent are a challenge like any other, and a client has to prove its
-    /// password for it. The caller vouches for the texts: they name the user.
+    /// most 2^63, counts three HMAC values. Texts that no server has sent are a challenge like any
+    /// other, and a client has to prove its password for it. The caller vouches for the texts: they
+    /// name the user.
     ///
     /// `OutOfMemory` is the only error.
     pub fn waiting_for(
